@@ -1,0 +1,49 @@
+-- The judging rule: an operation is denied with the first denial whose condition holds, and else granted. The brackets
+-- and gates are Schroeder and Saltzer's. This model's own choices are the order of the denials, that a call within the
+-- running segment needs no gate word, and that a call may not raise the ring.
+use Rattle.std.specs.Prelude.{ℕ, ◌+◌, ◌*◌, min, nat_le, nat_lt, Bool, false, not, ◌&&◌, ◌||◌, find, Option, Some, None, Result, Ok, Err}
+use Rattle.mx_sdw.specs.declared.descriptors.Cell.{Cell}
+use Rattle.mx_sdw.specs.declared.denials.Denial.{Denial}
+use Rattle.mx_sdw.specs.declared.denials.Denial.TheVariants.{UnknownSegment, NoSegment, OutOfBounds, NotReadable, ReadBracket, NotWritable, WriteBracket, NotExecutable, ExecuteBracket, CallBracket, UpwardCall, Gate, RaisedRing, BadReturn, NotPointer, IndirectLimit}
+use Rattle.mx_sdw.specs.declared.operations.Op.{Op}
+use Rattle.mx_sdw.specs.declared.operations.Op.TheVariants.{Call}
+use Rattle.mx_sdw.specs.Denials.{judging_order}
+use Rattle.mx_sdw.specs.Descriptors.{Descriptor, is_unknown, is_gone}
+use Rattle.mx_sdw.specs.Operations.{reads, writes, executes, fetches, calls, returns_to, is_within, raises_to}
+
+-- the ring in which a call or return goes on: a call from above the second bracket enters at that bracket
+abbrev pub ring_after : Descriptor → Op → ℕ → ℕ
+ring_after d (Call current same) ring = min ring d.brackets.r2
+ring_after d _ ring = ring
+
+-- the condition of each denial by itself, given those before it
+abbrev pub applies : Denial → Descriptor → Op → ℕ → ℕ → Bool
+applies UnknownSegment d op ring word = is_unknown d.kind
+applies NoSegment d op ring word = is_gone d.kind
+applies OutOfBounds d op ring word = nat_le d.bound word
+applies NotReadable d op ring word = reads op && not d.r
+applies ReadBracket d op ring word = reads op && nat_lt d.brackets.r2 ring
+applies NotWritable d op ring word = writes op && not d.w
+applies WriteBracket d op ring word = writes op && nat_lt d.brackets.r1 ring
+applies NotExecutable d op ring word = executes op && not d.e
+applies ExecuteBracket d op ring word = fetches op && (nat_lt ring d.brackets.r1 || nat_lt d.brackets.r2 ring)
+applies CallBracket d op ring word = calls op && nat_lt d.brackets.r3 ring
+applies UpwardCall d op ring word = calls op && nat_lt ring d.brackets.r1
+applies Gate d op ring word = calls op && nat_le d.gate word && (nat_lt d.brackets.r2 ring || not (is_within op))
+applies RaisedRing d op ring word = raises_to op (ring_after d op ring)
+applies BadReturn d op ring word = returns_to op && (nat_lt ring d.brackets.r1 || nat_lt d.brackets.r2 ring)
+applies NotPointer d op ring word = false
+applies IndirectLimit d op ring word = false
+
+-- the cell of a word: pages have 64 words
+abbrev pub cell_of : Descriptor → ℕ → Cell
+cell_of d word = record { 0 = 64 * d.page + word }
+
+-- granted with the cell, unless a denial was found
+abbrev pub granted_unless : Option Denial → Cell → Result Cell Denial
+granted_unless None cell = Ok cell
+granted_unless (Some denial) cell = Err denial
+
+-- what the judging rule answers for a descriptor, an operation, a ring and a word
+unfoldable pub judgement : Descriptor → Op → ℕ → ℕ → Result Cell Denial
+judgement d op ring word = granted_unless (find (λ denial. applies denial d op ring word) judging_order) (cell_of d word)

@@ -1,0 +1,105 @@
+//! Octal numbers, as addresses and words are written.
+
+ghost use Rattle.std.specs.Prelude.{◌≡◌, ◌<◌, ◌≤◌, ◌^◌, ◌++◌, length, true, IfSome, OnOk, OnErr};
+ghost use Rattle.std.specs.List.{list_all};
+ghost use Rattle.mx_sdw.specs.Octal.{begins_number, is_octal, is_octal_digit, octal, octal_number, octal_value};
+
+use std::alloc::AllocError;
+
+/// Reads the octal spelling of a number in at most `digits` digits, `None` exactly where the text is no such spelling:
+/// a leading zero has none, but for `0` itself. At most 21 digits fit a `u64`.
+#[tactic(auto, unfolding(crate::specs::Octal::octal_number))]
+pub fn read_octal_number(text: &[u8], digits: usize) -> Option<u64>
+    requires { digits ≤ 21 }
+    ensures value { result ≡ octal_number digits text.now }
+    ensures bound { IfSome result (λ n. n < 8 ^ digits) }
+{
+    if is_octal(text) && text.len() <= digits {
+        Some(value_of(text))
+    } else {
+        None
+    }
+}
+
+fn value_of(text: &[u8]) -> u64
+    requires digits { list_all is_octal_digit text.now ≡ true }
+    requires short { length text.now ≤ 21 }
+    ensures value { result ≡ octal_value text.now }
+    ensures bound { result < 8 ^ length text.now }
+{
+    let mut n = 0;
+    for c in text {
+        n = 8 * n + u64::from(*c - b'0');
+    }
+    n
+}
+
+/// Appends the octal spelling of a number; want of memory leaves the bytes as they were.
+#[tactic(auto, using(crate::proofs::OctalLaws::octal_small, crate::proofs::OctalLaws::appended))]
+pub fn write_octal(out: &mut Vec<u8>, n: u64) -> Result<(), AllocError>
+    ensures ok { OnOk result (out.new.items ≡ out.old.items ++ octal n) }
+    ensures err { OnErr result (out.new.items ≡ out.old.items) }
+{
+    if n < 8 {
+        out.push(b'0' + n as u8)?;
+        return Ok(());
+    }
+    let start = out.len();
+    write_octal(out, n / 8)?;
+    match out.push(b'0' + (n % 8) as u8) {
+        Ok(()) => Ok(()),
+        Err(refused) => {
+            out.truncate(start);
+            Err(refused.into())
+        },
+    }
+}
+
+fn is_octal(text: &[u8]) -> bool
+    ensures { result ≡ is_octal text.now }
+{
+    begins_number(text) && are_octal_digits(text)
+}
+
+fn are_octal_digits(text: &[u8]) -> bool
+    ensures { result ≡ list_all is_octal_digit text.now }
+{
+    text.iter().all(|c| is_octal_digit(*c))
+}
+
+fn begins_number(text: &[u8]) -> bool
+    ensures { result ≡ begins_number text.now }
+{
+    match text {
+        [] => false,
+        [_] => true,
+        [first, ..] => *first != b'0',
+    }
+}
+
+fn is_octal_digit(c: u8) -> bool
+    ensures { result ≡ is_octal_digit c }
+{
+    (b'0'..=b'7').contains(&c)
+}
+
+#[cfg(test)]
+mod tests {
+    use super::*;
+    use std::test::Fail;
+
+    #[test]
+    fn reads_and_writes(rt: HostRuntime) -> Result<(), Fail> {
+        let mut text = Vec::new(rt.alloc());
+        write_octal(&mut text, 0)?;
+        write_octal(&mut text, 0o37777)?;
+        assert_eq!(rt; text.as_slice(), b"037777".as_slice());
+        assert_eq!(rt; read_octal_number(b"777777777777", 12), Some((1 << 36) - 1));
+        assert_eq!(rt; read_octal_number(b"0", 1), Some(0));
+        assert_eq!(rt; read_octal_number(b"010", 5), None);
+        assert_eq!(rt; read_octal_number(b"8", 5), None);
+        assert_eq!(rt; read_octal_number(b"12345", 4), None);
+        assert_eq!(rt; read_octal_number(b"", 4), None);
+        Ok(())
+    }
+}
