@@ -37,7 +37,7 @@ impl From<AllocError> for NameError {
 
 /// The name of an entry in a directory: 1 to 32 bytes of printable ASCII, without the space and `> < * ? $ , | : =`
 /// (the characters are this model's choice). Also the form of reference names and of symbols.
-#[derive(Debug, Drop, Clone, PartialEq, Eq, PartialOrd, Ord, Hash)]
+#[derive(Debug, Drop, PartialEq, Eq, PartialOrd, Ord, Hash)]
 pub struct EntryName {
     text: Bytes,
 }
@@ -53,6 +53,15 @@ impl Model for EntryName {
     ghost inverse = { λ d. record { text = d } };
 
     ghost invariant = { λ a. name_fault a.text ≡ None };
+}
+
+impl Clone for EntryName {
+    ghost is_clone = { λ a b. b ≡ a };
+
+    fn clone(&self) -> Result<EntryName, AllocError> {
+        let text = self.text.clone()?;
+        Ok(EntryName { text })
+    }
 }
 
 impl EntryName {

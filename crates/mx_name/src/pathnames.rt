@@ -14,7 +14,7 @@ use std::marker::Model;
 
 /// A pathname as written: at most 168 bytes; names with `>` between them, behind one `>` (from the root), any number of `<`
 /// (each goes up one directory), or nothing. It is seen as its text.
-#[derive(Debug, Drop, Clone, PartialEq, Eq)]
+#[derive(Debug, Drop, PartialEq, Eq)]
 pub struct Pathname {
     text: Bytes,
 }
@@ -30,6 +30,15 @@ impl Model for Pathname {
     ghost inverse = { λ d. record { text = d } };
 
     ghost invariant = { λ a. pathname_fault a.text ≡ None };
+}
+
+impl Clone for Pathname {
+    ghost is_clone = { λ a b. b ≡ a };
+
+    fn clone(&self) -> Result<Pathname, AllocError> {
+        let text = self.text.clone()?;
+        Ok(Pathname { text })
+    }
 }
 
 impl Pathname {

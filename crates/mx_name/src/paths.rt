@@ -38,7 +38,7 @@ impl From<AllocError> for PathError {
 
 /// The names from the root down to an entry; none for the root itself. Written with `>` before each name it has at most
 /// 168 bytes.
-#[derive(Debug, Drop, Clone, PartialEq, Eq)]
+#[derive(Debug, Drop, PartialEq, Eq)]
 pub struct Path {
     names: Sequence<EntryName>,
 }
@@ -54,6 +54,15 @@ impl Model for Path {
     ghost inverse = { λ d. record { names = d } };
 
     ghost invariant = { λ a. IsPath a.names };
+}
+
+impl Clone for Path {
+    ghost is_clone = { λ a b. b ≡ a };
+
+    fn clone(&self) -> Result<Path, AllocError> {
+        let names = self.names.clone()?;
+        Ok(Path { names })
+    }
 }
 
 impl Path {

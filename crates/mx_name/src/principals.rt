@@ -15,7 +15,7 @@ use std::marker::Model;
 
 /// A principal, `Person.Project.tag`: a person of 1 to 22, a project of 1 to 9 and a tag of one letter, digit or `_` (these
 /// bounds are this model's choice).
-#[derive(Debug, Drop, Clone, PartialEq, Eq, PartialOrd, Ord, Hash)]
+#[derive(Debug, Drop, PartialEq, Eq, PartialOrd, Ord, Hash)]
 pub struct Principal {
     person: Bytes,
     project: Bytes,
@@ -32,6 +32,21 @@ impl Model for Principal {
     ghost inverse = { λ d. record { person = d.person; project = d.project; tag = d.tag } };
 
     ghost invariant = { λ a. IsPrincipal (record { person = a.person; project = a.project; tag = a.tag }) };
+}
+
+impl Clone for Principal {
+    ghost is_clone = { λ a b. b ≡ a };
+
+    fn clone(&self) -> Result<Principal, AllocError> {
+        let person = self.person.clone()?;
+        let project = self.project.clone()?;
+        let tag = self.tag.clone()?;
+        Ok(Principal {
+            person,
+            project,
+            tag,
+        })
+    }
 }
 
 impl Principal {
