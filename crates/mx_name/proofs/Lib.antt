@@ -1,0 +1,5 @@
+pub mod FirstFaults
+pub mod IdLaws
+pub mod PathLaws
+pub mod Splitting
+pub mod TextLaws

@@ -1,0 +1,20 @@
+//! A text cut in two at a byte.
+ghost use Rattle.std.specs.Prelude.{◌≡◌, ◌==◌, ◌<◌, length, IfSome};
+ghost use Rattle.std.specs.List.{slice_split};
+ghost use Rattle.std.specs.Option.{option_map};
+ghost use Rattle.mx_name.specs.Cuts.{parts_by};
+
+/// What stands before the first `mark` of a text and what after it.
+#[tactic(auto, using(crate::proofs::Splitting::behind_none))]
+pub(crate) fn cut(mark: u8, text: &[u8]) -> Option<(&[u8], &[u8])>
+    ensures parts { slice_split (λ c. c == mark) text.now
+        ≡ parts_by mark text.now (option_map (λ p. (p.0.now, p.1.now)) result) }
+    ensures shorter { IfSome result (λ p. length p.1.now < length text.now) }
+{
+    for (i, byte) in text.iter().enumerate() {
+        if *byte == mark {
+            return Some((&text[..i], &text[i + 1..]));
+        }
+    }
+    None
+}

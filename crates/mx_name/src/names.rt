@@ -1,0 +1,137 @@
+//! Entry names, and the faults of texts that are none.
+ghost use Rattle.std.specs.Prelude.{◌≡◌, ℕ, Bool, Some, None, IfOk, length};
+ghost use Rattle.std.specs.List.{list_all};
+ghost use Rattle.mx_name.specs.Names.{is_name_byte, fault_of, name_fault, name_reading};
+ghost use Rattle.mx_name.specs.Answers.{Answers};
+ghost use Rattle.mx_name.specs.declared.names.NameError.TheVariants.{Memory};
+
+use mx_list::Bytes;
+use std::alloc::{AllocError, Global};
+use std::marker::Model;
+use thiserror::Error;
+
+/// Why a text is no name, pathname, principal or identifier. The variants are tested in this order.
+#[derive(Clone, Copy, Debug, PartialEq, Eq, Error)]
+pub enum NameError {
+    /// The text, or one of its names or components, is empty.
+    #[error("empty")]
+    Empty,
+    /// It is longer than its kind allows.
+    #[error("too long")]
+    TooLong,
+    /// It has a byte that its kind does not allow, or not three components.
+    #[error("bad character")]
+    BadChar,
+    /// Memory was wanting; the text itself has no fault.
+    #[error("out of memory")]
+    Memory,
+}
+
+impl From<AllocError> for NameError {
+    ghost from_gives = { λ _ e. e ≡ Memory };
+
+    fn from(_error: AllocError) -> NameError {
+        NameError::Memory
+    }
+}
+
+/// The name of an entry in a directory: 1 to 32 bytes of printable ASCII, without the space and `> < * ? $ , | : =`
+/// (the characters are this model's choice). Also the form of reference names and of symbols.
+#[derive(Debug, Drop, PartialEq, Eq, PartialOrd, Ord, Hash)]
+pub struct EntryName {
+    text: Bytes,
+}
+
+impl Model for EntryName {
+    ghost use Rattle.std.specs.Prelude.{◌≡◌, List, ℕ, None};
+    ghost use Rattle.mx_name.specs.Names.{name_fault};
+
+    ghost Value = { List ℕ };
+
+    ghost view = { λ a. a.text };
+
+    ghost inverse = { λ d. record { text = d } };
+
+    ghost invariant = { λ a. name_fault a.text ≡ None };
+}
+
+impl Clone for EntryName {
+    ghost is_clone = { λ a b. b ≡ a };
+
+    fn clone(&self) -> Result<EntryName, AllocError> {
+        let text = self.text.clone()?;
+        Ok(EntryName { text })
+    }
+}
+
+impl EntryName {
+    /// The name that a text is. `Empty`, `TooLong` and `BadChar` are tested in this order over the whole text.
+    pub fn read(alloc: Global, text: &[u8]) -> Result<EntryName, NameError>
+        ensures { Answers NameError.Memory (name_reading text.now) result }
+    {
+        if let Some(fault) = name_fault(text) {
+            return Err(fault);
+        }
+        let name = EntryName::of(alloc, text)?;
+        Ok(name)
+    }
+
+    /// The name of a text that has no fault.
+    pub(crate) fn of(alloc: Global, text: &[u8]) -> Result<EntryName, AllocError>
+        requires { name_fault text.now ≡ None }
+        ensures { IfOk result (λ name. name ≡ text.now) }
+    {
+        let text = Bytes::of_slice(alloc, text)?;
+        Ok(EntryName { text })
+    }
+
+    /// The bytes of the name.
+    pub fn bytes(&self) -> &[u8]
+        ensures value { result.now ≡ self.now }
+        ensures name { name_fault self.now ≡ None }
+    {
+        self.text.items()
+    }
+
+    /// Another such name.
+    pub fn copy(&self) -> Result<EntryName, AllocError>
+        ensures { IfOk result (λ name. name ≡ self.now) }
+    {
+        self.clone()
+    }
+}
+
+/// The first fault of a text as an entry name.
+pub(crate) fn name_fault(text: &[u8]) -> Option<NameError>
+    ensures { result ≡ name_fault text.now }
+{
+    if text.is_empty() {
+        Some(NameError::Empty)
+    } else if text.len() > 32 {
+        Some(NameError::TooLong)
+    } else if all_name_bytes(text) {
+        None
+    } else {
+        Some(NameError::BadChar)
+    }
+}
+
+fn all_name_bytes(text: &[u8]) -> bool
+    ensures { result ≡ list_all is_name_byte text.now }
+{
+    text.iter().all(
+        |byte: &u8| -> bool
+            ensures { result ≡ is_name_byte byte.now }
+        { is_name_byte(*byte) },
+    )
+}
+
+fn is_name_byte(byte: u8) -> bool
+    ensures { result ≡ is_name_byte byte }
+{
+    match byte {
+        b'>' | b'<' | b'*' | b'?' | b'$' | b',' | b'|' | b':' | b'=' => false,
+        b'!'..=b'~' => true,
+        _ => false,
+    }
+}
