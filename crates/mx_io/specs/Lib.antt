@@ -3,3 +3,4 @@ pub mod Bytes
 pub mod Reading
 pub mod Writing
 pub mod Memory
+pub mod Standard

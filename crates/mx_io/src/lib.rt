@@ -4,7 +4,7 @@
 //! that a fault is answered only where the object's count of faults rose. [`read_all`] and [`write_all`] are generic over
 //! them: what they give is proved to be exactly the bytes that were there, and a fault of theirs has its cause in the object.
 //! [`MemorySource`] and [`MemorySink`] tell their bytes and fault at calls that the caller names. [`StdSource`] and
-//! [`StdSink`] are the trusted edge over std's readers and writers: they count faults and tell no bytes.
+//! [`StdSink`] pass on what a reader and a writer of std move, and count its faults; what a real stream moves is trusted.
 #![tactic(auto)]
 
 mod calls;
