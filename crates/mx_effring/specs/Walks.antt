@@ -1,5 +1,5 @@
 -- What a walk of an operand asks for, and which words it refuses.
-use Rattle.std.specs.Prelude.{ℕ, nat_eq, false, ◌&&◌, if◌then◌else◌, length, Option, Some, None}
+use Rattle.std.specs.Prelude.{◌≡◌, ℕ, nat_eq, true, false, ◌&&◌, if◌then◌else◌, length, Option, Some, None}
 use Rattle.mx_effring.specs.declared.walks.Want.{Want}
 use Rattle.mx_effring.specs.declared.walks.Want.TheVariants.{Word, Done}
 use Rattle.mx_effring.specs.declared.walks.Stuck.{Stuck}
@@ -14,6 +14,10 @@ wanted o =
     if place.further
     then Word place.segno place.word (effective_ring o)
     else Done (record place { ring = effective_ring o; further = false })
+
+-- whether it is a word that the walk asks for
+abbrev pub IsWanting : Operand → Type 0
+IsWanting o = (place_of o).further ≡ true
 
 -- a pointer is refused as the eighth word, where it asks for a further one
 abbrev pub refuses_pointer : Operand → Option PointerParts → Option Stuck

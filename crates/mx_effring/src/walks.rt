@@ -1,9 +1,9 @@
 //! The walk of an operand through its indirect words.
 
-ghost use Rattle.std.specs.Prelude.{◌≡◌, ◌↔◌, true, [], Some, None, IsOk, IfErr, OnOk, OnErr};
+ghost use Rattle.std.specs.Prelude.{◌≡◌, ◌↔◌, [], Some, None, IsOk, IfErr, OnOk, OnErr};
 ghost use Rattle.mx_ptr.specs.Pointers.{parts_of};
 ghost use Rattle.mx_effring.specs.Chains.{effective_ring, place_of, read_on, IsBounded};
-ghost use Rattle.mx_effring.specs.Walks.{wanted, refuses};
+ghost use Rattle.mx_effring.specs.Walks.{wanted, refuses, IsWanting};
 
 use crate::chains::{Indirection, last_pointer, raised, raised_along};
 use mx_ptr::{Pointer, is_link};
@@ -95,7 +95,7 @@ impl Walk {
     /// Reads on with the word that it asks for, from a segment with the first bracket `r1`. A refused word leaves it as
     /// it was: a link word, a word that is no pointer, and an eighth word that asks for a further one, in this order.
     pub fn feed(&mut self, word: Word, r1: Ring) -> Result<(), Stuck>
-        requires { (place_of self.old).further ≡ true }
+        requires { IsWanting self.old }
         ensures taken { IsOk result ↔ (refuses self.old word ≡ None) }
         ensures why { IfErr result (λ stuck. refuses self.old word ≡ Some stuck) }
         ensures ok { OnOk result (self.new ≡ read_on self.old (parts_of word) r1) }
