@@ -1,0 +1,48 @@
+-- An operand and the chain of indirect words that it goes through. The effective ring is Schroeder and Saltzer's: no
+-- reference is made with more privilege than the least privileged ring that could have had a hand in its address.
+use Rattle.std.specs.Prelude.{◌≡◌, ℕ, ◌≤◌, max, Bool, false, List, [], ◌∷◌, ◌++◌, length}
+use Rattle.mx_ptr.specs.Pointers.{PointerParts}
+
+-- a pointer word that was read, and the first bracket of the segment that held it
+pub record Indirection : Type 0 where
+  pub pointer : PointerParts
+  pub r1 : ℕ
+
+-- an operand: the current ring, the pointer that it begins at, whether it is indirect, and the words read so far
+pub record Operand : Type 0 where
+  pub current : ℕ
+  pub base : PointerParts
+  pub indirect : Bool
+  pub chain : List Indirection
+
+-- the rings in the words of a chain, and the first brackets of their segments
+abbrev pub rings_along : List Indirection → List ℕ
+rings_along [] = []
+rings_along (i ∷ rest) = i.pointer.ring ∷ i.r1 ∷ rings_along rest
+
+-- the largest of some rings
+abbrev pub largest : List ℕ → ℕ
+largest [] = 0
+largest (ring ∷ rest) = max ring (largest rest)
+
+-- the largest of the current ring, the base's ring, and the rings along the chain
+abbrev pub effective_ring : Operand → ℕ
+effective_ring o = largest (o.current ∷ o.base.ring ∷ rings_along o.chain)
+
+-- the last pointer of a chain that begins at a pointer
+abbrev pub last_pointer : PointerParts → List Indirection → PointerParts
+last_pointer p [] = p
+last_pointer p (i ∷ rest) = last_pointer i.pointer rest
+
+-- where the chain has led: to the base, or to where its last pointer points
+abbrev pub place_of : Operand → PointerParts
+place_of o = last_pointer (record o.base { further = o.indirect }) o.chain
+
+-- the operand after one more word
+abbrev pub read_on : Operand → PointerParts → ℕ → Operand
+read_on o pointer r1 = record o { chain = o.chain ++ record { pointer = pointer; r1 = r1 } ∷ [] }
+
+-- at most eight words, of which an eighth asks for no further one
+pub record IsBounded (o : Operand) : Type 0 where
+  pub short : length o.chain ≤ 8
+  pub ended : length o.chain ≡ 8 → (place_of o).further ≡ false
