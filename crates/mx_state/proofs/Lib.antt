@@ -1,0 +1,10 @@
+pub mod Deciding
+pub mod Lists
+pub mod Descriptors
+pub mod OpeningLaws
+pub mod MakingLaws
+pub mod EndingLaws
+pub mod KnowingLaws
+pub mod PlaceLaws
+pub mod SettingLaws
+pub mod ModeLaws
