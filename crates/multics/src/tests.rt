@@ -1,0 +1,416 @@
+//! The top call over the ends in memory: what the worked sessions print, and what is answered to every text that is close
+//! to the smallest session. The expected values come from the rules of the formats, worked out by hand.
+
+use super::*;
+use mx_io::{MemorySink, MemorySource};
+use std::alloc::{AllocError, Global};
+use std::test::Fail;
+
+// The smallest session, line by line.
+const SMALLEST: [&[u8]; 10] = [
+    b"multics 1",
+    b"create_seg >a 64 4 4 4",
+    b"set_acl >a Jones.Faculty.a rw",
+    b"process Jones.Faculty.a",
+    b"initiate >a",
+    b"set 52",
+    b"sta 10|5",
+    b"lda 10|5",
+    b"logout",
+    b"end",
+];
+
+const SMALLEST_RUN: &[u8] = b"journal 4\n\
+    1 0 0 create_seg >a 64 4 4 4 = ok\n\
+    2 0 0 set_acl >a Jones.Faculty.a rw = ok\n\
+    3 1 4 initiate >a = segno 10 new\n\
+    4 1 4 logout = ok\n\
+    process 0\nentry 1\nline 2 done\nentry 2\nline 3 done\n\
+    process 1\nentry 3\nline 5 done\nline 6 done\n\
+    write 10|5 ring 4 point 3 word 52\nline 7 done\n\
+    read 10|5 ring 4 point 3 word 52 from 1 stamp 3\nline 8 a 52\n\
+    entry 4\nline 9 done\nend\n";
+
+// What the call answered, and what the sink holds.
+struct Answer {
+    status: u8,
+    written: Vec<u8>,
+}
+
+// What a call is given: which calls of the ends fail, and how much room the sink has.
+struct Ends<'a> {
+    source_fails: &'a [u32],
+    sink_fails: &'a [u32],
+    room: usize,
+}
+
+const GOOD: Ends<'static> = Ends {
+    source_fails: &[],
+    sink_fails: &[],
+    room: 4096,
+};
+
+fn call(rt: &HostRuntime, words: &[&str], text: &[u8], ends: &Ends<'_>) -> Result<Answer, Fail> {
+    let alloc = rt.alloc();
+    let mut own = Vec::new(alloc);
+    for word in words {
+        own.push(String::from_str(alloc, word)?)?;
+    }
+    let mut source = MemorySource::new(
+        Vec::from_slice(alloc, text)?,
+        Vec::from_slice(alloc, ends.source_fails)?,
+        7,
+    );
+    let mut sink = MemorySink::new(
+        alloc,
+        ends.room,
+        Vec::from_slice(alloc, ends.sink_fails)?,
+        3,
+    )?;
+    let status = multics(rt, alloc, own.as_slice(), &mut source, &mut sink);
+    let written = Vec::from_slice(alloc, sink.bytes())?;
+    Ok(Answer { status, written })
+}
+
+// Lines, each with its newline.
+fn text_of(alloc: Global, lines: &[&[u8]]) -> Result<Vec<u8>, AllocError> {
+    let mut text = Vec::new(alloc);
+    for line in lines {
+        text.extend_from_slice(line)?;
+        text.push(b'\n')?;
+    }
+    Ok(text)
+}
+
+fn bad_line(alloc: Global, number: u32) -> Result<String, AllocError> {
+    format!(in alloc; "bad line {number}\n")
+}
+
+// Where number is 0 the text is a session, and else it is its first bad line.
+fn expect_bad_line(rt: &HostRuntime, text: &[u8], number: u32) -> Result<(), Fail> {
+    let answer = call(rt, &["run"], text, &GOOD)?;
+    if number == 0 {
+        assert_eq!(rt; answer.status, 0);
+    } else {
+        let expected = bad_line(rt.alloc(), number)?;
+        assert_eq!(rt; answer.status, 5);
+        assert!(rt; answer.written.as_slice() == expected.as_bytes());
+    }
+    Ok(())
+}
+
+#[test]
+fn the_smallest_session_runs(rt: HostRuntime) -> Result<(), Fail> {
+    let text = text_of(rt.alloc(), &SMALLEST)?;
+    let answer = call(&rt, &["run"], &text, &GOOD)?;
+    assert_eq!(rt; answer.status, 0);
+    assert!(rt; answer.written.as_slice() == SMALLEST_RUN);
+    Ok(())
+}
+
+// A write above the first bracket is denied, and the read that follows finds what nobody has written.
+#[test]
+fn a_write_bracket_denies(rt: HostRuntime) -> Result<(), Fail> {
+    let answer = call(
+        &rt,
+        &["run"],
+        b"multics 1\ncreate_seg >a 64 1 4 4\nset_acl >a Jones.Faculty.a rw\nprocess Jones.Faculty.a\n\
+        initiate >a\nset 52\nsta 10|5\nlda 10|5\nlogout\nend\n",
+        &GOOD,
+    )?;
+    assert_eq!(rt; answer.status, 0);
+    assert!(rt;
+        answer.written.as_slice()
+            == b"journal 4\n\
+        1 0 0 create_seg >a 64 1 4 4 = ok\n2 0 0 set_acl >a Jones.Faculty.a rw = ok\n\
+        3 1 4 initiate >a = segno 10 new\n4 1 4 logout = ok\n\
+        process 0\nentry 1\nline 2 done\nentry 2\nline 3 done\n\
+        process 1\nentry 3\nline 5 done\nline 6 done\n\
+        write 10|5 ring 4 point 3 denied write_bracket\nline 7 denied write_bracket\n\
+        read 10|5 ring 4 point 3 word 0 from 0 stamp 0\nline 8 a 0\n\
+        entry 4\nline 9 done\nend\n"
+                .as_slice()
+    );
+    Ok(())
+}
+
+// The last word is read and the one after it is not; the list gives no write; number 11 stands for nothing.
+#[test]
+fn a_bound_and_a_list_deny(rt: HostRuntime) -> Result<(), Fail> {
+    let answer = call(
+        &rt,
+        &["run"],
+        b"multics 1\ncreate_seg >a 64 4 4 4\nset_acl >a Jones.Faculty.a r\nprocess Jones.Faculty.a\n\
+        initiate >a\nlda 10|77\nlda 10|100\nsta 10|0\nlda 11|0\nlogout\nend\n",
+        &GOOD,
+    )?;
+    assert_eq!(rt; answer.status, 0);
+    assert!(rt;
+        answer.written.as_slice()
+            == b"journal 4\n\
+        1 0 0 create_seg >a 64 4 4 4 = ok\n2 0 0 set_acl >a Jones.Faculty.a r = ok\n\
+        3 1 4 initiate >a = segno 10 new\n4 1 4 logout = ok\n\
+        process 0\nentry 1\nline 2 done\nentry 2\nline 3 done\n\
+        process 1\nentry 3\nline 5 done\n\
+        read 10|77 ring 4 point 3 word 0 from 0 stamp 0\nline 6 a 0\n\
+        read 10|100 ring 4 point 3 denied out_of_bounds\nline 7 denied out_of_bounds\n\
+        write 10|0 ring 4 point 3 denied not_writable\nline 8 denied not_writable\n\
+        read 11|0 ring 4 point 3 denied unknown_segment\nline 9 denied unknown_segment\n\
+        entry 4\nline 10 done\nend\n"
+                .as_slice()
+    );
+    Ok(())
+}
+
+// Who has no access to the root is not told why the segment is closed to him; a daemon is.
+#[test]
+fn a_null_entry_refuses(rt: HostRuntime) -> Result<(), Fail> {
+    let stranger = call(
+        &rt,
+        &["run"],
+        b"multics 1\ncreate_seg >a 64 4 4 4\nset_acl >a Jones.Faculty.a null\nprocess Jones.Faculty.a\n\
+        initiate >a\nlogout\nend\n",
+        &GOOD,
+    )?;
+    assert_eq!(rt; stranger.status, 0);
+    assert!(rt;
+        stranger.written.as_slice()
+            == b"journal 4\n\
+        1 0 0 create_seg >a 64 4 4 4 = ok\n2 0 0 set_acl >a Jones.Faculty.a null = ok\n\
+        3 1 4 initiate >a = refused 3 no_info\n4 1 4 logout = ok\n\
+        process 0\nentry 1\nline 2 done\nentry 2\nline 3 done\n\
+        process 1\nentry 3\nline 5 refused\nentry 4\nline 6 done\nend\n"
+                .as_slice()
+    );
+    let daemon = call(
+        &rt,
+        &["run"],
+        b"multics 1\ncreate_seg >a 64 4 4 4\nset_acl >a Backup.SysDaemon.a null\nprocess Backup.SysDaemon.a\n\
+        initiate >a\nlogout\nend\n",
+        &GOOD,
+    )?;
+    assert_eq!(rt; daemon.status, 0);
+    assert!(rt;
+        daemon.written.as_slice()
+            == b"journal 4\n\
+        1 0 0 create_seg >a 64 4 4 4 = ok\n2 0 0 set_acl >a Backup.SysDaemon.a null = ok\n\
+        3 1 4 initiate >a = refused 6 incorrect_access\n4 1 4 logout = ok\n\
+        process 0\nentry 1\nline 2 done\nentry 2\nline 3 done\n\
+        process 1\nentry 3\nline 5 refused\nentry 4\nline 6 done\nend\n"
+                .as_slice()
+    );
+    Ok(())
+}
+
+#[test]
+fn words_are_one_word(rt: HostRuntime) -> Result<(), Fail> {
+    let text = text_of(rt.alloc(), &SMALLEST)?;
+    for words in [
+        [].as_slice(),
+        &["run", "run"],
+        &["drill", "1234567"],
+        &["runs"],
+        &[""],
+        &["--help"],
+    ] {
+        let answer = call(&rt, words, &text, &GOOD)?;
+        assert_eq!(rt; answer.status, 2);
+        assert!(rt; answer.written.as_slice() == b"bad words\n".as_slice());
+    }
+    Ok(())
+}
+
+#[test]
+fn a_failing_end_is_told(rt: HostRuntime) -> Result<(), Fail> {
+    let text = text_of(rt.alloc(), &SMALLEST)?;
+    let source = call(
+        &rt,
+        &["run"],
+        &text,
+        &Ends {
+            source_fails: &[0],
+            sink_fails: &[],
+            room: 4096,
+        },
+    )?;
+    assert_eq!(rt; source.status, 3);
+    assert!(rt; source.written.is_empty());
+    let sink = call(
+        &rt,
+        &["run"],
+        &text,
+        &Ends {
+            source_fails: &[],
+            sink_fails: &[0],
+            room: 4096,
+        },
+    )?;
+    assert_eq!(rt; sink.status, 4);
+    assert!(rt; sink.written.is_empty());
+    let room = call(
+        &rt,
+        &["run"],
+        &text,
+        &Ends {
+            source_fails: &[],
+            sink_fails: &[],
+            room: 10,
+        },
+    )?;
+    assert_eq!(rt; room.status, 4);
+    assert!(rt; room.written.as_slice() == b"journal 4\n".as_slice());
+    Ok(())
+}
+
+#[test]
+fn a_text_past_the_limit_is_too_long(rt: HostRuntime) -> Result<(), Fail> {
+    let alloc = rt.alloc();
+    let mut text = Vec::new(alloc);
+    for _byte in 0..4_194_305u32 {
+        text.push(b'a')?;
+    }
+    let mut source = MemorySource::new(text, Vec::new(alloc), 65_536);
+    let mut sink = MemorySink::new(alloc, 100, Vec::new(alloc), 3)?;
+    let mut words = Vec::new(alloc);
+    words.push(String::from_str(alloc, "run")?)?;
+    assert_eq!(rt;
+        multics(&rt, alloc, words.as_slice(), &mut source, &mut sink),
+        6
+    );
+    assert!(rt; sink.bytes() == b"too long\n".as_slice());
+    Ok(())
+}
+
+// The ends of texts: nothing, no last line, no last newline, and one line too many.
+#[test]
+fn texts_that_end_too_early_or_too_late_are_refused(rt: HostRuntime) -> Result<(), Fail> {
+    let text = text_of(rt.alloc(), &SMALLEST)?;
+    expect_bad_line(&rt, b"", 1)?;
+    expect_bad_line(&rt, &text[..text.len().saturating_sub(4)], 10)?;
+    expect_bad_line(&rt, &text[..text.len().saturating_sub(1)], 10)?;
+    let mut more = Vec::from_slice(rt.alloc(), &text)?;
+    more.push(b'\n')?;
+    expect_bad_line(&rt, &more, 11)?;
+    Ok(())
+}
+
+// Another line in the place of one is the first bad line.
+#[test]
+fn other_lines_are_refused(rt: HostRuntime) -> Result<(), Fail> {
+    for (place, line) in [
+        (0, b"multics 2".as_slice()),
+        (0, b"multics  1"),
+        (1, b"create_seg >a 064 4 4 4"),
+        (1, b"create_seg >a 0 4 4 4"),
+        (1, b"create_seg >a 1025 4 4 4"),
+        (1, b"create_seg >a 64 5 4 4"),
+        (1, b"create_seg >a 64 4 4 8"),
+        (1, b"create_seg >a 64 4 4"),
+        (1, b"create_seg a 64 4 4 4"),
+        (1, b"create_seg >a>b 64 4 4 4"),
+        (2, b"set_acl >b Jones.Faculty.a rw"),
+        (2, b"set_acl >a *.Faculty.a rw"),
+        (2, b"set_acl >a Jones.Faculty.a wr"),
+        (2, b"set_acl >a Jones.Faculty.a sma"),
+        (2, b"set_acl >a Jones.Faculty.a"),
+        (3, b"process Jones.Faculty"),
+        (3, b"process Jones.Faculty.ab"),
+        (3, b"process"),
+        (4, b"initiate >b"),
+        (4, b"initiate >a\t"),
+        (5, b"set 08"),
+        (5, b"set 1000000000000"),
+        (6, b"sta 8|0"),
+        (6, b"sta 10000|0"),
+        (6, b"sta 10|40000"),
+        (7, b"lda 10|5,*"),
+        (7, b"lda pr0|5"),
+        (8, b"logout "),
+        (9, b"End"),
+    ] {
+        let mut lines = SMALLEST;
+        if place < lines.len() {
+            lines[place] = line;
+        }
+        let text = text_of(rt.alloc(), &lines)?;
+        expect_bad_line(&rt, &text, place as u32 + 1)?;
+    }
+    Ok(())
+}
+
+// Each line left out, doubled, and exchanged with the next: the first bad line, 0 where the text still is a session.
+#[test]
+fn lines_out_of_place_are_refused(rt: HostRuntime) -> Result<(), Fail> {
+    let alloc = rt.alloc();
+    let left_out = [1, 2, 3, 4, 5, 0, 0, 0, 9, 10];
+    let doubled = [2, 3, 4, 5, 6, 0, 0, 0, 10, 11];
+    let exchanged = [1, 2, 3, 4, 5, 0, 0, 9, 9];
+    for (place, number) in left_out.iter().enumerate() {
+        let mut lines = Vec::new(alloc);
+        for (i, line) in SMALLEST.iter().enumerate() {
+            if i != place {
+                lines.push(*line)?;
+            }
+        }
+        expect_bad_line(&rt, &text_of(alloc, &lines)?, *number)?;
+    }
+    for (place, number) in doubled.iter().enumerate() {
+        let mut lines = Vec::new(alloc);
+        for (i, line) in SMALLEST.iter().enumerate() {
+            lines.push(*line)?;
+            if i == place {
+                lines.push(*line)?;
+            }
+        }
+        expect_bad_line(&rt, &text_of(alloc, &lines)?, *number)?;
+    }
+    for (place, number) in exchanged.iter().enumerate() {
+        let mut lines = SMALLEST;
+        if place + 1 < lines.len() {
+            lines.swap(place, place + 1);
+        }
+        expect_bad_line(&rt, &text_of(alloc, &lines)?, *number)?;
+    }
+    Ok(())
+}
+
+// Each byte of the smallest session left out. A number may lose a digit, a name or a component a letter, and the modes a
+// letter; every other byte is missed on its own line.
+#[test]
+fn a_missing_byte_is_missed(rt: HostRuntime) -> Result<(), Fail> {
+    let alloc = rt.alloc();
+    // A mark under each byte without which the text still is a session.
+    let spare: [&[u8]; 10] = [
+        b".........",
+        b"..............##......",
+        b"...........#####.#######...##",
+        b"........#####.#######..",
+        b"...........",
+        b"....##",
+        b"....##..",
+        b"....##..",
+        b"......",
+        b"...",
+    ];
+    for (place, line) in SMALLEST.iter().enumerate() {
+        for missing in 0..line.len() + 1 {
+            let mut text = Vec::new(alloc);
+            for (i, other) in SMALLEST.iter().enumerate() {
+                for (j, byte) in other.iter().enumerate() {
+                    if i != place || j != missing {
+                        text.push(*byte)?;
+                    }
+                }
+                if i != place || missing != line.len() {
+                    text.push(b'\n')?;
+                }
+            }
+            let is_spare = match spare.get(place) {
+                Some(marks) => marks.get(missing) == Some(&b'#'),
+                None => false,
+            };
+            expect_bad_line(&rt, &text, if is_spare { 0 } else { place as u32 + 1 })?;
+        }
+    }
+    Ok(())
+}

@@ -1,0 +1,140 @@
+-- How transcripts and the journal grow at their ends.
+use Rattle.std.proofs.Common.{◌≡◌, ◌≢◌, ℕ, zero, suc, ◌+◌, ◌<◌, ◌≤◌, Bool, true, false, List, [], ◌∷◌, ◌++◌, length, take, refl, ap, sym, ◌∙◌, subst, Some, arith, append_assoc, add-zero}
+use Rattle.std.specs.Prelude.{if◌then◌else◌, ◌==◌}
+use Rattle.mx_state.specs.Plain.{Plain}
+use Rattle.mx_state.specs.History.{replay, IsRight, IsRightEntry}
+use Rattle.mx_state.specs.Requests.{plain}
+use Rattle.mx_state.specs.declared.journal.Entry as journaled
+use Rattle.mx_state.specs.declared.lines.Line.{Line}
+use Rattle.mx_state.specs.declared.lines.Line.TheVariants.{Ask, Set, Lda, Sta}
+use Rattle.mx_state.specs.declared.transcripts.Event2.{Event2}
+use Rattle.mx_state.specs.declared.transcripts.Event2.TheVariants.{Core, Entry}
+use Rattle.mx_state.specs.declared.transcripts.Result2.{Result2}
+use Rattle.mx_run.specs.Lines.{entry_at, IsLine, AreLines, AreNumbered}
+use Rattle.mx_run.specs.Transcripts.{Step, part, events_of, entries_named, numbers_from}
+use Rattle.mx_run.specs.declared.registers.Registers.{Registers}
+use Rattle.mx_run.proofs.Places.{place_kept}
+
+-- the parts of a list of transcripts that grew
+pub part_before : (before : List (List Step)) (steps : List Step) (u : ℕ) → u < length before
+    → part (before ++ steps ∷ []) u ≡ part before u
+part_before [] steps u h = absurd (omega arith)
+part_before (t ∷ ts) steps zero h = refl
+part_before (t ∷ ts) steps (suc u) h = part_before ts steps u (omega arith)
+
+pub part_here : (before : List (List Step)) (steps : List Step) → part (before ++ steps ∷ []) (length before) ≡ steps
+part_here [] steps = refl
+part_here (t ∷ ts) steps = part_here ts steps
+
+pub part_beyond : (parts : List (List Step)) (u : ℕ) → length parts ≤ u → part parts u ≡ []
+part_beyond [] u h = refl
+part_beyond (t ∷ ts) zero h = absurd (omega arith)
+part_beyond (t ∷ ts) (suc u) h = part_beyond ts u (omega arith)
+
+-- another process's part does not depend on this one's steps
+pub part_other : (before : List (List Step)) (steps steps' : List Step) (u : ℕ) → u ≢ length before
+    → part (before ++ steps' ∷ []) u ≡ part (before ++ steps ∷ []) u
+part_other [] steps steps' zero h = absurd (h refl)
+part_other [] steps steps' (suc u) h = refl
+part_other (t ∷ ts) steps steps' zero h = refl
+part_other (t ∷ ts) steps steps' (suc u) h = part_other ts steps steps' u (λ e. h (ap suc e))
+
+pub events_snoc : (steps : List Step) (step : Step) → events_of (steps ++ step ∷ []) ≡ events_of steps ++ step.1
+events_snoc [] step = append_nil step.1
+  where
+    append_nil : {A : Type 0} (xs : List A) → xs ++ [] ≡ xs
+    append_nil [] = refl
+    append_nil (x ∷ xs) = ap (λ l. x ∷ l) (append_nil xs)
+events_snoc (s ∷ steps) step = ap (λ l. s.1 ++ l) (events_snoc steps step) ∙ sym (append_assoc s.1 (events_of steps) step.1)
+
+pub named_append : (a b : List Event2) → entries_named (a ++ b) ≡ entries_named a ++ entries_named b
+named_append [] b = refl
+named_append (Entry number ∷ a) b = ap (λ l. number ∷ l) (named_append a b)
+named_append (Core event ∷ a) b = named_append a b
+
+-- the number of a last entry, where it is this process's
+abbrev pub own_number : Bool → ℕ → List ℕ
+own_number true number = number ∷ []
+own_number false number = []
+
+pub numbers_snoc : (first p : ℕ) (journal : List journaled.Entry) (entry : journaled.Entry)
+    → numbers_from first p (journal ++ entry ∷ []) ≡ numbers_from first p journal ++ own_number (entry.process == p) (first + length journal)
+numbers_snoc first p [] entry = start first (entry.process == p)
+  where
+    start : (n : ℕ) (own : Bool) → (if own then n ∷ [] else []) ≡ own_number own (n + 0)
+    start n true = rw add-zero refl
+    start n false = refl
+numbers_snoc first p (e ∷ journal) entry =
+    more (e.process == p) (numbers_snoc (first + 1) p journal entry)
+  where
+    more : (own : Bool)
+        → numbers_from (first + 1) p (journal ++ entry ∷ []) ≡ numbers_from (first + 1) p journal ++ own_number (entry.process == p) (first + 1 + length journal)
+        → (if own then first ∷ numbers_from (first + 1) p (journal ++ entry ∷ []) else numbers_from (first + 1) p (journal ++ entry ∷ []))
+        ≡ (if own then first ∷ numbers_from (first + 1) p journal else numbers_from (first + 1) p journal) ++ own_number (entry.process == p) (first + suc (length journal))
+    more true h = ap (λ l. first ∷ l) (subst (λ (n : ℕ). numbers_from (first + 1) p (journal ++ entry ∷ []) ≡ numbers_from (first + 1) p journal ++ own_number (entry.process == p) n) (omega arith) h)
+    more false h = subst (λ (n : ℕ). numbers_from (first + 1) p (journal ++ entry ∷ []) ≡ numbers_from (first + 1) p journal ++ own_number (entry.process == p) n) (omega arith) h
+
+-- replaying one entry more
+pub replay_snoc : (s : Plain) (journal : List journaled.Entry) (entry : journaled.Entry)
+    → replay s (journal ++ entry ∷ []) ≡ (plain (replay s journal) entry.process entry.ring entry.request).state
+replay_snoc s [] entry = refl
+replay_snoc s (e ∷ journal) entry = replay_snoc (plain s e.process e.ring e.request).state journal entry
+
+pub right_snoc : (s : Plain) (journal : List journaled.Entry) (entry : journaled.Entry) → IsRight s journal
+    → IsRightEntry (replay s journal) entry → IsRight s (journal ++ entry ∷ [])
+right_snoc s [] entry right is = (is, tt)
+right_snoc s (e ∷ journal) entry right is = (right.0, right_snoc (plain s e.process e.ring e.request).state journal entry right.1 is)
+
+pub take_kept : {A : Type 0} (q : ℕ) (journal more : List A) → q ≤ length journal → take q (journal ++ more) ≡ take q journal
+take_kept zero journal more h = refl
+take_kept (suc q) [] more h = absurd (omega arith)
+take_kept (suc q) (e ∷ journal) more h = ap (λ l. e ∷ l) (take_kept q journal more (omega arith))
+
+pub take_all_of : {A : Type 0} (journal : List A) → take (length journal) journal ≡ journal
+take_all_of [] = refl
+take_all_of (e ∷ journal) = ap (λ l. e ∷ l) (take_all_of journal)
+
+-- an entry stays where it is while the journal grows
+pub entry_kept : (journal more : List journaled.Entry) (number : ℕ) (entry : journaled.Entry)
+    → entry_at journal number ≡ Some entry → entry_at (journal ++ more) number ≡ Some entry
+entry_kept journal more zero entry h = h
+entry_kept journal more (suc place) entry h = place_kept journal more place entry h
+
+line_kept : (journal more : List journaled.Entry) (p : ℕ) (start : Registers) (line : Line) (events : List Event2) (ends : Result2) (after : Registers)
+    → IsLine journal p start line events ends after → IsLine (journal ++ more) p start line events ends after
+line_kept journal more p start (Ask request) events ends after is = (
+  record {
+    number = is.0.number;
+    answered = is.0.answered;
+    event = is.0.event;
+    entry = entry_kept journal more is.0.number (record { process = p; ring = start.ring; request = request; reply = is.0.answered }) is.0.entry;
+    ended = is.0.ended;
+  },
+  is.1,
+)
+line_kept journal more p start (Set word) events ends after is = is
+line_kept journal more p start (Lda operand) events ends after is = is
+line_kept journal more p start (Sta operand) events ends after is = is
+
+pub lines_kept : (journal more : List journaled.Entry) (p : ℕ) (start : Registers) (lines : List Line) (steps : List Step) (after : Registers)
+    → AreLines journal p start lines steps after → AreLines (journal ++ more) p start lines steps after
+lines_kept journal more p start [] [] after are = are
+lines_kept journal more p start [] (step ∷ steps) after are = are
+lines_kept journal more p start (line ∷ lines) [] after are = are
+lines_kept journal more p start (line ∷ lines) (step ∷ steps) after are =
+    (are.0, line_kept journal more p start line step.1 step.2 are.0 are.1, lines_kept journal more p are.0 lines steps after are.2)
+
+pub lines_snoc : (journal : List journaled.Entry) (p : ℕ) (start : Registers) (lines : List Line) (steps : List Step) (between : Registers)
+    (line : Line) (step : Step) (after : Registers) → AreLines journal p start lines steps between
+    → IsLine journal p between line step.1 step.2 after → AreLines journal p start (lines ++ line ∷ []) (steps ++ step ∷ []) after
+lines_snoc journal p start [] [] between line step after are is =
+    (after, subst (λ (r : Registers). IsLine journal p r line step.1 step.2 after) are is, refl)
+lines_snoc journal p start [] (s ∷ steps) between line step after are is = absurd are
+lines_snoc journal p start (l ∷ lines) [] between line step after are is = absurd are
+lines_snoc journal p start (l ∷ lines) (s ∷ steps) between line step after are is =
+    (are.0, are.1, lines_snoc journal p are.0 lines steps between line step after are.2 is)
+
+pub numbered_snoc : (first : ℕ) (steps : List Step) (step : Step) → AreNumbered first steps → step.0 ≡ first + length steps
+    → AreNumbered first (steps ++ step ∷ [])
+numbered_snoc first [] step are e = (e ∙ add-zero first, tt)
+numbered_snoc first (s ∷ steps) step are e = (are.0, numbered_snoc (first + 1) steps step are.1 (omega arith))

@@ -1,0 +1,65 @@
+-- What each status of the top call means. A source's bytes and a sink's are spoken of where they are told.
+use Rattle.std.specs.Prelude.{◌≡◌, ℕ, ◌≤◌, ◌<◌, List, [], ◌∷◌, ◌++◌, length, Option, Some, None, codes}
+use Rattle.std.specs.Fmt.{decimal}
+use Rattle.mx_io.specs.Bytes.{TakesAll, TakesTooMany, Appends}
+use Rattle.mx_state.specs.Sessions.{Outline}
+use Rattle.mx_state.specs.declared.journal.Entry.{Entry}
+use Rattle.mx_run.specs.Falls.{HasGatedFalls}
+use Rattle.mx_run.specs.FirstBadLine.{IsFirstBad}
+use Rattle.mx_run.specs.Legal.{IsLegal}
+use Rattle.mx_run.specs.RunText.{run_text}
+use Rattle.mx_run.specs.SessionText.{IsText, IsSomeSession}
+use Rattle.mx_run.specs.Transcripts.{Step}
+
+-- the greatest size of a session text, in bytes
+abbrev pub most_bytes : ℕ
+most_bytes = 4194304
+
+-- the words of a command that runs a session
+abbrev pub IsRun : List (List ℕ) → Type 0
+IsRun words = words ≡ codes "run" ∷ []
+
+-- Status 0. The source was read to its end, and its bytes are the text of a session. The bytes that the sink gained are
+-- the run text of a legal run of that session, whose falls are gated.
+pub record IsDone (source source' sink sink' : Option (List ℕ)) : Type 0 where
+  pub spelled : List ℕ
+  pub session : Outline
+  pub journal : List Entry
+  pub transcripts : List (List Step)
+  pub read : TakesAll source source' spelled
+  pub text : IsText spelled session
+  pub legal : IsLegal session journal transcripts
+  pub gated : HasGatedFalls transcripts
+  pub printed : Appends sink sink' (run_text journal transcripts)
+
+-- Status 2 writes this.
+abbrev pub bad_words_text : List ℕ
+bad_words_text = codes "bad words\n"
+
+-- Status 5. The source was read to its end, and its bytes are no session; the sink gained the number of the first bad line.
+pub record IsBadText (source source' sink sink' : Option (List ℕ)) : Type 0 where
+  pub spelled : List ℕ
+  pub number : ℕ
+  pub read : TakesAll source source' spelled
+  pub first : IsFirstBad spelled number
+  pub printed : Appends sink sink' (codes "bad line " ++ decimal number ++ codes "\n")
+
+-- Status 6. The source gave more bytes than a session text may have.
+pub record IsTooLong (source source' sink sink' : Option (List ℕ)) : Type 0 where
+  pub read : TakesTooMany most_bytes source source'
+  pub printed : Appends sink sink' (codes "too long\n")
+
+-- a source that tells the text of a session, within the limit
+abbrev pub TellsSession : Option (List ℕ) → Type 0
+TellsSession None = ⊥
+TellsSession (Some spelled) = (length spelled ≤ most_bytes) × IsSomeSession spelled
+
+-- one that tells bytes within the limit that are no session
+abbrev pub TellsNoSession : Option (List ℕ) → Type 0
+TellsNoSession None = ⊥
+TellsNoSession (Some spelled) = (length spelled ≤ most_bytes) × (IsSomeSession spelled → ⊥)
+
+-- one that tells more bytes than the limit
+abbrev pub TellsTooMuch : Option (List ℕ) → Type 0
+TellsTooMuch None = ⊥
+TellsTooMuch (Some spelled) = most_bytes < length spelled
