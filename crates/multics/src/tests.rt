@@ -32,6 +32,7 @@ const SMALLEST_RUN: &[u8] = b"journal 4\n\
     entry 4\nline 9 done\nend\n";
 
 // What the call answered, and what the sink holds.
+#[derive(Drop)]
 struct Answer {
     status: u8,
     written: Vec<u8>,
@@ -50,8 +51,7 @@ const GOOD: Ends<'static> = Ends {
     room: 4096,
 };
 
-fn call(rt: &HostRuntime, words: &[&str], text: &[u8], ends: &Ends<'_>) -> Result<Answer, Fail> {
-    let alloc = rt.alloc();
+fn call(alloc: Global, words: &[&str], text: &[u8], ends: &Ends<'_>) -> Result<Answer, Fail> {
     let mut own = Vec::new(alloc);
     for word in words {
         own.push(String::from_str(alloc, word)?)?;
@@ -67,7 +67,7 @@ fn call(rt: &HostRuntime, words: &[&str], text: &[u8], ends: &Ends<'_>) -> Resul
         Vec::from_slice(alloc, ends.sink_fails)?,
         3,
     )?;
-    let status = multics(rt, alloc, own.as_slice(), &mut source, &mut sink);
+    let status = multics(&(), alloc, own.as_slice(), &mut source, &mut sink);
     let written = Vec::from_slice(alloc, sink.bytes())?;
     Ok(Answer { status, written })
 }
@@ -86,23 +86,20 @@ fn bad_line(alloc: Global, number: u32) -> Result<String, AllocError> {
     format!(in alloc; "bad line {number}\n")
 }
 
-// Where number is 0 the text is a session, and else it is its first bad line.
-fn expect_bad_line(rt: &HostRuntime, text: &[u8], number: u32) -> Result<(), Fail> {
-    let answer = call(rt, &["run"], text, &GOOD)?;
+// Whether the answer to a text is right: where number is 0 the text is a session, and else it is its first bad line.
+fn is_answered(alloc: Global, text: &[u8], number: u32) -> Result<bool, Fail> {
+    let answer = call(alloc, &["run"], text, &GOOD)?;
     if number == 0 {
-        assert_eq!(rt; answer.status, 0);
-    } else {
-        let expected = bad_line(rt.alloc(), number)?;
-        assert_eq!(rt; answer.status, 5);
-        assert!(rt; answer.written.as_slice() == expected.as_bytes());
+        return Ok(answer.status == 0);
     }
-    Ok(())
+    let expected = bad_line(alloc, number)?;
+    Ok(answer.status == 5 && answer.written.as_slice() == expected.as_bytes())
 }
 
 #[test]
 fn the_smallest_session_runs(rt: HostRuntime) -> Result<(), Fail> {
     let text = text_of(rt.alloc(), &SMALLEST)?;
-    let answer = call(&rt, &["run"], &text, &GOOD)?;
+    let answer = call(rt.alloc(), &["run"], &text, &GOOD)?;
     assert_eq!(rt; answer.status, 0);
     assert!(rt; answer.written.as_slice() == SMALLEST_RUN);
     Ok(())
@@ -112,7 +109,7 @@ fn the_smallest_session_runs(rt: HostRuntime) -> Result<(), Fail> {
 #[test]
 fn a_write_bracket_denies(rt: HostRuntime) -> Result<(), Fail> {
     let answer = call(
-        &rt,
+        rt.alloc(),
         &["run"],
         b"multics 1\ncreate_seg >a 64 1 4 4\nset_acl >a Jones.Faculty.a rw\nprocess Jones.Faculty.a\n\
         initiate >a\nset 52\nsta 10|5\nlda 10|5\nlogout\nend\n",
@@ -138,7 +135,7 @@ fn a_write_bracket_denies(rt: HostRuntime) -> Result<(), Fail> {
 #[test]
 fn a_bound_and_a_list_deny(rt: HostRuntime) -> Result<(), Fail> {
     let answer = call(
-        &rt,
+        rt.alloc(),
         &["run"],
         b"multics 1\ncreate_seg >a 64 4 4 4\nset_acl >a Jones.Faculty.a r\nprocess Jones.Faculty.a\n\
         initiate >a\nlda 10|77\nlda 10|100\nsta 10|0\nlda 11|0\nlogout\nend\n",
@@ -166,7 +163,7 @@ fn a_bound_and_a_list_deny(rt: HostRuntime) -> Result<(), Fail> {
 #[test]
 fn a_null_entry_refuses(rt: HostRuntime) -> Result<(), Fail> {
     let stranger = call(
-        &rt,
+        rt.alloc(),
         &["run"],
         b"multics 1\ncreate_seg >a 64 4 4 4\nset_acl >a Jones.Faculty.a null\nprocess Jones.Faculty.a\n\
         initiate >a\nlogout\nend\n",
@@ -183,7 +180,7 @@ fn a_null_entry_refuses(rt: HostRuntime) -> Result<(), Fail> {
                 .as_slice()
     );
     let daemon = call(
-        &rt,
+        rt.alloc(),
         &["run"],
         b"multics 1\ncreate_seg >a 64 4 4 4\nset_acl >a Backup.SysDaemon.a null\nprocess Backup.SysDaemon.a\n\
         initiate >a\nlogout\nend\n",
@@ -213,7 +210,7 @@ fn words_are_one_word(rt: HostRuntime) -> Result<(), Fail> {
         &[""],
         &["--help"],
     ] {
-        let answer = call(&rt, words, &text, &GOOD)?;
+        let answer = call(rt.alloc(), words, &text, &GOOD)?;
         assert_eq!(rt; answer.status, 2);
         assert!(rt; answer.written.as_slice() == b"bad words\n".as_slice());
     }
@@ -224,7 +221,7 @@ fn words_are_one_word(rt: HostRuntime) -> Result<(), Fail> {
 fn a_failing_end_is_told(rt: HostRuntime) -> Result<(), Fail> {
     let text = text_of(rt.alloc(), &SMALLEST)?;
     let source = call(
-        &rt,
+        rt.alloc(),
         &["run"],
         &text,
         &Ends {
@@ -236,7 +233,7 @@ fn a_failing_end_is_told(rt: HostRuntime) -> Result<(), Fail> {
     assert_eq!(rt; source.status, 3);
     assert!(rt; source.written.is_empty());
     let sink = call(
-        &rt,
+        rt.alloc(),
         &["run"],
         &text,
         &Ends {
@@ -248,7 +245,7 @@ fn a_failing_end_is_told(rt: HostRuntime) -> Result<(), Fail> {
     assert_eq!(rt; sink.status, 4);
     assert!(rt; sink.written.is_empty());
     let room = call(
-        &rt,
+        rt.alloc(),
         &["run"],
         &text,
         &Ends {
@@ -285,12 +282,12 @@ fn a_text_past_the_limit_is_too_long(rt: HostRuntime) -> Result<(), Fail> {
 #[test]
 fn texts_that_end_too_early_or_too_late_are_refused(rt: HostRuntime) -> Result<(), Fail> {
     let text = text_of(rt.alloc(), &SMALLEST)?;
-    expect_bad_line(&rt, b"", 1)?;
-    expect_bad_line(&rt, &text[..text.len().saturating_sub(4)], 10)?;
-    expect_bad_line(&rt, &text[..text.len().saturating_sub(1)], 10)?;
+    assert!(rt; is_answered(rt.alloc(), b"", 1)?);
+    assert!(rt; is_answered(rt.alloc(), &text[..text.len().saturating_sub(4)], 10)?);
+    assert!(rt; is_answered(rt.alloc(), &text[..text.len().saturating_sub(1)], 10)?);
     let mut more = Vec::from_slice(rt.alloc(), &text)?;
     more.push(b'\n')?;
-    expect_bad_line(&rt, &more, 11)?;
+    assert!(rt; is_answered(rt.alloc(), &more, 11)?);
     Ok(())
 }
 
@@ -333,7 +330,7 @@ fn other_lines_are_refused(rt: HostRuntime) -> Result<(), Fail> {
             lines[place] = line;
         }
         let text = text_of(rt.alloc(), &lines)?;
-        expect_bad_line(&rt, &text, place as u32 + 1)?;
+        assert!(rt; is_answered(rt.alloc(), &text, place as u32 + 1)?);
     }
     Ok(())
 }
@@ -352,7 +349,7 @@ fn lines_out_of_place_are_refused(rt: HostRuntime) -> Result<(), Fail> {
                 lines.push(*line)?;
             }
         }
-        expect_bad_line(&rt, &text_of(alloc, &lines)?, *number)?;
+        assert!(rt; is_answered(rt.alloc(), &text_of(alloc, &lines)?, *number)?);
     }
     for (place, number) in doubled.iter().enumerate() {
         let mut lines = Vec::new(alloc);
@@ -362,14 +359,14 @@ fn lines_out_of_place_are_refused(rt: HostRuntime) -> Result<(), Fail> {
                 lines.push(*line)?;
             }
         }
-        expect_bad_line(&rt, &text_of(alloc, &lines)?, *number)?;
+        assert!(rt; is_answered(rt.alloc(), &text_of(alloc, &lines)?, *number)?);
     }
     for (place, number) in exchanged.iter().enumerate() {
         let mut lines = SMALLEST;
         if place + 1 < lines.len() {
             lines.swap(place, place + 1);
         }
-        expect_bad_line(&rt, &text_of(alloc, &lines)?, *number)?;
+        assert!(rt; is_answered(rt.alloc(), &text_of(alloc, &lines)?, *number)?);
     }
     Ok(())
 }
@@ -409,7 +406,8 @@ fn a_missing_byte_is_missed(rt: HostRuntime) -> Result<(), Fail> {
                 Some(marks) => marks.get(missing) == Some(&b'#'),
                 None => false,
             };
-            expect_bad_line(&rt, &text, if is_spare { 0 } else { place as u32 + 1 })?;
+            let number = if is_spare { 0 } else { place as u32 + 1 };
+            assert!(rt; is_answered(alloc, &text, number)?);
         }
     }
     Ok(())

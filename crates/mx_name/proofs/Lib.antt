@@ -3,3 +3,4 @@ pub mod IdLaws
 pub mod PathLaws
 pub mod Splitting
 pub mod TextLaws
+pub mod TextOrder

@@ -17,16 +17,8 @@ use Rattle.mx_name.specs.Principals.{PlainPrincipal, IsPrincipal, is_principal_b
 use Rattle.mx_name.specs.Identifiers.{PlainAclId, IsAclId, component_of, component_text, component_fault, id_fault, id_parts, with_stars, acl_id_of, acl_id_text}
 use Rattle.mx_name.proofs.FirstFaults.{or_left, or_right}
 use Rattle.mx_name.proofs.PathLaws.{pathname_names}
+use Rattle.mx_name.specs.OrderLaws.{both_left, both_right, and_false}
 use Rattle.mx_name.specs.Names.{is_free, is_name_byte, name_fault, name_of, fault_of}
-
--- an entry of `&&`
-both_left : (a b : Bool) → (a && b) ≡ true → a ≡ true
-both_left true b h = refl
-both_left false b h = h
-
-both_right : (a b : Bool) → (a && b) ≡ true → b ≡ true
-both_right true b h = h
-both_right false b h = absurd (cc)
 
 -- a byte that fails the test is no byte that passes it
 other_byte : (p : ℕ → Bool) (byte c : ℕ) → p byte ≡ false → p c ≡ true → eqb c byte ≡ false
@@ -98,7 +90,7 @@ spelled_again a b c f g h =
     let some : eqb (length (a ++ 46 ∷ (b ++ 46 ∷ c))) 0 ≡ false = grind (arith, nat_tests, length-append {A = ℕ}) in
     rw (some, split_front 46 a (b ++ 46 ∷ c) f, split_front 46 b c g, split_alone 46 c h) refl
 
-all_three : (a b c : Option NameError) → option_or a (option_or b c) ≡ None → (a ≡ None) × (b ≡ None) × (c ≡ None)
+pub all_three : (a b c : Option NameError) → option_or a (option_or b c) ≡ None → (a ≡ None) × (b ≡ None) × (c ≡ None)
 all_three a b c e = let rest = or_right a (option_or b c) e in (or_left a (option_or b c) e, or_left b c rest, or_right b c rest)
 
 component_is_free : (byte most : ℕ) (text : List ℕ) → is_principal_byte byte ≡ false → fault_of is_principal_byte most text ≡ None → is_free byte text ≡ true
@@ -269,10 +261,6 @@ split_names name (next ∷ names) e =
 name_some : (p : ℕ → Bool) (most : ℕ) (name more : List ℕ) → fault_of p most name ≡ None → eqb (length (name ++ more)) 0 ≡ false
 name_some p most [] more e = absurd (cc)
 name_some p most (c ∷ cs) more e = grind (arith, nat_tests)
-
-and_false : (b : Bool) → (b && false) ≡ false
-and_false true = refl
-and_false false = refl
 
 -- a path's text has the path's names
 pub path_names : (names : List (List ℕ)) → first_fault names ≡ None → names_of (path_text names) ≡ names

@@ -11,11 +11,13 @@ use Rattle.mx_name.specs.Names.{fault_of}
 use Rattle.mx_name.specs.Answers.{judged}
 use Rattle.mx_name.specs.Principals.{PlainPrincipal, is_principal_byte, spelled}
 
+-- an identifier's three components
 pub record PlainAclId : Type 0 where
   pub person : Component
   pub project : Component
   pub tag : Component
 
+-- a component as it is written, and as it is read
 abbrev pub component_text : Component → List ℕ
 component_text Any = codes "*"
 component_text (Literal text) = text
@@ -28,6 +30,7 @@ abbrev pub component_fault : ℕ → Component → Option NameError
 component_fault most Any = None
 component_fault most (Literal text) = fault_of is_principal_byte most text
 
+-- the first bad component
 abbrev pub id_fault : PlainAclId → Option NameError
 id_fault id = option_or (component_fault 22 id.person) (option_or (component_fault 9 id.project) (component_fault 1 id.tag))
 
@@ -35,10 +38,11 @@ id_fault id = option_or (component_fault 22 id.person) (option_or (component_fau
 abbrev pub IsAclId : PlainAclId → Type 0
 IsAclId id = id_fault id ≡ None
 
+-- its components with a dot between each two
 abbrev pub acl_id_text : PlainAclId → List ℕ
 acl_id_text id = join_with_byte 46 (component_text id.person ∷ component_text id.project ∷ component_text id.tag ∷ [])
 
--- three components of a text, `*` read as Any
+-- the three components of a text, as those of an identifier
 abbrev pub id_parts : PlainPrincipal → PlainAclId
 id_parts p = record { person = component_of p.person; project = component_of p.project; tag = component_of p.tag }
 
@@ -63,9 +67,11 @@ abbrev pub component_matches : Component → List ℕ → Bool
 component_matches Any text = true
 component_matches (Literal own) text = pointwise ◌==◌ own text
 
+-- an identifier matches a principal where each component does
 abbrev pub id_matches : PlainAclId → PlainPrincipal → Bool
 id_matches id who = component_matches id.person who.person && component_matches id.project who.project && component_matches id.tag who.tag
 
+-- what `*` adds to the rank at its place
 abbrev pub weight : ℕ → Component → ℕ
 weight most Any = most
 weight most (Literal text) = 0

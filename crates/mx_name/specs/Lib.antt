@@ -6,3 +6,5 @@ pub mod Identifiers
 pub mod Answers
 pub mod Cuts
 pub mod Parts
+pub mod IdentifierOrder
+pub mod OrderLaws

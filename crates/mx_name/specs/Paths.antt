@@ -34,5 +34,6 @@ resolve_fault base text =
     if nat_lt (length base) (climbs text) then Some AboveRoot
     else (if nat_lt 168 (length (path_text (resolved base text))) then Some TooLong else None)
 
+-- what a pathname means from a base: its path, or why it has none
 abbrev pub resolution : List (List ℕ) → List ℕ → Result (List (List ℕ)) PathError
 resolution base text = unless (resolve_fault base text) (resolved base text)

@@ -33,6 +33,7 @@ IsPrincipal p = components_fault p ≡ None
 abbrev pub principal_text : PlainPrincipal → List ℕ
 principal_text p = join_with_byte 46 (p.person ∷ p.project ∷ p.tag ∷ [])
 
+-- exactly three components
 abbrev pub three : List (List ℕ) → Result PlainPrincipal NameError
 three (person ∷ project ∷ tag ∷ []) = Ok (record { person = person; project = project; tag = tag })
 three _ = Err BadChar

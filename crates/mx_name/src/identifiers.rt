@@ -1,21 +1,27 @@
 //! Identifiers of access list entries.
 ghost use Rattle.std.specs.Prelude.{◌≡◌, ◌+◌, ◌≤◌, ◌++◌, ℕ, Some, IfOk, OnOk, OnErr};
+ghost use Rattle.std.specs.Ordering.{nat_cmp, ordering_then};
+ghost use Rattle.std.specs.Cmp.Lexicographic.{slice_cmp};
 ghost use Rattle.mx_name.specs.Answers.{Answers};
 ghost use Rattle.mx_name.specs.Principals.{PlainPrincipal};
 ghost use Rattle.mx_name.specs.Parts.{plain};
 ghost use Rattle.mx_name.specs.Identifiers.{PlainAclId, IsAclId, component_of, component_fault, component_text, component_matches, weight, id_fault, id_matches, id_rank, id_parts, maker_id, acl_id_reading, acl_id_of, acl_id_text};
+ghost use Rattle.mx_name.specs.IdentifierOrder.{component_cmp, components_cmp, id_cmp};
 
 use crate::names::NameError;
 use crate::principals::{Parts, Principal, component_fault, spelled};
 use crate::spelling::append_components;
 use mx_list::Bytes;
 use std::alloc::{AllocError, Global};
+use std::cmp::Ordering;
 use std::marker::Model;
 
-/// A component of an identifier: every text, written `*`, or one text.
-#[derive(Debug, Drop, Clone, PartialEq, Eq, PartialOrd, Ord, Hash)]
+/// A component of an identifier.
+#[derive(Debug, Drop, Clone, PartialEq, Eq, Hash)]
 pub enum Component {
+    /// Every text, written `*`.
     Any,
+    /// This text alone.
     Literal(Bytes),
 }
 
@@ -35,6 +41,17 @@ impl Component {
     {
         let text = text.clone()?;
         Ok(Component::Literal(text))
+    }
+
+    fn order(&self, other: &Component) -> Ordering
+        ensures { result ≡ component_cmp self.now other.now }
+    {
+        match (self, other) {
+            (Component::Any, Component::Any) => Ordering::Equal,
+            (Component::Any, Component::Literal(_)) => Ordering::Less,
+            (Component::Literal(_), Component::Any) => Ordering::Greater,
+            (Component::Literal(own), Component::Literal(other)) => own.cmp(other),
+        }
     }
 
     fn bytes(&self) -> &[u8]
@@ -73,7 +90,7 @@ impl Component {
 }
 
 /// The identifier of an access list entry, as `Person.*.tag`: three components as a principal has them, each a literal or `*`.
-#[derive(Debug, Drop, PartialEq, Eq, PartialOrd, Ord, Hash)]
+#[derive(Debug, Drop, PartialEq, Eq, Hash)]
 pub struct AclId {
     person: Component,
     project: Component,
@@ -104,6 +121,43 @@ impl Clone for AclId {
             project,
             tag,
         })
+    }
+}
+
+/// Identifiers are in the order in which an access list keeps them: by rank, equal ranks in byte order of their texts.
+impl PartialOrd for AclId {
+    ghost use Rattle.std.specs.Prelude.{Some};
+    ghost use Rattle.std.specs.Cmp.{po};
+    ghost use Rattle.mx_name.specs.IdentifierOrder.{id_cmp};
+    ghost use Rattle.mx_name.specs.OrderLaws.{id_total, id_ties};
+
+    ghost partial_cmp = { λ a b. Some (id_cmp a b) };
+
+    ghost laws = { po id_total id_ties };
+
+    fn partial_cmp(&self, other: &Self) -> Option<Ordering> {
+        Some(self.cmp(other))
+    }
+}
+
+impl Ord for AclId {
+    ghost use Rattle.std.specs.Prelude.{refl};
+    ghost use Rattle.mx_name.specs.IdentifierOrder.{id_cmp};
+    ghost use Rattle.mx_name.specs.OrderLaws.{id_total, id_ties};
+
+    ghost cmp = { id_cmp };
+
+    ghost total = { id_total };
+
+    ghost matches_partial_cmp = { λ a b. refl };
+
+    ghost matches_eq = { id_ties };
+
+    fn cmp(&self, other: &Self) -> Ordering {
+        match self.rank().cmp(&other.rank()) {
+            Ordering::Equal => self.components_cmp(other),
+            different => different,
+        }
     }
 }
 
@@ -187,6 +241,15 @@ impl AclId {
     {
         self.clone()
     }
+
+    fn components_cmp(&self, other: &AclId) -> Ordering
+        ensures { result ≡ components_cmp self.now other.now }
+    {
+        self.person
+            .order(&other.person)
+            .then(self.project.order(&other.project))
+            .then(self.tag.order(&other.tag))
+    }
 }
 
 /// The fault of the first bad component from the left, where `*` is a good one.
@@ -206,4 +269,12 @@ fn starred_fault(most: usize, text: &[u8]) -> Option<NameError>
     } else {
         component_fault(most, text)
     }
+}
+
+/// Law: the order of identifiers is by rank, and equal ranks are in byte order of their texts.
+pub fn kept_order(a: &AclId, b: &AclId)
+    ensures { id_cmp a.now b.now ≡ ordering_then (nat_cmp (id_rank a.now) (id_rank b.now)) (slice_cmp nat_cmp (acl_id_text a.now) (acl_id_text b.now)) }
+{
+    let _ = &a.person;
+    let _ = &b.person;
 }

@@ -14,7 +14,7 @@ mod paths;
 mod principals;
 mod spelling;
 
-pub use identifiers::{AclId, Component};
+pub use identifiers::{AclId, Component, kept_order};
 pub use names::{EntryName, NameError};
 pub use pathnames::Pathname;
 pub use paths::{Path, PathError};

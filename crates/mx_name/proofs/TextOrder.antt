@@ -1,0 +1,69 @@
+-- The order of identifiers of equal rank is the byte order of their texts.
+use Rattle.std.proofs.Common.{ℕ, ◌≡◌, ◌<◌, true, List, [], ◌∷◌, ◌++◌, None, refl, ap, ◌∙◌, arith}
+use Rattle.std.specs.List.{list_all}
+use Rattle.std.specs.Ordering.{nat_cmp, ordering_then}
+use Rattle.std.specs.Cmp.Lexicographic.{slice_cmp}
+use Rattle.std.specs.declared.cmp.Ordering.{Ordering}
+use Rattle.std.specs.declared.cmp.Ordering.TheVariants.{Less, Equal, Greater}
+use Rattle.std.proofs.lemmas.Bool.Decides.{nat_tests}
+use Rattle.mx_name.specs.declared.identifiers.Component.{Component}
+use Rattle.mx_name.specs.declared.identifiers.Component.TheVariants.{Any, Literal}
+use Rattle.mx_name.specs.Principals.{is_principal_byte}
+use Rattle.mx_name.specs.Identifiers.{PlainAclId, IsAclId, component_text, component_fault, acl_id_text}
+use Rattle.mx_name.specs.IdentifierOrder.{component_cmp, components_cmp}
+use Rattle.mx_name.specs.OrderLaws.{both_left, both_right}
+use Rattle.mx_name.proofs.TextLaws.{faultless_fits, all_three}
+
+assoc : (r s t : Ordering) → ordering_then r (ordering_then s t) ≡ ordering_then (ordering_then r s) t
+assoc Less s t = refl
+assoc Equal s t = refl
+assoc Greater s t = refl
+
+-- a dot and a star are below every byte of a literal
+below_literal : (low c : ℕ) → low < 48 → is_principal_byte c ≡ true → nat_cmp low c ≡ Less
+below_literal low c h e = grind (arith, nat_tests, e)
+
+above_literal : (low c : ℕ) → low < 48 → is_principal_byte c ≡ true → nat_cmp c low ≡ Greater
+above_literal low c h e = grind (arith, nat_tests, e)
+
+byte_of : (c : ℕ) (cs : List ℕ) → list_all is_principal_byte (c ∷ cs) ≡ true → is_principal_byte c ≡ true
+byte_of c cs e = both_left (is_principal_byte c) (list_all is_principal_byte cs) e
+
+bytes_of : (c : ℕ) (cs : List ℕ) → list_all is_principal_byte (c ∷ cs) ≡ true → list_all is_principal_byte cs ≡ true
+bytes_of c cs e = both_right (is_principal_byte c) (list_all is_principal_byte cs) e
+
+-- literals before a dot are compared before what follows it
+literals : (xs ys more others : List ℕ) → list_all is_principal_byte xs ≡ true → list_all is_principal_byte ys ≡ true
+    → slice_cmp nat_cmp (xs ++ 46 ∷ more) (ys ++ 46 ∷ others) ≡ ordering_then (slice_cmp nat_cmp xs ys) (slice_cmp nat_cmp more others)
+literals [] [] more others e f = refl
+literals [] (d ∷ ds) more others e f = rw (below_literal 46 d (omega arith) (byte_of d ds f)) refl
+literals (c ∷ cs) [] more others e f = rw (above_literal 46 c (omega arith) (byte_of c cs e)) refl
+literals (c ∷ cs) (d ∷ ds) more others e f =
+    ap (ordering_then (nat_cmp c d)) (literals cs ds more others (bytes_of c cs e) (bytes_of d ds f))
+    ∙ assoc (nat_cmp c d) (slice_cmp nat_cmp cs ds) (slice_cmp nat_cmp more others)
+
+before_dot : (most : ℕ) (x y : Component) (more others : List ℕ) → component_fault most x ≡ None → component_fault most y ≡ None
+    → slice_cmp nat_cmp (component_text x ++ 46 ∷ more) (component_text y ++ 46 ∷ others) ≡ ordering_then (component_cmp x y) (slice_cmp nat_cmp more others)
+before_dot most Any Any more others e f = refl
+before_dot most Any (Literal []) more others e f = absurd (cc)
+before_dot most Any (Literal (d ∷ ds)) more others e f = rw (below_literal 42 d (omega arith) (byte_of d ds (faultless_fits is_principal_byte most (d ∷ ds) f))) refl
+before_dot most (Literal []) Any more others e f = absurd (cc)
+before_dot most (Literal (c ∷ cs)) Any more others e f = rw (above_literal 42 c (omega arith) (byte_of c cs (faultless_fits is_principal_byte most (c ∷ cs) e))) refl
+before_dot most (Literal xs) (Literal ys) more others e f =
+    literals xs ys more others (faultless_fits is_principal_byte most xs e) (faultless_fits is_principal_byte most ys f)
+
+at_end : (most : ℕ) (x y : Component) → component_fault most x ≡ None → component_fault most y ≡ None → slice_cmp nat_cmp (component_text x) (component_text y) ≡ component_cmp x y
+at_end most Any Any e f = refl
+at_end most Any (Literal []) e f = absurd (cc)
+at_end most Any (Literal (d ∷ ds)) e f = rw (below_literal 42 d (omega arith) (byte_of d ds (faultless_fits is_principal_byte most (d ∷ ds) f))) refl
+at_end most (Literal []) Any e f = absurd (cc)
+at_end most (Literal (c ∷ cs)) Any e f = rw (above_literal 42 c (omega arith) (byte_of c cs (faultless_fits is_principal_byte most (c ∷ cs) e))) refl
+at_end most (Literal xs) (Literal ys) e f = refl
+
+pub text_order : (x y : PlainAclId) → IsAclId x → IsAclId y → slice_cmp nat_cmp (acl_id_text x) (acl_id_text y) ≡ components_cmp x y
+text_order x y e f =
+    let a = all_three (component_fault 22 x.person) (component_fault 9 x.project) (component_fault 1 x.tag) e in
+    let b = all_three (component_fault 22 y.person) (component_fault 9 y.project) (component_fault 1 y.tag) f in
+    before_dot 22 x.person y.person (component_text x.project ++ 46 ∷ component_text x.tag) (component_text y.project ++ 46 ∷ component_text y.tag) a.0 b.0
+    ∙ ap (ordering_then (component_cmp x.person y.person)) (before_dot 9 x.project y.project (component_text x.tag) (component_text y.tag) a.1 b.1)
+    ∙ ap (λ (o : Ordering). ordering_then (component_cmp x.person y.person) (ordering_then (component_cmp x.project y.project) o)) (at_end 1 x.tag y.tag a.2 b.2)
