@@ -3,7 +3,7 @@ use Rattle.std.proofs.Common.{◌≡◌, ◌≢◌, ℕ, ◌+◌, ◌*◌, ◌<�
 use Rattle.std.specs.Prelude.{slice_set, slice_index_or, take}
 use Rattle.std.specs.List.{slice_get}
 use Rattle.std.proofs.lemmas.Bool.{cases_eq}
-use Rattle.std.proofs.lemmas.List.{get_or-set_same, get_or-set_other}
+use Rattle.std.proofs.lemmas.List.{get_or-set_other, get_or-set_same, take_all}
 use Rattle.std.proofs.Math.ListN.{length-set}
 use Rattle.mx_sdw.specs.Judging.{judgement}
 use Rattle.mx_sdw.specs.declared.denials.Denial.{Denial}
@@ -46,7 +46,7 @@ use Rattle.mx_sdw.proofs.JudgingLaws.{granted_has_cell, granted_is_allowed}
 use Rattle.mx_run.proofs.MemoryLaws.{Leaves, held_left, held_stored, held_read, held_stamp}
 use Rattle.mx_run.proofs.Places.{place_found, place_last}
 use Rattle.mx_run.proofs.StabilityLaws.{entry_law, store_law, denial_law, load_law}
-use Rattle.mx_run.proofs.TranscriptLaws.{replay_snoc, right_snoc, take_all_of, lines_kept, lines_snoc, numbered_snoc}
+use Rattle.mx_run.proofs.TranscriptLaws.{replay_snoc, right_snoc, lines_kept, lines_snoc, numbered_snoc}
 
 -- the processes that have come to the end of their lines stay so while the journal grows
 whole_kept : (x : Outline) (journal more : List journaled.Entry) (u : ℕ) (steps : List Step) → IsWhole x journal u steps
@@ -131,7 +131,7 @@ stores_own memory registers (Err denial) = (refl, refl)
 present : (x : Outline) (before : List (List Step)) (p : ℕ) (lines : List Line) (m : Moment) (segno : ℕ) → IsRunning x before p lines m
     → descriptor (replay (opening x.principals) (take (length m.journal) m.journal)) p segno ≡ descriptor m.state p segno
 present x before p lines m segno is =
-    ap (λ (entries : List journaled.Entry). descriptor (replay (opening x.principals) entries) p segno) (take_all_of m.journal)
+    ap (λ (entries : List journaled.Entry). descriptor (replay (opening x.principals) entries) p segno) (take_all (length m.journal) m.journal (omega arith))
     ∙ ap (λ (s : Plain). descriptor s p segno) (sym is.state)
 
 -- a reference: the element, the deeds and the memory after it

@@ -4,6 +4,7 @@ use Rattle.std.specs.Prelude.{◌==◌}
 use Rattle.std.specs.List.{slice_get}
 use Rattle.std.specs.Option.{option_map}
 use Rattle.std.proofs.lemmas.Bool.{cases_eq}
+use Rattle.std.proofs.lemmas.List.{append-nil, map-append, take-append-le}
 use Rattle.std.proofs.lemmas.Option.{slice_get-map}
 use Rattle.mx_sdw.specs.Judging.{judgement}
 use Rattle.mx_state.specs.History.{opening, replay}
@@ -22,7 +23,7 @@ use Rattle.mx_run.specs.Elements.{Agrees, IsRightElement, op_of}
 use Rattle.mx_run.specs.References.{cell_at, reference, deed_of, deeds}
 use Rattle.mx_run.specs.SoFar.{Grows, IsWithin, AreWithin}
 use Rattle.mx_run.specs.Transcripts.{Step, part, events_of, entries_named, numbers_of}
-use Rattle.mx_run.proofs.TranscriptLaws.{part_here, part_other, events_snoc, named_append, own_number, numbers_snoc, take_kept}
+use Rattle.mx_run.proofs.TranscriptLaws.{part_here, part_other, events_snoc, named_append, own_number, numbers_snoc}
 
 -- the transcripts when the process at work has this step more
 abbrev pub with_step : List (List Step) → List Step → Step → List (List Step)
@@ -42,14 +43,6 @@ pub events_there : (before : List (List Step)) (steps : List Step) (step : Step)
     → events_of (part (with_step before steps step) u) ≡ events_of (part (before ++ steps ∷ []) u)
 events_there before steps step p u e other = ap events_of (part_other before steps (steps ++ step ∷ []) u (λ h. other (h ∙ sym e)))
 
-map_append : {A B : Type 0} (f : A → B) (xs ys : List A) → map f (xs ++ ys) ≡ map f xs ++ map f ys
-map_append f [] ys = refl
-map_append f (x ∷ xs) ys = ap (λ l. f x ∷ l) (map_append f xs ys)
-
-append_none : {A : Type 0} (xs : List A) → xs ++ [] ≡ xs
-append_none [] = refl
-append_none (x ∷ xs) = ap (λ l. x ∷ l) (append_none xs)
-
 -- a reference's point is one of its deed's numbers
 pub point_under : (cell : ℕ) (came : Outcome) (q entries : ℕ) → IsWithin entries (reference cell came q) → q ≤ entries
 point_under cell (outcome.Read value writer stamp) q entries w = w.1
@@ -63,7 +56,7 @@ deed_kept x journal more u (Entry number) w = refl
 deed_kept x journal more u (Core (Seen e)) w =
     let under = point_under (cell_at x journal u e) e.outcome e.point (length journal) w in
     ap (λ (entries : List journaled.Entry). reference (64 * (descriptor (replay (opening x.principals) entries) u e.segno).page + e.word) e.outcome e.point)
-    (take_kept e.point journal more under)
+    (take-append-le e.point journal more under)
 
 pub deeds_kept : (x : Outline) (journal more : List journaled.Entry) (u : ℕ) (events : List Event2)
     → ((i : ℕ) (d : Deed) → slice_get (map (deed_of x journal u) events) i ≡ Some d → IsWithin (length journal) d)
@@ -81,7 +74,7 @@ pub grows_referred : (x : Outline) (journal : List journaled.Entry) (before : Li
     (deed_of x journal p (Core (Seen e)))
 grows_referred x journal before steps p number e ends is = record {
   own = ap (map (deed_of x journal p)) (events_here before steps (number, Core (Seen e) ∷ [], ends) p is)
-      ∙ map_append (deed_of x journal p) (events_of (part (before ++ steps ∷ []) p)) (Core (Seen e) ∷ []);
+      ∙ map-append (deed_of x journal p) (events_of (part (before ++ steps ∷ []) p)) (Core (Seen e) ∷ []);
   others = λ u other. ap (map (deed_of x journal u)) (events_there before steps (number, Core (Seen e) ∷ [], ends) p u is other);
 }
 
@@ -93,7 +86,7 @@ pub grows_entered : (x : Outline) (journal : List journaled.Entry) (entry : jour
     (Enters (length journal + 1))
 grows_entered x journal entry before steps p number ends is within = record {
   own = ap (map (deed_of x (journal ++ entry ∷ []) p)) (events_here before steps (number, Entry (length journal + 1) ∷ [], ends) p is)
-      ∙ map_append (deed_of x (journal ++ entry ∷ []) p) (events_of (part (before ++ steps ∷ []) p)) (Entry (length journal + 1) ∷ [])
+      ∙ map-append (deed_of x (journal ++ entry ∷ []) p) (events_of (part (before ++ steps ∷ []) p)) (Entry (length journal + 1) ∷ [])
       ∙ ap (λ l. l ++ Enters (length journal + 1) ∷ []) (deeds_kept x journal (entry ∷ []) p (events_of (part (before ++ steps ∷ []) p)) (within p));
   others = λ u other. ap (map (deed_of x (journal ++ entry ∷ []) u)) (events_there before steps (number, Entry (length journal + 1) ∷ [], ends) p u is other)
       ∙ deeds_kept x journal (entry ∷ []) u (events_of (part (before ++ steps ∷ []) u)) (within u);
@@ -104,7 +97,7 @@ pub deeds_idle : (x : Outline) (journal : List journaled.Entry) (before : List (
     → p ≡ length before → (u : ℕ)
     → events_of (part (with_step before steps (number, [], ends)) u) ≡ events_of (part (before ++ steps ∷ []) u)
 deeds_idle x journal before steps p number ends is u = elim (cases_eq u p) [
-  | inl e ↦ events_here before steps (number, [], ends) u (e ∙ is) ∙ append_none (events_of (part (before ++ steps ∷ []) u))
+  | inl e ↦ events_here before steps (number, [], ends) u (e ∙ is) ∙ append-nil (events_of (part (before ++ steps ∷ []) u))
   | inr other ↦ events_there before steps (number, [], ends) p u is other
 ]
 
@@ -123,7 +116,7 @@ pub element_kept : (x : Outline) (journal more : List journaled.Entry) (u : ℕ)
 element_kept x journal more u e under is =
     subst (λ (entries : List journaled.Entry). Agrees e.kind e.outcome
     (judgement (descriptor (replay (opening x.principals) entries) u e.segno) (op_of e.kind) e.ring e.word))
-    (sym (take_kept e.point journal more under)) is
+    (sym (take-append-le e.point journal more under)) is
 
 same_number : (n : ℕ) → (n == n) ≡ true
 same_number n = grind arith
@@ -139,7 +132,7 @@ pub calls_referred : (journal : List journaled.Entry) (before : List (List Step)
 calls_referred journal before steps p number e ends is calls u = elim (cases_eq u p) [
   | inl here ↦ ap entries_named (events_here before steps (number, Core (Seen e) ∷ [], ends) u (here ∙ is))
       ∙ named_append (events_of (part (before ++ steps ∷ []) u)) (Core (Seen e) ∷ [])
-      ∙ append_none (entries_named (events_of (part (before ++ steps ∷ []) u)))
+      ∙ append-nil (entries_named (events_of (part (before ++ steps ∷ []) u)))
       ∙ calls u
   | inr other ↦ ap entries_named (events_there before steps (number, Core (Seen e) ∷ [], ends) p u is other) ∙ calls u
 ]
@@ -167,7 +160,7 @@ calls_entered journal entry before steps p number ends is by calls u = elim (cas
       ∙ sym (numbers_snoc 1 u journal entry)
   | inr other ↦ ap entries_named (events_there before steps (number, Entry (length journal + 1) ∷ [], ends) p u is other)
       ∙ calls u
-      ∙ sym (append_none (numbers_of u journal))
+      ∙ sym (append-nil (numbers_of u journal))
       ∙ ap (λ own. numbers_of u journal ++ own_number own (1 + length journal)) (sym (other_number entry.process u (λ e. other (e ∙ by))))
       ∙ sym (numbers_snoc 1 u journal entry)
 ]

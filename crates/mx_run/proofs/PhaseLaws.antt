@@ -2,7 +2,7 @@
 use Rattle.std.proofs.Common.{◌≡◌, ℕ, zero, suc, ◌+◌, ◌<◌, inl, inr, List, [], ◌∷◌, ◌++◌, length, map, take, refl, ap, sym, ◌∙◌, subst, Some, None, arith, length-append}
 use Rattle.std.specs.List.{slice_get}
 use Rattle.std.proofs.lemmas.Bool.{cases_lt}
-use Rattle.std.proofs.lemmas.List.{length-map}
+use Rattle.std.proofs.lemmas.List.{append-nil, length-map, map-append, map_push, take-append-le}
 use Rattle.mx_state.specs.Requests.{plain}
 use Rattle.mx_state.specs.Sessions.{Outline}
 use Rattle.mx_state.specs.declared.elements.Event.TheVariants.{Seen}
@@ -26,7 +26,7 @@ use Rattle.mx_run.specs.declared.memory.Contents.{Contents}
 use Rattle.mx_run.proofs.AdvanceLaws.{advance_law}
 use Rattle.mx_run.proofs.Growing.{found}
 use Rattle.mx_run.proofs.GrowthLaws.{grows_entered}
-use Rattle.mx_run.proofs.TranscriptLaws.{part_before, part_here, take_kept}
+use Rattle.mx_run.proofs.TranscriptLaws.{part_before, part_here}
 
 -- transcripts without a step have no events
 no_events : (u : ℕ) → events_of (part ([] ∷ []) u) ≡ []
@@ -82,21 +82,17 @@ start_law x memory wide empty = record {
   processes = length-map x.principals _;
 }
 
-map_snoc : {A B : Type 0} (f : A → B) (xs : List A) (x : A) → map f (xs ++ x ∷ []) ≡ map f xs ++ f x ∷ []
-map_snoc f [] x = refl
-map_snoc f (y ∷ xs) x = ap (λ l. f y ∷ l) (map_snoc f xs x)
-
 pub setup_law : SetupLaw
 setup_law x requests request number m at path same is =
     let made : journaled.Entry = record { process = 0; ring = m.registers.ring; request = request; reply = (plain m.state 0 m.registers.ring request).reply } in
     record {
-      running = subst (λ (lines : List Line). IsRunning x [] 0 lines (advance 0 number (Ask request) m)) (sym (map_snoc Ask requests request))
+      running = subst (λ (lines : List Line). IsRunning x [] 0 lines (advance 0 number (Ask request) m)) (sym (map_push Ask requests request))
           (advance_law x [] 0 (map Ask requests) (Ask request) number m at (omega arith, λ e. path) is.running);
       ring = is.ring;
-      calls = map_snoc call_of m.journal made
+      calls = map_push call_of m.journal made
           ∙ ap (λ (l : List Call). l ++ call_of made ∷ []) is.calls
           ∙ ap (λ (ring : ℕ). map setup_call requests ++ record { process = 0; ring = ring; request = request } ∷ []) is.ring
-          ∙ sym (map_snoc setup_call requests request);
+          ∙ sym (map_push setup_call requests request);
       quiet = λ u place deed h. elim (found (grows_entered x m.journal made [] m.steps 0 number (result_of made.reply) refl is.running.far.within) u place deed h) [
         | inl old ↦ is.quiet u place deed old
         | inr new ↦ subst IsEntry (sym new.2) tt
@@ -153,21 +149,13 @@ begin_law x m is =
       processes = is.processes;
     }
 
-append_none : {A : Type 0} (xs : List A) → xs ++ [] ≡ xs
-append_none [] = refl
-append_none (x ∷ xs) = ap (λ l. x ∷ l) (append_none xs)
-
-map_append : {A B : Type 0} (f : A → B) (xs ys : List A) → map f (xs ++ ys) ≡ map f xs ++ map f ys
-map_append f [] ys = refl
-map_append f (x ∷ xs) ys = ap (λ l. f x ∷ l) (map_append f xs ys)
-
 -- the journal only grows
 journal_grows : (p number : ℕ) (line : Line) (m : Moment)
     → (more : List journaled.Entry) × ((advance p number line m).journal ≡ m.journal ++ more)
 journal_grows p number (Ask request) m = (record { process = p; ring = m.registers.ring; request = request; reply = (plain m.state p m.registers.ring request).reply } ∷ [], refl)
-journal_grows p number (Set word) m = ([], sym (append_none m.journal))
-journal_grows p number (Lda operand) m = ([], sym (append_none m.journal))
-journal_grows p number (Sta operand) m = ([], sym (append_none m.journal))
+journal_grows p number (Set word) m = ([], sym (append-nil m.journal))
+journal_grows p number (Lda operand) m = ([], sym (append-nil m.journal))
+journal_grows p number (Sta operand) m = ([], sym (append-nil m.journal))
 
 pub script_law : ScriptLaw
 script_law x before p lines line number m at may same is =
@@ -180,8 +168,8 @@ script_law x before p lines line number m at may same is =
       some = is.some;
       begun = omega arith;
       setup_first = ap (λ (journal : List journaled.Entry). take (setup_entries x) (map call_of journal)) grown.1
-          ∙ ap (take (setup_entries x)) (map_append call_of m.journal grown.0)
-          ∙ take_kept (setup_entries x) (map call_of m.journal) (map call_of grown.0) (omega arith)
+          ∙ ap (take (setup_entries x)) (map-append call_of m.journal grown.0)
+          ∙ take-append-le (setup_entries x) (map call_of m.journal) (map call_of grown.0) (omega arith)
           ∙ is.setup_first;
       processes = same ∙ is.processes;
     }

@@ -1,6 +1,6 @@
 -- What the parts of a session are: its setup has two path requests, and its one script asks twice.
-use Rattle.std.proofs.Common.{◌≡◌, ℕ, zero, suc, ◌+◌, ◌≤◌, Bool, true, false, List, [], ◌∷◌, ◌++◌, length, take, drop, refl, subst, Option, Some, None, arith}
-use Rattle.std.specs.Prelude.{is_none, IsTrue, ◌&&◌, ◌==◌}
+use Rattle.std.proofs.Common.{◌≡◌, ℕ, zero, suc, ◌+◌, ◌≤◌, true, List, [], ◌∷◌, ◌++◌, length, take, drop, refl, subst, Option, Some, None, arith}
+use Rattle.std.specs.Prelude.{is_none, IsTrue, ◌==◌}
 use Rattle.std.specs.List.{slice_get}
 use Rattle.mx_state.specs.Branches.{same_text}
 use Rattle.mx_state.specs.History.{is_path_request}
@@ -10,11 +10,7 @@ use Rattle.mx_state.specs.declared.lines.Line.TheVariants.{Ask, Set, Lda, Sta}
 use Rattle.mx_state.specs.declared.requests.Request.{Request}
 use Rattle.mx_state.specs.declared.requests.Request.TheVariants.{CreateSeg, SetAcl, Initiate, Logout}
 use Rattle.mx_name.specs.Principals.{PlainPrincipal}
-
-both : (a b : Bool) → (a && b) ≡ true → (a ≡ true) × (b ≡ true)
-both true true e = (refl, refl)
-both true false e = cc
-both false b e = cc
+use Rattle.mx_run.proofs.CutLaws.{both}
 
 is_setup_of : (x : Outline) → is_session x ≡ true → is_setup x.setup ≡ true
 is_setup_of x e = (both (is_setup x.setup) _ (both (is_none x.history) _ (both (x.version == 1) _ e).1).1).0

@@ -1,5 +1,6 @@
 -- How transcripts and the journal grow at their ends.
-use Rattle.std.proofs.Common.{◌≡◌, ◌≢◌, ℕ, zero, suc, ◌+◌, ◌<◌, ◌≤◌, Bool, true, false, List, [], ◌∷◌, ◌++◌, length, take, refl, ap, sym, ◌∙◌, subst, Some, arith, append_assoc, add-zero}
+use Rattle.std.proofs.Common.{◌≡◌, ◌≢◌, ℕ, zero, suc, ◌+◌, ◌<◌, ◌≤◌, Bool, true, false, List, [], ◌∷◌, ◌++◌, length, refl, ap, sym, ◌∙◌, subst, Some, arith, append_assoc, add-zero}
+use Rattle.std.proofs.lemmas.List.{append-nil}
 use Rattle.std.specs.Prelude.{if◌then◌else◌, ◌==◌}
 use Rattle.mx_state.specs.Plain.{Plain}
 use Rattle.mx_state.specs.History.{replay, IsRight, IsRightEntry}
@@ -40,11 +41,7 @@ part_other (t ∷ ts) steps steps' zero h = refl
 part_other (t ∷ ts) steps steps' (suc u) h = part_other ts steps steps' u (λ e. h (ap suc e))
 
 pub events_snoc : (steps : List Step) (step : Step) → events_of (steps ++ step ∷ []) ≡ events_of steps ++ step.1
-events_snoc [] step = append_nil step.1
-  where
-    append_nil : {A : Type 0} (xs : List A) → xs ++ [] ≡ xs
-    append_nil [] = refl
-    append_nil (x ∷ xs) = ap (λ l. x ∷ l) (append_nil xs)
+events_snoc [] step = append-nil step.1
 events_snoc (s ∷ steps) step = ap (λ l. s.1 ++ l) (events_snoc steps step) ∙ sym (append_assoc s.1 (events_of steps) step.1)
 
 pub named_append : (a b : List Event2) → entries_named (a ++ b) ≡ entries_named a ++ entries_named b
@@ -84,15 +81,6 @@ pub right_snoc : (s : Plain) (journal : List journaled.Entry) (entry : journaled
     → IsRightEntry (replay s journal) entry → IsRight s (journal ++ entry ∷ [])
 right_snoc s [] entry right is = (is, tt)
 right_snoc s (e ∷ journal) entry right is = (right.0, right_snoc (plain s e.process e.ring e.request).state journal entry right.1 is)
-
-pub take_kept : {A : Type 0} (q : ℕ) (journal more : List A) → q ≤ length journal → take q (journal ++ more) ≡ take q journal
-take_kept zero journal more h = refl
-take_kept (suc q) [] more h = absurd (omega arith)
-take_kept (suc q) (e ∷ journal) more h = ap (λ l. e ∷ l) (take_kept q journal more (omega arith))
-
-pub take_all_of : {A : Type 0} (journal : List A) → take (length journal) journal ≡ journal
-take_all_of [] = refl
-take_all_of (e ∷ journal) = ap (λ l. e ∷ l) (take_all_of journal)
 
 -- an entry stays where it is while the journal grows
 pub entry_kept : (journal more : List journaled.Entry) (number : ℕ) (entry : journaled.Entry)

@@ -1,7 +1,7 @@
 -- The loops over the setup and over a script: one request, one line more.
-use Rattle.std.proofs.Common.{◌≡◌, ℕ, zero, suc, ◌+◌, ◌<◌, ◌≤◌, List, [], ◌∷◌, ◌++◌, length, map, take, get_or, refl, ap, sym, ◌∙◌, subst, Option, Some, None, arith, true, length-append}
+use Rattle.std.proofs.Common.{◌≡◌, ℕ, suc, ◌+◌, ◌<◌, ◌≤◌, List, [], ◌∷◌, ◌++◌, length, map, take, get_or, refl, ap, sym, ◌∙◌, subst, Option, Some, None, arith, true, length-append}
 use Rattle.std.specs.List.{slice_get}
-use Rattle.std.proofs.lemmas.List.{length-map, take_more}
+use Rattle.std.proofs.lemmas.List.{length-map, length-take-le, take_all, take_more}
 use Rattle.std.proofs.lemmas.Option.{slice_get-get_or}
 use Rattle.mx_state.specs.Sessions.{Outline, is_session, limit_of, limit_or_most}
 use Rattle.mx_state.specs.declared.journal.Entry.{Entry}
@@ -26,11 +26,6 @@ lines_length journal p start [] (step ∷ steps) after are = absurd are
 lines_length journal p start (line ∷ lines) [] after are = absurd are
 lines_length journal p start (line ∷ lines) (step ∷ steps) after are = ap suc (lines_length journal p are.0 lines steps after are.2)
 
-length_front : {A : Type 0} (i : ℕ) (xs : List A) → i ≤ length xs → length (take i xs) ≡ i
-length_front zero xs h = refl
-length_front (suc i) [] h = absurd (omega arith)
-length_front (suc i) (x ∷ xs) h = ap suc (length_front i xs (omega arith))
-
 front_more : {A : Type 0} (i : ℕ) (xs : List A) (x : A) → i < length xs → x ≡ get_or xs i x → take (i + 1) xs ≡ take i xs ++ x ∷ []
 front_more i xs x h e = take_more xs i x h ∙ ap (λ y. take i xs ++ y ∷ []) (sym e)
 
@@ -43,7 +38,7 @@ pub setup_more : (x : Outline) (i number : ℕ) (request : Request) (m : Moment)
     → IsSettingUp x (take (i + 1) x.setup) (advance 0 number (Ask request) m)
 setup_more x i number request m good below at is_number is same =
     let long = lines_length m.journal 0 _ (map Ask (take i x.setup)) m.steps m.registers is.running.are_lines
-    ∙ length-map (take i x.setup) Ask ∙ length_front i x.setup (omega arith) in
+    ∙ length-map (take i x.setup) Ask ∙ length-take-le i x.setup (omega arith) in
     subst (λ (requests : List Request). IsSettingUp x requests (advance 0 number (Ask request) m)) (sym (front_more i x.setup request below at))
     (setup_law x (take i x.setup) request number m (omega arith)
     (setup_asks_paths x good i request (found_at i x.setup request below at)) same is)
@@ -66,7 +61,7 @@ pub work_more : (x : Outline) (before : List (List Step)) (script : List Line) (
     → length (advance 1 number line m).state.processes ≡ length m.state.processes
     → IsUnderWay x before 1 (take i script) m → IsUnderWay x before 1 (take (i + 1) script) (advance 1 number line m)
 work_more x before script i number line m good below at is_number lies same is =
-    let long = lines_length m.journal 1 _ (take i script) m.steps m.registers is.running.are_lines ∙ length_front i script (omega arith) in
+    let long = lines_length m.journal 1 _ (take i script) m.steps m.registers is.running.are_lines ∙ length-take-le i script (omega arith) in
     let first = first_is_five x good in
     subst (λ (lines : List Line). IsUnderWay x before 1 lines (advance 1 number line m)) (sym (front_more i script line below at))
     (script_law x before 1 (take i script) line number m (omega arith) (possible x before (take i script) line m good lies is) same is)
@@ -103,24 +98,18 @@ has_room x script i line m good is entries =
     let front = asks_front i script in
     room_with line m (omega arith)
 
-whole_front : {A : Type 0} (n : ℕ) (xs : List A) → length xs ≤ n → take n xs ≡ xs
-whole_front zero [] h = refl
-whole_front zero (x ∷ xs) h = absurd (omega arith)
-whole_front (suc n) [] h = refl
-whole_front (suc n) (x ∷ xs) h = ap (λ t. x ∷ t) (whole_front n xs (omega arith))
-
 pub four_entries : (x : Outline) (script : List Line) (i : ℕ) (m : Moment) → is_session x ≡ true → script ≡ lines_of x 1
     → length script ≤ i → length m.journal ≡ 2 + asks (take i script) → length m.journal ≡ 4
 four_entries x script i m good is end entries =
     let two = script_is x good script is in
-    let all = ap asks (whole_front i script end) in
+    let all = ap asks (take_all i script end) in
     omega arith
 
 -- all lines were done
 pub work_done : (x : Outline) (whole : List (List Step)) (script : List Line) (i : ℕ) (m : Moment) → script ≡ lines_of x 1
     → length script ≤ i → IsUnderWay x whole 1 (take i script) m → IsUnderWay x whole 1 (lines_of x 1) m
 work_done x whole script i m is end under_way =
-    subst (λ (lines : List Line). IsUnderWay x whole 1 lines m) (whole_front i script end ∙ is) under_way
+    subst (λ (lines : List Line). IsUnderWay x whole 1 lines m) (take_all i script end ∙ is) under_way
 
 -- the machine before the setup
 pub at_start : (x : Outline) (s : Stage) → IsAtStart x.principals s → IsSettingUp x [] s.now
