@@ -1,0 +1,2 @@
+pub mod EightLaws
+pub mod RegisterLaws

@@ -1,0 +1,144 @@
+-- What a granted call and a granted return make of the registers.
+use Rattle.std.proofs.Common.{◌≡◌, ℕ, ◌<◌, ◌≤◌, ◌⊎◌, ◌↔◌, min, max, false, List, [], ◌∷◌, length, slice_get, slice_set, Some, Ok, Err, IsOk, refl, sym, ap, subst, rules}
+use Rattle.std.proofs.Math.Nat.{le_refl, le_trans}
+use Rattle.std.proofs.lemmas.List.{get_or-set_other, length-map}
+use Rattle.std.proofs.lemmas.Option.{slice_get-get_or}
+use Rattle.std.proofs.lemmas.List.Elements.{All-set, All-map}
+use Rattle.std.specs.Prelude.{Result}
+use Rattle.std.specs.List.{All}
+use Rattle.mx_sdw.specs.declared.descriptors.Cell.{Cell}
+use Rattle.mx_sdw.specs.declared.denials.Denial.{Denial}
+use Rattle.mx_sdw.specs.declared.operations.Op.{Op}
+use Rattle.mx_sdw.specs.Descriptors.{Descriptor}
+use Rattle.mx_sdw.specs.Granting.{IsGranted}
+use Rattle.mx_sdw.specs.Judging.{judgement}
+use Rattle.mx_sdw.proofs.JudgingLaws.{granted_is_allowed}
+use Rattle.mx_ptr.specs.Pointers.{PointerParts}
+use Rattle.mx_call.specs.Registers.{Registers, IsSound, going_on, stack_base, way_back, raised_to}
+use Rattle.mx_call.specs.Transfers.{calling, call_judgement, called, IsCalled, IsReturned, IsGate}
+
+allowed : (d : Descriptor) (op : Op) (ring word : ℕ) (r : Result Cell Denial) → judgement d op ring word ≡ r → IsOk r → IsGranted d op ring word
+allowed d op ring word (Ok cell) e h = granted_is_allowed d op ring word cell e
+allowed d op ring word (Err denial) e h = cc
+
+pub granted : (before : Registers) (target : PointerParts) (d : Descriptor) → IsOk (call_judgement before target d)
+    → IsGranted d (calling before target) target.ring target.word
+granted before target d h = allowed d (calling before target) target.ring target.word (call_judgement before target d) refl h
+
+pub never_raised : (before after : Registers) (target : PointerParts) (d : Descriptor)
+    → IsOk (call_judgement before target d) → IsCalled before target d after → after.ring ≤ before.ring
+never_raised before after target d h c =
+    let g = granted before target d h in
+    rw c.current g.access.no_higher
+
+fell : (target bracket before after : ℕ) → after ≡ min target bracket → before ≤ target → after < before → (bracket < target) × (after ≡ bracket)
+fell target bracket before after c effective falls = search rules
+
+by_word : {P Q : Type 0} (target bracket : ℕ) → P ⊎ ((target ≤ bracket) × Q) → bracket < target → P
+by_word target bracket entry above = search rules
+
+pub through_a_gate : (before after : Registers) (target : PointerParts) (d : Descriptor)
+    → IsOk (call_judgement before target d) → IsCalled before target d after
+    → before.ring ≤ target.ring → after.ring < before.ring → IsGate target d × (after.ring ≡ d.brackets.r2)
+through_a_gate before after target d h c effective falls =
+    let g = granted before target d h in
+    let f = fell target.ring d.brackets.r2 before.ring after.ring c.current effective falls in
+    (record { word = by_word target.ring d.brackets.r2 g.access.entry f.0; above = f.0; within = g.access.within }, f.1)
+
+-- the pointer registers of a call, where there are eight
+eight_called : (xs ys : List PointerParts) (stack back : PointerParts) → length xs ≡ 8 → length ys ≡ length xs
+    → slice_get ys 0 ≡ Some stack → slice_get ys 7 ≡ Some back → ((n : ℕ) → 1 ≤ n → n ≤ 6 → slice_get ys n ≡ slice_get xs n)
+    → ys ≡ slice_set (slice_set xs 0 stack) 7 back
+eight_called (x0 ∷ x1 ∷ x2 ∷ x3 ∷ x4 ∷ x5 ∷ x6 ∷ x7 ∷ []) (y0 ∷ y1 ∷ y2 ∷ y3 ∷ y4 ∷ y5 ∷ y6 ∷ y7 ∷ []) stack back e f first last others =
+    let o1 : Some y1 ≡ Some x1 = others 1 (search rules) (search rules) in
+    let o2 : Some y2 ≡ Some x2 = others 2 (search rules) (search rules) in
+    let o3 : Some y3 ≡ Some x3 = others 3 (search rules) (search rules) in
+    let o4 : Some y4 ≡ Some x4 = others 4 (search rules) (search rules) in
+    let o5 : Some y5 ≡ Some x5 = others 5 (search rules) (search rules) in
+    let o6 : Some y6 ≡ Some x6 = others 6 (search rules) (search rules) in
+    cc
+eight_called xs ys stack back e f first last others = search rules
+
+same : (g h : Registers) → g.ring ≡ h.ring → g.procedure ≡ h.procedure → g.pr ≡ h.pr → g.a ≡ h.a → g ≡ h
+same g h ring procedure pr a = search rules
+
+one_call : (before after : Registers) (target : PointerParts) (d : Descriptor) → length before.pr ≡ 8
+    → IsCalled before target d after → after ≡ called before target d
+one_call before after target d e c =
+    let ring : ℕ = min target.ring d.brackets.r2 in
+    let p : after.procedure ≡ going_on target ring = subst (λ (r : ℕ). after.procedure ≡ going_on target r) c.current c.procedure in
+    let stack : slice_get after.pr 0 ≡ Some (stack_base ring) = subst (λ (r : ℕ). slice_get after.pr 0 ≡ Some (stack_base r)) c.current c.stack in
+    same after (called before target d) c.current p
+    (eight_called before.pr after.pr (stack_base ring) (way_back before) e c.count stack c.back c.others) c.accumulator
+
+chain : {X : Type 0} {x y z : X} → x ≡ y → y ≡ z → x ≡ z
+chain e f = cc
+
+-- the first, the last and the other registers of a call
+first_set : (xs : List PointerParts) (stack back : PointerParts) → length xs ≡ 8 → slice_get (slice_set (slice_set xs 0 stack) 7 back) 0 ≡ Some stack
+first_set (x0 ∷ x1 ∷ x2 ∷ x3 ∷ x4 ∷ x5 ∷ x6 ∷ x7 ∷ []) stack back e = refl
+first_set xs stack back e = search rules
+
+last_set : (xs : List PointerParts) (stack back : PointerParts) → length xs ≡ 8 → slice_get (slice_set (slice_set xs 0 stack) 7 back) 7 ≡ Some back
+last_set (x0 ∷ x1 ∷ x2 ∷ x3 ∷ x4 ∷ x5 ∷ x6 ∷ x7 ∷ []) stack back e = refl
+last_set xs stack back e = search rules
+
+others_kept : (xs : List PointerParts) (stack back : PointerParts) → length xs ≡ 8 → (n : ℕ) → 1 ≤ n → n ≤ 6
+    → slice_get (slice_set (slice_set xs 0 stack) 7 back) n ≡ slice_get xs n
+others_kept xs stack back e n low high =
+    chain (slice_get-get_or (slice_set (slice_set xs 0 stack) 7 back) n stack (search rules))
+    (chain (ap (λ x. Some x) (chain (get_or-set_other (slice_set xs 0 stack) 7 n back stack (search rules)) (get_or-set_other xs 0 n stack stack (search rules))))
+    (sym (slice_get-get_or xs n stack (search rules))))
+
+a_call : (before : Registers) (target : PointerParts) (d : Descriptor) → length before.pr ≡ 8 → IsCalled before target d (called before target d)
+a_call before target d e =
+    let stack : PointerParts = stack_base (min target.ring d.brackets.r2) in
+    record {
+      current = refl;
+      procedure = refl;
+      stack = first_set before.pr stack (way_back before) e;
+      back = last_set before.pr stack (way_back before) e;
+      others = others_kept before.pr stack (way_back before) e;
+      count = search rules;
+      accumulator = refl;
+    }
+
+pub exactly_called : (before after : Registers) (target : PointerParts) (d : Descriptor) → length before.pr ≡ 8
+    → IsCalled before target d after ↔ (after ≡ called before target d)
+exactly_called before after target d e =
+    (one_call before after target d e, λ same. subst (IsCalled before target d) (sym same) (a_call before target d e))
+
+not_below : (a b : ℕ) → a ≤ max a b
+not_below a b = search rules
+
+all_above : (ring lower : ℕ) (xs : List PointerParts) → ring ≤ lower → All (λ p. lower ≤ p.ring) xs → All (λ p. ring ≤ p.ring) xs
+all_above ring lower xs h above = λ k d i. le_trans h (above k d i)
+
+sound_called : (before : Registers) (target : PointerParts) (d : Descriptor) → IsSound before
+    → (called before target d).ring ≤ before.ring → IsSound (called before target d)
+sound_called before target d s falls =
+    let ring : ℕ = min target.ring d.brackets.r2 in
+    let first : List PointerParts = slice_set before.pr 0 (stack_base ring) in
+    record {
+      eight = search rules;
+      above = All-set (λ p. ring ≤ p.ring) first 7 (way_back before) falls
+          (All-set (λ p. ring ≤ p.ring) before.pr 0 (stack_base ring) (le_refl ring) (all_above ring before.ring before.pr falls s.above));
+      plain = All-set (λ p. p.further ≡ false) first 7 (way_back before) s.procedure
+          (All-set (λ p. p.further ≡ false) before.pr 0 (stack_base ring) refl s.plain);
+      procedure = refl;
+    }
+
+pub called_stays_sound : (before after : Registers) (target : PointerParts) (d : Descriptor) → IsSound before
+    → IsOk (call_judgement before target d) → IsCalled before target d after → IsSound after
+called_stays_sound before after target d s h c =
+    let falls = never_raised before after target d h c in
+    subst IsSound (sym (one_call before after target d s.eight c)) (sound_called before target d s (subst (λ ring. ring ≤ before.ring) c.current falls))
+
+pub returned_stays_sound : (before after : Registers) (target : PointerParts) → IsSound before
+    → IsReturned before target after → IsSound after
+returned_stays_sound before after target s r = record {
+  eight = rw r.pointers (chain (length-map before.pr (raised_to after.ring)) s.eight);
+  above = rw r.pointers (All-map (λ p. after.ring ≤ p.ring) (raised_to after.ring) before.pr (λ k d i. not_below after.ring _));
+  plain = rw r.pointers (All-map (λ p. p.further ≡ false) (raised_to after.ring) before.pr s.plain);
+  procedure = rw r.procedure refl;
+}

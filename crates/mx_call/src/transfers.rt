@@ -1,0 +1,131 @@
+//! Calls and returns.
+
+ghost use Rattle.std.specs.Prelude.{◌≡◌, ◌↔◌, map, IsOk, IfOk, IfErr, Err};
+ghost use Rattle.mx_call.specs.Registers.{stack_base, going_on, way_back, raised_to};
+ghost use Rattle.mx_call.specs.Transfers.{calling, call_judgement, return_judgement, IsCalled, IsReturned};
+
+use crate::registers::Regs;
+use mx_ptr::Pointer;
+use mx_sdw::{Denial, Desc, Op, Ring, judge, new_ring};
+
+/// The registers after a call of `target`, a word of the segment that `desc` describes, where `target.ring` is the effective
+/// ring. Denied as the judging rule denies a call from the current ring (Schroeder and Saltzer).
+pub fn call(regs: &Regs, target: &Pointer, desc: &Desc) -> Result<Regs, Denial>
+    ensures granted { IsOk result ↔ IsOk (call_judgement regs.now target.now desc.now) }
+    ensures ok { IfOk result (λ after. IsCalled regs.now target.now desc.now after) }
+    ensures err { IfErr result (λ denial. call_judgement regs.now target.now desc.now ≡ Err denial) }
+{
+    judge(
+        desc,
+        calling(regs, target),
+        target.ring,
+        u32::from(target.word),
+    )?;
+    let ring = new_ring(desc, calling(regs, target), target.ring);
+    let procedure = going_on(target, ring);
+    let [_, pr1, pr2, pr3, pr4, pr5, pr6, _] = regs.pr;
+    Ok(Regs {
+        ring,
+        procedure,
+        pr: [
+            stack_base(ring),
+            pr1,
+            pr2,
+            pr3,
+            pr4,
+            pr5,
+            pr6,
+            way_back(regs),
+        ],
+        a: regs.a,
+    })
+}
+
+/// The registers after a return to `target`, a word of the segment that `desc` describes, where `target.ring` is the
+/// effective ring. Denied as the judging rule denies a return (Schroeder and Saltzer).
+pub fn ret(regs: &Regs, target: &Pointer, desc: &Desc) -> Result<Regs, Denial>
+    ensures granted { IsOk result ↔ IsOk (return_judgement target.now desc.now) }
+    ensures ok { IfOk result (λ after. IsReturned regs.now target.now after) }
+    ensures err { IfErr result (λ denial. return_judgement target.now desc.now ≡ Err denial) }
+{
+    judge(desc, Op::Return, target.ring, u32::from(target.word))?;
+    let ring = new_ring(desc, Op::Return, target.ring);
+    Ok(Regs {
+        ring,
+        procedure: going_on(target, ring),
+        pr: all_raised_to(ring, &regs.pr),
+        ..*regs
+    })
+}
+
+/// The call of a target from these registers.
+fn calling(regs: &Regs, target: &Pointer) -> Op
+    ensures { result ≡ calling regs.now target.now }
+{
+    Op::Call {
+        current: regs.ring,
+        same: target.segno == regs.procedure.segno,
+    }
+}
+
+/// The procedure pointer of a process that goes on at `target` in a ring.
+fn going_on(target: &Pointer, ring: Ring) -> Pointer
+    ensures { result ≡ going_on target.now ring }
+{
+    Pointer {
+        ring,
+        segno: target.segno,
+        word: target.word,
+        further: false,
+    }
+}
+
+/// The pointer to where a process runs, in its current ring.
+fn way_back(regs: &Regs) -> Pointer
+    ensures { result ≡ way_back regs.now }
+{
+    Pointer {
+        ring: regs.ring,
+        ..regs.procedure
+    }
+}
+
+/// The word 0 of the stack of a ring.
+fn stack_base(ring: Ring) -> Pointer
+    ensures { result ≡ stack_base ring }
+{
+    Pointer {
+        ring,
+        segno: u16::from(ring.number()),
+        word: 0,
+        further: false,
+    }
+}
+
+/// The pointer registers with each ring at least `ring`.
+fn all_raised_to(ring: Ring, pr: &[Pointer; 8]) -> [Pointer; 8]
+    ensures { result ≡ map (raised_to ring) pr.now }
+{
+    let [pr0, pr1, pr2, pr3, pr4, pr5, pr6, pr7] = *pr;
+    [
+        raised_to(ring, pr0),
+        raised_to(ring, pr1),
+        raised_to(ring, pr2),
+        raised_to(ring, pr3),
+        raised_to(ring, pr4),
+        raised_to(ring, pr5),
+        raised_to(ring, pr6),
+        raised_to(ring, pr7),
+    ]
+}
+
+/// A pointer whose ring is at least `ring`.
+fn raised_to(ring: Ring, pointer: Pointer) -> Pointer
+    ensures { result ≡ raised_to ring pointer }
+{
+    if pointer.ring.number() < ring.number() {
+        Pointer { ring, ..pointer }
+    } else {
+        pointer
+    }
+}
