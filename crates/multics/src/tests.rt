@@ -295,7 +295,7 @@ fn texts_that_end_too_early_or_too_late_are_refused(rt: HostRuntime) -> Result<(
 #[test]
 fn other_lines_are_refused(rt: HostRuntime) -> Result<(), Fail> {
     for (place, line) in [
-        (0, b"multics 2".as_slice()),
+        (0u8, b"multics 2".as_slice()),
         (0, b"multics  1"),
         (1, b"create_seg >a 064 4 4 4"),
         (1, b"create_seg >a 0 4 4 4"),
@@ -326,11 +326,11 @@ fn other_lines_are_refused(rt: HostRuntime) -> Result<(), Fail> {
         (9, b"End"),
     ] {
         let mut lines = SMALLEST;
-        if place < lines.len() {
-            lines[place] = line;
+        if usize::from(place) < lines.len() {
+            lines[usize::from(place)] = line;
         }
         let text = text_of(rt.alloc(), &lines)?;
-        assert!(rt; is_answered(rt.alloc(), &text, place as u32 + 1)?);
+        assert!(rt; is_answered(rt.alloc(), &text, u32::from(place) + 1)?);
     }
     Ok(())
 }
