@@ -1,0 +1,5 @@
+pub mod LotLaws
+pub mod NameLaws
+pub mod SoundLaws
+pub mod InitiateLaws
+pub mod TerminateLaws

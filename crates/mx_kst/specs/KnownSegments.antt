@@ -1,0 +1,31 @@
+-- What a process knows: what each number given so far stands for, and its reference names. And what is true of it at every moment.
+use Rattle.std.specs.Prelude.{◌≡◌, ℕ, ◌+◌, ◌≤◌, true, List, take, length, Some}
+use Rattle.std.specs.List.{IsDistinct}
+use Rattle.std.specs.Map.{keys_of}
+use Rattle.mx_sdw.specs.Rings.{Bracketing}
+use Rattle.mx_kst.specs.declared.lots.Lot.{Lot}
+use Rattle.mx_kst.specs.declared.lots.Lot.TheVariants.{Branch, Linkage}
+use Rattle.mx_kst.specs.Lots.{last_number, stacks, lot_of, is_branch}
+use Rattle.mx_kst.specs.Names.{RingNames, no_names, names_in, same_name, named}
+
+pub record KnownSegments : Type 0 where
+  pub lots : List Lot
+  pub names : List RingNames
+
+-- at first it knows its stacks
+abbrev pub at_first : KnownSegments
+at_first = record { lots = stacks; names = no_names }
+
+pub record IsSound (k : KnownSegments) : Type 0 where
+  pub stacks_first : take 8 k.lots ≡ stacks
+  pub within : length k.lots ≤ last_number + 1
+  pub rings : length k.names ≡ 8
+  -- no segment has two numbers
+  pub one_number : (m n uid : ℕ) → lot_of k.lots m ≡ Branch uid → lot_of k.lots n ≡ Branch uid → m ≡ n
+  -- no name stands twice in a ring
+  pub one_entry : (ring : ℕ) → IsDistinct same_name (keys_of (names_in k.names ring))
+  -- each name stands for a segment that is known
+  pub names_known : (ring segno : ℕ) (name : List ℕ) → named k.names ring name ≡ Some segno → is_branch (lot_of k.lots segno) ≡ true
+  -- a linkage section has the number after that of its segment, which is known
+  pub section_next : (n of page words : ℕ) (brackets : Bracketing) → lot_of k.lots n ≡ Linkage of page brackets words
+      → (n ≡ of + 1) × (is_branch (lot_of k.lots of) ≡ true)

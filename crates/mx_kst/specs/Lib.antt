@@ -1,0 +1,5 @@
+pub mod Lots
+pub mod Names
+pub mod KnownSegments
+pub mod Initiating
+pub mod Terminating

@@ -1,0 +1,166 @@
+//! What a segment number stands for.
+ghost use Rattle.std.specs.Prelude.{◌≡◌, ◌+◌, ◌≤◌, ◌<◌, true, length, IfOk, IfSome};
+ghost use Rattle.std.specs.Vec.{vec_len, vec_capacity};
+ghost use Rattle.mx_kst.specs.Lots.{last_number, stacks, lot_of, number_of, is_branch, is_segment, is_section_of};
+ghost use Rattle.mx_kst.specs.Initiating.{numbers_needed, lots_with};
+ghost use Rattle.mx_kst.specs.Terminating.{lot_without, lots_without};
+
+use crate::segments::Known;
+use mx_sdw::{Brackets, Ring};
+use std::alloc::{AllocError, Global};
+
+/// The last segment number of a process (this model's limit).
+pub const LAST_NUMBER: u16 = 127;
+
+/// What a segment number of a process stands for.
+#[derive(Clone, Copy, Debug, PartialEq, Eq)]
+pub enum Lot {
+    /// Nothing: the number is not given yet, or was taken away.
+    Free,
+    /// The stack of a ring.
+    Stack(Ring),
+    /// A segment of the hierarchy.
+    Branch {
+        /// The segment's uid.
+        uid: u32,
+    },
+    /// The linkage section of an object segment, private to the process.
+    Linkage {
+        /// The object segment's number.
+        of: u16,
+        /// The section's page.
+        page: u16,
+        /// The section's brackets, as of its making.
+        brackets: Brackets,
+        /// How many link words it has.
+        words: u16,
+    },
+}
+
+/// A linkage section to be made.
+#[derive(Clone, Copy, Debug, PartialEq, Eq)]
+pub struct Section {
+    /// Its page.
+    pub page: u16,
+    /// Its brackets.
+    pub brackets: Brackets,
+    /// How many link words it has.
+    pub words: u16,
+}
+
+impl Lot {
+    pub(crate) fn is_branch(&self) -> bool
+        ensures { result ≡ is_branch self.now }
+    {
+        matches!(self, Lot::Branch { .. })
+    }
+
+    fn is_segment(&self, uid: u32) -> bool
+        ensures { result ≡ is_segment uid self.now }
+    {
+        matches!(self, Lot::Branch { uid: other } if *other == uid)
+    }
+
+    fn is_section_of(&self, segno: u16) -> bool
+        ensures { result ≡ is_section_of segno self.now }
+    {
+        matches!(self, Lot::Linkage { of, .. } if *of == segno)
+    }
+
+    /// The lot without the linkage section of a number.
+    fn without_section(&self, segno: u16) -> Lot
+        ensures { result ≡ lot_without segno self.now }
+    {
+        if self.is_section_of(segno) {
+            Lot::Free
+        } else {
+            *self
+        }
+    }
+}
+
+/// The lots of a process at first, with room for those of all numbers.
+pub(crate) fn first_lots(alloc: Global) -> Result<Vec<Lot>, AllocError>
+    ensures lots { IfOk result (λ lots. lots.items ≡ stacks) }
+    ensures room { IfOk result (λ lots. last_number < vec_capacity lots) }
+{
+    let mut lots = Vec::with_capacity(alloc, usize::from(LAST_NUMBER) + 1)?;
+    for n in 0..8 {
+        lots.push(stack_of(n))?;
+    }
+    Ok(lots)
+}
+
+/// The stack of the ring with this number.
+fn stack_of(n: u8) -> Lot
+    requires { n ≤ 7 }
+    ensures { result ≡ Lot.Stack n }
+{
+    match Ring::new(n) {
+        Some(ring) => Lot::Stack(ring),
+        None => Lot::Free,
+    }
+}
+
+/// What a number stands for.
+pub(crate) fn lot_of(lots: &[Lot], segno: u16) -> Lot
+    ensures { result ≡ lot_of lots.now segno }
+{
+    match lots.get(usize::from(segno)) {
+        Some(lot) => *lot,
+        None => Lot::Free,
+    }
+}
+
+/// The number of a segment.
+pub(crate) fn number_of(lots: &[Lot], uid: u32) -> Option<u16>
+    requires { length lots.now ≤ last_number + 1 }
+    ensures { result ≡ number_of lots.now uid }
+{
+    let place = place_of(lots, uid)?;
+    Some(place as u16)
+}
+
+fn place_of(lots: &[Lot], uid: u32) -> Option<usize>
+    ensures place { result ≡ number_of lots.now uid }
+    ensures bound { IfSome result (λ place. place < length lots.now) }
+{
+    lots.iter().position(
+        |lot: &Lot| -> bool
+            ensures { result ≡ is_segment uid lot.now }
+        { lot.is_segment(uid) },
+    )
+}
+
+/// Adds the lots of a segment that gets its number now, and of its linkage section. Takes no memory.
+pub(crate) fn add_lots(lots: &mut Vec<Lot>, known: &Known, uid: u32, section: Option<Section>)
+    requires within { known.now.fresh ≡ true → length lots.old.items + numbers_needed section ≤ last_number + 1 }
+    requires room { last_number < vec_capacity lots.old }
+    ensures lots { lots.new.items ≡ lots_with lots.old.items known.now uid section }
+    ensures room { vec_capacity lots.old ≤ vec_capacity lots.new }
+{
+    if !known.fresh {
+        return;
+    }
+    lots.push(Lot::Branch { uid }).unwrap();
+    if let Some(section) = section {
+        lots.push(Lot::Linkage {
+            of: known.segno,
+            page: section.page,
+            brackets: section.brackets,
+            words: section.words,
+        })
+        .unwrap();
+    }
+}
+
+/// Frees a number, and that of its linkage section.
+pub(crate) fn free(lots: &mut [Lot], segno: u16)
+    requires { segno < length lots.old }
+    ensures { lots.new ≡ lots_without segno lots.old }
+{
+    lots[usize::from(segno)] = Lot::Free;
+    for lot in lots.iter_mut() {
+        *lot = lot.without_section(segno);
+    }
+}

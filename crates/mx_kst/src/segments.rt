@@ -1,0 +1,208 @@
+//! The known segment table.
+ghost use Rattle.std.specs.Prelude.{◌≡◌, ◌↔◌, ◌+◌, ◌≤◌, ◌<◌, ◌==◌, ◌||◌, if◌then◌else◌, ℕ, true, List, length, Some, None, IfOk, OnOk, OnErr, IfSome};
+ghost use Rattle.std.specs.Option.{option_copied};
+ghost use Rattle.mx_name.specs.Answers.{Answers};
+ghost use Rattle.mx_kst.specs.Lots.{numbers_left, lot_of, number_of, is_branch, is_section_of};
+ghost use Rattle.mx_kst.specs.Names.{named};
+
+use crate::lots::{self, LAST_NUMBER, Lot, Section};
+use crate::names::{self, Names};
+use mx_name::EntryName;
+use mx_sdw::Ring;
+use std::alloc::{AllocError, Global};
+use std::marker::Model;
+use thiserror::Error;
+
+/// How a segment is known.
+#[derive(Clone, Copy, Debug, PartialEq, Eq)]
+pub struct Known {
+    /// Its segment number.
+    pub segno: u16,
+    /// Whether it was not known before and got the number now.
+    pub fresh: bool,
+    /// The number of the linkage section that was made with it now.
+    pub linkage: Option<u16>,
+}
+
+/// Why a segment is not initiated. The variants are tested in this order.
+#[derive(Clone, Copy, Debug, PartialEq, Eq, Error)]
+pub enum KstError {
+    /// The reference name stands in this ring for another number.
+    #[error("name duplication")]
+    NameDup,
+    /// The segment is not known, and too few numbers are left for it and its linkage section.
+    #[error("known segment table full")]
+    Full,
+    /// Memory was wanting; the segment may be initiated.
+    #[error("out of memory")]
+    Memory,
+}
+
+impl From<AllocError> for KstError {
+    ghost use Rattle.mx_kst.specs.declared.segments.KstError.TheVariants.{Memory};
+
+    ghost from_gives = { λ _ e. e ≡ Memory };
+
+    fn from(_error: AllocError) -> KstError {
+        KstError::Memory
+    }
+}
+
+/// The number is not that of a known segment.
+#[derive(Clone, Copy, Debug, PartialEq, Eq, Error)]
+#[error("unknown segment number")]
+pub struct UnknownSegno;
+
+/// The known segment table of a process. Numbers 0 to 7 are its stacks; segments and their linkage sections get the numbers
+/// from 8 to [`LAST_NUMBER`] in order, and no number is used again (linkage sections with numbers of their own are this
+/// model's choice).
+#[derive(Debug, Drop)]
+pub struct Kst {
+    /// By number, those given so far; with room for all.
+    lots: Vec<Lot>,
+    /// By ring.
+    names: Vec<Names>,
+}
+
+impl Model for Kst {
+    ghost use Rattle.std.specs.Prelude.{◌<◌};
+    ghost use Rattle.std.specs.Vec.{vec_capacity};
+    ghost use Rattle.mx_kst.specs.Lots.{last_number};
+    ghost use Rattle.mx_kst.specs.KnownSegments.{KnownSegments, IsSound};
+
+    ghost Value = { KnownSegments };
+
+    ghost view = { λ a. record { lots = a.lots.items; names = a.names.items } };
+
+    ghost invariant = { λ a. IsSound (record { lots = a.lots.items; names = a.names.items }) × (last_number < vec_capacity a.lots) };
+}
+
+impl Kst {
+    ghost use Rattle.mx_kst.specs.KnownSegments.{at_first, IsSound};
+    ghost use Rattle.mx_kst.specs.Initiating.{is_taken, is_full, known_as, initiate, outcome};
+    ghost use Rattle.mx_kst.specs.Terminating.{terminate};
+
+    /// The stacks, and no names. Takes the memory for all numbers here.
+    pub fn new(alloc: Global) -> Result<Kst, AllocError>
+        ensures { IfOk result (λ kst. kst ≡ at_first) }
+    {
+        let lots = lots::first_lots(alloc)?;
+        let names = names::no_names(alloc)?;
+        Ok(Kst { lots, names })
+    }
+
+    /// Makes a segment known, and gives it a reference name in a ring where one is given. A segment that is known keeps its
+    /// number and gets no linkage section; else it gets the next number, and the linkage section, where one is wanted, the
+    /// number after that. `NameDup` exactly where the name stands in the ring for another number than the segment's; then
+    /// `Full` exactly where the segment is not known and too few numbers are left. A refusal, and want of memory, change
+    /// nothing.
+    pub fn initiate(
+        &mut self,
+        uid: u32,
+        ring: Ring,
+        name: Option<&EntryName>,
+        section: Option<Section>,
+    ) -> Result<Known, KstError>
+        ensures answer { Answers KstError.Memory (initiate self.old uid ring (option_copied name.entry) section) (outcome result self.new) }
+        ensures err { OnErr result (self.new ≡ self.old) }
+    {
+        if self.is_taken(uid, ring, name) {
+            return Err(KstError::NameDup);
+        }
+        if self.is_full(uid, &section) {
+            return Err(KstError::Full);
+        }
+        let known = self.known_as(uid, &section);
+        names::add_name(&mut self.names, ring, name, known.segno)?;
+        lots::add_lots(&mut self.lots, &known, uid, section);
+        Ok(known)
+    }
+
+    /// Takes away a segment's number, its names in all rings and its linkage section. Refused exactly where the number is not
+    /// that of a known segment, as stacks and linkage sections are not; then nothing changes. Takes no memory.
+    pub fn terminate(&mut self, segno: u16) -> Result<(), UnknownSegno>
+        ensures ok { OnOk result (terminate self.old segno ≡ Some self.new) }
+        ensures refused { OnErr result (terminate self.old segno ≡ None) }
+        ensures err { OnErr result (self.new ≡ self.old) }
+    {
+        if !lots::lot_of(&self.lots, segno).is_branch() {
+            return Err(UnknownSegno);
+        }
+        lots::free(&mut self.lots, segno);
+        names::forget(&mut self.names, segno);
+        Ok(())
+    }
+
+    /// The number that a reference name stands for in a ring. Takes no memory.
+    pub fn by_name(&self, ring: Ring, name: &EntryName) -> Option<u16>
+        ensures value { result ≡ named self.now.names ring name.now }
+        ensures known { IfSome result (λ segno. is_branch (lot_of self.now.lots segno) ≡ true) }
+    {
+        names::named(&self.names, ring, name)
+    }
+
+    /// The number of a segment. Takes no memory.
+    pub fn by_uid(&self, uid: u32) -> Option<u16>
+        ensures value { result ≡ number_of self.now.lots uid }
+        ensures only { (n : ℕ) → (result ≡ Some n) ↔ (lot_of self.now.lots n ≡ Lot.Branch uid) }
+    {
+        lots::number_of(&self.lots, uid)
+    }
+
+    /// What a number stands for. Takes no memory.
+    pub fn lot(&self, segno: u16) -> Lot
+        ensures { result ≡ lot_of self.now.lots segno }
+    {
+        lots::lot_of(&self.lots, segno)
+    }
+
+    /// How many numbers have not been given yet. Takes no memory.
+    pub fn left(&self) -> u16
+        ensures value { result ≡ numbers_left self.now.lots }
+        ensures sound { IsSound self.now }
+    {
+        LAST_NUMBER + 1 - self.lots.len() as u16
+    }
+
+    fn is_taken(&self, uid: u32, ring: Ring, name: Option<&EntryName>) -> bool
+        ensures { result ≡ is_taken self.now uid ring (option_copied name.entry) }
+    {
+        let Some(name) = name else {
+            return false;
+        };
+        match (self.by_uid(uid), self.by_name(ring, name)) {
+            (_, None) => false,
+            (None, Some(_)) => true,
+            (Some(own), Some(segno)) => segno != own,
+        }
+    }
+
+    fn is_full(&self, uid: u32, section: &Option<Section>) -> bool
+        ensures { result ≡ is_full self.now uid section.now }
+    {
+        let needed = if section.is_some() { 2 } else { 1 };
+        self.by_uid(uid).is_none() && self.left() < needed
+    }
+
+    fn known_as(&self, uid: u32, section: &Option<Section>) -> Known
+        ensures { result ≡ known_as self.now.lots uid section.now }
+    {
+        if let Some(segno) = self.by_uid(uid) {
+            return Known {
+                segno,
+                fresh: false,
+                linkage: None,
+            };
+        }
+        let segno = self.lots.len() as u16;
+        Known {
+            segno,
+            fresh: true,
+            linkage: if section.is_some() {
+                Some(segno + 1)
+            } else {
+                None
+            },
+        }
+    }
+}

@@ -1,0 +1,2 @@
+pub mod TakingLaws
+pub mod SleepingLaws

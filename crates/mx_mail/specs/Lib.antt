@@ -1,0 +1,4 @@
+pub mod Processes
+pub mod Sending
+pub mod Taking
+pub mod Sleeping

@@ -1,0 +1,2 @@
+pub mod TwiceLaws
+pub mod DefinitionLaws
