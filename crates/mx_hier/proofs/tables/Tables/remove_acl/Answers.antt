@@ -1,0 +1,27 @@
+use Rattle.std.proofs.Common.{Option, not, ap, ◌∙◌}
+use Rattle.std.specs.Option.{is_none}
+use Rattle.mx_hier.specs.Callers.{on}
+use Rattle.std.proofs.lemmas.Result.{on_ok_weaker}
+use Rattle.mx_acl.specs.Access.{Access, without_entry, entry_of}
+use Rattle.mx_hier.specs.declared.branches.Branch.{Branch}
+use Rattle.mx_hier.specs.Changing.{acl_changed, with_node}
+use Rattle.mx_hier.specs.Listed.{acl_in_slot}
+use Rattle.mx_hier.proofs.KeptLaws.{result_kept, listed_changed, slot_listed}
+use Rattle.mx_hier.proofs.tables.Tables.remove_acl.Goals as goal
+
+pub invariant_of-self : goal.invariant_of-self
+invariant_of-self c =
+    result_kept c.remove_acl_at.result (acl_changed (λ acl. without_entry acl c.args.id.now)) c.self.inside.slots.items c.remove_acl_at.new.slots.items c.self.inside.names.items c.args.uid
+    c.self.invariant c.remove_acl_at.ensures.ok c.remove_acl_at.ensures.err
+
+pub returns-clause-found : goal.returns-clause-found
+returns-clause-found c =
+    c.remove_acl_at.ensures.found
+    ∙ ap (λ (slot : Option Branch). not (on (λ (acl : Access). is_none (entry_of acl c.args.id.now)) (acl_in_slot slot)))
+    (slot_listed c.self.inside.slots.items c.args.self.now c.args.uid c.self.invariant.keyed c.self.view_is)
+
+pub returns-clause-ok : goal.returns-clause-ok
+returns-clause-ok c =
+    on_ok_weaker c.remove_acl_at.result
+    (λ e. listed_changed c.self.inside.slots.items c.remove_acl_at.new.slots.items c.args.self.now c.args.uid (λ branch. with_node (acl_changed (λ acl. without_entry acl c.args.id.now) branch.node) branch) c.self.invariant.keyed c.self.view_is e)
+    c.remove_acl_at.ensures.ok

@@ -1,0 +1,44 @@
+-- Who asks, and what access is left to him in his ring (Multics Programmers' Manual; Schroeder and Saltzer).
+use Rattle.std.specs.Prelude.{ℕ, nat_le, Bool, false, ◌&&◌, ◌||◌, List, Option, Some, None}
+use Rattle.mx_name.specs.Principals.{PlainPrincipal}
+use Rattle.mx_acl.specs.declared.modes.Modes.{Modes}
+use Rattle.mx_acl.specs.Access.{modes_for}
+use Rattle.mx_acl.specs.Modes.{has_r, has_e, has_w, has_s, has_m, has_a}
+use Rattle.mx_hier.specs.declared.branches.Directory.{Directory}
+use Rattle.mx_hier.specs.declared.branches.Segment.{Segment}
+
+-- a principal in a ring, and the working directory from which its pathnames are resolved
+pub record Caller : Type 0 where
+  pub principal : PlainPrincipal
+  pub ring : ℕ
+  pub base : List (List ℕ)
+
+-- s on a directory, to ask for its entries: where the modes have it and the ring is at most D2
+abbrev pub has_status : Caller → Directory → Bool
+has_status who directory = has_s (modes_for directory.acl who.principal) && nat_le who.ring directory.d2
+
+-- m, to change its entries, and a, to add entries: where the modes have it and the ring is at most D1
+abbrev pub has_modify : Caller → Directory → Bool
+has_modify who directory = has_m (modes_for directory.acl who.principal) && nat_le who.ring directory.d1
+
+abbrev pub has_append : Caller → Directory → Bool
+has_append who directory = has_a (modes_for directory.acl who.principal) && nat_le who.ring directory.d1
+
+-- any of the three
+abbrev pub has_any : Caller → Directory → Bool
+has_any who directory = has_status who directory || has_modify who directory || has_append who directory
+
+-- any access to a segment: r is left up to R2, w up to R1, and e from R1 to R3
+abbrev pub keeps_any : Modes → Segment → ℕ → Bool
+keeps_any modes segment ring =
+    has_r modes && nat_le ring segment.brackets.r2
+    || has_w modes && nat_le ring segment.brackets.r1
+    || has_e modes && nat_le segment.brackets.r1 ring && nat_le ring segment.brackets.r3
+
+abbrev pub has_access : Caller → Segment → Bool
+has_access who segment = keeps_any (modes_for segment.acl who.principal) segment who.ring
+
+-- one of these on what may be no directory, or no segment
+abbrev pub on : {A : Type 0} → (A → Bool) → Option A → Bool
+on test (Some item) = test item
+on test None = false

@@ -1,0 +1,13 @@
+pub mod Refusals
+pub mod Branches
+pub mod Opening
+pub mod Callers
+pub mod Who
+pub mod Rules
+pub mod Walks
+pub mod Making
+pub mod Changing
+pub mod Asking
+pub mod Listed
+pub mod Stops
+pub mod Sound

@@ -1,0 +1,40 @@
+//! What a directory's entries are.
+
+use mx_acl::Acl;
+use mx_name::{EntryName, Path};
+use mx_sdw::{Brackets, Ring};
+
+/// What is said of a directory: its access list and its brackets `d1 <= d2`. A caller in ring v has m or a on it only where
+/// v is at most `d1`, and s only where v is at most `d2` (Multics Programmers' Manual).
+#[derive(Debug, Drop)]
+pub struct Directory {
+    pub acl: Acl,
+    pub d1: Ring,
+    pub d2: Ring,
+}
+
+/// What is said of a segment: its access list, its brackets, its length of 1 to 1,024 words, and its first page of 64 words.
+#[derive(Debug, Drop)]
+pub struct Segment {
+    pub acl: Acl,
+    pub brackets: Brackets,
+    pub words: u16,
+    pub page: u16,
+}
+
+/// What an entry is: a directory, a segment, or a link to a path.
+#[derive(Debug, Drop)]
+pub enum Node {
+    Directory(Directory),
+    Segment(Segment),
+    Link(Path),
+}
+
+/// An entry of a directory. Its uid is never used again; `parent` is the uid of the directory that holds it, 0 for the root.
+#[derive(Debug, Drop)]
+pub struct Branch {
+    pub uid: u32,
+    pub parent: u32,
+    pub name: EntryName,
+    pub node: Node,
+}

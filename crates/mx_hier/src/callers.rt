@@ -1,0 +1,67 @@
+//! Who asks, and what access is left to him.
+
+ghost use Rattle.std.specs.Prelude.{◌≡◌};
+ghost use Rattle.mx_hier.specs.Callers.{has_status, has_modify, has_append, has_any, has_access, keeps_any};
+ghost use Rattle.mx_hier.specs.Who.{caller};
+
+use crate::branches::{Directory, Segment};
+use mx_acl::Modes;
+use mx_name::{Path, Principal};
+use mx_sdw::Ring;
+
+/// Who makes a request: a principal in a ring, with the working directory from which its pathnames are resolved.
+#[derive(Debug, Drop)]
+pub struct Who<'a> {
+    pub principal: &'a Principal,
+    pub ring: Ring,
+    pub base: &'a Path,
+}
+
+impl Who<'_> {
+    /// Whether s on a directory is left to him.
+    pub(crate) fn has_status(&self, directory: &Directory) -> bool
+        ensures { result ≡ has_status (caller self.now) directory.now }
+    {
+        directory.acl.modes_of(self.principal).s() && self.ring.number() <= directory.d2.number()
+    }
+
+    /// Whether m on a directory is left to him.
+    pub(crate) fn has_modify(&self, directory: &Directory) -> bool
+        ensures { result ≡ has_modify (caller self.now) directory.now }
+    {
+        directory.acl.modes_of(self.principal).m() && self.ring.number() <= directory.d1.number()
+    }
+
+    /// Whether a on a directory is left to him.
+    pub(crate) fn has_append(&self, directory: &Directory) -> bool
+        ensures { result ≡ has_append (caller self.now) directory.now }
+    {
+        directory.acl.modes_of(self.principal).a() && self.ring.number() <= directory.d1.number()
+    }
+
+    /// Whether any mode on a directory is left to him.
+    pub(crate) fn has_any(&self, directory: &Directory) -> bool
+        ensures { result ≡ has_any (caller self.now) directory.now }
+    {
+        self.has_status(directory) || self.has_modify(directory) || self.has_append(directory)
+    }
+
+    /// Whether any access to a segment is left to him.
+    pub(crate) fn has_access(&self, segment: &Segment) -> bool
+        ensures { result ≡ has_access (caller self.now) segment.now }
+    {
+        keeps_any(segment.acl.modes_of(self.principal), segment, self.ring)
+    }
+}
+
+fn keeps_any(modes: Modes, segment: &Segment, ring: Ring) -> bool
+    ensures { result ≡ keeps_any modes segment.now ring }
+{
+    let ring = ring.number();
+    let [r1, r2, r3] = [
+        segment.brackets.r1().number(),
+        segment.brackets.r2().number(),
+        segment.brackets.r3().number(),
+    ];
+    modes.r() && ring <= r2 || modes.w() && ring <= r1 || modes.e() && r1 <= ring && ring <= r3
+}

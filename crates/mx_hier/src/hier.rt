@@ -1,0 +1,156 @@
+//! The hierarchy.
+
+ghost use Rattle.std.specs.Prelude.{◌≡◌, ◌<◌, [], ◌∷◌, IfOk, IfSome};
+ghost use Rattle.std.specs.Borrow.{Lends, sem};
+ghost use Rattle.std.specs.Option.{option_map};
+ghost use Rattle.mx_pages.specs.contracts.pages.Pages.{the_row as pages_row};
+ghost use Rattle.mx_hier.specs.contracts.hier.Hier.{the_row};
+ghost use Rattle.mx_hier.specs.Branches.{Hierarchy, directory_at, segment_at, target_at, holder};
+ghost use Rattle.mx_hier.specs.Opening.{root, opening};
+ghost use Rattle.mx_hier.specs.Rules.{say};
+ghost use Rattle.mx_hier.specs.Sound.{IsWithin};
+ghost use Rattle.mx_hier.specs.Who.{caller};
+
+use crate::branches::{Directory, Node, Segment};
+use crate::callers::Who;
+use crate::refusals::Refusal;
+use crate::tables::Tables;
+use mx_acl::{Acl, AclKind, Modes};
+use mx_name::{AclId, Path};
+use mx_pages::Pages;
+use mx_sdw::Ring;
+use std::alloc::{AllocError, Global};
+use std::marker::Model;
+
+/// The directory hierarchy: what its directories hold, and the pages that are left for segments.
+#[derive(Debug, Drop)]
+pub struct Hier {
+    pub(crate) root: Directory,
+    pub(crate) tables: Tables,
+    pub(crate) pages: Pages,
+}
+
+impl Model for Hier {
+    ghost use Rattle.mx_hier.specs.Branches.{Hierarchy};
+    ghost use Rattle.mx_hier.specs.Sound.{IsSound};
+
+    ghost Value = { Hierarchy };
+
+    ghost view = { λ a. record { root = a.root; branches = a.tables.branches; next = a.tables.next; pages = a.pages } };
+
+    ghost invariant = { λ a. IsSound a.tables.branches a.tables.next };
+}
+
+impl Hier {
+    /// The root directory alone, with brackets 7, 7 and the one access list entry `*.SysDaemon.*` sma; each page from
+    /// `first_page` on is free.
+    pub fn new(alloc: Global, first_page: u32) -> Result<Hier, AllocError>
+        ensures { IfOk result (λ hier. hier ≡ opening first_page) }
+    {
+        let tables = Tables::new(alloc)?;
+        let root = root(alloc)?;
+        Ok(Hier {
+            root,
+            tables,
+            pages: Pages::new(first_page),
+        })
+    }
+
+    /// The pages that are left for segments. Takes no memory.
+    pub fn pages(&mut self) -> &mut Pages
+        ensures value { result.now ≡ self.old.pages }
+        ensures* writes_back { sem 𝓛 (Lends the_row pages_row self.entry result (λ w. record self.old { pages = w })) }
+    {
+        &mut self.pages
+    }
+
+    /// The directory of a uid.
+    pub(crate) fn directory_at(&self, uid: u32) -> Option<&Directory>
+        ensures value { option_map (λ directory. directory.now) result ≡ directory_at self.now uid }
+        ensures below { IfSome result (λ directory. uid < self.now.next) }
+    {
+        if uid == 0 {
+            return Some(&self.root);
+        }
+        match &self.tables.get(uid)?.node {
+            Node::Directory(directory) => Some(directory),
+            Node::Segment(_) | Node::Link(_) => None,
+        }
+    }
+
+    /// The segment of a uid.
+    #[tactic(auto, using(crate::proofs::SoundLaws::within_at))]
+    pub(crate) fn segment_at(&self, uid: u32) -> Option<&Segment>
+        ensures value { option_map (λ segment. segment.now) result ≡ segment_at self.now uid }
+        ensures within { IfSome result (λ segment. IsWithin segment.now) }
+        ensures below { IfSome result (λ segment. uid < self.now.next) }
+    {
+        match &self.tables.get(uid)?.node {
+            Node::Segment(segment) => Some(segment),
+            Node::Directory(_) | Node::Link(_) => None,
+        }
+    }
+
+    /// The path of the link of a uid.
+    pub(crate) fn target_at(&self, uid: u32) -> Option<&Path>
+        ensures { option_map (λ target. target.now) result ≡ target_at self.now uid }
+    {
+        match &self.tables.get(uid)?.node {
+            Node::Link(target) => Some(target),
+            Node::Directory(_) | Node::Segment(_) => None,
+        }
+    }
+
+    /// The uid of the directory that holds the entry of a uid.
+    pub(crate) fn holder(&self, uid: u32) -> u32
+        ensures { result ≡ holder self.now uid }
+    {
+        match self.tables.get(uid) {
+            Some(branch) => branch.parent,
+            None => 0,
+        }
+    }
+
+    /// A refusal as the caller is told it of a directory.
+    pub(crate) fn say(&self, who: &Who, why: Refusal, dir: u32) -> Refusal
+        ensures { result ≡ say self.now (caller who.now) why dir }
+    {
+        match self.directory_at(dir) {
+            Some(directory) if who.has_status(directory) => why,
+            Some(_) | None => Refusal::NoInfo,
+        }
+    }
+}
+
+fn root(alloc: Global) -> Result<Directory, AllocError>
+    ensures { IfOk result (λ directory. directory ≡ root) }
+{
+    let Ok(id) = AclId::read(alloc, b"*.SysDaemon.*") else {
+        return Err(AllocError);
+    };
+    let acl = acl_of_one(alloc, AclKind::Directory, id, Modes::Sma)?;
+    let Some(seven) = Ring::new(7) else {
+        return Err(AllocError);
+    };
+    Ok(Directory {
+        acl,
+        d1: seven,
+        d2: seven,
+    })
+}
+
+/// An access list with one entry.
+pub(crate) fn acl_of_one(
+    alloc: Global,
+    kind: AclKind,
+    id: AclId,
+    modes: Modes,
+) -> Result<Acl, AllocError>
+    ensures { IfOk result (λ acl. acl ≡ record { kind = kind; entries = (id, modes) ∷ [] }) }
+{
+    let mut acl = Acl::new(alloc, kind);
+    match acl.set(id, modes) {
+        Ok(()) => Ok(acl),
+        Err(_) => Err(AllocError),
+    }
+}
