@@ -297,24 +297,28 @@ fn other_lines_are_refused(rt: HostRuntime) -> Result<(), Fail> {
     for (place, line) in [
         (0u8, b"multics 2".as_slice()),
         (0, b"multics  1"),
+        (1, b"history 3"),
         (1, b"create_seg >a 064 4 4 4"),
-        (1, b"create_seg >a 0 4 4 4"),
-        (1, b"create_seg >a 1025 4 4 4"),
-        (1, b"create_seg >a 64 5 4 4"),
+        (1, b"create_seg >a 100000 4 4 4"),
         (1, b"create_seg >a 64 4 4 8"),
         (1, b"create_seg >a 64 4 4"),
-        (1, b"create_seg a 64 4 4 4"),
-        (1, b"create_seg >a>b 64 4 4 4"),
-        (2, b"set_acl >b Jones.Faculty.a rw"),
-        (2, b"set_acl >a *.Faculty.a rw"),
+        (1, b"create_seg >>a 64 4 4 4"),
+        (1, b"create_object >a 64 4 4 4 0"),
+        (1, b"create_dir >a 4"),
+        (1, b"initiate >a"),
+        (1, b"set 5"),
         (2, b"set_acl >a Jones.Faculty.a wr"),
-        (2, b"set_acl >a Jones.Faculty.a sma"),
         (2, b"set_acl >a Jones.Faculty.a"),
+        (2, b"set_acl >a Jones.Faculty rw"),
+        (2, b"rename >a b>c"),
+        (2, b"list >a> "),
         (3, b"process Jones.Faculty"),
         (3, b"process Jones.Faculty.ab"),
         (3, b"process"),
-        (4, b"initiate >b"),
         (4, b"initiate >a\t"),
+        (4, b"initiate >a alpha"),
+        (4, b"terminate 10"),
+        (4, b"block"),
         (5, b"set 08"),
         (5, b"set 1000000000000"),
         (6, b"sta 8|0"),
@@ -325,23 +329,56 @@ fn other_lines_are_refused(rt: HostRuntime) -> Result<(), Fail> {
         (8, b"logout "),
         (9, b"End"),
     ] {
-        let mut lines = SMALLEST;
-        if usize::from(place) < lines.len() {
-            lines[usize::from(place)] = line;
-        }
-        let text = text_of(rt.alloc(), &lines)?;
-        assert!(rt; is_answered(rt.alloc(), &text, u32::from(place) + 1)?);
+        assert!(rt;
+            is_answered(
+                rt.alloc(),
+                &with_line(rt.alloc(), place, line)?,
+                u32::from(place) + 1
+            )?
+        );
     }
     Ok(())
+}
+
+// Requests that are refused are lines of a session all the same.
+#[test]
+fn refused_requests_stand_in_sessions(rt: HostRuntime) -> Result<(), Fail> {
+    for (place, line) in [
+        (1u8, b"create_seg >a 0 4 4 4".as_slice()),
+        (1, b"create_seg >a 99999 5 4 4"),
+        (1, b"create_dir < 4 4"),
+        (1, b"delete >"),
+        (2, b"set_acl >a *.*.* m"),
+        (2, b"rename > x"),
+        (4, b"initiate <<x>y"),
+        (4, b"change_wdir a"),
+        (5, b"list >"),
+        (6, b"status >a"),
+        (7, b"del_acl >a *.*.*"),
+    ] {
+        assert!(rt; is_answered(rt.alloc(), &with_line(rt.alloc(), place, line)?, 0)?);
+    }
+    Ok(())
+}
+
+// The smallest session with another line in a place.
+fn with_line(alloc: Global, place: u8, line: &[u8]) -> Result<Vec<u8>, AllocError> {
+    let mut text = Vec::new(alloc);
+    for (i, own) in SMALLEST.iter().enumerate() {
+        let line = if i == usize::from(place) { line } else { *own };
+        text.extend_from_slice(line)?;
+        text.push(b'\n')?;
+    }
+    Ok(text)
 }
 
 // Each line left out, doubled, and exchanged with the next: the first bad line, 0 where the text still is a session.
 #[test]
 fn lines_out_of_place_are_refused(rt: HostRuntime) -> Result<(), Fail> {
     let alloc = rt.alloc();
-    let left_out = [1, 2, 3, 4, 5, 0, 0, 0, 9, 10];
-    let doubled = [2, 3, 4, 5, 6, 0, 0, 0, 10, 11];
-    let exchanged = [1, 2, 3, 4, 5, 0, 0, 9, 9];
+    let left_out = [1, 0, 0, 4, 0, 0, 0, 0, 9, 10];
+    let doubled = [2, 0, 0, 5, 0, 0, 0, 0, 10, 11];
+    let exchanged = [1, 0, 0, 4, 0, 0, 0, 9, 9];
     for (place, number) in left_out.iter().enumerate() {
         let mut lines = Vec::new(alloc);
         for (i, line) in SMALLEST.iter().enumerate() {
@@ -371,18 +408,18 @@ fn lines_out_of_place_are_refused(rt: HostRuntime) -> Result<(), Fail> {
     Ok(())
 }
 
-// Each byte of the smallest session left out. A number may lose a digit, a name or a component a letter, and the modes a
-// letter; every other byte is missed on its own line.
+// Each byte of the smallest session left out. A number may lose a digit, a pathname its mark or its name, a component a letter,
+// and the modes a letter; every other byte is missed on its own line.
 #[test]
 fn a_missing_byte_is_missed(rt: HostRuntime) -> Result<(), Fail> {
     let alloc = rt.alloc();
     // A mark under each byte without which the text still is a session.
     let spare: [&[u8]; 10] = [
         b".........",
-        b"..............##......",
-        b"...........#####.#######...##",
+        b"...........##.##......",
+        b"........##.#####.#######...##",
         b"........#####.#######..",
-        b"...........",
+        b".........##",
         b"....##",
         b"....##..",
         b"....##..",

@@ -1,7 +1,7 @@
 -- What a source that tells its bytes means for what was read from it.
 use Rattle.std.proofs.Common.{ℕ, ◌<◌, ◌≤◌, List, length, sym, subst, Option, Some, None, arith}
 use Rattle.mx_io.specs.Bytes.{TakesAll}
-use Rattle.mx_run.specs.SessionText.{IsSomeSession}
+use Rattle.mx_script.specs.SessionTexts.{IsSomeSession}
 use Rattle.mx_run.specs.Statuses.{TellsSession, TellsNoSession, TellsTooMuch, most_bytes}
 
 pub told_session : (left after : Option (List ℕ)) (spelled : List ℕ) → TakesAll left after spelled → TellsSession left → IsSomeSession spelled

@@ -2,14 +2,14 @@
 use Rattle.std.specs.Prelude.{◌≡◌, ℕ, ◌≤◌, ◌<◌, List, [], ◌∷◌, ◌++◌, length, Option, Some, None, codes}
 use Rattle.std.specs.Fmt.{decimal}
 use Rattle.mx_io.specs.Bytes.{TakesAll, TakesTooMany, Appends}
-use Rattle.mx_state.specs.Sessions.{Outline}
-use Rattle.mx_state.specs.declared.journal.Entry.{Entry}
-use Rattle.mx_run.specs.Falls.{HasGatedFalls}
-use Rattle.mx_run.specs.FirstBadLine.{IsFirstBad}
-use Rattle.mx_run.specs.Legal.{IsLegal}
-use Rattle.mx_run.specs.RunText.{run_text}
-use Rattle.mx_run.specs.SessionText.{IsText, IsSomeSession}
-use Rattle.mx_run.specs.Transcripts.{Step}
+use Rattle.mx_script.specs.Sessions.{Outline}
+use Rattle.mx_plain.specs.declared.journal.Entry.{Entry}
+use Rattle.mx_legal.specs.Falls.{HasGatedFalls}
+use Rattle.mx_script.specs.FirstBadLine.{IsFirstBad}
+use Rattle.mx_legal.specs.Legal.{IsLegal}
+use Rattle.mx_text.specs.RunText.{run_text}
+use Rattle.mx_script.specs.SessionTexts.{IsText, IsSomeSession}
+use Rattle.mx_legal.specs.Transcripts.{Step}
 
 -- the greatest size of a session text, in bytes
 abbrev pub most_bytes : ℕ

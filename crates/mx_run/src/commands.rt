@@ -6,16 +6,17 @@ ghost use Rattle.std.specs.String.{string_bytes};
 ghost use Rattle.mx_io.specs.Bytes.{Appends};
 ghost use Rattle.mx_io.specs.Faults.{Rose};
 ghost use Rattle.mx_run.specs.Endings.{Ends, EndsInside, EndsText, IsPrintedLegal, IsPrintedRun, IsRefusedText};
-ghost use Rattle.mx_run.specs.RunText.{run_text};
-ghost use Rattle.mx_run.specs.SessionText.{IsSomeSession};
+ghost use Rattle.mx_text.specs.RunText.{run_text};
+ghost use Rattle.mx_script.specs.SessionTexts.{IsSomeSession};
 ghost use Rattle.mx_run.specs.Statuses.{IsRun, IsDone, IsBadText, IsTooLong, TellsSession, TellsNoSession, TellsTooMuch, bad_words_text};
 
-use crate::printing::{TextError, print};
-use crate::reading::{SessionError, read_session};
-use crate::running::run;
 use itoa::Buffer;
 use mx_io::{ReadError, Sink, Source, WriteFault, read_all, write_all};
-use mx_state::{Journal, Session, Transcripts};
+use mx_legal::Transcripts;
+use mx_plain::Journal;
+use mx_proc::run;
+use mx_script::{Session, SessionError, read_session};
+use mx_text::{TextError, print};
 use std::alloc::{AllocError, Global};
 
 /// The greatest size of a session text, in bytes.
@@ -169,7 +170,7 @@ fn run_session<K: Sink>(alloc: Global, session: &Session, sink: &mut K) -> Statu
     ensures ends { EndsInside Status.Done result }
 {
     match run(alloc, session) {
-        Ok((journal, transcripts)) => print_run(alloc, &journal, &transcripts, sink),
+        Ok(ran) => print_run(alloc, &ran.journal, &ran.transcripts, sink),
         Err(AllocError) => Status::Memory,
     }
 }
@@ -185,7 +186,7 @@ fn print_run<K: Sink>(
     ensures sink_fault { result ≡ Status.SinkFault → Rose (K.faults sink.old) (K.faults sink.new) }
     ensures ends { EndsInside Status.Done result }
 {
-    match print(alloc, journal.items(), transcripts.items(), sink) {
+    match print(alloc, journal, transcripts, sink) {
         Ok(()) => Status::Done,
         Err(TextError::Fault) => Status::SinkFault,
         Err(TextError::Memory) => Status::Memory,

@@ -1,5 +1,5 @@
 use Rattle.std.proofs.Common.{ℕ, List, inl, subst, sym}
-use Rattle.mx_run.specs.SessionText.{IsSomeSession}
+use Rattle.mx_script.specs.SessionTexts.{IsSomeSession}
 use Rattle.mx_run.proofs.StatusLaws.{told_session, told_no_session, told_too_much}
 use Rattle.mx_run.proofs.commands.run_source.Goals as goal
 

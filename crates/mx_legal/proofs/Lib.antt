@@ -1,0 +1,11 @@
+pub mod Places
+pub mod Growing
+pub mod ReadLaws
+pub mod PointLaws
+pub mod StabilityLaws
+pub mod LineLaws
+pub mod DeedLaws
+pub mod TranscriptLaws
+pub mod ContinuingLaws
+pub mod HistoryLaws
+pub mod SetupLaws

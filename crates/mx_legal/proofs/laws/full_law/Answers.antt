@@ -1,0 +1,5 @@
+use Rattle.mx_legal.proofs.LineLaws.{full_law}
+use Rattle.mx_legal.proofs.laws.full_law.Goals as goal
+
+pub returns : goal.returns
+returns c = full_law

@@ -1,0 +1,14 @@
+pub mod Transcripts
+pub mod Elements
+pub mod Lines
+pub mod FullJournal
+pub mod Deeds
+pub mod References
+pub mod Points
+pub mod Reads
+pub mod Falls
+pub mod Legal
+pub mod SoFar
+pub mod Stability
+pub mod Continuing
+pub mod SetupLines

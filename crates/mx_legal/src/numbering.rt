@@ -1,0 +1,47 @@
+//! Which lines of the session text are whose, and how many calls the setup enters.
+
+ghost use Rattle.std.specs.Prelude.{◌≡◌, ◌+◌, ◌<◌, ◌≤◌, ◌^◌, length};
+ghost use Rattle.std.specs.List.{sum_by};
+ghost use Rattle.mx_legal.specs.Legal.{first_line, lines_before, setup_entries};
+
+use mx_script::{Script, Session};
+
+/// How many entries of the journal are the setup's: one for each of its lines, up to the journal's limit.
+pub fn setup_entries(session: &Session) -> u32
+    ensures { result ≡ setup_entries session.now }
+{
+    let lines = session.setup().items().len();
+    let limit = session.limit();
+    if lines < limit as usize {
+        lines as u32
+    } else {
+        limit
+    }
+}
+
+/// The number of the first line of process `p` in the session text, counted from 1. The lines of process 0 are the setup's.
+pub fn first_line(session: &Session, p: u8) -> u32
+    ensures { result ≡ first_line session.now p }
+{
+    if p == 0 {
+        2
+    } else {
+        let scripts = session.scripts().items();
+        3 + session.setup().items().len() as u32 + lines_before(scripts, p - 1)
+    }
+}
+
+// The lines of this many scripts, each with its `process` line.
+fn lines_before(scripts: &[Script], p: u8) -> u32
+    requires { length scripts.now + sum_by length scripts.now < 2 ^ 32 }
+    ensures value { result ≡ lines_before scripts.now p }
+    ensures within { result ≤ length scripts.now + sum_by length scripts.now }
+{
+    if p == 0 {
+        return 0;
+    }
+    match scripts {
+        [] => 0,
+        [first, rest @ ..] => 1 + first.items().len() as u32 + lines_before(rest, p - 1),
+    }
+}

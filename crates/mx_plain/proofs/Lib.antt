@@ -1,0 +1,9 @@
+pub mod Lists
+pub mod UidLaws
+pub mod OpeningLaws
+pub mod SegmentLaws
+pub mod EqualLaws
+pub mod Descriptors
+pub mod AnswerLaws
+pub mod ProcessLaws
+pub mod RenewingLaws

@@ -1,0 +1,9 @@
+pub mod Plain
+pub mod Knowing
+pub mod Requests
+pub mod Table
+pub mod Changes
+pub mod History
+pub mod Sound
+pub mod Replies
+pub mod Renewing

@@ -1,0 +1,17 @@
+//! The journal: every supervisor call of a run, in the one order in which the supervisor took them.
+
+use mx_list::Sequence;
+use mx_request::{Reply, Request};
+use mx_sdw::Ring;
+
+/// One call: the process that made it (0 is the initializer), its ring, what it asked for and what it was answered.
+#[derive(Debug, Drop)]
+pub struct Entry {
+    pub process: u8,
+    pub ring: Ring,
+    pub request: Request,
+    pub reply: Reply,
+}
+
+/// All calls in order. The entry of number k is the k-th, counted from 1.
+pub type Journal = Sequence<Entry>;

@@ -1,0 +1,7 @@
+pub mod MemoryLaws
+pub mod TranscriptLaws
+pub mod GrowthLaws
+pub mod AdvanceLaws
+pub mod PhaseLaws
+pub mod SessionLaws
+pub mod WorkLaws

@@ -1,0 +1,24 @@
+use Rattle.std.proofs.Common.{◌≡◌, ℕ, ◌+◌, ◌*◌, ◌<◌, ◌≤◌, ap, arith, rules, sym, Result, Ok, Err}
+use Rattle.std.specs.Prelude.{IfOk}
+use Rattle.mx_sdw.specs.Descriptors.{Descriptor}
+use Rattle.mx_sdw.specs.Judging.{judgement}
+use Rattle.mx_sdw.specs.declared.denials.Denial.{Denial}
+use Rattle.mx_sdw.specs.declared.descriptors.Cell.{Cell}
+use Rattle.mx_sdw.specs.declared.operations.Op.{Op}
+use Rattle.mx_legal.specs.Elements.{op_of}
+use Rattle.mx_sdw.proofs.JudgingLaws.{granted_has_cell, granted_is_allowed}
+use Rattle.mx_proc.proofs.machine.ruling.Goals as goal
+
+-- a granted word lies within the memory, where the whole segment does
+granted_within : (d : Descriptor) (op : Op) (ring word : ℕ) (ruled : Result Cell Denial) → 64 * d.page + d.bound ≤ 65536
+    → ruled ≡ judgement d op ring word → IfOk ruled (λ cell. cell.0 < 65536)
+granted_within d op ring word (Err denial) within is = tt
+granted_within d op ring word (Ok cell) within is =
+    let own = ap (λ (c : Cell). c.0) (granted_has_cell d op ring word cell (sym is)) in
+    let below = (granted_is_allowed d op ring word cell (sym is)).bound in
+    omega arith
+
+pub returns : goal.returns
+returns c =
+    let value : c.judge.result ≡ judgement c.args.desc.now (op_of c.args.kind) c.args.ring c.args.word = search rules in
+    record { value = value; within = granted_within c.args.desc.now (op_of c.args.kind) c.args.ring c.args.word c.judge.result c.requires value }

@@ -1,0 +1,4 @@
+pub mod Machine
+pub mod Running
+pub mod Advances
+pub mod Phases

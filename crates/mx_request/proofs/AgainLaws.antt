@@ -1,0 +1,151 @@
+-- Laws of lines: a request that fits is read back from its line, so that no two have one line.
+use Rattle.std.proofs.Common.{◌≡◌, ℕ, nat_le, true, ◌&&◌, List, ◌∷◌, ◌++◌, map, Option, Some, None, Result, Ok, Err, IfOk, codes, refl, ap, sym, ◌∙◌}
+use Rattle.std.specs.Fmt.{decimal}
+use Rattle.mx_name.proofs.TextLaws.{all_free, name_again}
+use Rattle.mx_name.specs.Identifiers.{PlainAclId, acl_id_text}
+use Rattle.mx_name.specs.Names.{is_name_byte, name_fault}
+use Rattle.mx_acl.proofs.ModesLaws.{modes_again}
+use Rattle.mx_acl.specs.Modes.{modes_text}
+use Rattle.mx_acl.specs.declared.modes.Modes.{Modes}
+use Rattle.mx_request.specs.declared.requests.Request.{Request}
+use Rattle.mx_request.specs.declared.requests.Request.TheVariants.{CreateDir, CreateSeg, CreateLink, Rename, Delete, SetAcl, DelAcl, SetBrackets, SetDirBrackets, Status, List as ListNames, ChangeWdir, Initiate, Logout}
+use Rattle.mx_request.specs.declared.reading.kinds.Kind.{Kind}
+use Rattle.mx_request.specs.declared.reading.kinds.Kind.TheVariants.{CreateDir as OfCreateDir, CreateSeg as OfCreateSeg, CreateLink as OfCreateLink, Rename as OfRename, Delete as OfDelete, SetAcl as OfSetAcl, DelAcl as OfDelAcl, SetBrackets as OfSetBrackets, SetDirBrackets as OfSetDirBrackets, Status as OfStatus, List as OfList, ChangeWdir as OfChangeWdir, Initiate as OfInitiate}
+use Rattle.mx_request.specs.Fields.{line_of, ring_text}
+use Rattle.mx_request.specs.Kinds.{kind_word}
+use Rattle.mx_request.specs.Reading.{create_dir_at, create_seg_at, create_link_at, rename_at, set_acl_at, del_acl_at, set_brackets_at, set_dir_brackets_at, fields_at, request_at}
+use Rattle.mx_request.specs.RequestTexts.{request_text, is_pathname, is_name, is_identifier, is_ring, are_brackets, fits_request}
+use Rattle.mx_request.proofs.CutLaws.{both, some_is, cut_again}
+use Rattle.mx_request.proofs.FieldLaws.{words_again, words_free, ring_again, ring_free, brackets_again, brackets_behind}
+use Rattle.mx_request.proofs.KindLaws.{kind_again, kind_bytes, kind_not_logout}
+use Rattle.mx_request.proofs.TakenLaws.{faultless, path_again, path_free, id_again, id_free, request_takes}
+
+-- the word of a line says how its fields are read
+by_kind : (kind : Kind) (text : List ℕ) → request_at (kind_word kind ++ 32 ∷ text) ≡ fields_at kind text
+unfolding request_at
+by_kind kind text =
+    let free = all_free is_name_byte 32 (kind_word kind) refl (kind_bytes kind) in
+    rw (kind_not_logout kind text, cut_again 32 (kind_word kind) text free, kind_again kind) refl
+
+-- each kind of line is read back
+create_dir_again : (path : List ℕ) (d1 d2 : ℕ) → fits_request (CreateDir path d1 d2) ≡ true
+    → create_dir_at (path ++ 32 ∷ (ring_text d1 ++ 32 ∷ ring_text d2)) ≡ Some (CreateDir path d1 d2)
+create_dir_again path d1 d2 e =
+    let f = both (is_pathname path) (is_ring d1 && is_ring d2) e in
+    let g = both (is_ring d1) (is_ring d2) f.1 in
+    rw (
+      cut_again 32 path (ring_text d1 ++ 32 ∷ ring_text d2) (path_free path f.0),
+      cut_again 32 (ring_text d1) (ring_text d2) (ring_free 32 d1 refl g.0),
+      ring_again d1 g.0,
+      ring_again d2 g.1,
+      path_again path f.0,
+    ) refl
+
+create_seg_again : (path : List ℕ) (words : ℕ) (brackets : List ℕ) → fits_request (CreateSeg path words brackets) ≡ true
+    → create_seg_at (path ++ 32 ∷ line_of (decimal words ∷ map ring_text brackets)) ≡ Some (CreateSeg path words brackets)
+create_seg_again path words brackets e =
+    let f = both (is_pathname path) (nat_le words 99999 && are_brackets brackets) e in
+    let g = both (nat_le words 99999) (are_brackets brackets) f.1 in
+    rw (
+      brackets_behind (decimal words) brackets g.1,
+      cut_again 32 path (decimal words ++ 32 ∷ line_of (map ring_text brackets)) (path_free path f.0),
+      cut_again 32 (decimal words) (line_of (map ring_text brackets)) (words_free 32 words refl g.0),
+      words_again words g.0,
+      brackets_again brackets g.1,
+      path_again path f.0,
+    ) refl
+
+create_link_again : (path target : List ℕ) → fits_request (CreateLink path target) ≡ true
+    → create_link_at (path ++ 32 ∷ target) ≡ Some (CreateLink path target)
+create_link_again path target e =
+    let f = both (is_pathname path) (is_pathname target) e in
+    rw (cut_again 32 path target (path_free path f.0), path_again path f.0, path_again target f.1) refl
+
+rename_again : (path name : List ℕ) → fits_request (Rename path name) ≡ true → rename_at (path ++ 32 ∷ name) ≡ Some (Rename path name)
+rename_again path name e =
+    let f = both (is_pathname path) (is_name name) e in
+    rw (cut_again 32 path name (path_free path f.0), path_again path f.0, name_again name (faultless (name_fault name) f.1)) refl
+
+set_acl_again : (path : List ℕ) (id : PlainAclId) (modes : Modes) → fits_request (SetAcl path id modes) ≡ true
+    → set_acl_at (path ++ 32 ∷ (acl_id_text id ++ 32 ∷ modes_text modes)) ≡ Some (SetAcl path id modes)
+set_acl_again path id modes e =
+    let f = both (is_pathname path) (is_identifier id) e in
+    rw (
+      cut_again 32 path (acl_id_text id ++ 32 ∷ modes_text modes) (path_free path f.0),
+      cut_again 32 (acl_id_text id) (modes_text modes) (id_free id f.1),
+      modes_again modes,
+      path_again path f.0,
+      id_again id f.1,
+    ) refl
+
+del_acl_again : (path : List ℕ) (id : PlainAclId) → fits_request (DelAcl path id) ≡ true
+    → del_acl_at (path ++ 32 ∷ acl_id_text id) ≡ Some (DelAcl path id)
+del_acl_again path id e =
+    let f = both (is_pathname path) (is_identifier id) e in
+    rw (cut_again 32 path (acl_id_text id) (path_free path f.0), path_again path f.0, id_again id f.1) refl
+
+set_brackets_again : (path brackets : List ℕ) → fits_request (SetBrackets path brackets) ≡ true
+    → set_brackets_at (line_of (path ∷ map ring_text brackets)) ≡ Some (SetBrackets path brackets)
+set_brackets_again path brackets e =
+    let f = both (is_pathname path) (are_brackets brackets) e in
+    rw (
+      brackets_behind path brackets f.1,
+      cut_again 32 path (line_of (map ring_text brackets)) (path_free path f.0),
+      brackets_again brackets f.1,
+      path_again path f.0,
+    ) refl
+
+set_dir_brackets_again : (path : List ℕ) (d1 d2 : ℕ) → fits_request (SetDirBrackets path d1 d2) ≡ true
+    → set_dir_brackets_at (path ++ 32 ∷ (ring_text d1 ++ 32 ∷ ring_text d2)) ≡ Some (SetDirBrackets path d1 d2)
+set_dir_brackets_again path d1 d2 e =
+    let f = both (is_pathname path) (is_ring d1 && is_ring d2) e in
+    let g = both (is_ring d1) (is_ring d2) f.1 in
+    rw (
+      cut_again 32 path (ring_text d1 ++ 32 ∷ ring_text d2) (path_free path f.0),
+      cut_again 32 (ring_text d1) (ring_text d2) (ring_free 32 d1 refl g.0),
+      ring_again d1 g.0,
+      ring_again d2 g.1,
+      path_again path f.0,
+    ) refl
+
+logout_again : request_at (codes "logout") ≡ Some Logout
+unfolding request_at
+logout_again = refl
+
+-- a request that fits is read back from its line
+pub request_again : (request : Request) → fits_request request ≡ true → request_at (request_text request) ≡ Some request
+request_again (CreateDir path d1 d2) e = by_kind OfCreateDir _ ∙ create_dir_again path d1 d2 e
+request_again (CreateSeg path words brackets) e = by_kind OfCreateSeg _ ∙ create_seg_again path words brackets e
+request_again (CreateLink path target) e = by_kind OfCreateLink _ ∙ create_link_again path target e
+request_again (Rename path name) e = by_kind OfRename _ ∙ rename_again path name e
+request_again (Delete path) e = by_kind OfDelete path ∙ rw (path_again path e) refl
+request_again (SetAcl path id modes) e = by_kind OfSetAcl _ ∙ set_acl_again path id modes e
+request_again (DelAcl path id) e = by_kind OfDelAcl _ ∙ del_acl_again path id e
+request_again (SetBrackets path brackets) e = by_kind OfSetBrackets _ ∙ set_brackets_again path brackets e
+request_again (SetDirBrackets path d1 d2) e = by_kind OfSetDirBrackets _ ∙ set_dir_brackets_again path d1 d2 e
+request_again (Status path) e = by_kind OfStatus path ∙ rw (path_again path e) refl
+request_again (ListNames path) e = by_kind OfList path ∙ rw (path_again path e) refl
+request_again (ChangeWdir path) e = by_kind OfChangeWdir path ∙ rw (path_again path e) refl
+request_again (Initiate path) e = by_kind OfInitiate path ∙ rw (path_again path e) refl
+request_again Logout e = logout_again
+
+-- two requests that fit and have one line are the same
+pub one_request : (one other : Request) → fits_request one ≡ true → fits_request other ≡ true → request_text one ≡ request_text other → one ≡ other
+one_request one other e f same = some_is _ _ (sym (request_again one e) ∙ ap request_at same ∙ request_again other f)
+
+-- what the reader answers of a line
+ok_is : {A E : Type 0} (a b : A) → ◌≡◌ {A = Result A E} (Ok a) (Ok b) → a ≡ b
+ok_is a b e = cc
+
+pub line_found : {E : Type 0} (line : List ℕ) (result : Result (Option Request) E) (request : Request) → IfOk result (λ r. r ≡ request_at line)
+    → result ≡ Ok (Some request) → (request_text request ≡ line) × (fits_request request ≡ true)
+line_found line (Ok r) request is e = let f = request_takes line request (sym is ∙ ok_is _ _ e) in (f.spelled, f.fits)
+line_found line (Err x) request is e = cc
+
+pub no_line : {E : Type 0} (line : List ℕ) (result : Result (Option Request) E) (request : Request) → IfOk result (λ r. r ≡ request_at line)
+    → result ≡ Ok None → fits_request request ≡ true → request_text request ≡ line → ⊥
+no_line line (Ok r) request is e fits same = none_is_some _ (sym (ok_is _ _ e) ∙ is ∙ ap request_at (sym same) ∙ request_again request fits)
+  where
+    none_is_some : {A : Type 0} (a : A) → ◌≡◌ {A = Option A} None (Some a) → ⊥
+    none_is_some a e = cc
+no_line line (Err x) request is e fits same = cc

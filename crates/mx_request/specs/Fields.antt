@@ -1,0 +1,10 @@
+-- A line is its fields, with exactly one blank between each two.
+use Rattle.std.specs.Prelude.{ℕ, ◌+◌, List, [], ◌∷◌}
+use Rattle.std.specs.List.{join_with_byte}
+
+abbrev pub line_of : List (List ℕ) → List ℕ
+line_of fields = join_with_byte 32 fields
+
+-- a ring is written as one digit
+abbrev pub ring_text : ℕ → List ℕ
+ring_text ring = (48 + ring) ∷ []

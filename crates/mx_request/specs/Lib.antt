@@ -1,0 +1,8 @@
+pub mod Fields
+pub mod RequestTexts
+pub mod ReplyTexts
+pub mod PathRequests
+pub mod Kinds
+pub mod Cuts
+pub mod Reading
+pub mod Growth

@@ -1,0 +1,37 @@
+-- The replies, each as the text that the journal has of it.
+use Rattle.std.specs.Prelude.{ℕ, Bool, true, false, List, [], ◌∷◌, codes}
+use Rattle.std.specs.Fmt.{decimal}
+use Rattle.mx_name.specs.Paths.{path_text}
+use Rattle.mx_sdw.specs.Octal.{octal}
+use Rattle.mx_acl.specs.Modes.{modes_text}
+use Rattle.mx_hier.specs.Refusals.{refusal_number, refusal_text}
+use Rattle.mx_hier.specs.declared.asking.Status as said
+use Rattle.mx_hier.specs.declared.asking.Status.TheVariants.{Segment, Directory, Link}
+use Rattle.mx_request.specs.declared.replies.Reply.{Reply}
+use Rattle.mx_request.specs.declared.replies.Reply.TheVariants.{Done, Refused, Status, Names, Segno}
+use Rattle.mx_request.specs.Fields.{line_of, ring_text}
+
+-- whether the segment has become known by this request
+abbrev pub fresh_text : Bool → List ℕ
+fresh_text true = codes "new"
+fresh_text false = codes "old"
+
+abbrev pub status_fields : said.Status → List (List ℕ)
+status_fields (Segment words brackets modes) =
+    codes "segment" ∷ codes "words" ∷ decimal words
+    ∷ codes "brackets" ∷ ring_text brackets.r1 ∷ ring_text brackets.r2 ∷ ring_text brackets.r3
+    ∷ codes "modes" ∷ modes_text modes ∷ []
+status_fields (Directory d1 d2 modes) =
+    codes "directory" ∷ codes "brackets" ∷ ring_text d1 ∷ ring_text d2 ∷ codes "modes" ∷ modes_text modes ∷ []
+status_fields (Link target) = codes "link" ∷ path_text target ∷ []
+
+-- the fields of a reply's text: a segment number is octal, all else decimal; an empty directory gives `names` alone
+abbrev pub reply_fields : Reply → List (List ℕ)
+reply_fields Done = codes "ok" ∷ []
+reply_fields (Refused why) = codes "refused" ∷ decimal (refusal_number why) ∷ refusal_text why ∷ []
+reply_fields (Status status) = status_fields status
+reply_fields (Names names) = codes "names" ∷ names
+reply_fields (Segno known) = codes "segno" ∷ octal known.segno ∷ fresh_text known.fresh ∷ []
+
+abbrev pub reply_text : Reply → List ℕ
+reply_text reply = line_of (reply_fields reply)

@@ -1,0 +1,64 @@
+-- The requests, each as its line in a script and in the journal.
+use Rattle.std.specs.Prelude.{ℕ, Bool, true, ◌&&◌, nat_le, nat_eq, List, [], ◌∷◌, map, length, is_none, codes}
+use Rattle.std.specs.Fmt.{decimal}
+use Rattle.std.specs.List.{list_all}
+use Rattle.mx_name.specs.Names.{name_fault}
+use Rattle.mx_name.specs.Pathnames.{pathname_fault}
+use Rattle.mx_name.specs.Identifiers.{PlainAclId, acl_id_text, id_fault}
+use Rattle.mx_acl.specs.Modes.{modes_text}
+use Rattle.mx_request.specs.declared.requests.Request.{Request}
+use Rattle.mx_request.specs.declared.requests.Request.TheVariants.{CreateDir, CreateSeg, CreateLink, Rename, Delete, SetAcl, DelAcl, SetBrackets, SetDirBrackets, Status, List as ListNames, ChangeWdir, Initiate, Logout}
+use Rattle.mx_request.specs.Fields.{line_of, ring_text}
+
+-- the fields of a request's line: WORDS is decimal, a ring one digit
+abbrev pub request_fields : Request → List (List ℕ)
+request_fields (CreateDir path d1 d2) = codes "create_dir" ∷ path ∷ ring_text d1 ∷ ring_text d2 ∷ []
+request_fields (CreateSeg path words brackets) = codes "create_seg" ∷ path ∷ decimal words ∷ map ring_text brackets
+request_fields (CreateLink path target) = codes "create_link" ∷ path ∷ target ∷ []
+request_fields (Rename path name) = codes "rename" ∷ path ∷ name ∷ []
+request_fields (Delete path) = codes "delete" ∷ path ∷ []
+request_fields (SetAcl path id modes) = codes "set_acl" ∷ path ∷ acl_id_text id ∷ modes_text modes ∷ []
+request_fields (DelAcl path id) = codes "del_acl" ∷ path ∷ acl_id_text id ∷ []
+request_fields (SetBrackets path brackets) = codes "set_brackets" ∷ path ∷ map ring_text brackets
+request_fields (SetDirBrackets path d1 d2) = codes "set_dir_brackets" ∷ path ∷ ring_text d1 ∷ ring_text d2 ∷ []
+request_fields (Status path) = codes "status" ∷ path ∷ []
+request_fields (ListNames path) = codes "list" ∷ path ∷ []
+request_fields (ChangeWdir path) = codes "change_wdir" ∷ path ∷ []
+request_fields (Initiate path) = codes "initiate" ∷ path ∷ []
+request_fields Logout = codes "logout" ∷ []
+
+abbrev pub request_text : Request → List ℕ
+request_text request = line_of (request_fields request)
+
+-- What a line may say: pathnames, names and identifiers of their grammar, rings to 7, three brackets (in any order), and
+-- WORDS of at most five digits.
+abbrev pub is_pathname : List ℕ → Bool
+is_pathname path = is_none (pathname_fault path)
+
+abbrev pub is_name : List ℕ → Bool
+is_name name = is_none (name_fault name)
+
+abbrev pub is_identifier : PlainAclId → Bool
+is_identifier id = is_none (id_fault id)
+
+abbrev pub is_ring : ℕ → Bool
+is_ring ring = nat_le ring 7
+
+abbrev pub are_brackets : List ℕ → Bool
+are_brackets brackets = nat_eq (length brackets) 3 && list_all is_ring brackets
+
+abbrev pub fits_request : Request → Bool
+fits_request (CreateDir path d1 d2) = is_pathname path && (is_ring d1 && is_ring d2)
+fits_request (CreateSeg path words brackets) = is_pathname path && (nat_le words 99999 && are_brackets brackets)
+fits_request (CreateLink path target) = is_pathname path && is_pathname target
+fits_request (Rename path name) = is_pathname path && is_name name
+fits_request (Delete path) = is_pathname path
+fits_request (SetAcl path id modes) = is_pathname path && is_identifier id
+fits_request (DelAcl path id) = is_pathname path && is_identifier id
+fits_request (SetBrackets path brackets) = is_pathname path && are_brackets brackets
+fits_request (SetDirBrackets path d1 d2) = is_pathname path && (is_ring d1 && is_ring d2)
+fits_request (Status path) = is_pathname path
+fits_request (ListNames path) = is_pathname path
+fits_request (ChangeWdir path) = is_pathname path
+fits_request (Initiate path) = is_pathname path
+fits_request Logout = true

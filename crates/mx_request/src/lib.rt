@@ -1,0 +1,192 @@
+//! Requests and replies: what a process can ask of the supervisor, what it can be answered, and how both are written.
+//!
+//! A request is written as its line in a session's script, and so it stands in the journal. [`Request::read`] gives the
+//! request that a line spells, and `append_to` the line; each is the other's inverse. A reply has one text. Stands on names,
+//! access lists and the hierarchy's replies.
+#![tactic(auto)]
+
+mod laws;
+mod reading;
+mod replies;
+mod requests;
+mod writing;
+
+pub use laws::each_request_has_its_own_line;
+pub use replies::{Known, Reply};
+pub use requests::{Request, Requests};
+
+#[cfg(test)]
+mod tests {
+    use super::*;
+    use mx_acl::Modes;
+    use mx_hier::{Names, Refusal, Status};
+    use mx_name::{EntryName, Path, Pathname};
+    use mx_sdw::{Brackets, Ring};
+    use std::alloc::Global;
+    use std::test::Fail;
+
+    fn ring(n: u8) -> Result<Ring, Fail> {
+        let ring = Ring::new(n).ok_or("a ring")?;
+        Ok(ring)
+    }
+
+    // The line that is written of the request that is read.
+    fn written(alloc: Global, line: &[u8]) -> Result<Vec<u8>, Fail> {
+        let request = Request::read(alloc, line)?.ok_or("a request")?;
+        let mut out = Vec::new(alloc);
+        request.copy()?.append_to(&mut out)?;
+        Ok(out)
+    }
+
+    fn is_path_request(alloc: Global, line: &[u8]) -> Result<bool, Fail> {
+        let request = Request::read(alloc, line)?.ok_or("a request")?;
+        Ok(request.is_path_request())
+    }
+
+    const PATH_REQUESTS: &[u8] = b"create_dir < 4 4
+create_seg >udd>a 99999 7 0 3
+create_seg a 0 4 4 4
+create_link >a <<b>c
+rename > x
+delete >
+set_acl >a *.Faculty.* rew
+set_acl >a Jones.*.a m
+del_acl >a Jones.Faculty.a
+set_brackets >a 3 2 1
+set_dir_brackets >a 5 4
+status >a
+list >";
+
+    const PROCESS_REQUESTS: &[u8] = b"change_wdir >udd
+initiate math(2)
+logout";
+
+    #[test]
+    fn a_line_is_read_and_written_again(rt: HostRuntime) -> Result<(), Fail> {
+        let alloc = rt.alloc();
+        for (lines, by_path) in [(PATH_REQUESTS, true), (PROCESS_REQUESTS, false)] {
+            for line in lines.split(|byte| *byte == b'\n') {
+                assert_eq!(rt; written(alloc, line)?.as_slice(), line);
+                assert_eq!(rt; is_path_request(alloc, line)?, by_path);
+            }
+        }
+        Ok(())
+    }
+
+    // The empty line is the first.
+    const NO_REQUESTS: &[u8] = b"
+delete
+delete\x20
+ delete >a
+delete  >a
+delete >a\x20
+delete >a >b
+delete >>a
+delete a>
+delete <>a
+Delete >a
+rename >a\x20
+rename >a a_name_of_more_than_32_characters
+create_dir >a 4 8
+create_dir >a 4 04
+create_dir >a 4
+create_seg >a 010 4 4 4
+create_seg >a 100000 4 4 4
+create_seg >a -1 4 4 4
+create_seg >a 10 4 4
+create_seg >a 10 4 4 4 4
+set_acl >a *.*.* er
+set_acl >a *.*.* rs
+set_acl >a *.*.*\x20
+set_acl >a *.* r
+logout\x20
+end";
+
+    #[test]
+    fn other_lines_are_no_requests(rt: HostRuntime) -> Result<(), Fail> {
+        let alloc = rt.alloc();
+        for line in NO_REQUESTS.split(|byte| *byte == b'\n') {
+            assert!(rt; Request::read(alloc, line)?.is_none(), "{line:?}");
+        }
+        Ok(())
+    }
+
+    // Whether this is the reply's text.
+    fn is_text(alloc: Global, reply: &Reply, text: &[u8]) -> Result<bool, Fail> {
+        let mut out = Vec::new(alloc);
+        reply.copy()?.append_to(&mut out)?;
+        Ok(out.as_slice() == text)
+    }
+
+    #[test]
+    fn a_reply_has_its_text(rt: HostRuntime) -> Result<(), Fail> {
+        let alloc = rt.alloc();
+        for (reply, text) in [
+            (Reply::Done, b"ok".as_slice()),
+            (Reply::Refused(Refusal::NoEntry), b"refused 2 noentry"),
+            (known(8, true), b"segno 10 new"),
+            (known(0o177, false), b"segno 177 old"),
+        ] {
+            assert!(rt; is_text(alloc, &reply, text)?);
+        }
+        Ok(())
+    }
+
+    #[test]
+    fn a_status_has_its_text(rt: HostRuntime) -> Result<(), Fail> {
+        let alloc = rt.alloc();
+        assert!(rt;
+            is_text(
+                alloc,
+                &segment()?,
+                b"segment words 10 brackets 3 4 5 modes rw"
+            )?
+        );
+        assert!(rt; is_text(alloc, &directory()?, b"directory brackets 4 5 modes sma")?);
+        assert!(rt; is_text(alloc, &link(alloc, b">udd>a")?, b"link >udd>a")?);
+        Ok(())
+    }
+
+    #[test]
+    fn names_have_their_text(rt: HostRuntime) -> Result<(), Fail> {
+        let alloc = rt.alloc();
+        assert!(rt; is_text(alloc, &names(alloc, &[])?, b"names")?);
+        assert!(rt; is_text(alloc, &names(alloc, &[b"a", b"b"])?, b"names a b")?);
+        Ok(())
+    }
+
+    fn known(segno: u16, fresh: bool) -> Reply {
+        Reply::Segno(Known { segno, fresh })
+    }
+
+    fn segment() -> Result<Reply, Fail> {
+        let brackets = Brackets::new(ring(3)?, ring(4)?, ring(5)?).ok_or("brackets")?;
+        Ok(Reply::Status(Status::Segment {
+            words: 10,
+            brackets,
+            modes: Modes::Rw,
+        }))
+    }
+
+    fn directory() -> Result<Reply, Fail> {
+        Ok(Reply::Status(Status::Directory {
+            d1: ring(4)?,
+            d2: ring(5)?,
+            modes: Modes::Sma,
+        }))
+    }
+
+    fn link(alloc: Global, target: &[u8]) -> Result<Reply, Fail> {
+        let target = Pathname::read(alloc, target)?;
+        let target = Path::resolve(alloc, &Path::root(alloc), &target)?;
+        Ok(Reply::Status(Status::Link { target }))
+    }
+
+    fn names(alloc: Global, texts: &[&[u8]]) -> Result<Reply, Fail> {
+        let mut names = Names::new(alloc);
+        for text in texts {
+            names.push(EntryName::read(alloc, text)?)?;
+        }
+        Ok(Reply::Names(names))
+    }
+}

@@ -1,0 +1,253 @@
+//! What a line is read as.
+
+ghost use Rattle.std.specs.Prelude.{◌≡◌, IfOk};
+ghost use Rattle.mx_request.specs.Reading.{create_dir_at, create_seg_at, create_link_at, rename_at, delete_at, set_acl_at, del_acl_at, set_brackets_at, set_dir_brackets_at, status_at, list_at, change_wdir_at, initiate_at, fields_at, request_at};
+
+mod cutting;
+mod fields;
+mod kinds;
+
+use crate::requests::Request;
+use cutting::cut;
+use fields::{read_brackets, read_id, read_name, read_path, read_ring, read_words};
+use kinds::Kind;
+use mx_acl::Modes;
+use std::alloc::{AllocError, Global};
+
+#[tactic(auto, unfolding(crate::specs::Reading::request_at))]
+pub(crate) fn read_line(alloc: Global, line: &[u8]) -> Result<Option<Request>, AllocError>
+    ensures { IfOk result (λ request. request ≡ request_at line.now) }
+{
+    if line == b"logout".as_slice() {
+        return Ok(Some(Request::Logout));
+    }
+    let Some((word, fields)) = cut(b' ', line) else {
+        return Ok(None);
+    };
+    let Some(kind) = Kind::read(word) else {
+        return Ok(None);
+    };
+    read_fields(alloc, kind, fields)
+}
+
+/// What follows the word of a line of this kind.
+fn read_fields(alloc: Global, kind: Kind, fields: &[u8]) -> Result<Option<Request>, AllocError>
+    ensures { IfOk result (λ request. request ≡ fields_at kind fields.now) }
+{
+    match kind {
+        Kind::CreateDir => read_create_dir(alloc, fields),
+        Kind::CreateSeg => read_create_seg(alloc, fields),
+        Kind::CreateLink => read_create_link(alloc, fields),
+        Kind::Rename => read_rename(alloc, fields),
+        Kind::Delete => read_delete(alloc, fields),
+        Kind::SetAcl => read_set_acl(alloc, fields),
+        Kind::DelAcl => read_del_acl(alloc, fields),
+        Kind::SetBrackets => read_set_brackets(alloc, fields),
+        Kind::SetDirBrackets => read_set_dir_brackets(alloc, fields),
+        Kind::Status => read_status(alloc, fields),
+        Kind::List => read_list(alloc, fields),
+        Kind::ChangeWdir => read_change_wdir(alloc, fields),
+        Kind::Initiate => read_initiate(alloc, fields),
+    }
+}
+
+/// `PATH D1 D2`
+fn read_create_dir(alloc: Global, fields: &[u8]) -> Result<Option<Request>, AllocError>
+    ensures { IfOk result (λ request. request ≡ create_dir_at fields.now) }
+{
+    let Some((path, rings)) = cut(b' ', fields) else {
+        return Ok(None);
+    };
+    let Some((d1, d2)) = cut(b' ', rings) else {
+        return Ok(None);
+    };
+    let Some(d1) = read_ring(d1) else {
+        return Ok(None);
+    };
+    let Some(d2) = read_ring(d2) else {
+        return Ok(None);
+    };
+    let Some(path) = read_path(alloc, path)? else {
+        return Ok(None);
+    };
+    Ok(Some(Request::CreateDir { path, d1, d2 }))
+}
+
+/// `PATH WORDS R1 R2 R3`
+fn read_create_seg(alloc: Global, fields: &[u8]) -> Result<Option<Request>, AllocError>
+    ensures { IfOk result (λ request. request ≡ create_seg_at fields.now) }
+{
+    let Some((path, rest)) = cut(b' ', fields) else {
+        return Ok(None);
+    };
+    let Some((words, brackets)) = cut(b' ', rest) else {
+        return Ok(None);
+    };
+    let Some(words) = read_words(words) else {
+        return Ok(None);
+    };
+    let Some(brackets) = read_brackets(brackets) else {
+        return Ok(None);
+    };
+    let Some(path) = read_path(alloc, path)? else {
+        return Ok(None);
+    };
+    Ok(Some(Request::CreateSeg {
+        path,
+        words,
+        brackets,
+    }))
+}
+
+/// `PATH TARGET`
+fn read_create_link(alloc: Global, fields: &[u8]) -> Result<Option<Request>, AllocError>
+    ensures { IfOk result (λ request. request ≡ create_link_at fields.now) }
+{
+    let Some((path, target)) = cut(b' ', fields) else {
+        return Ok(None);
+    };
+    let Some(path) = read_path(alloc, path)? else {
+        return Ok(None);
+    };
+    let Some(target) = read_path(alloc, target)? else {
+        return Ok(None);
+    };
+    Ok(Some(Request::CreateLink { path, target }))
+}
+
+/// `PATH NAME`
+fn read_rename(alloc: Global, fields: &[u8]) -> Result<Option<Request>, AllocError>
+    ensures { IfOk result (λ request. request ≡ rename_at fields.now) }
+{
+    let Some((path, name)) = cut(b' ', fields) else {
+        return Ok(None);
+    };
+    let Some(path) = read_path(alloc, path)? else {
+        return Ok(None);
+    };
+    let Some(name) = read_name(alloc, name)? else {
+        return Ok(None);
+    };
+    Ok(Some(Request::Rename { path, name }))
+}
+
+fn read_delete(alloc: Global, path: &[u8]) -> Result<Option<Request>, AllocError>
+    ensures { IfOk result (λ request. request ≡ delete_at path.now) }
+{
+    let Some(path) = read_path(alloc, path)? else {
+        return Ok(None);
+    };
+    Ok(Some(Request::Delete { path }))
+}
+
+/// `PATH ID MODES`
+fn read_set_acl(alloc: Global, fields: &[u8]) -> Result<Option<Request>, AllocError>
+    ensures { IfOk result (λ request. request ≡ set_acl_at fields.now) }
+{
+    let Some((path, rest)) = cut(b' ', fields) else {
+        return Ok(None);
+    };
+    let Some((id, modes)) = cut(b' ', rest) else {
+        return Ok(None);
+    };
+    let Some(modes) = Modes::read(modes) else {
+        return Ok(None);
+    };
+    let Some(path) = read_path(alloc, path)? else {
+        return Ok(None);
+    };
+    let Some(id) = read_id(alloc, id)? else {
+        return Ok(None);
+    };
+    Ok(Some(Request::SetAcl { path, id, modes }))
+}
+
+/// `PATH ID`
+fn read_del_acl(alloc: Global, fields: &[u8]) -> Result<Option<Request>, AllocError>
+    ensures { IfOk result (λ request. request ≡ del_acl_at fields.now) }
+{
+    let Some((path, id)) = cut(b' ', fields) else {
+        return Ok(None);
+    };
+    let Some(path) = read_path(alloc, path)? else {
+        return Ok(None);
+    };
+    let Some(id) = read_id(alloc, id)? else {
+        return Ok(None);
+    };
+    Ok(Some(Request::DelAcl { path, id }))
+}
+
+/// `PATH R1 R2 R3`
+fn read_set_brackets(alloc: Global, fields: &[u8]) -> Result<Option<Request>, AllocError>
+    ensures { IfOk result (λ request. request ≡ set_brackets_at fields.now) }
+{
+    let Some((path, brackets)) = cut(b' ', fields) else {
+        return Ok(None);
+    };
+    let Some(brackets) = read_brackets(brackets) else {
+        return Ok(None);
+    };
+    let Some(path) = read_path(alloc, path)? else {
+        return Ok(None);
+    };
+    Ok(Some(Request::SetBrackets { path, brackets }))
+}
+
+/// `PATH D1 D2`
+fn read_set_dir_brackets(alloc: Global, fields: &[u8]) -> Result<Option<Request>, AllocError>
+    ensures { IfOk result (λ request. request ≡ set_dir_brackets_at fields.now) }
+{
+    let Some((path, rings)) = cut(b' ', fields) else {
+        return Ok(None);
+    };
+    let Some((d1, d2)) = cut(b' ', rings) else {
+        return Ok(None);
+    };
+    let Some(d1) = read_ring(d1) else {
+        return Ok(None);
+    };
+    let Some(d2) = read_ring(d2) else {
+        return Ok(None);
+    };
+    let Some(path) = read_path(alloc, path)? else {
+        return Ok(None);
+    };
+    Ok(Some(Request::SetDirBrackets { path, d1, d2 }))
+}
+
+fn read_status(alloc: Global, path: &[u8]) -> Result<Option<Request>, AllocError>
+    ensures { IfOk result (λ request. request ≡ status_at path.now) }
+{
+    let Some(path) = read_path(alloc, path)? else {
+        return Ok(None);
+    };
+    Ok(Some(Request::Status { path }))
+}
+
+fn read_list(alloc: Global, path: &[u8]) -> Result<Option<Request>, AllocError>
+    ensures { IfOk result (λ request. request ≡ list_at path.now) }
+{
+    let Some(path) = read_path(alloc, path)? else {
+        return Ok(None);
+    };
+    Ok(Some(Request::List { path }))
+}
+
+fn read_change_wdir(alloc: Global, path: &[u8]) -> Result<Option<Request>, AllocError>
+    ensures { IfOk result (λ request. request ≡ change_wdir_at path.now) }
+{
+    let Some(path) = read_path(alloc, path)? else {
+        return Ok(None);
+    };
+    Ok(Some(Request::ChangeWdir { path }))
+}
+
+fn read_initiate(alloc: Global, path: &[u8]) -> Result<Option<Request>, AllocError>
+    ensures { IfOk result (λ request. request ≡ initiate_at path.now) }
+{
+    let Some(path) = read_path(alloc, path)? else {
+        return Ok(None);
+    };
+    Ok(Some(Request::Initiate { path }))
+}

@@ -1,0 +1,81 @@
+//! The kinds of lines that have fields.
+
+ghost use Rattle.std.specs.Prelude.{◌≡◌, ◌==◌};
+ghost use Rattle.std.specs.List.{find};
+ghost use Rattle.std.specs.Cmp.Lexicographic.{pointwise};
+ghost use Rattle.mx_request.specs.Kinds.{kind_of, kind_word};
+
+/// What a line asks, by its first word.
+#[derive(Clone, Copy)]
+pub(crate) enum Kind {
+    CreateDir,
+    CreateSeg,
+    CreateLink,
+    Rename,
+    Delete,
+    SetAcl,
+    DelAcl,
+    SetBrackets,
+    SetDirBrackets,
+    Status,
+    List,
+    ChangeWdir,
+    Initiate,
+}
+
+const ALL: [Kind; 13] = [
+    Kind::CreateDir,
+    Kind::CreateSeg,
+    Kind::CreateLink,
+    Kind::Rename,
+    Kind::Delete,
+    Kind::SetAcl,
+    Kind::DelAcl,
+    Kind::SetBrackets,
+    Kind::SetDirBrackets,
+    Kind::Status,
+    Kind::List,
+    Kind::ChangeWdir,
+    Kind::Initiate,
+];
+
+impl Kind {
+    /// The kind that a word names.
+    pub(super) fn read(word: &[u8]) -> Option<Kind>
+        ensures { result ≡ kind_of word.now }
+    {
+        with_word(&ALL, word)
+    }
+
+    fn word(&self) -> &'static str
+        ensures { result.now ≡ kind_word self.now }
+    {
+        match self {
+            Kind::CreateDir => "create_dir",
+            Kind::CreateSeg => "create_seg",
+            Kind::CreateLink => "create_link",
+            Kind::Rename => "rename",
+            Kind::Delete => "delete",
+            Kind::SetAcl => "set_acl",
+            Kind::DelAcl => "del_acl",
+            Kind::SetBrackets => "set_brackets",
+            Kind::SetDirBrackets => "set_dir_brackets",
+            Kind::Status => "status",
+            Kind::List => "list",
+            Kind::ChangeWdir => "change_wdir",
+            Kind::Initiate => "initiate",
+        }
+    }
+}
+
+/// The first of these kinds that has the word.
+fn with_word(all: &[Kind], word: &[u8]) -> Option<Kind>
+    ensures { result ≡ find (λ kind. pointwise ◌==◌ word.now (kind_word kind)) all.now }
+{
+    for kind in all {
+        if word == kind.word().as_bytes() {
+            return Some(*kind);
+        }
+    }
+    None
+}

@@ -1,0 +1,186 @@
+//! What a process can ask of the supervisor.
+
+ghost use Rattle.std.specs.Prelude.{◌≡◌, ◌++◌, true, Ok, Some, None, IfOk, OnOk, OnErr};
+ghost use Rattle.mx_request.specs.declared.requests.Request.{Request as RequestValue};
+ghost use Rattle.mx_request.specs.PathRequests.{is_path_request};
+ghost use Rattle.mx_request.specs.RequestTexts.{request_text, fits_request};
+
+use crate::reading::read_line;
+use crate::writing::push_request;
+use mx_acl::Modes;
+use mx_list::Sequence;
+use mx_name::{AclId, EntryName, Pathname};
+use mx_sdw::Ring;
+use std::alloc::{AllocError, Global};
+
+/// A supervisor call. Those from `create_dir` to `list` are path requests, which the setup makes too. Brackets need not be in
+/// order, nor a length in its bounds: the supervisor refuses.
+#[derive(Debug, Drop)]
+pub enum Request {
+    /// `create_dir PATH D1 D2`: make a directory.
+    CreateDir {
+        path: Pathname,
+        d1: Ring,
+        d2: Ring,
+    },
+    /// `create_seg PATH WORDS R1 R2 R3`: make a segment of so many words.
+    CreateSeg {
+        path: Pathname,
+        words: u32,
+        brackets: [Ring; 3],
+    },
+    /// `create_link PATH TARGET`: make a link.
+    CreateLink {
+        path: Pathname,
+        target: Pathname,
+    },
+    /// `rename PATH NAME`: give an entry another name.
+    Rename {
+        path: Pathname,
+        name: EntryName,
+    },
+    /// `delete PATH`: delete an entry.
+    Delete {
+        path: Pathname,
+    },
+    /// `set_acl PATH ID MODES`: give the identifier these modes on the access list of the entry.
+    SetAcl {
+        path: Pathname,
+        id: AclId,
+        modes: Modes,
+    },
+    /// `del_acl PATH ID`: remove the identifier from the access list of the entry.
+    DelAcl {
+        path: Pathname,
+        id: AclId,
+    },
+    /// `set_brackets PATH R1 R2 R3`: set the brackets of a segment.
+    SetBrackets {
+        path: Pathname,
+        brackets: [Ring; 3],
+    },
+    /// `set_dir_brackets PATH D1 D2`: set the brackets of a directory.
+    SetDirBrackets {
+        path: Pathname,
+        d1: Ring,
+        d2: Ring,
+    },
+    /// `status PATH`: ask what is said of an entry.
+    Status {
+        path: Pathname,
+    },
+    /// `list PATH`: ask for the names of a directory's entries.
+    List {
+        path: Pathname,
+    },
+    /// `change_wdir PATH`: make a directory the working directory.
+    ChangeWdir {
+        path: Pathname,
+    },
+    /// `initiate PATH`: make a segment known to the process.
+    Initiate {
+        path: Pathname,
+    },
+    /// `logout`: end the process.
+    Logout,
+}
+
+/// Requests in order, as of a session's setup.
+pub type Requests = Sequence<Request>;
+
+impl Request {
+    /// The request whose line this is, without its newline; `None` exactly where no request has this line. WORDS is decimal with
+    /// at most five digits, a ring one digit; the fields have exactly one blank between each two.
+    pub fn read(alloc: Global, line: &[u8]) -> Result<Option<Request>, AllocError>
+        ensures found { (request : RequestValue) → result ≡ Ok (Some request) → (request_text request ≡ line.now) × (fits_request request ≡ true) }
+        ensures none { result ≡ Ok None → (request : RequestValue) → fits_request request ≡ true → request_text request ≡ line.now → ⊥ }
+    {
+        read_line(alloc, line)
+    }
+
+    /// Appends the request's line, without a newline; want of memory leaves the bytes as they were.
+    pub fn append_to(&self, out: &mut Vec<u8>) -> Result<(), AllocError>
+        ensures ok { OnOk result (out.new.items ≡ out.old.items ++ request_text self.now) }
+        ensures err { OnErr result (out.new.items ≡ out.old.items) }
+    {
+        let length = out.len();
+        match push_request(out, self) {
+            Ok(()) => Ok(()),
+            Err(error) => {
+                out.truncate(length);
+                Err(error)
+            }
+        }
+    }
+
+    /// Whether the request reaches the hierarchy alone, so that the setup may make it too.
+    pub fn is_path_request(&self) -> bool
+        ensures { result ≡ is_path_request self.now }
+    {
+        !matches!(
+            self,
+            Request::ChangeWdir { .. } | Request::Initiate { .. } | Request::Logout
+        )
+    }
+
+    /// Another such request.
+    pub fn copy(&self) -> Result<Request, AllocError>
+        ensures { IfOk result (λ request. request ≡ self.now) }
+    {
+        match self {
+            Request::CreateDir { path, d1, d2 } => Ok(Request::CreateDir {
+                path: path.copy()?,
+                d1: *d1,
+                d2: *d2,
+            }),
+            Request::CreateSeg {
+                path,
+                words,
+                brackets,
+            } => Ok(Request::CreateSeg {
+                path: path.copy()?,
+                words: *words,
+                brackets: *brackets,
+            }),
+            Request::CreateLink { path, target } => {
+                let path = path.copy()?;
+                let target = target.copy()?;
+                Ok(Request::CreateLink { path, target })
+            }
+            Request::Rename { path, name } => {
+                let path = path.copy()?;
+                let name = name.copy()?;
+                Ok(Request::Rename { path, name })
+            }
+            Request::Delete { path } => Ok(Request::Delete { path: path.copy()? }),
+            Request::SetAcl { path, id, modes } => {
+                let path = path.copy()?;
+                let id = id.copy()?;
+                Ok(Request::SetAcl {
+                    path,
+                    id,
+                    modes: *modes,
+                })
+            }
+            Request::DelAcl { path, id } => {
+                let path = path.copy()?;
+                let id = id.copy()?;
+                Ok(Request::DelAcl { path, id })
+            }
+            Request::SetBrackets { path, brackets } => Ok(Request::SetBrackets {
+                path: path.copy()?,
+                brackets: *brackets,
+            }),
+            Request::SetDirBrackets { path, d1, d2 } => Ok(Request::SetDirBrackets {
+                path: path.copy()?,
+                d1: *d1,
+                d2: *d2,
+            }),
+            Request::Status { path } => Ok(Request::Status { path: path.copy()? }),
+            Request::List { path } => Ok(Request::List { path: path.copy()? }),
+            Request::ChangeWdir { path } => Ok(Request::ChangeWdir { path: path.copy()? }),
+            Request::Initiate { path } => Ok(Request::Initiate { path: path.copy()? }),
+            Request::Logout => Ok(Request::Logout),
+        }
+    }
+}

@@ -1,0 +1,44 @@
+//! Fields, each added with a blank before it.
+
+ghost use Rattle.std.specs.Prelude.{◌≡◌, ◌++◌, ◌∷◌, map, OnOk, OnErr};
+ghost use Rattle.std.specs.Fmt.{decimal};
+ghost use Rattle.mx_request.specs.Fields.{ring_text};
+ghost use Rattle.mx_request.specs.Growth.{IsGrown, blank_before};
+
+use itoa::Buffer;
+use mx_sdw::Ring;
+use std::alloc::AllocError;
+
+pub(super) fn push_field(out: &mut Vec<u8>, field: &[u8]) -> Result<(), AllocError>
+    ensures ok { OnOk result (out.new.items ≡ out.old.items ++ 32 ∷ field.now) }
+    ensures err { OnErr result (IsGrown out.old.items out.new.items) }
+{
+    out.push(b' ')?;
+    out.extend_from_slice(field)
+}
+
+/// The number in decimal.
+pub(super) fn push_number(out: &mut Vec<u8>, n: u64) -> Result<(), AllocError>
+    ensures ok { OnOk result (out.new.items ≡ out.old.items ++ 32 ∷ decimal n) }
+    ensures err { OnErr result (IsGrown out.old.items out.new.items) }
+{
+    let mut buffer = Buffer::new();
+    push_field(out, buffer.format(n).as_bytes())
+}
+
+pub(super) fn push_ring(out: &mut Vec<u8>, ring: Ring) -> Result<(), AllocError>
+    ensures ok { OnOk result (out.new.items ≡ out.old.items ++ 32 ∷ ring_text ring) }
+    ensures err { OnErr result (IsGrown out.old.items out.new.items) }
+{
+    push_field(out, &[b'0' + ring.number()])
+}
+
+pub(super) fn push_rings(out: &mut Vec<u8>, brackets: &[Ring; 3]) -> Result<(), AllocError>
+    ensures ok { OnOk result (out.new.items ≡ out.old.items ++ blank_before (map ring_text brackets.now)) }
+    ensures err { OnErr result (IsGrown out.old.items out.new.items) }
+{
+    let [r1, r2, r3] = brackets;
+    push_ring(out, *r1)?;
+    push_ring(out, *r2)?;
+    push_ring(out, *r3)
+}

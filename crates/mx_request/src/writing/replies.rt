@@ -1,0 +1,149 @@
+//! The text of a reply.
+
+ghost use Rattle.std.specs.Prelude.{◌≡◌, ◌++◌, [], ◌∷◌, OnOk, OnErr};
+ghost use Rattle.std.specs.Fmt.{decimal};
+ghost use Rattle.mx_acl.specs.Modes.{modes_text};
+ghost use Rattle.mx_hier.specs.declared.asking.Status.TheVariants.{Segment, Directory, Link};
+ghost use Rattle.mx_request.specs.declared.replies.Reply.TheVariants.{Refused, Names, Segno};
+ghost use Rattle.mx_request.specs.Fields.{line_of, ring_text};
+ghost use Rattle.mx_request.specs.Growth.{IsGrown, blank_before};
+ghost use Rattle.mx_request.specs.ReplyTexts.{status_fields, reply_text};
+
+use super::fields::{push_field, push_number, push_ring, push_rings};
+use crate::replies::{Known, Reply};
+use mx_acl::Modes;
+use mx_hier::{Refusal, Status};
+use mx_name::{EntryName, Path};
+use mx_sdw::{Brackets, Ring, write_octal};
+use std::alloc::AllocError;
+
+/// Adds the text of a reply.
+pub(crate) fn push_reply(out: &mut Vec<u8>, reply: &Reply) -> Result<(), AllocError>
+    ensures ok { OnOk result (out.new.items ≡ out.old.items ++ reply_text reply.now) }
+    ensures err { OnErr result (IsGrown out.old.items out.new.items) }
+{
+    match reply {
+        Reply::Done => out.extend_from_slice(b"ok"),
+        Reply::Refused(why) => push_refusal(out, why),
+        Reply::Status(status) => push_status(out, status),
+        Reply::Names(names) => push_names(out, names.items()),
+        Reply::Segno(known) => push_known(out, known),
+    }
+}
+
+fn push_refusal(out: &mut Vec<u8>, why: &Refusal) -> Result<(), AllocError>
+    ensures ok { OnOk result (out.new.items ≡ out.old.items ++ reply_text (Refused why.now)) }
+    ensures err { OnErr result (IsGrown out.old.items out.new.items) }
+{
+    out.extend_from_slice(b"refused")?;
+    push_number(out, u64::from(why.number()))?;
+    push_field(out, why.text().as_bytes())
+}
+
+fn push_status(out: &mut Vec<u8>, status: &Status) -> Result<(), AllocError>
+    ensures ok { OnOk result (out.new.items ≡ out.old.items ++ line_of (status_fields status.now)) }
+    ensures err { OnErr result (IsGrown out.old.items out.new.items) }
+{
+    match status {
+        Status::Segment {
+            words,
+            brackets,
+            modes,
+        } => push_segment(out, *words, brackets, modes),
+        Status::Directory { d1, d2, modes } => push_directory(out, *d1, *d2, modes),
+        Status::Link { target } => push_link(out, target),
+    }
+}
+
+fn push_segment(
+    out: &mut Vec<u8>,
+    words: u16,
+    brackets: &Brackets,
+    modes: &Modes,
+) -> Result<(), AllocError>
+    ensures ok { OnOk result (out.new.items ≡ out.old.items ++ line_of (status_fields (Segment words brackets.now modes.now))) }
+    ensures err { OnErr result (IsGrown out.old.items out.new.items) }
+{
+    push_words(out, b"segment words", words)?;
+    push_brackets(out, b" brackets", brackets)?;
+    push_modes(out, b" modes", modes)
+}
+
+fn push_directory(out: &mut Vec<u8>, d1: Ring, d2: Ring, modes: &Modes) -> Result<(), AllocError>
+    ensures ok { OnOk result (out.new.items ≡ out.old.items ++ line_of (status_fields (Directory d1 d2 modes.now))) }
+    ensures err { OnErr result (IsGrown out.old.items out.new.items) }
+{
+    push_pair(out, b"directory brackets", d1, d2)?;
+    push_modes(out, b" modes", modes)
+}
+
+fn push_words(out: &mut Vec<u8>, label: &[u8], words: u16) -> Result<(), AllocError>
+    ensures ok { OnOk result (out.new.items ≡ out.old.items ++ (label.now ++ 32 ∷ decimal words)) }
+    ensures err { OnErr result (IsGrown out.old.items out.new.items) }
+{
+    out.extend_from_slice(label)?;
+    push_number(out, u64::from(words))
+}
+
+fn push_brackets(out: &mut Vec<u8>, label: &[u8], brackets: &Brackets) -> Result<(), AllocError>
+    ensures ok { OnOk result (out.new.items ≡ out.old.items ++ (label.now
+        ++ blank_before (ring_text brackets.now.r1 ∷ ring_text brackets.now.r2 ∷ ring_text brackets.now.r3 ∷ []))) }
+    ensures err { OnErr result (IsGrown out.old.items out.new.items) }
+{
+    out.extend_from_slice(label)?;
+    push_rings(out, &[brackets.r1(), brackets.r2(), brackets.r3()])
+}
+
+fn push_pair(out: &mut Vec<u8>, label: &[u8], d1: Ring, d2: Ring) -> Result<(), AllocError>
+    ensures ok { OnOk result (out.new.items ≡ out.old.items ++ (label.now ++ blank_before (ring_text d1 ∷ ring_text d2 ∷ []))) }
+    ensures err { OnErr result (IsGrown out.old.items out.new.items) }
+{
+    out.extend_from_slice(label)?;
+    push_ring(out, d1)?;
+    push_ring(out, d2)
+}
+
+fn push_modes(out: &mut Vec<u8>, label: &[u8], modes: &Modes) -> Result<(), AllocError>
+    ensures ok { OnOk result (out.new.items ≡ out.old.items ++ (label.now ++ 32 ∷ modes_text modes.now)) }
+    ensures err { OnErr result (IsGrown out.old.items out.new.items) }
+{
+    out.extend_from_slice(label)?;
+    push_field(out, modes.text().as_bytes())
+}
+
+fn push_link(out: &mut Vec<u8>, target: &Path) -> Result<(), AllocError>
+    ensures ok { OnOk result (out.new.items ≡ out.old.items ++ line_of (status_fields (Link target.now))) }
+    ensures err { OnErr result (IsGrown out.old.items out.new.items) }
+{
+    out.extend_from_slice(b"link ")?;
+    target.append_to(out)
+}
+
+#[tactic(auto, using(crate::proofs::GrowthLaws::word_grows))]
+fn push_names(out: &mut Vec<u8>, names: &[EntryName]) -> Result<(), AllocError>
+    ensures ok { OnOk result (out.new.items ≡ out.old.items ++ reply_text (Names names.now)) }
+    ensures err { OnErr result (IsGrown out.old.items out.new.items) }
+{
+    out.extend_from_slice(b"names")?;
+    push_each(out, names)
+}
+
+/// The names with a blank before each.
+fn push_each(out: &mut Vec<u8>, names: &[EntryName]) -> Result<(), AllocError>
+    ensures ok { OnOk result (out.new.items ≡ out.old.items ++ blank_before names.now) }
+    ensures err { OnErr result (IsGrown out.old.items out.new.items) }
+{
+    for name in names {
+        push_field(out, name.bytes())?;
+    }
+    Ok(())
+}
+
+fn push_known(out: &mut Vec<u8>, known: &Known) -> Result<(), AllocError>
+    ensures ok { OnOk result (out.new.items ≡ out.old.items ++ reply_text (Segno known.now)) }
+    ensures err { OnErr result (IsGrown out.old.items out.new.items) }
+{
+    out.extend_from_slice(b"segno ")?;
+    write_octal(out, u64::from(known.segno))?;
+    out.extend_from_slice(if known.fresh { b" new" } else { b" old" })
+}

@@ -1,0 +1,157 @@
+//! The line of a request.
+
+ghost use Rattle.std.specs.Prelude.{◌≡◌, ◌++◌, [], ◌∷◌, map, OnOk, OnErr};
+ghost use Rattle.std.specs.Fmt.{decimal};
+ghost use Rattle.mx_name.specs.Identifiers.{acl_id_text};
+ghost use Rattle.mx_acl.specs.Modes.{modes_text};
+ghost use Rattle.mx_request.specs.Fields.{line_of, ring_text};
+ghost use Rattle.mx_request.specs.Growth.{IsGrown};
+ghost use Rattle.mx_request.specs.RequestTexts.{request_text};
+
+use super::fields::{push_field, push_number, push_ring, push_rings};
+use crate::requests::Request;
+use mx_acl::Modes;
+use mx_name::{AclId, EntryName, Pathname};
+use mx_sdw::Ring;
+use std::alloc::AllocError;
+
+/// Adds the line of a request.
+pub(crate) fn push_request(out: &mut Vec<u8>, request: &Request) -> Result<(), AllocError>
+    ensures ok { OnOk result (out.new.items ≡ out.old.items ++ request_text request.now) }
+    ensures err { OnErr result (IsGrown out.old.items out.new.items) }
+{
+    match request {
+        Request::CreateDir { path, d1, d2 } => push_dir(out, b"create_dir", path, *d1, *d2),
+        Request::CreateSeg {
+            path,
+            words,
+            brackets,
+        } => push_seg(out, b"create_seg", path, *words, brackets),
+        Request::CreateLink { path, target } => push_link(out, b"create_link", path, target),
+        Request::Rename { path, name } => push_name(out, b"rename", path, name),
+        Request::Delete { path } => push_path(out, b"delete", path),
+        Request::SetAcl { path, id, modes } => push_entry(out, b"set_acl", path, id, modes),
+        Request::DelAcl { path, id } => push_id(out, b"del_acl", path, id),
+        Request::SetBrackets { path, brackets } => {
+            push_brackets(out, b"set_brackets", path, brackets)
+        }
+        Request::SetDirBrackets { path, d1, d2 } => {
+            push_dir(out, b"set_dir_brackets", path, *d1, *d2)
+        }
+        Request::Status { path } => push_path(out, b"status", path),
+        Request::List { path } => push_path(out, b"list", path),
+        Request::ChangeWdir { path } => push_path(out, b"change_wdir", path),
+        Request::Initiate { path } => push_path(out, b"initiate", path),
+        Request::Logout => out.extend_from_slice(b"logout"),
+    }
+}
+
+/// `WORD PATH`
+fn push_path(out: &mut Vec<u8>, word: &[u8], path: &Pathname) -> Result<(), AllocError>
+    ensures ok { OnOk result (out.new.items ≡ out.old.items ++ line_of (word.now ∷ path.now ∷ [])) }
+    ensures err { OnErr result (IsGrown out.old.items out.new.items) }
+{
+    out.extend_from_slice(word)?;
+    push_field(out, path.bytes())
+}
+
+/// `WORD PATH TARGET`
+fn push_link(
+    out: &mut Vec<u8>,
+    word: &[u8],
+    path: &Pathname,
+    target: &Pathname,
+) -> Result<(), AllocError>
+    ensures ok { OnOk result (out.new.items ≡ out.old.items ++ line_of (word.now ∷ path.now ∷ target.now ∷ [])) }
+    ensures err { OnErr result (IsGrown out.old.items out.new.items) }
+{
+    push_path(out, word, path)?;
+    push_field(out, target.bytes())
+}
+
+/// `WORD PATH NAME`
+fn push_name(
+    out: &mut Vec<u8>,
+    word: &[u8],
+    path: &Pathname,
+    name: &EntryName,
+) -> Result<(), AllocError>
+    ensures ok { OnOk result (out.new.items ≡ out.old.items ++ line_of (word.now ∷ path.now ∷ name.now ∷ [])) }
+    ensures err { OnErr result (IsGrown out.old.items out.new.items) }
+{
+    push_path(out, word, path)?;
+    push_field(out, name.bytes())
+}
+
+/// `WORD PATH D1 D2`
+fn push_dir(
+    out: &mut Vec<u8>,
+    word: &[u8],
+    path: &Pathname,
+    d1: Ring,
+    d2: Ring,
+) -> Result<(), AllocError>
+    ensures ok { OnOk result (out.new.items ≡ out.old.items ++ line_of (word.now ∷ path.now ∷ ring_text d1 ∷ ring_text d2 ∷ [])) }
+    ensures err { OnErr result (IsGrown out.old.items out.new.items) }
+{
+    push_path(out, word, path)?;
+    push_ring(out, d1)?;
+    push_ring(out, d2)
+}
+
+/// `WORD PATH R1 R2 R3`
+#[tactic(auto, using(crate::proofs::GrowthLaws::path_grows))]
+fn push_brackets(
+    out: &mut Vec<u8>,
+    word: &[u8],
+    path: &Pathname,
+    brackets: &[Ring; 3],
+) -> Result<(), AllocError>
+    ensures ok { OnOk result (out.new.items ≡ out.old.items ++ line_of (word.now ∷ path.now ∷ map ring_text brackets.now)) }
+    ensures err { OnErr result (IsGrown out.old.items out.new.items) }
+{
+    push_path(out, word, path)?;
+    push_rings(out, brackets)
+}
+
+/// `WORD PATH WORDS R1 R2 R3`
+#[tactic(auto, using(crate::proofs::GrowthLaws::words_grow))]
+fn push_seg(
+    out: &mut Vec<u8>,
+    word: &[u8],
+    path: &Pathname,
+    words: u32,
+    brackets: &[Ring; 3],
+) -> Result<(), AllocError>
+    ensures ok { OnOk result (out.new.items ≡ out.old.items ++ line_of (word.now ∷ path.now ∷ decimal words ∷ map ring_text brackets.now)) }
+    ensures err { OnErr result (IsGrown out.old.items out.new.items) }
+{
+    push_path(out, word, path)?;
+    push_number(out, u64::from(words))?;
+    push_rings(out, brackets)
+}
+
+/// `WORD PATH ID MODES`
+fn push_entry(
+    out: &mut Vec<u8>,
+    word: &[u8],
+    path: &Pathname,
+    id: &AclId,
+    modes: &Modes,
+) -> Result<(), AllocError>
+    ensures ok { OnOk result (out.new.items ≡ out.old.items ++ line_of (word.now ∷ path.now ∷ acl_id_text id.now ∷ modes_text modes.now ∷ [])) }
+    ensures err { OnErr result (IsGrown out.old.items out.new.items) }
+{
+    push_id(out, word, path, id)?;
+    push_field(out, modes.text().as_bytes())
+}
+
+/// `WORD PATH ID`
+fn push_id(out: &mut Vec<u8>, word: &[u8], path: &Pathname, id: &AclId) -> Result<(), AllocError>
+    ensures ok { OnOk result (out.new.items ≡ out.old.items ++ line_of (word.now ∷ path.now ∷ acl_id_text id.now ∷ [])) }
+    ensures err { OnErr result (IsGrown out.old.items out.new.items) }
+{
+    push_path(out, word, path)?;
+    out.extend_from_slice(b" ")?;
+    id.append_to(out)
+}

@@ -1,0 +1,5 @@
+pub mod FrontLaws
+pub mod FieldLaws
+pub mod RowLaws
+pub mod DraftLaws
+pub mod ReadingLaws

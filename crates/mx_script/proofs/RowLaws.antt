@@ -1,0 +1,251 @@
+-- Laws of rows: what a line is read as spells that line, and each row is read back.
+use Rattle.std.proofs.Common.{◌≡◌, ℕ, ◌==◌, Bool, true, false, cond, List, ◌++◌, Option, Some, None, codes, refl, ap, sym, ◌∙◌, subst}
+use Rattle.std.specs.Cmp.Lexicographic.{pointwise}
+use Rattle.mx_name.proofs.TextLaws.{principal_takes, principal_again, principal_is_free}
+use Rattle.mx_name.specs.Names.{is_free}
+use Rattle.mx_name.specs.Principals.{components_fault, principal_of, principal_text}
+use Rattle.mx_request.specs.declared.requests.Request.{Request}
+use Rattle.mx_request.specs.declared.requests.Request.TheVariants.{CreateDir, CreateSeg, CreateLink, Rename, Delete, SetAcl, DelAcl, SetBrackets, SetDirBrackets, Status, List as ListNames, ChangeWdir, Initiate, Logout}
+use Rattle.mx_request.proofs.CutLaws.{some_is, bind_some, same_bytes}
+use Rattle.mx_request.proofs.TakenLaws.{no_fault, faultless}
+use Rattle.mx_script.proofs.FrontLaws.{after_takes}
+use Rattle.mx_script.proofs.FieldLaws.{operand_takes, operand_again, operand_free, word_takes, word_again, word_free}
+use Rattle.mx_request.proofs.AgainLaws.{one_request}
+use Rattle.mx_request.proofs.ForeignLaws.{newline_free}
+use Rattle.mx_request.specs.Cuts.{◌>>=◌}
+use Rattle.mx_script.specs.Fronts.{after}
+use Rattle.mx_script.specs.Fields.{operand_at, word_at}
+use Rattle.mx_script.specs.Reading.{IsRow, read_or, set_at, lda_at, sta_at, memory_at, memory_row, plain_at, principal_row, process_at}
+use Rattle.mx_request.specs.RequestTexts.{request_text, fits_request}
+use Rattle.mx_script.specs.SessionTexts.{row_text, line_text, fits, fits_line}
+use Rattle.mx_script.specs.declared.lines.Line.{Line}
+use Rattle.mx_script.specs.declared.lines.Line.TheVariants.{Ask, Set, Lda, Sta}
+use Rattle.mx_script.specs.declared.rows.Row.{Row}
+use Rattle.mx_script.specs.declared.rows.Row.TheVariants as row
+
+-- what is read of a memory line
+record IsLine (text : List ℕ) (line : Line) : Type 0 where
+  pub spelled : line_text line ≡ text
+  pub fits : fits_line line ≡ true
+
+set_takes : (text : List ℕ) (line : Line) → set_at text ≡ Some line → IsLine (codes "set " ++ text) line
+set_takes text line e =
+    let word = bind_some (word_at text) _ line e in
+    let f = word_takes text word.0 word.1 in
+    subst (IsLine (codes "set " ++ text)) (some_is _ _ word.2)
+    (record { spelled = ap (λ xs. codes "set " ++ xs) f.0; fits = f.1 })
+
+lda_takes : (text : List ℕ) (line : Line) → lda_at text ≡ Some line → IsLine (codes "lda " ++ text) line
+lda_takes text line e =
+    let operand = bind_some (operand_at text) _ line e in
+    let f = operand_takes text operand.0 operand.1 in
+    subst (IsLine (codes "lda " ++ text)) (some_is _ _ operand.2)
+    (record { spelled = ap (λ xs. codes "lda " ++ xs) f.0; fits = f.1 })
+
+sta_takes : (text : List ℕ) (line : Line) → sta_at text ≡ Some line → IsLine (codes "sta " ++ text) line
+sta_takes text line e =
+    let operand = bind_some (operand_at text) _ line e in
+    let f = operand_takes text operand.0 operand.1 in
+    subst (IsLine (codes "sta " ++ text)) (some_is _ _ operand.2)
+    (record { spelled = ap (λ xs. codes "sta " ++ xs) f.0; fits = f.1 })
+
+-- behind its front, or as another reading has it
+read_or_takes : {A : Type 0} (Is : List ℕ → A → Type 0) (front text : List ℕ) (read : List ℕ → Option A) (other : Option A) (a : A)
+    → ((rest : List ℕ) → read rest ≡ Some a → Is (front ++ rest) a) → (other ≡ Some a → Is text a)
+    → read_or (after front text) read other ≡ Some a → Is text a
+read_or_takes {A = A} Is front text read other a takes on e = by_front (after front text) refl e
+  where
+    by_front : (found : Option (List ℕ)) → after front text ≡ found → read_or found read other ≡ Some a → Is text a
+    by_front None f e = on e
+    by_front (Some rest) f e =
+        let P : List ℕ → Type 0 = λ t. Is t a in
+        subst P (sym (after_takes front text rest f)) (takes rest e)
+
+memory_takes : (text : List ℕ) (line : Line) → memory_at text ≡ Some line → IsLine text line
+unfolding memory_at
+memory_takes text line e =
+    read_or_takes IsLine (codes "set ") text set_at _ line (λ rest. set_takes rest line)
+    (read_or_takes IsLine (codes "lda ") text lda_at _ line (λ rest. lda_takes rest line)
+    (read_or_takes IsLine (codes "sta ") text sta_at None line (λ rest. sta_takes rest line) (λ e. cc))) e
+
+memory_row_takes : (text : List ℕ) (r : Row) → memory_row text ≡ Some r → IsRow text r
+memory_row_takes text r e =
+    let line = bind_some (memory_at text) _ r e in
+    let is = memory_takes text line.0 line.1 in
+    subst (IsRow text) (some_is _ _ line.2) (record { spelled = is.spelled; fits = is.fits })
+
+alone_takes : (text word : List ℕ) (own r : Row) (other : Option Row) → row_text own ≡ word → fits own ≡ true
+    → (other ≡ Some r → IsRow text r) → cond (pointwise ◌==◌ text word) (Some own) other ≡ Some r → IsRow text r
+alone_takes text word own r other spelled fit on e = by_test (pointwise ◌==◌ text word) refl e
+  where
+    by_test : (test : Bool) → pointwise ◌==◌ text word ≡ test → cond test (Some own) other ≡ Some r → IsRow text r
+    by_test true t e =
+        subst (IsRow text) (some_is _ _ e) (record { spelled = spelled ∙ sym (same_bytes text word t); fits = fit })
+    by_test false t e = on e
+
+pub plain_takes : (text : List ℕ) (r : Row) → plain_at text ≡ Some r → IsRow text r
+unfolding plain_at
+plain_takes text r e =
+    alone_takes text (codes "multics 1") row.Header r _ refl refl
+    (alone_takes text (codes "end") row.End r _ refl refl (memory_row_takes text r)) e
+
+principal_row_takes : (text : List ℕ) (r : Row) → principal_row text ≡ Some r → IsRow (codes "process " ++ text) r
+principal_row_takes text r e =
+    let who = bind_some (principal_of text) _ r e in
+    let name = principal_takes text who.0 who.1 in
+    subst (IsRow (codes "process " ++ text)) (some_is _ _ who.2)
+    (record {
+      spelled = ap (λ xs. codes "process " ++ xs) name.0;
+      fits = no_fault (components_fault who.0) name.1;
+    })
+
+pub process_takes : (text : List ℕ) (r : Row) → process_at text ≡ Some r → IsRow text r
+unfolding process_at
+process_takes text r e =
+    read_or_takes IsRow (codes "process ") text principal_row None r (λ rest. principal_row_takes rest r) (λ e. cc) e
+
+-- each row is read back by the reading of its kind, and by no other
+abbrev plain_part : Row → Option Row
+plain_part row.Header = Some row.Header
+plain_part row.End = Some row.End
+plain_part (row.Process who) = None
+plain_part (row.Line (Ask request)) = None
+plain_part (row.Line line) = Some (row.Line line)
+
+abbrev process_part : Row → Option Row
+process_part (row.Process who) = Some (row.Process who)
+process_part _ = None
+
+set_front : (rest : List ℕ) → plain_at (codes "set " ++ rest) ≡ (set_at rest >>= λ line. Some (row.Line line))
+unfolding plain_at memory_at after
+set_front rest = refl
+
+lda_front : (rest : List ℕ) → plain_at (codes "lda " ++ rest) ≡ (lda_at rest >>= λ line. Some (row.Line line))
+unfolding plain_at memory_at after
+lda_front rest = refl
+
+sta_front : (rest : List ℕ) → plain_at (codes "sta " ++ rest) ≡ (sta_at rest >>= λ line. Some (row.Line line))
+unfolding plain_at memory_at after
+sta_front rest = refl
+
+plain_request : (request : Request) → plain_at (request_text request) ≡ None
+unfolding plain_at memory_at after
+plain_request (CreateDir path d1 d2) = refl
+plain_request (CreateSeg path words brackets) = refl
+plain_request (CreateLink path target) = refl
+plain_request (Rename path name) = refl
+plain_request (Delete path) = refl
+plain_request (SetAcl path id modes) = refl
+plain_request (DelAcl path id) = refl
+plain_request (SetBrackets path brackets) = refl
+plain_request (SetDirBrackets path d1 d2) = refl
+plain_request (Status path) = refl
+plain_request (ListNames path) = refl
+plain_request (ChangeWdir path) = refl
+plain_request (Initiate path) = refl
+plain_request Logout = refl
+
+process_request : (request : Request) → process_at (request_text request) ≡ None
+unfolding process_at after
+process_request (CreateDir path d1 d2) = refl
+process_request (CreateSeg path words brackets) = refl
+process_request (CreateLink path target) = refl
+process_request (Rename path name) = refl
+process_request (Delete path) = refl
+process_request (SetAcl path id modes) = refl
+process_request (DelAcl path id) = refl
+process_request (SetBrackets path brackets) = refl
+process_request (SetDirBrackets path d1 d2) = refl
+process_request (Status path) = refl
+process_request (ListNames path) = refl
+process_request (ChangeWdir path) = refl
+process_request (Initiate path) = refl
+process_request Logout = refl
+
+plain_again : (r : Row) → fits r ≡ true → plain_at (row_text r) ≡ plain_part r
+unfolding plain_at memory_at after
+plain_again row.Header e = refl
+plain_again row.End e = refl
+plain_again (row.Process who) e = refl
+plain_again (row.Line (Ask request)) e = plain_request request
+plain_again (row.Line (Set word)) e = set_front _ ∙ rw (word_again word e) refl
+plain_again (row.Line (Lda operand)) e = lda_front _ ∙ rw (operand_again operand e) refl
+plain_again (row.Line (Sta operand)) e = sta_front _ ∙ rw (operand_again operand e) refl
+
+process_front : (rest : List ℕ) → process_at (codes "process " ++ rest) ≡ principal_row rest
+unfolding process_at after
+process_front rest = refl
+
+process_again : (r : Row) → fits r ≡ true → process_at (row_text r) ≡ process_part r
+unfolding process_at after
+process_again row.Header e = refl
+process_again row.End e = refl
+process_again (row.Process who) e =
+    process_front (principal_text who) ∙ rw (principal_again who (faultless (components_fault who) e)) refl
+process_again (row.Line (Ask request)) e = process_request request
+process_again (row.Line (Set word)) e = refl
+process_again (row.Line (Lda operand)) e = refl
+process_again (row.Line (Sta operand)) e = refl
+
+-- a text is that of one row at most
+plain_is : (r found : Row) → plain_part r ≡ Some found → found ≡ r
+plain_is row.Header found e = sym (some_is _ _ e)
+plain_is row.End found e = sym (some_is _ _ e)
+plain_is (row.Process who) found e = cc
+plain_is (row.Line (Ask request)) found e = cc
+plain_is (row.Line (Set word)) found e = sym (some_is _ _ e)
+plain_is (row.Line (Lda operand)) found e = sym (some_is _ _ e)
+plain_is (row.Line (Sta operand)) found e = sym (some_is _ _ e)
+
+process_is : (r found : Row) → process_part r ≡ Some found → found ≡ r
+process_is (row.Process who) found e = sym (some_is _ _ e)
+process_is row.Header found e = cc
+process_is row.End found e = cc
+process_is (row.Line line) found e = cc
+
+pub plain_alone : (text : List ℕ) (found r : Row) → plain_at text ≡ Some found → IsRow text r → found ≡ r
+plain_alone text found r e is = plain_is r found (sym (plain_again r is.fits) ∙ ap plain_at is.spelled ∙ e)
+
+pub process_alone : (text : List ℕ) (found r : Row) → process_at text ≡ Some found → IsRow text r → found ≡ r
+process_alone text found r e is = process_is r found (sym (process_again r is.fits) ∙ ap process_at is.spelled ∙ e)
+
+pub asks : (text : List ℕ) (r : Row) → plain_at text ≡ None → process_at text ≡ None → IsRow text r
+    → (request : Request) × (r ≡ row.Line (Ask request))
+asks text r p q is =
+    by_kind r (sym (plain_again r is.fits) ∙ ap plain_at is.spelled ∙ p) (sym (process_again r is.fits) ∙ ap process_at is.spelled ∙ q)
+  where
+    by_kind : (r : Row) → plain_part r ≡ None → process_part r ≡ None → (request : Request) × (r ≡ row.Line (Ask request))
+    by_kind row.Header e f = cc
+    by_kind row.End e f = cc
+    by_kind (row.Process who) e f = cc
+    by_kind (row.Line (Ask request)) e f = (request, refl)
+    by_kind (row.Line (Set word)) e f = cc
+    by_kind (row.Line (Lda operand)) e f = cc
+    by_kind (row.Line (Sta operand)) e f = cc
+
+pub request_row_alone : (text : List ℕ) (request : Request) (r : Row) → plain_at text ≡ None → process_at text ≡ None
+    → request_text request ≡ text → fits_request request ≡ true → IsRow text r → row.Line (Ask request) ≡ r
+request_row_alone text request r p q spelled fit is =
+    let other = asks text r p q is in
+    let own : IsRow text (row.Line (Ask other.0)) = subst (IsRow text) other.1 is in
+    ap (λ (x : Request). row.Line (Ask x)) (one_request request other.0 fit own.fits (spelled ∙ sym own.spelled)) ∙ sym other.1
+
+pub no_request_row : (text : List ℕ) (r : Row) → plain_at text ≡ None → process_at text ≡ None
+    → ((request : Request) → fits_request request ≡ true → request_text request ≡ text → ⊥) → IsRow text r → ⊥
+no_request_row text r p q none is =
+    let other = asks text r p q is in
+    let own : IsRow text (row.Line (Ask other.0)) = subst (IsRow text) other.1 is in
+    none other.0 own.fits own.spelled
+
+-- a line has no newline
+line_free : (line : Line) → fits_line line ≡ true → is_free 10 (line_text line) ≡ true
+line_free (Ask request) e = newline_free request e
+line_free (Set word) e = word_free word
+line_free (Lda operand) e = operand_free operand
+line_free (Sta operand) e = operand_free operand
+
+pub row_free : (r : Row) → fits r ≡ true → is_free 10 (row_text r) ≡ true
+row_free row.Header e = refl
+row_free (row.Line line) e = line_free line e
+row_free (row.Process who) e = principal_is_free 10 who refl refl (faultless (components_fault who) e)
+row_free row.End e = refl

@@ -1,0 +1,8 @@
+-- Helper that only private contracts cite: a text behind a front.
+use Rattle.std.specs.Prelude.{ℕ, ◌==◌, List, [], ◌∷◌, Option, None, Some, if◌then◌else◌}
+
+-- what follows this front, in a text that begins with it
+unfoldable pub after : List ℕ → List ℕ → Option (List ℕ)
+after [] text = Some text
+after (f ∷ fs) [] = None
+after (f ∷ fs) (c ∷ cs) = if f == c then after fs cs else None

@@ -1,0 +1,79 @@
+-- The session text: what a session's lines are, in order, and how each is written.
+use Rattle.std.specs.Prelude.{◌≡◌, ◌^◌, ℕ, nat_lt, Bool, true, List, [], ◌∷◌, ◌++◌, map, is_none, codes}
+use Rattle.std.specs.List.{list_all}
+use Rattle.mx_name.specs.Principals.{PlainPrincipal, components_fault, principal_text}
+use Rattle.mx_sdw.specs.Octal.{octal}
+use Rattle.mx_request.specs.declared.requests.Request.{Request}
+use Rattle.mx_request.specs.RequestTexts.{request_text, fits_request}
+use Rattle.mx_script.specs.Sessions.{Outline, is_session, is_address}
+use Rattle.mx_script.specs.declared.lines.Base.{Base}
+use Rattle.mx_script.specs.declared.lines.Base.TheVariants.{Segment}
+use Rattle.mx_script.specs.declared.lines.Line.{Line}
+use Rattle.mx_script.specs.declared.lines.Line.TheVariants.{Ask, Set, Lda, Sta}
+use Rattle.mx_script.specs.declared.lines.Operand.{Operand}
+use Rattle.mx_script.specs.declared.rows.Row.{Row}
+use Rattle.mx_script.specs.declared.rows.Row.TheVariants as row
+
+abbrev pub segno_of : Base → ℕ
+segno_of (Segment segno) = segno
+
+-- `S|W`, in octal
+abbrev pub operand_text : Operand → List ℕ
+operand_text operand = octal (segno_of operand.base) ++ codes "|" ++ octal operand.word
+
+abbrev pub line_text : Line → List ℕ
+line_text (Ask request) = request_text request
+line_text (Set word) = codes "set " ++ octal word
+line_text (Lda operand) = codes "lda " ++ operand_text operand
+line_text (Sta operand) = codes "sta " ++ operand_text operand
+
+abbrev pub row_text : Row → List ℕ
+row_text row.Header = codes "multics 1"
+row_text (row.Line line) = line_text line
+row_text (row.Process principal) = codes "process " ++ principal_text principal
+row_text row.End = codes "end"
+
+-- a request of the setup, as a line
+abbrev pub asked : Request → Row
+asked request = row.Line (Ask request)
+
+-- each process's line, and then its script
+abbrev pub process_rows : List PlainPrincipal → List (List Line) → List Row
+process_rows (principal ∷ principals) (script ∷ scripts) =
+    row.Process principal ∷ map row.Line script ++ process_rows principals scripts
+process_rows _ _ = []
+
+-- the lines of a session: header, setup, processes, end
+abbrev pub rows_of : Outline → List Row
+rows_of x = row.Header ∷ map asked x.setup ++ process_rows x.principals x.scripts ++ row.End ∷ []
+
+-- lines, each with its newline
+abbrev pub lines_text : List (List ℕ) → List ℕ
+lines_text [] = []
+lines_text (line ∷ lines) = line ++ 10 ∷ lines_text lines
+
+-- what a line may say: requests, addresses, words and principals of their grammar
+abbrev pub fits_line : Line → Bool
+fits_line (Ask request) = fits_request request
+fits_line (Set word) = nat_lt word (2 ^ 36)
+fits_line (Lda operand) = is_address operand
+fits_line (Sta operand) = is_address operand
+
+abbrev pub fits : Row → Bool
+fits row.Header = true
+fits (row.Line line) = fits_line line
+fits (row.Process principal) = is_none (components_fault principal)
+fits row.End = true
+
+abbrev pub session_text : Outline → List ℕ
+session_text x = lines_text (map row_text (rows_of x))
+
+-- these bytes are the text of this session
+pub record IsText (spelled : List ℕ) (x : Outline) : Type 0 where
+  pub session : is_session x ≡ true
+  pub fits_all : list_all fits (rows_of x) ≡ true
+  pub text : spelled ≡ session_text x
+
+-- these bytes are the text of some session
+abbrev pub IsSomeSession : List ℕ → Type 0
+IsSomeSession spelled = (x : Outline) × IsText spelled x

@@ -1,0 +1,127 @@
+//! Sessions and their texts: from the bytes to the session, or to the number of the first bad line.
+//!
+//! A session is a setup of path requests, and for each process its principal and its script; this version has one process.
+//! [`Session::new`] makes a session of parts exactly where they are those of one. [`read_session`] gives the one session that
+//! has a text, and for a text of no session the first bad line: the line after the greatest number of leading whole lines that
+//! begin the text of some session. Stands on `mx_request` for the requests and their lines.
+#![tactic(auto)]
+
+mod lines;
+mod outlines;
+mod reading;
+mod rows;
+mod sessions;
+
+pub use lines::{Base, Line, Operand, Script, Scripts};
+pub use reading::{SessionError, read_session};
+pub use rows::Row;
+pub use sessions::{Principals, Session};
+
+#[cfg(test)]
+mod tests {
+    use super::*;
+    use std::alloc::{AllocError, Global};
+    use std::test::Fail;
+
+    // The first bad line, `None` for a session.
+    fn first_bad_line(alloc: Global, text: &[u8]) -> Result<Option<u32>, AllocError> {
+        if text.len() >= 4_294_967_295 {
+            return Err(AllocError);
+        }
+        match read_session(alloc, text) {
+            Ok(_) => Ok(None),
+            Err(SessionError::BadLine(number)) => Ok(Some(number)),
+            Err(SessionError::Memory) => Err(AllocError),
+        }
+    }
+
+    #[test]
+    fn a_text_of_no_session_has_a_first_bad_line(rt: HostRuntime) -> Result<(), Fail> {
+        let alloc = rt.alloc();
+        for (text, want) in [
+            (b"".as_slice(), Some(1)),
+            (b"multics 1\nprocess A.B.a\nlogout\nend\n", None),
+            (b"multics 1\nprocess A.B.a\nlogout\n", Some(4)),
+            (b"multics 1\nprocess A.B.a\nlogout\nend", Some(4)),
+            (b"multics 1\nprocess A.B.a\nlogout\nend\n\n", Some(5)),
+            (b"multics 1\nprocess A.B.a\nlogout\nend\nend\n", Some(5)),
+            (b"multics 2\nprocess A.B.a\nlogout\nend\n", Some(1)),
+            (
+                b"multics 1\nhistory 5\nprocess A.B.a\nlogout\nend\n",
+                Some(2),
+            ),
+            (
+                b"multics 1\ninitiate >a\nprocess A.B.a\nlogout\nend\n",
+                Some(2),
+            ),
+            (b"multics 1\nset 1\nprocess A.B.a\nlogout\nend\n", Some(2)),
+            (b"multics 1\nlogout\n", Some(2)),
+            (b"multics 1\nend\n", Some(2)),
+            (
+                b"multics 1\nprocess A.B.a\nprocess C.D.a\nlogout\nend\n",
+                Some(3),
+            ),
+            (b"multics 1\nprocess A.B.a\nend\n", Some(3)),
+            (b"multics 1\nprocess A.B.a\nlogout\nset 1\nend\n", Some(4)),
+            (
+                b"multics 1\nprocess A.B.a\nlogout\nprocess C.D.a\nlogout\nend\n",
+                Some(4),
+            ),
+            (
+                b"multics 1\nprocess A.B.a\nlda 10|40000\nlogout\nend\n",
+                Some(3),
+            ),
+            (
+                b"multics 1\nprocess A.B.a\nsta 10000|0\nlogout\nend\n",
+                Some(3),
+            ),
+            (b"multics 1\nprocess A.B.a\nset 01\nlogout\nend\n", Some(3)),
+            (b"multics 1\nprocess A.B.a\nlogout \nend\n", Some(3)),
+        ] {
+            assert_eq!(rt; first_bad_line(alloc, text)?, want, "{text:?}");
+        }
+        Ok(())
+    }
+
+    // A line's word by its first letter, and its operand or word as a number.
+    fn brief(line: &Line) -> (u8, u64) {
+        match line {
+            Line::Ask(_) => (b'a', 0),
+            Line::Set { word } => (b's', word.value()),
+            Line::Lda { operand } => (b'l', address(operand)),
+            Line::Sta { operand } => (b't', address(operand)),
+        }
+    }
+
+    fn address(operand: &Operand) -> u64 {
+        let Base::Segment(segno) = operand.base;
+        u64::from(segno) << 32 | u64::from(operand.word)
+    }
+
+    #[test]
+    fn a_session_has_the_lines_of_its_text(rt: HostRuntime) -> Result<(), Fail> {
+        let alloc = rt.alloc();
+        let session = read_session(
+            alloc,
+            b"multics 1\ncreate_seg >a 64 4 4 4\nset_acl >a Jones.Faculty.a rw\nprocess Jones.Faculty.a\ninitiate >a\nset 52\nsta 10|5\nlda 10|6\nlogout\nend\n",
+        )?;
+        assert_eq!(rt; session.version(), 1);
+        assert_eq!(rt; session.limit(), 262_143);
+        assert_eq!(rt; session.setup().items().len(), 2);
+        assert_eq!(rt; session.principals().items().len(), 1);
+        let want = [
+            (b'a', 0),
+            (b's', 0o52),
+            (b't', 8 << 32 | 5),
+            (b'l', 8 << 32 | 6),
+            (b'a', 0),
+        ];
+        for script in session.scripts().items() {
+            assert_eq!(rt; script.items().len(), want.len());
+            for (line, want) in script.items().iter().zip(&want) {
+                assert_eq!(rt; brief(line), *want);
+            }
+        }
+        Ok(())
+    }
+}

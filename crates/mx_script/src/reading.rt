@@ -1,0 +1,63 @@
+//! The reader of session texts: from the bytes to the session, or to the number of the first bad line.
+
+ghost use Rattle.std.specs.Prelude.{◌≡◌, ℕ, ◌<◌, Err, length, IfOk};
+ghost use Rattle.mx_script.specs.Sessions.{Outline};
+ghost use Rattle.mx_script.specs.SessionTexts.{IsText};
+ghost use Rattle.mx_script.specs.FirstBadLine.{IsFirstBad};
+ghost use Rattle.mx_script.specs.declared.reading.SessionError.TheVariants.{Memory};
+
+mod cutting;
+mod drafts;
+mod fields;
+mod lines;
+
+use crate::reading::cutting::cut;
+use crate::reading::drafts::Draft;
+use crate::sessions::Session;
+use std::alloc::{AllocError, Global};
+use thiserror::Error;
+
+/// Why no session was read.
+#[derive(Clone, Copy, Debug, PartialEq, Eq, Error)]
+pub enum SessionError {
+    /// The bytes are the text of no session, and this line, counted from 1, is the first bad one: the line after the
+    /// greatest number of leading whole lines that begin the text of some session.
+    #[error("bad line {0}")]
+    BadLine(u32),
+    /// Memory was wanting.
+    #[error("out of memory")]
+    Memory,
+}
+
+impl From<AllocError> for SessionError {
+    ghost from_gives = { λ _ e. e ≡ Memory };
+
+    fn from(_error: AllocError) -> SessionError {
+        SessionError::Memory
+    }
+}
+
+/// Reads the text of a session: the one session that has this text, or the number of the first bad line. Takes time linear
+/// in the text, and memory for the session alone.
+pub fn read_session(alloc: Global, bytes: &[u8]) -> Result<Session, SessionError>
+    requires { length bytes.now < 4294967295 }
+    ensures found { IfOk result (λ x. IsText bytes.now x) }
+    ensures only { (x : Outline) → IsText bytes.now x → IfOk result (λ y. y ≡ x) }
+    ensures bad_line { (n : ℕ) → result ≡ Err (SessionError.BadLine n) → IsFirstBad bytes.now n }
+{
+    let mut rest = bytes;
+    let mut number = 1;
+    let mut draft = Draft::Empty;
+    while let Some((line, after)) = cut(b'\n', rest) {
+        let Some(next) = draft.read(alloc, line)? else {
+            return Err(SessionError::BadLine(number));
+        };
+        draft = next;
+        rest = after;
+        number += 1;
+    }
+    match draft.finish(alloc, rest)? {
+        Some(session) => Ok(session),
+        None => Err(SessionError::BadLine(number)),
+    }
+}

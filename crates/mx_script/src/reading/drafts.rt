@@ -1,0 +1,171 @@
+//! Sessions as far as their lines were read.
+
+ghost use Rattle.std.specs.Prelude.{◌≡◌, ◌<◌, ◌-◌, ◌^◌, IfOk, Some};
+ghost use Rattle.mx_script.specs.Sessions.{session_of, line_count, is_logout};
+ghost use Rattle.mx_script.specs.Drafts.{setup_step, script_step, step, Follows, one_process, finished, IsCountable};
+
+use crate::lines::{Line, Script};
+use crate::outlines::is_logout;
+use crate::reading::lines::read_row;
+use crate::rows::Row;
+use crate::sessions::Session;
+use mx_list::Sequence;
+use mx_name::Principal;
+use mx_request::Requests;
+use std::alloc::{AllocError, Global};
+
+/// What the lines read so far say.
+#[derive(Drop)]
+pub(crate) enum Draft {
+    /// No line yet.
+    Empty,
+    /// The header, and the setup so far.
+    Headed(Requests),
+    /// And the process, and its script so far.
+    Running(Requests, Principal, Script),
+    /// And its logout.
+    LoggedOut(Requests, Principal, Script),
+    /// And the end.
+    Ended(Requests, Principal, Script),
+}
+
+impl Draft {
+    /// The draft after one more line, `None` where the line cannot stand there.
+    pub(crate) fn read(self, alloc: Global, line: &[u8]) -> Result<Option<Draft>, AllocError>
+        ensures { IfOk result (λ next. Follows self line.now next) }
+    {
+        match read_row(alloc, line)? {
+            Some(row) => self.step(alloc, row),
+            None => Ok(None),
+        }
+    }
+
+    fn step(self, alloc: Global, row: Row) -> Result<Option<Draft>, AllocError>
+        ensures { IfOk result (λ draft. draft ≡ step self row) }
+    {
+        match self {
+            Draft::Empty => Ok(headed(alloc, row)),
+            Draft::Headed(setup) => set_up(alloc, setup, row),
+            Draft::Running(setup, principal, script) => went_on(setup, principal, script, row),
+            Draft::LoggedOut(setup, principal, script) => Ok(ended(setup, principal, script, row)),
+            _ended => Ok(None),
+        }
+    }
+
+    /// The session, `None` where the text has not ended or something follows.
+    pub(crate) fn finish(self, alloc: Global, rest: &[u8]) -> Result<Option<Session>, AllocError>
+        requires { IsCountable self }
+        ensures { IfOk result (λ session. session ≡ finished self rest.now) }
+    {
+        match self {
+            Draft::Ended(setup, principal, script) => {
+                if rest.is_empty() {
+                    session_of(alloc, setup, principal, script)
+                } else {
+                    Ok(None)
+                }
+            }
+            _other => Ok(None),
+        }
+    }
+}
+
+fn session_of(
+    alloc: Global,
+    setup: Requests,
+    principal: Principal,
+    script: Script,
+) -> Result<Option<Session>, AllocError>
+    requires { line_count (one_process setup principal script) < 2 ^ 32 - 1 }
+    ensures { IfOk result (λ session. session ≡ session_of (one_process setup principal script)) }
+{
+    let principals = vec![in alloc; principal]?;
+    let scripts = vec![in alloc; script]?;
+    Ok(Session::new(
+        1,
+        None,
+        setup,
+        Sequence::of(principals),
+        Sequence::of(scripts),
+    ))
+}
+
+fn headed(alloc: Global, row: Row) -> Option<Draft>
+    ensures { result ≡ step Draft.Empty row }
+{
+    match row {
+        Row::Header => Some(Draft::Headed(Requests::new(alloc))),
+        _ => None,
+    }
+}
+
+fn set_up(alloc: Global, setup: Requests, row: Row) -> Result<Option<Draft>, AllocError>
+    ensures { IfOk result (λ draft. draft ≡ step (Draft.Headed setup) row) }
+{
+    match row {
+        Row::Header => Ok(None),
+        Row::Line(line) => with_request(setup, line),
+        Row::Process(principal) => Ok(Some(Draft::Running(setup, principal, Script::new(alloc)))),
+        Row::End => Ok(None),
+    }
+}
+
+fn with_request(mut setup: Requests, line: Line) -> Result<Option<Draft>, AllocError>
+    ensures { IfOk result (λ draft. draft ≡ setup_step setup line) }
+{
+    match line {
+        Line::Ask(request) => {
+            if request.is_path_request() {
+                setup.push(request)?;
+                Ok(Some(Draft::Headed(setup)))
+            } else {
+                Ok(None)
+            }
+        }
+        Line::Set { .. } => Ok(None),
+        Line::Lda { .. } => Ok(None),
+        Line::Sta { .. } => Ok(None),
+    }
+}
+
+fn went_on(
+    setup: Requests,
+    principal: Principal,
+    script: Script,
+    row: Row,
+) -> Result<Option<Draft>, AllocError>
+    ensures { IfOk result (λ draft. draft ≡ step (Draft.Running setup principal script) row) }
+{
+    match row {
+        Row::Header => Ok(None),
+        Row::Line(line) => Ok(Some(with_line(setup, principal, script, line)?)),
+        Row::Process(_) => Ok(None),
+        Row::End => Ok(None),
+    }
+}
+
+fn with_line(
+    setup: Requests,
+    principal: Principal,
+    mut script: Script,
+    line: Line,
+) -> Result<Draft, AllocError>
+    ensures { IfOk result (λ draft. draft ≡ script_step setup principal script line) }
+{
+    let last = is_logout(&line);
+    script.push(line)?;
+    if last {
+        Ok(Draft::LoggedOut(setup, principal, script))
+    } else {
+        Ok(Draft::Running(setup, principal, script))
+    }
+}
+
+fn ended(setup: Requests, principal: Principal, script: Script, row: Row) -> Option<Draft>
+    ensures { result ≡ step (Draft.LoggedOut setup principal script) row }
+{
+    match row {
+        Row::End => Some(Draft::Ended(setup, principal, script)),
+        _other => None,
+    }
+}

@@ -1,0 +1,89 @@
+//! What a line of a session text says by itself.
+
+ghost use Rattle.std.specs.Prelude.{◌≡◌, IfOk, IfSome, Some};
+ghost use Rattle.mx_script.specs.Reading.{IsRow, set_at, lda_at, sta_at, memory_at, plain_at, process_at};
+ghost use Rattle.mx_script.specs.declared.rows.Row.{Row};
+
+use crate::lines::Line;
+use crate::reading::cutting::after;
+use crate::reading::fields::{read_operand, read_principal, read_word};
+use crate::rows::Row;
+use mx_request::Request;
+use std::alloc::{AllocError, Global};
+
+/// The row that a line spells, `None` where it spells none.
+pub(crate) fn read_row(alloc: Global, line: &[u8]) -> Result<Option<Row>, AllocError>
+    ensures found { IfOk result (λ told. IfSome told (λ r. IsRow line.now r)) }
+    ensures only { (r : Row) → IsRow line.now r → IfOk result (λ told. told ≡ Some r) }
+{
+    if let Some(row) = read_plain(line) {
+        return Ok(Some(row));
+    }
+    if let Some(row) = read_process(alloc, line)? {
+        return Ok(Some(row));
+    }
+    match Request::read(alloc, line)? {
+        Some(request) => Ok(Some(Row::Line(Line::Ask(request)))),
+        None => Ok(None),
+    }
+}
+
+#[tactic(auto, unfolding(crate::specs::Reading::process_at))]
+fn read_process(alloc: Global, line: &[u8]) -> Result<Option<Row>, AllocError>
+    ensures { IfOk result (λ told. told ≡ process_at line.now) }
+{
+    match after(b"process ", line) {
+        Some(who) => Ok(read_principal(alloc, who)?.map(Row::Process)),
+        None => Ok(None),
+    }
+}
+
+/// A line that holds no text: the header, the end or a memory line.
+#[tactic(auto, unfolding(crate::specs::Reading::plain_at))]
+fn read_plain(line: &[u8]) -> Option<Row>
+    ensures { result ≡ plain_at line.now }
+{
+    if line == b"multics 1".as_slice() {
+        Some(Row::Header)
+    } else if line == b"end".as_slice() {
+        Some(Row::End)
+    } else {
+        Some(Row::Line(read_memory(line)?))
+    }
+}
+
+#[tactic(auto, unfolding(crate::specs::Reading::memory_at))]
+fn read_memory(line: &[u8]) -> Option<Line>
+    ensures { result ≡ memory_at line.now }
+{
+    if let Some(fields) = after(b"set ", line) {
+        read_set(fields)
+    } else if let Some(fields) = after(b"lda ", line) {
+        read_lda(fields)
+    } else if let Some(fields) = after(b"sta ", line) {
+        read_sta(fields)
+    } else {
+        None
+    }
+}
+
+fn read_set(fields: &[u8]) -> Option<Line>
+    ensures { result ≡ set_at fields.now }
+{
+    let word = read_word(fields)?;
+    Some(Line::Set { word })
+}
+
+fn read_lda(fields: &[u8]) -> Option<Line>
+    ensures { result ≡ lda_at fields.now }
+{
+    let operand = read_operand(fields)?;
+    Some(Line::Lda { operand })
+}
+
+fn read_sta(fields: &[u8]) -> Option<Line>
+    ensures { result ≡ sta_at fields.now }
+{
+    let operand = read_operand(fields)?;
+    Some(Line::Sta { operand })
+}

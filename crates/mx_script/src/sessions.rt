@@ -1,0 +1,115 @@
+//! Sessions: what a session text says.
+
+ghost use Rattle.std.specs.Prelude.{◌≡◌, ◌<◌, ◌-◌, ◌^◌, Bool, true, false, IfSome, IfNone, IsSome, IsTrue, ◌↔◌, length, Option, None, Some, if◌then◌else◌};
+ghost use Rattle.mx_script.specs.Sessions.{line_count, limit_of};
+
+use crate::lines::Scripts;
+use crate::outlines::{are_scripts, is_setup};
+use mx_list::Sequence;
+use mx_name::Principal;
+use mx_request::Requests;
+use std::marker::Model;
+
+/// The principals of processes 1, 2, .. in order.
+pub type Principals = Sequence<Principal>;
+
+/// A session: what its setup asks for, and for each process its principal and its script. A value always has the parts of a
+/// session: a setup of path requests and, in this version, one process with one script, which ends with its logout.
+#[derive(Debug, Drop)]
+pub struct Session {
+    version: u8,
+    history: Option<u32>,
+    setup: Requests,
+    principals: Principals,
+    scripts: Scripts,
+}
+
+impl Model for Session {
+    ghost use Rattle.mx_script.specs.Sessions.{Outline, outline, IsSession};
+
+    ghost Value = { Outline };
+
+    ghost view = { λ a. outline a.version a.history a.setup a.principals a.scripts };
+
+    ghost invariant = { λ a. IsSession (outline a.version a.history a.setup a.principals a.scripts) };
+}
+
+impl Session {
+    ghost use Rattle.mx_script.specs.Sessions.{outline, session_of, IsSession};
+
+    /// The session of these parts, `None` exactly where they are not those of a session. Takes no memory.
+    pub fn new(
+        version: u8,
+        history: Option<u32>,
+        setup: Requests,
+        principals: Principals,
+        scripts: Scripts,
+    ) -> Option<Session>
+        requires { line_count (outline version history setup principals scripts) < 2 ^ 32 - 1 }
+        ensures { result ≡ session_of (outline version history setup principals scripts) }
+    {
+        if version == 1
+            && history.is_none()
+            && is_setup(setup.items())
+            && are_scripts(principals.items(), scripts.items())
+        {
+            Some(Session {
+                version,
+                history,
+                setup,
+                principals,
+                scripts,
+            })
+        } else {
+            None
+        }
+    }
+
+    /// The version of the session text, 1 so far.
+    pub fn version(&self) -> u8
+        ensures { result ≡ self.now.version }
+    {
+        self.version
+    }
+
+    /// The limit that the session sets the journal, `None` so far.
+    pub fn history(&self) -> Option<u32>
+        ensures { result ≡ self.now.history }
+    {
+        self.history
+    }
+
+    /// The setup's requests, which the initializer makes in ring 0.
+    pub fn setup(&self) -> &Requests
+        ensures { result.now ≡ self.now.setup }
+    {
+        &self.setup
+    }
+
+    /// The principals of the processes, one so far.
+    pub fn principals(&self) -> &Principals
+        ensures value { result.now ≡ self.now.principals }
+        ensures one { length result.now ≡ 1 }
+    {
+        &self.principals
+    }
+
+    /// The scripts of the processes, as many as there are principals.
+    pub fn scripts(&self) -> &Scripts
+        ensures value { result.now ≡ self.now.scripts }
+        ensures one { length result.now ≡ 1 }
+        ensures session { IsSession self.now }
+    {
+        &self.scripts
+    }
+
+    /// The greatest number of entries of the journal: `history`, or else 262,143.
+    pub fn limit(&self) -> u32
+        ensures { result ≡ limit_of self.now }
+    {
+        match self.history {
+            None => 262_143,
+            Some(limit) => limit,
+        }
+    }
+}

@@ -1,0 +1,30 @@
+//! The text of a journal entry, added to bytes.
+
+ghost use Rattle.std.specs.Prelude.{◌≡◌, ◌++◌, codes, OnOk};
+ghost use Rattle.std.specs.Fmt.{decimal};
+ghost use Rattle.mx_text.specs.RunText.{entry_text};
+
+use super::numbers::add_decimal;
+use mx_plain::Entry;
+use std::alloc::AllocError;
+
+/// Adds `NUMBER PROCESS RING REQUEST = REPLY` and a newline.
+pub(super) fn add_entry(out: &mut Vec<u8>, number: u64, entry: &Entry) -> Result<(), AllocError>
+    ensures { OnOk result (out.new.items ≡ out.old.items ++ entry_text number entry.now) }
+{
+    add_field(out, number)?;
+    add_field(out, u64::from(entry.process))?;
+    add_field(out, u64::from(entry.ring.number()))?;
+    entry.request.append_to(out)?;
+    out.extend_from_slice(b" = ")?;
+    entry.reply.append_to(out)?;
+    out.extend_from_slice(b"\n")
+}
+
+// A number and a blank.
+fn add_field(out: &mut Vec<u8>, n: u64) -> Result<(), AllocError>
+    ensures { OnOk result (out.new.items ≡ out.old.items ++ (decimal n ++ codes " ")) }
+{
+    add_decimal(out, n)?;
+    out.extend_from_slice(b" ")
+}

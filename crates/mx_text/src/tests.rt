@@ -1,0 +1,91 @@
+//! Run texts as the formats give them.
+
+use crate::print;
+use mx_io::MemorySink;
+use mx_legal::{Element, Event, Event2, Kind, Outcome, Result2, Transcript, Transcripts};
+use mx_list::Sequence;
+use mx_plain::{Entry, Journal};
+use mx_request::{Reply, Request};
+use mx_sdw::{Denial, Ring};
+use std::alloc::{AllocError, Global};
+use std::test::Fail;
+
+fn ring(n: u8) -> Result<Ring, Fail> {
+    Ok(Ring::new(n).ok_or("a ring")?)
+}
+
+fn entry(alloc: Global, maker: (u8, u8), line: &[u8], reply: Reply) -> Result<Entry, Fail> {
+    let request = Request::read(alloc, line)?.ok_or("a request")?;
+    Ok(Entry {
+        process: maker.0,
+        ring: ring(maker.1)?,
+        request,
+        reply,
+    })
+}
+
+// A reference to the word 10|5 in ring 4.
+fn seen(kind: Kind, point: u32, outcome: Outcome) -> Result<Event2, Fail> {
+    Ok(Event2::Core(Event::Seen(Element {
+        kind,
+        segno: 0o10,
+        word: 5,
+        ring: ring(4)?,
+        point,
+        outcome,
+    })))
+}
+
+// Lines with at most one event each.
+fn transcript(
+    alloc: Global,
+    lines: &[(u32, Option<Event2>, Result2)],
+) -> Result<Transcript, AllocError> {
+    let mut steps = Sequence::new(alloc);
+    for (number, event, outcome) in lines {
+        let events = match event {
+            Some(event) => Sequence::of_slice(alloc, &[*event])?,
+            None => Sequence::new(alloc),
+        };
+        steps.push((*number, events, *outcome))?;
+    }
+    Ok(steps)
+}
+
+fn text(alloc: Global, journal: &Journal, transcripts: &Transcripts) -> Result<MemorySink, Fail> {
+    let mut sink = MemorySink::new(alloc, 4096, Vec::new(alloc), 100)?;
+    print(alloc, journal, transcripts, &mut sink)?;
+    Ok(sink)
+}
+
+#[test]
+fn a_full_journal_is_printed(rt: HostRuntime) -> Result<(), Fail> {
+    let alloc = rt.alloc();
+    let journal = Sequence::of(vec![in alloc;
+        entry(alloc, (0, 0), b"create_seg >a 64 4 4 4", Reply::Done)?,
+    ]?);
+    let denial = Denial::UnknownSegment;
+    let denied = seen(Kind::Read, 1, Outcome::Denied(denial))?;
+    let setup = [
+        (3, Some(Event2::Entry(1)), Result2::Done),
+        (4, None, Result2::HistoryFull),
+    ];
+    let script = [
+        (6, Some(denied), Result2::Denied(denial)),
+        (7, None, Result2::HistoryFull),
+    ];
+    let transcripts = Sequence::of(vec![in alloc;
+        transcript(alloc, &setup)?,
+        transcript(alloc, &script)?,
+    ]?);
+    let want = b"journal 1\n\
+        1 0 0 create_seg >a 64 4 4 4 = ok\n\
+        process 0\nentry 1\nline 3 done\nline 4 history_full\n\
+        process 1\nread 10|5 ring 4 point 1 denied unknown_segment\n\
+        line 6 denied unknown_segment\nline 7 history_full\nend\n";
+    assert_eq!(rt;
+        text(alloc, &journal, &transcripts)?.bytes(),
+        want.as_slice()
+    );
+    Ok(())
+}
