@@ -66,15 +66,15 @@ impl Hier {
         alloc: Global,
         who: &Who,
         path: &Pathname,
-        brackets: &[Ring; 3],
+        brackets: [Ring; 3],
     ) -> Result<u32, HierError>
-        ensures { Answers (set_brackets self.old (caller who.now) path.now brackets.now) self.old result self.new }
+        ensures { Answers (set_brackets self.old (caller who.now) path.now brackets) self.old result self.new }
     {
         let uid = self.changeable(alloc, who, path, true)??;
-        if let Some(why) = self.bracket_refusal(who, bracketing(brackets), uid) {
+        if let Some(why) = self.bracket_refusal(who, bracketing(&brackets), uid) {
             return Err(HierError::Refused(why));
         }
-        self.set_brackets_at(uid, bracketing(brackets));
+        self.set_brackets_at(uid, bracketing(&brackets));
         Ok(uid)
     }
 

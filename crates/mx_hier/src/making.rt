@@ -57,12 +57,12 @@ impl Hier {
         who: &Who,
         path: &Pathname,
         words: u32,
-        brackets: &[Ring; 3],
+        brackets: [Ring; 3],
     ) -> Result<(), HierError>
-        ensures { Answers (create_seg self.old (caller who.now) path.now words brackets.now) self.old result self.new }
+        ensures { Answers (create_seg self.old (caller who.now) path.now words brackets) self.old result self.new }
     {
         let at = self.creation(alloc, who, path)??;
-        let segment = self.new_segment(alloc, who, words, bracketing(brackets))??;
+        let segment = self.new_segment(alloc, who, words, bracketing(&brackets))??;
         self.add(alloc, &at, Node::Segment(segment))?;
         let _first = self.pages.allot(pages_of(words));
         Ok(())

@@ -155,7 +155,7 @@ fn create_seg(
     rings: [u8; 3],
 ) -> Result<u8, Fail> {
     let path = Pathname::read(alloc, path)?;
-    Ok(number(&hier.create_seg(alloc, &caller.who(), &path, words, &three(rings)?)))
+    Ok(number(&hier.create_seg(alloc, &caller.who(), &path, words, three(rings)?)))
 }
 
 fn create_link(
@@ -221,7 +221,7 @@ fn set_brackets(
     rings: [u8; 3],
 ) -> Result<u8, Fail> {
     let path = Pathname::read(alloc, path)?;
-    Ok(number(&hier.set_brackets(alloc, &caller.who(), &path, &three(rings)?)))
+    Ok(number(&hier.set_brackets(alloc, &caller.who(), &path, three(rings)?)))
 }
 
 fn set_dir_brackets(

@@ -97,7 +97,7 @@ impl State {
         };
         let held = held(alloc, &self.hier, processes, uid)?;
         let room = Vec::with_capacity(alloc, held.items().len())?;
-        let given = self.hier.set_brackets(alloc, &who, path, brackets);
+        let given = self.hier.set_brackets(alloc, &who, path, *brackets);
         let reply = done(given)?;
         let changes = renewed(&self.hier, processes, held.items(), room);
         Ok(Applied { reply, changes })

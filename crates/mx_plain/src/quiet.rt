@@ -56,7 +56,7 @@ impl State {
     {
         let processes = self.processes.as_slice();
         let who = caller(&self.initializer, &self.root, processes, p, ring);
-        let given = self.hier.create_seg(alloc, &who, path, words, brackets);
+        let given = self.hier.create_seg(alloc, &who, path, words, *brackets);
         let reply = done(given)?;
         Ok(Applied::unchanged(alloc, reply))
     }
