@@ -1,4 +1,9 @@
 //! Changing an entry.
+//!
+//! The refusals of every change come first, in this order: `BadPath` where the pathname has no path; what the walk to the
+//! entry says (`NoEntry`, `NotADir`, `LinkLoop`); `IncorrectAccess` without m on the directory that holds the entry, as the
+//! root holds itself. The last two are said at a directory: a caller without s on it is told `NoInfo` instead. An error,
+//! the want of memory too, leaves the hierarchy as it was.
 
 ghost use Rattle.std.specs.Prelude.{◌≡◌, Some, None, IfOk, OnOk, OnErr, is_ok, not, is_none};
 ghost use Rattle.mx_acl.specs.Access.{with_entry, without_entry, entry_of};
@@ -21,7 +26,8 @@ use std::alloc::{AllocError, Global};
 
 impl Hier {
     /// Sets the modes of an identifier on the access list of an entry, anew or in place of those that stand, and gives its
-    /// uid. `InvalidMode` where the list is of the other kind or m stands without s, then `AclFull` at 64 entries.
+    /// uid. After the refusals of every change (above): `InvalidMode` where the list is of the other kind or m stands
+    /// without s, then `AclFull` at 64 entries.
     pub fn set_acl(
         &mut self,
         alloc: Global,
@@ -41,8 +47,8 @@ impl Hier {
         }
     }
 
-    /// Removes the entry of an identifier from the access list of an entry, and gives its uid. `NoAclEntry` where the list
-    /// has none.
+    /// Removes the entry of an identifier from the access list of an entry, and gives its uid. After the refusals of every
+    /// change (above): `NoAclEntry` where the list has none.
     pub fn del_acl(
         &mut self,
         alloc: Global,
@@ -59,8 +65,9 @@ impl Hier {
         }
     }
 
-    /// Sets the brackets of a segment, and gives its uid. `NotASeg` on a directory, then `BadBrackets` where they are not in
-    /// order, or the new or the old first bracket is below the caller's ring.
+    /// Sets the brackets of a segment, and gives its uid. After the refusals of every change (above): `NotASeg` on a
+    /// directory, then `BadBrackets` where they are not in order, or the new or the old first bracket is below the caller's
+    /// ring.
     pub fn set_brackets(
         &mut self,
         alloc: Global,
@@ -78,8 +85,8 @@ impl Hier {
         Ok(uid)
     }
 
-    /// Sets the brackets of a directory. `NotADir` on a segment, then `BadBrackets` where they are not in order, or the new
-    /// or the old first bracket is below the caller's ring.
+    /// Sets the brackets of a directory. After the refusals of every change (above): `NotADir` on a segment, then
+    /// `BadBrackets` where they are not in order, or the new or the old first bracket is below the caller's ring.
     pub fn set_dir_brackets(
         &mut self,
         alloc: Global,
@@ -98,8 +105,8 @@ impl Hier {
         Ok(())
     }
 
-    /// Gives an entry, a link itself, another name. `IncorrectAccess` on the root, then `NameDup` where its directory has
-    /// the name, as its own it has.
+    /// Gives an entry, a link itself, another name. After the refusals of every change (above): `IncorrectAccess` on the
+    /// root, then `NameDup` where its directory has the name, as its own it has.
     pub fn rename(
         &mut self,
         alloc: Global,
@@ -120,8 +127,8 @@ impl Hier {
         Ok(())
     }
 
-    /// Deletes an entry, a link itself, and gives the uid of a segment. `IncorrectAccess` on the root, then `DirNotEmpty`
-    /// where it has entries. The pages of a segment are not used again.
+    /// Deletes an entry, a link itself, and gives the uid of a segment. After the refusals of every change (above):
+    /// `IncorrectAccess` on the root, then `DirNotEmpty` where it has entries. The pages of a segment are not used again.
     pub fn delete(
         &mut self,
         alloc: Global,

@@ -1,4 +1,10 @@
 //! Making an entry.
+//!
+//! The refusals of every making come first, in this order: `BadPath` where the pathname has no path; `NameDup` for the
+//! root; what the walk to the directory says (`NoEntry`, `NotADir`, `LinkLoop`); `NotADir` where it leads to no directory;
+//! `IncorrectAccess` without a on that; `NameDup` where it has the name; `DirFull` at 256 entries. What the walk says, this
+//! `NotADir` and this `IncorrectAccess` are said at a directory: a caller without s on it is told `NoInfo` instead. An
+//! error, the want of memory too, leaves the hierarchy as it was.
 
 ghost use Rattle.std.specs.Prelude.{◌≡◌, ◌≤◌, ◌<◌, Some, None, IfOk, IfNone, OnOk, OnErr, Ok, nat_le, if◌then◌else◌};
 ghost use Rattle.mx_hier.specs.Branches.{uid_in};
@@ -28,8 +34,8 @@ pub struct Place {
 }
 
 impl Hier {
-    /// Makes a directory with brackets `d1 <= d2`, to which its maker has sma. `BadBrackets` where they are not in order or
-    /// `d1` is below his ring.
+    /// Makes a directory with brackets `d1 <= d2`, to which its maker has sma. After the refusals of every making (above):
+    /// `BadBrackets` where they are not in order or `d1` is below his ring.
     pub fn create_dir(
         &mut self,
         alloc: Global,
@@ -49,8 +55,9 @@ impl Hier {
         Ok(())
     }
 
-    /// Makes a segment of 1 to 1,024 words on whole pages, to which its maker has rw. `BadLength`, then `BadBrackets` where
-    /// the brackets are not in order or the first is below his ring, then `NoPages`.
+    /// Makes a segment of 1 to 1,024 words on whole pages, to which its maker has rw. After the refusals of every making
+    /// (above): `BadLength`, then `BadBrackets` where the brackets are not in order or the first is below his ring, then
+    /// `NoPages`.
     pub fn create_seg(
         &mut self,
         alloc: Global,
@@ -68,7 +75,8 @@ impl Hier {
         Ok(())
     }
 
-    /// Makes a link. `BadPath` where the pathname or the target has no path; nothing need be at the target.
+    /// Makes a link; nothing need be at the target. `BadPath` where the pathname or the target has no path, then the other
+    /// refusals of every making (above).
     pub fn create_link(
         &mut self,
         alloc: Global,
