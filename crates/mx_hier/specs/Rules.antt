@@ -1,5 +1,7 @@
 -- How a request is refused, and what a call answers.
 use Rattle.std.specs.Prelude.{◌≡◌, ℕ, Bool, List, [], ◌∷◌, Option, Some, None, Result, Ok, Err, if◌then◌else◌}
+-- passed on for what stands on these rules: `unless (first_of rules) value`
+pub use Rattle.mx_name.specs.Answers.{unless}
 use Rattle.mx_hier.specs.declared.refusals.Refusal.{Refusal}
 use Rattle.mx_hier.specs.declared.refusals.Refusal.TheVariants.{NoInfo}
 use Rattle.mx_hier.specs.declared.refusals.HierError.{HierError}
@@ -15,11 +17,6 @@ say h who why dir = if on (has_status who) (directory_at h dir) then why else No
 abbrev pub first_of : List (Bool × Refusal) → Option Refusal
 first_of [] = None
 first_of (rule ∷ rules) = if rule.0 then Some rule.1 else first_of rules
-
--- the same, with what is asked for where none holds
-abbrev pub unless : {A : Type 0} → Option Refusal → A → Result A Refusal
-unless None value = Ok value
-unless (Some why) value = Err why
 
 -- what follows where nothing was refused so far
 abbrev pub onward : {A B : Type 0} → Result A Refusal → (A → Result B Refusal) → Result B Refusal
