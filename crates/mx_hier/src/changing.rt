@@ -27,7 +27,7 @@ use std::alloc::{AllocError, Global};
 impl Hier {
     /// Sets the modes of an identifier on the access list of an entry, anew or in place of those that stand, and gives its
     /// uid. After the refusals of every change (above): `InvalidMode` where the list is of the other kind or m stands
-    /// without s, then `AclFull` at 64 entries.
+    /// without s, then `AclFull` where the identifier would be the 65th.
     pub fn set_acl(
         &mut self,
         alloc: Global,
