@@ -1,5 +1,5 @@
 -- What stands in a list after a write and after a push, and lists of one item.
-use Rattle.std.proofs.Common.{◌≡◌, ◌⊎◌, ◌<◌, ℕ, zero, suc, List, [], ◌∷◌, ◌++◌, length, Option, Some, None, Bool, true, false, cond, inl, inr, refl, ap, slice_set, slice_get, arith}
+use Rattle.std.proofs.Common.{◌≡◌, ◌⊎◌, ◌<◌, ℕ, zero, suc, List, [], ◌∷◌, ◌++◌, length, Some, inl, inr, refl, ap, slice_set, slice_get, arith}
 use Rattle.std.specs.List.{Contains, AllPairs}
 
 pub slice_get-set : {X : Type 0} (xs : List X) (k i : ℕ) (y x : X) → slice_get (slice_set xs k y) i ≡ Some x
@@ -50,9 +50,6 @@ Contains-one x y (suc k, l, e) = absurd (omega arith)
 pub Contains-first : {X : Type 0} (x : X) (xs : List X) → Contains (x ∷ xs) x
 Contains-first x xs = (0, omega arith, refl)
 
-pub Contains-later : {X : Type 0} (x : X) (xs : List X) (y : X) → Contains xs y → Contains (x ∷ xs) y
-Contains-later x xs y c = (suc c.0, omega (arith, c.1), c.2)
-
 pub Contains-cases : {X : Type 0} (x : X) (xs : List X) (y : X) → Contains (x ∷ xs) y → (x ≡ y) ⊎ Contains xs y
 Contains-cases x xs y (zero, l, e) = inl e
 Contains-cases x xs y (suc k, l, e) = inr (k, omega arith, e)
@@ -65,11 +62,6 @@ AllPairs-one R x i j d l m = absurd (omega arith)
 
 pub AllPairs-none : {X : Type 0} (R : X → X → Type 0) → AllPairs R []
 AllPairs-none R i j d l m = absurd (omega arith)
-
--- a test that gives None where it holds
-pub cond_none : {X : Type 0} (b : Bool) (o : Option X) (x : X) → cond b None o ≡ Some x → (b ≡ false) × (o ≡ Some x)
-cond_none true o x e = cc
-cond_none false o x e = (refl, e)
 
 pub some_in : {X : Type 0} (xs : List X) (i : ℕ) → i < length xs → (x : X) × (slice_get xs i ≡ Some x)
 some_in [] i l = absurd (omega arith)

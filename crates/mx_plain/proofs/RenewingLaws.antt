@@ -1,7 +1,7 @@
 -- A request that changes one segment changes the descriptors of it that are renewed, and no other.
-use Rattle.std.proofs.Common.{◌≡◌, ◌≢◌, ◌⊎◌, ◌≤◌, ◌<◌, ◌+◌, ◌-◌, ℕ, zero, suc, List, [], ◌∷◌, length, get_or, Option, Some, None, Bool, true, false, cond, eqb, inl, inr, refl, ap, sym, ◌∙◌, subst, slice_get, Result, arith}
+use Rattle.std.proofs.Common.{◌≡◌, ◌≢◌, ◌⊎◌, ◌≤◌, ◌<◌, ◌+◌, ◌-◌, ℕ, zero, suc, List, [], ◌∷◌, length, get_or, Option, Some, None, Bool, true, false, cond, inl, inr, refl, ap, sym, ◌∙◌, subst, slice_get, Result, arith}
 use Rattle.std.proofs.lemmas.Bool.{cases_eq}
-use Rattle.std.proofs.lemmas.List.Elements.{Contains-get_or}
+use Rattle.std.proofs.lemmas.List.Elements.{Contains-get_or, Contains-append_right}
 use Rattle.std.proofs.lemmas.List.Kept.{AllPairs-cons}
 use Rattle.std.proofs.lemmas.Option.{slice_get_within}
 use Rattle.std.specs.List.{Contains, AllPairs}
@@ -12,7 +12,7 @@ use Rattle.mx_hier.specs.declared.refusals.HierError.{HierError}
 use Rattle.mx_plain.specs.declared.changes.Change.{Change}
 use Rattle.mx_plain.specs.declared.states.ProcessState.{ProcessState}
 use Rattle.mx_plain.specs.Changes.{change, AreChanges, IsBefore}
-use Rattle.mx_plain.specs.Knowing.{segno_from, segno_of}
+use Rattle.mx_plain.specs.Knowing.{segno_of}
 use Rattle.mx_plain.specs.Plain.{Plain}
 use Rattle.mx_plain.specs.Renewing.{held_by, held_from, same_desc, renewed_as, renewed}
 use Rattle.mx_plain.specs.Sound.{IsSound}
@@ -20,7 +20,7 @@ use Rattle.mx_plain.specs.Table.{descriptor}
 use Rattle.mx_plain.proofs.AnswerLaws.{plain_state, after_call}
 use Rattle.mx_plain.proofs.Descriptors.{same_unless, changes_at}
 use Rattle.mx_plain.proofs.EqualLaws.{descs_are, descs_apart}
-use Rattle.mx_plain.proofs.Lists.{Contains-first, Contains-later, Contains-cases, nothing_contained, AllPairs-none, some_in}
+use Rattle.mx_plain.proofs.Lists.{Contains-first, Contains-cases, nothing_contained, AllPairs-none, some_in}
 use Rattle.mx_plain.proofs.SegmentLaws.{IsAsBefore}
 
 -- where a held descriptor comes from
@@ -52,7 +52,7 @@ is_held s first (x ∷ xs) uid c h = by_number (segno_of x.known uid) refl h (is
 
 held_has : (s : Plain) (p : ℕ) (o : Option ℕ) (changes : List Change) (c : Change) → Contains changes c → Contains (held_by s p o changes) c
 held_has s p None changes c h = h
-held_has s p (Some n) changes c h = Contains-later (change p n (descriptor s p n)) changes c h
+held_has s p (Some n) changes c h = Contains-append_right (change p n (descriptor s p n) ∷ []) changes c h
 
 all_held : (s : Plain) (first : ℕ) (processes : List ProcessState) (uid place p n : ℕ) (process : ProcessState) → p ≡ place + first
     → slice_get processes place ≡ Some process → segno_of process.known uid ≡ Some n
@@ -75,7 +75,7 @@ record IsRenewed (t : Plain) (held : List Change) (c : Change) : Type 0 where
   differs : same_desc old.desc (descriptor t old.process old.segno) ≡ false
 
 later_renewed : (t : Plain) (x : Change) (xs : List Change) (c : Change) → IsRenewed t xs c → IsRenewed t (x ∷ xs) c
-later_renewed t x xs c r = record { old = r.old; there = Contains-later x xs r.old r.there; is = r.is; differs = r.differs }
+later_renewed t x xs c r = record { old = r.old; there = Contains-append_right (x ∷ []) xs r.old r.there; is = r.is; differs = r.differs }
 
 is_renewed : (t : Plain) (held : List Change) (c : Change) → Contains (renewed t held) c → IsRenewed t held c
 is_renewed t [] c h = absurd (nothing_contained c h)
@@ -96,7 +96,7 @@ renewed_has t x desc changes c h = by_test (same_desc x.desc desc)
   where
     by_test : (b : Bool) → Contains (cond b changes (change x.process x.segno desc ∷ changes)) c
     by_test true = h
-    by_test false = Contains-later (change x.process x.segno desc) changes c h
+    by_test false = Contains-append_right (change x.process x.segno desc ∷ []) changes c h
 
 renewed_first : (t : Plain) (p n : ℕ) (d : Descriptor) (changes : List Change) → same_desc d (descriptor t p n) ≡ false
     → Contains (renewed_as (change p n d) (descriptor t p n) changes) (change p n (descriptor t p n))
@@ -135,16 +135,6 @@ in_order s t first (x ∷ xs) uid = by_number (segno_of x.known uid) (in_order s
         → AllPairs IsBefore (renewed t (held_by s first o (held_from s (first + 1) xs uid)))
     by_number None later = later
     by_number (Some n) later = by_test (same_desc (descriptor s first n) (descriptor t first n)) n later
-
--- a number that a uid has is from 8 on
-number_above : (first : ℕ) (xs : List ℕ) (uid n : ℕ) → segno_from first xs uid ≡ Some n → first ≤ n
-number_above first [] uid n e = cc
-number_above first (x ∷ xs) uid n e = by_test (eqb x uid) e (number_above (first + 1) xs uid n)
-  where
-    by_test : (b : Bool) → cond b (Some first) (segno_from (first + 1) xs uid) ≡ Some n
-        → (segno_from (first + 1) xs uid ≡ Some n → first + 1 ≤ n) → first ≤ n
-    by_test true e later = let same : first ≡ n = cc in omega arith
-    by_test false e later = omega (arith, later e)
 
 renewing_changes : (s : Plain) (h : Hierarchy) (uid : ℕ) → IsSound s → IsAsBefore (λ u. u ≡ uid) s.hierarchy h
     → AreChanges s (record s { hierarchy = h }) (renewed (record s { hierarchy = h }) (held_from s 1 s.processes uid))
