@@ -18,8 +18,11 @@ abbrev pub segno_of : Base → ℕ
 segno_of (Segment segno) = segno
 
 -- `S|W`, in octal
+abbrev pub address_text : ℕ → ℕ → List ℕ
+address_text segno word = octal segno ++ codes "|" ++ octal word
+
 abbrev pub operand_text : Operand → List ℕ
-operand_text operand = octal (segno_of operand.base) ++ codes "|" ++ octal operand.word
+operand_text operand = address_text (segno_of operand.base) operand.word
 
 abbrev pub line_text : Line → List ℕ
 line_text (Ask request) = request_text request

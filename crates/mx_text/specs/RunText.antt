@@ -16,6 +16,7 @@ use Rattle.mx_legal.specs.declared.transcripts.Result2.{Result2}
 use Rattle.mx_legal.specs.declared.transcripts.Result2.TheVariants as result
 use Rattle.mx_request.specs.ReplyTexts.{reply_text}
 use Rattle.mx_request.specs.RequestTexts.{request_text}
+use Rattle.mx_script.specs.SessionTexts.{address_text}
 use Rattle.mx_legal.specs.Transcripts.{Step}
 
 -- `NUMBER PROCESS RING REQUEST = REPLY`, and a newline
@@ -28,10 +29,6 @@ entry_text number entry =
 abbrev pub entries_text : ℕ → List journaled.Entry → List ℕ
 entries_text number [] = []
 entries_text number (entry ∷ entries) = entry_text number entry ++ entries_text (number + 1) entries
-
--- `S|W`, in octal
-abbrev pub address_text : ℕ → ℕ → List ℕ
-address_text segno word = octal segno ++ codes "|" ++ octal word
 
 abbrev pub kind_text : Kind → List ℕ
 kind_text kind.Read = codes "read"
