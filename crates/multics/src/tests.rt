@@ -2,9 +2,14 @@
 //! to the smallest session. The expected values come from the rules of the formats, worked out by hand.
 
 use super::*;
+use calls::{Ends, GOOD, call};
 use mx_io::{MemorySink, MemorySource};
 use std::alloc::{AllocError, Global};
 use std::test::Fail;
+
+mod calls;
+mod replays;
+mod rows;
 
 // The smallest session, line by line.
 const SMALLEST: [&[u8]; 10] = [
@@ -30,47 +35,6 @@ const SMALLEST_RUN: &[u8] = b"journal 4\n\
     write 10|5 ring 4 point 3 word 52\nline 7 done\n\
     read 10|5 ring 4 point 3 word 52 from 1 stamp 3\nline 8 a 52\n\
     entry 4\nline 9 done\nend\n";
-
-// What the call answered, and what the sink holds.
-#[derive(Drop)]
-struct Answer {
-    status: u8,
-    written: Vec<u8>,
-}
-
-// What a call is given: which calls of the ends fail, and how much room the sink has.
-struct Ends<'a> {
-    source_fails: &'a [u32],
-    sink_fails: &'a [u32],
-    room: usize,
-}
-
-const GOOD: Ends<'static> = Ends {
-    source_fails: &[],
-    sink_fails: &[],
-    room: 4096,
-};
-
-fn call(alloc: Global, words: &[&str], text: &[u8], ends: &Ends<'_>) -> Result<Answer, Fail> {
-    let mut own = Vec::new(alloc);
-    for word in words {
-        own.push(String::from_str(alloc, word)?)?;
-    }
-    let mut source = MemorySource::new(
-        Vec::from_slice(alloc, text)?,
-        Vec::from_slice(alloc, ends.source_fails)?,
-        7,
-    );
-    let mut sink = MemorySink::new(
-        alloc,
-        ends.room,
-        Vec::from_slice(alloc, ends.sink_fails)?,
-        3,
-    )?;
-    let status = multics(&(), alloc, own.as_slice(), &mut source, &mut sink);
-    let written = Vec::from_slice(alloc, sink.bytes())?;
-    Ok(Answer { status, written })
-}
 
 // Lines, each with its newline.
 fn text_of(alloc: Global, lines: &[&[u8]]) -> Result<Vec<u8>, AllocError> {

@@ -1,0 +1,54 @@
+//! The top call over ends in memory.
+
+use mx_io::{MemorySink, MemorySource};
+use mx_run::multics;
+use std::alloc::Global;
+use std::test::Fail;
+
+/// What the call answered, and what the sink holds.
+#[derive(Drop)]
+pub(super) struct Answer {
+    pub(super) status: u8,
+    pub(super) written: Vec<u8>,
+}
+
+/// What a call is given: which calls of the ends fail, and how much room the sink has.
+pub(super) struct Ends<'a> {
+    pub(super) source_fails: &'a [u32],
+    pub(super) sink_fails: &'a [u32],
+    pub(super) room: usize,
+}
+
+/// No call fails, and there is room for the longest run of these tests.
+pub(super) const GOOD: Ends<'static> = Ends {
+    source_fails: &[],
+    sink_fails: &[],
+    room: 131_072,
+};
+
+/// The top call with these words, over a source that holds this text.
+pub(super) fn call(
+    alloc: Global,
+    words: &[&str],
+    text: &[u8],
+    ends: &Ends<'_>,
+) -> Result<Answer, Fail> {
+    let mut own = Vec::new(alloc);
+    for word in words {
+        own.push(String::from_str(alloc, word)?)?;
+    }
+    let mut source = MemorySource::new(
+        Vec::from_slice(alloc, text)?,
+        Vec::from_slice(alloc, ends.source_fails)?,
+        7,
+    );
+    let mut sink = MemorySink::new(
+        alloc,
+        ends.room,
+        Vec::from_slice(alloc, ends.sink_fails)?,
+        3,
+    )?;
+    let status = multics(&(), alloc, own.as_slice(), &mut source, &mut sink);
+    let written = Vec::from_slice(alloc, sink.bytes())?;
+    Ok(Answer { status, written })
+}

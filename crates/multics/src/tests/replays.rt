@@ -1,0 +1,247 @@
+//! Sessions written line by line, each request beside the reply that the rules give for it. The whole printed run is compared.
+
+use super::calls::{GOOD, call};
+use super::rows::{self, Row};
+use std::alloc::{AllocError, Global};
+use std::test::Fail;
+
+/// A session, and the run that it has to print.
+#[derive(Drop)]
+struct Replay {
+    session: Vec<u8>,
+    journal: Vec<u8>,
+    transcripts: Vec<u8>,
+    lines: u32,
+    entries: u32,
+    /// The number of the process whose lines come next, and its ring.
+    caller: &'static str,
+}
+
+impl Replay {
+    fn new(alloc: Global) -> Result<Replay, AllocError> {
+        Ok(Replay {
+            session: Vec::from_slice(alloc, b"multics 1\n")?,
+            journal: Vec::new(alloc),
+            transcripts: Vec::from_slice(alloc, b"process 0\n")?,
+            lines: 1,
+            entries: 0,
+            caller: "0 0",
+        })
+    }
+
+    /// From here on the script of the process of this principal.
+    fn process(&mut self, alloc: Global, principal: &str) -> Result<(), AllocError> {
+        let line = format!(in alloc; "process {principal}\n")?;
+        self.session.extend_from_slice(line.as_bytes())?;
+        self.transcripts.extend_from_slice(b"process 1\n")?;
+        self.lines = self.lines.saturating_add(1);
+        self.caller = "1 4";
+        Ok(())
+    }
+
+    /// A request and its reply.
+    fn ask(&mut self, alloc: Global, request: &str, reply: &str) -> Result<(), AllocError> {
+        self.lines = self.lines.saturating_add(1);
+        self.entries = self.entries.saturating_add(1);
+        let line = format!(in alloc; "{request}\n")?;
+        self.session.extend_from_slice(line.as_bytes())?;
+        let entry = format!(in alloc; "{} {} {request} = {reply}\n", self.entries, self.caller)?;
+        self.journal.extend_from_slice(entry.as_bytes())?;
+        let result = if reply.starts_with("refused") {
+            "refused"
+        } else {
+            "done"
+        };
+        let told = format!(in alloc; "entry {}\nline {} {result}\n", self.entries, self.lines)?;
+        self.transcripts.extend_from_slice(told.as_bytes())?;
+        Ok(())
+    }
+
+    fn ask_all(&mut self, alloc: Global, rows: &[Row]) -> Result<(), AllocError> {
+        for (request, reply) in rows {
+            self.ask(alloc, request, reply)?;
+        }
+        Ok(())
+    }
+
+    /// Ends the session, and tells whether the program prints the run.
+    fn is_printed(&mut self, alloc: Global) -> Result<bool, Fail> {
+        self.ask(alloc, "logout", "ok")?;
+        self.session.extend_from_slice(b"end\n")?;
+        let head = format!(in alloc; "journal {}\n", self.entries)?;
+        let mut run = Vec::from_slice(alloc, head.as_bytes())?;
+        run.extend_from_slice(&self.journal)?;
+        run.extend_from_slice(&self.transcripts)?;
+        run.extend_from_slice(b"end\n")?;
+        let answer = call(alloc, &["run"], &self.session, &GOOD)?;
+        Ok(answer.status == 0 && answer.written.as_slice() == run.as_slice())
+    }
+}
+
+// Jones has status on a directory, and its one segment is closed to all but its maker.
+const CLOSED: [Row; 3] = [
+    ("create_dir >d 7 7", "ok"),
+    ("set_acl >d Jones.Faculty.a s", "ok"),
+    ("create_seg >d>x 64 4 4 4", "ok"),
+];
+
+// Jones is told what is there and what is not.
+#[test]
+fn who_may_ask_is_told(rt: HostRuntime) -> Result<(), Fail> {
+    let alloc = rt.alloc();
+    let mut replay = Replay::new(alloc)?;
+    replay.ask_all(alloc, &CLOSED)?;
+    replay.process(alloc, "Jones.Faculty.a")?;
+    replay.ask(alloc, "initiate >d>y", "refused 2 noentry")?;
+    replay.ask(alloc, "initiate >d>x", "refused 6 incorrect_access")?;
+    assert!(rt; replay.is_printed(alloc)?);
+    Ok(())
+}
+
+// A stranger is told the same of what is there and of what is not.
+#[test]
+fn a_stranger_is_told_nothing(rt: HostRuntime) -> Result<(), Fail> {
+    let alloc = rt.alloc();
+    let mut replay = Replay::new(alloc)?;
+    replay.ask_all(alloc, &CLOSED)?;
+    replay.process(alloc, "Smith.Ops.a")?;
+    replay.ask(alloc, "initiate >d>y", "refused 3 no_info")?;
+    replay.ask(alloc, "initiate >d>x", "refused 3 no_info")?;
+    assert!(rt; replay.is_printed(alloc)?);
+    Ok(())
+}
+
+// The requests of a process in ring 4 that may do everything at the root, each with its refusal.
+#[test]
+fn each_request_has_its_refusals(rt: HostRuntime) -> Result<(), Fail> {
+    let alloc = rt.alloc();
+    let mut replay = Replay::new(alloc)?;
+    replay.ask(alloc, "set_acl > Jones.Faculty.a sma", "ok")?;
+    replay.process(alloc, "Jones.Faculty.a")?;
+    replay.ask_all(
+        alloc,
+        &[
+            ("create_dir >d 4 4", "ok"),
+            ("create_dir >d 4 4", "refused 7 namedup"),
+            ("create_seg >d>x 64 1 4 4", "refused 12 bad_brackets"),
+            ("create_seg >d>x 64 4 4 4", "ok"),
+            ("set_acl >d>x *.*.* sma", "refused 13 invalid_mode"),
+            ("set_acl >d *.*.* m", "refused 13 invalid_mode"),
+            ("del_acl >d>x *.*.*", "refused 15 no_acl_entry"),
+            ("delete >d", "refused 9 dir_not_empty"),
+            ("create_link >l >l", "ok"),
+            ("list >l", "refused 5 link_loop"),
+            ("status >l", "link >l"),
+            ("list >d", "names x"),
+            ("status >d>x", "segment words 64 brackets 4 4 4 modes rw"),
+            ("initiate >d", "refused 8 notaseg"),
+            ("list >d>x", "refused 4 notadir"),
+            ("change_wdir <", "refused 1 bad_path"),
+            ("rename >d>x y", "ok"),
+        ],
+    )?;
+    // With the maker's own there are 64 identifiers.
+    for i in 1..64u32 {
+        let request = format!(in alloc; "set_acl >d>y U{i}.Ops.a r")?;
+        replay.ask(alloc, &request, "ok")?;
+    }
+    replay.ask(alloc, "set_acl >d>y U64.Ops.a r", "refused 14 acl_full")?;
+    assert!(rt; replay.is_printed(alloc)?);
+    Ok(())
+}
+
+// The eight stacks leave 1,016 pages: 63 times 16, and 8.
+#[test]
+fn pages_run_out(rt: HostRuntime) -> Result<(), Fail> {
+    let alloc = rt.alloc();
+    let mut replay = Replay::new(alloc)?;
+    replay.ask(alloc, "set_acl > Jones.Faculty.a sma", "ok")?;
+    replay.process(alloc, "Jones.Faculty.a")?;
+    replay.ask(alloc, "create_seg >a 0 4 4 4", "refused 11 bad_length")?;
+    replay.ask(alloc, "create_seg >a 1025 4 4 4", "refused 11 bad_length")?;
+    for i in 1..64u32 {
+        let request = format!(in alloc; "create_seg >a{i} 1024 4 4 4")?;
+        replay.ask(alloc, &request, "ok")?;
+    }
+    replay.ask(alloc, "create_seg >b 1024 4 4 4", "refused 16 no_pages")?;
+    replay.ask(alloc, "create_seg >b 512 4 4 4", "ok")?;
+    replay.ask(alloc, "create_seg >c 1 4 4 4", "refused 16 no_pages")?;
+    assert!(rt; replay.is_printed(alloc)?);
+    Ok(())
+}
+
+// More than a thousand lines over one hierarchy, with every refusal that a session can meet.
+#[test]
+fn a_whole_hierarchy_is_replayed(rt: HostRuntime) -> Result<(), Fail> {
+    let alloc = rt.alloc();
+    let mut replay = Replay::new(alloc)?;
+    replay.ask_all(alloc, rows::SETUP)?;
+    replay.process(alloc, "Jones.Faculty.a")?;
+    for rows in [
+        rows::ASKING,
+        rows::NESTED,
+        rows::RENAMED,
+        rows::ACCESS,
+        rows::OTHERS,
+        rows::LINKS,
+        rows::WITHOUT_STATUS,
+        rows::LONG,
+        rows::SAME_NAME,
+    ] {
+        replay.ask_all(alloc, rows)?;
+    }
+    fill_access_list(&mut replay, alloc)?;
+    fill_directory(&mut replay, alloc)?;
+    know_segments(&mut replay, alloc)?;
+    use_up_pages(&mut replay, alloc)?;
+    assert!(rt; replay.is_printed(alloc)?);
+    Ok(())
+}
+
+// `work>new` has its maker's entry; 63 more make 64.
+fn fill_access_list(replay: &mut Replay, alloc: Global) -> Result<(), AllocError> {
+    for i in 1..64u32 {
+        let request = format!(in alloc; "set_acl work>new U{i}.Ops.a r")?;
+        replay.ask(alloc, &request, "ok")?;
+    }
+    replay.ask_all(alloc, rows::FULL_LIST)?;
+    Ok(())
+}
+
+// 112 segments and 144 links are 256 entries.
+fn fill_directory(replay: &mut Replay, alloc: Global) -> Result<(), AllocError> {
+    replay.ask(alloc, "create_dir many 4 4", "ok")?;
+    for i in 0..112u32 {
+        let request = format!(in alloc; "create_seg many>s{i} 64 4 4 4")?;
+        replay.ask(alloc, &request, "ok")?;
+    }
+    for i in 0..144u32 {
+        let request = format!(in alloc; "create_link many>l{i} many>s0")?;
+        replay.ask(alloc, &request, "ok")?;
+    }
+    replay.ask_all(alloc, rows::FULL_DIRECTORY)?;
+    Ok(())
+}
+
+// Nine segments are known, octal 10 to 20; 111 more have the numbers 21 to 177.
+fn know_segments(replay: &mut Replay, alloc: Global) -> Result<(), AllocError> {
+    for i in 0..111u32 {
+        let segno = i + 17;
+        let request = format!(in alloc; "initiate many>s{i}")?;
+        let reply = format!(in alloc; "segno {segno:o} new")?;
+        replay.ask(alloc, &request, &reply)?;
+    }
+    replay.ask_all(alloc, rows::ALL_NUMBERS)?;
+    Ok(())
+}
+
+// The segments so far have 128 pages, also those that were deleted, and the stacks 8. What is left is 55 times 16, and 8.
+fn use_up_pages(replay: &mut Replay, alloc: Global) -> Result<(), AllocError> {
+    replay.ask(alloc, "create_dir big 4 4", "ok")?;
+    for i in 0..55u32 {
+        let request = format!(in alloc; "create_seg big>b{i} 1024 4 4 4")?;
+        replay.ask(alloc, &request, "ok")?;
+    }
+    replay.ask_all(alloc, rows::NO_PAGES)?;
+    Ok(())
+}
