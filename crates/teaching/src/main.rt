@@ -1,0 +1,53 @@
+//! The program: it runs teaching sessions and compares what is printed with the runs that are stored. Each word of its command
+//! line names one: `NAME.session` in the folder that it is started in is the session's text, and `NAME.run` its run. A line for
+//! each says what came of it, and status 0 means that all were as stored.
+#![tactic(auto)]
+
+mod comparison;
+mod outcome;
+
+use outcome::{Outcome, run_and_compare};
+use std::process::ExitCode;
+use std::{env, fs, io};
+
+/// The status where no session is named.
+const BAD_WORDS: u8 = 2;
+
+fn main(rt: HostRuntime) -> io::Result<ExitCode> {
+    let mut names = env::args(&rt)?.skip(1).peekable();
+    if names.peek().is_none() {
+        eprintln!(rt;
+            "teaching NAME ..: runs each NAME.session of this folder, and compares what is printed with NAME.run"
+        )?;
+        return Ok(ExitCode::from(BAD_WORDS));
+    }
+    let mut status = ExitCode::SUCCESS;
+    for name in names {
+        let outcome = outcome_of(&rt, &name)?;
+        if outcome != Outcome::AsStored {
+            status = ExitCode::FAILURE;
+        }
+        println!(rt; "{name}: {outcome}")?;
+    }
+    Ok(status)
+}
+
+// Runs the session of this name.
+fn outcome_of(rt: &HostRuntime, name: &str) -> io::Result<Outcome> {
+    let session = read(rt, name, "session")?;
+    let stored = read(rt, name, "run")?;
+    match (session, stored) {
+        (Some(session), Some(stored)) => Ok(run_and_compare(rt, rt.alloc(), session, &stored)?),
+        _ => Ok(Outcome::NotFound),
+    }
+}
+
+// The bytes of a file, or none where there is no such file.
+fn read(rt: &HostRuntime, name: &str, kind: &str) -> io::Result<Option<Vec<u8>>> {
+    let path = format!(in rt.alloc(); "{name}.{kind}")?;
+    match fs::read(rt, path) {
+        Ok(bytes) => Ok(Some(bytes)),
+        Err(error) if error.kind() == io::ErrorKind::NotFound => Ok(None),
+        Err(error) => Err(error),
+    }
+}

@@ -1,0 +1,67 @@
+//! What comes of a session beside the run that is stored for it.
+
+ghost use Rattle.std.specs.Prelude.{◌≡◌, ◌≢◌, ℕ, List, IfOk};
+ghost use Rattle.teaching.specs.Differences.{differing_line};
+ghost use Rattle.teaching.specs.Runs.{IsRunOf};
+
+use crate::comparison::first_difference;
+use mx_io::{MemorySink, MemorySource};
+use mx_run::multics;
+use std::alloc::{AllocError, Global};
+use std::fmt::{self, Display, Formatter, Write};
+
+/// The most bytes of a run that are kept. A session whose run is longer ends with the status of a sink that failed.
+const ROOM: usize = 1_048_576;
+
+/// How many bytes are moved at a time.
+const PIECE: usize = 4096;
+
+/// What came of a session.
+#[derive(Clone, Copy, Debug, PartialEq, Eq)]
+pub enum Outcome {
+    /// What it prints is what is stored.
+    AsStored,
+    /// What it prints and what is stored differ first on this line.
+    DiffersAt(usize),
+    /// It ended with this status, which is not 0.
+    Status(u8),
+    /// There is no such session, or no run is stored for it.
+    NotFound,
+}
+
+impl Display for Outcome {
+    fn fmt<W: Write>(&self, f: &mut Formatter<W>) -> fmt::Result {
+        match self {
+            Outcome::AsStored => f.write_str("as stored"),
+            Outcome::DiffersAt(line) => write!(f, "differs at line {line}"),
+            Outcome::Status(status) => write!(f, "status {status}"),
+            Outcome::NotFound => f.write_str("not found"),
+        }
+    }
+}
+
+/// Runs the session of this text, and compares what it prints with the stored run.
+pub fn run_and_compare<R>(
+    rt: &R,
+    alloc: Global,
+    session: Vec<u8>,
+    stored: &[u8],
+) -> Result<Outcome, AllocError>
+    ensures as_stored { IfOk result (λ outcome. outcome ≡ Outcome.AsStored → IsRunOf session.items stored.now) }
+    ensures differs { IfOk result (λ outcome. (line : ℕ) → outcome ≡ Outcome.DiffersAt line
+        → (printed : List ℕ) × IsRunOf session.items printed × (printed ≢ stored.now) × (line ≡ differing_line printed stored.now)) }
+    ensures status { IfOk result (λ outcome. outcome ≢ Outcome.Status 0) }
+    ensures found { IfOk result (λ outcome. outcome ≢ Outcome.NotFound) }
+{
+    let words = [String::from_str(alloc, "run")?];
+    let mut source = MemorySource::new(session, Vec::new(alloc), PIECE);
+    let made = MemorySink::new(alloc, ROOM, Vec::new(alloc), PIECE);
+    let mut sink = made.map_err(|_| AllocError)?;
+    match multics(rt, alloc, &words, &mut source, &mut sink) {
+        0 => Ok(match first_difference(sink.bytes(), stored) {
+            None => Outcome::AsStored,
+            Some(line) => Outcome::DiffersAt(line),
+        }),
+        status => Ok(Outcome::Status(status)),
+    }
+}
