@@ -3,9 +3,9 @@ use Rattle.std.proofs.Common.{suc, ◌≡◌, ℕ, ◌+◌, ◌*◌, ◌≤◌, 
 use Rattle.std.specs.List.{slice_get}
 use Rattle.std.proofs.lemmas.List.{take-append-le}
 use Rattle.mx_sdw.specs.Judging.{judgement}
-use Rattle.mx_plain.specs.History.{opening, replay}
-use Rattle.mx_plain.specs.Table.{descriptor}
-use Rattle.mx_plain.specs.declared.journal.Entry as journaled
+use Rattle.mx_state.specs.History.{opening, replay}
+use Rattle.mx_state.specs.Table.{descriptor}
+use Rattle.mx_state.specs.declared.journal.Entry as journaled
 use Rattle.mx_script.specs.Sessions.{Outline}
 use Rattle.mx_legal.specs.declared.elements.Element.{Element}
 use Rattle.mx_legal.specs.declared.elements.Event.TheVariants.{Seen}

@@ -1,6 +1,6 @@
 -- A history goes on by an entry.
 use Rattle.std.proofs.Common.{[], ◌∷◌, refl}
-use Rattle.mx_plain.specs.Requests.{plain}
+use Rattle.mx_state.specs.Requests.{plain}
 use Rattle.mx_legal.specs.Stability.{ReplayLaw, HistoryLaw}
 
 pub replay_law : ReplayLaw

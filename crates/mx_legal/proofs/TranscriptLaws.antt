@@ -2,7 +2,7 @@
 use Rattle.std.proofs.Common.{◌≡◌, ℕ, suc, ◌+◌, Bool, true, false, List, [], ◌∷◌, ◌++◌, length, refl, ap, sym, ◌∙◌, subst, arith, append_assoc, add-zero}
 use Rattle.std.proofs.lemmas.List.{append-nil}
 use Rattle.std.specs.Prelude.{if◌then◌else◌, ◌==◌}
-use Rattle.mx_plain.specs.declared.journal.Entry as journaled
+use Rattle.mx_state.specs.declared.journal.Entry as journaled
 use Rattle.mx_legal.specs.declared.transcripts.Event2.{Event2}
 use Rattle.mx_legal.specs.declared.transcripts.Event2.TheVariants.{Core, Entry}
 use Rattle.mx_legal.specs.Transcripts.{Step, events_of, entries_named, numbers_from}

@@ -1,7 +1,7 @@
 -- Helpers of the loops: how the transcripts grow by a line, and what that makes of the deeds of all processes and of the
 -- entries that they name.
 use Rattle.std.specs.Prelude.{◌≡◌, ◌≢◌, ℕ, ◌+◌, List, [], ◌∷◌, ◌++◌, length}
-use Rattle.mx_plain.specs.declared.journal.Entry as journaled
+use Rattle.mx_state.specs.declared.journal.Entry as journaled
 use Rattle.mx_script.specs.Sessions.{Outline}
 use Rattle.mx_legal.specs.declared.elements.Element.{Element}
 use Rattle.mx_legal.specs.declared.elements.Event.TheVariants.{Seen}

@@ -7,9 +7,9 @@ use Rattle.mx_sdw.specs.declared.descriptors.Cell.{Cell}
 use Rattle.mx_sdw.specs.Descriptors.{Descriptor}
 use Rattle.mx_sdw.specs.declared.operations.Op.{Op}
 use Rattle.mx_sdw.specs.declared.operations.Op.TheVariants as op
-use Rattle.mx_plain.specs.History.{opening, replay}
-use Rattle.mx_plain.specs.Table.{descriptor}
-use Rattle.mx_plain.specs.declared.journal.Entry.{Entry}
+use Rattle.mx_state.specs.History.{opening, replay}
+use Rattle.mx_state.specs.Table.{descriptor}
+use Rattle.mx_state.specs.declared.journal.Entry.{Entry}
 use Rattle.mx_script.specs.Sessions.{Outline}
 use Rattle.mx_legal.specs.declared.elements.Element.{Element}
 use Rattle.mx_legal.specs.declared.elements.Kind.{Kind}

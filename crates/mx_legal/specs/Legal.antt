@@ -1,8 +1,8 @@
 -- A legal run of a session: its journal and its transcripts keep all the rules. One field a rule.
 use Rattle.std.specs.Prelude.{◌≡◌, ℕ, zero, suc, ◌+◌, ◌<◌, ◌≤◌, min, List, [], ◌∷◌, map, take, length, Some, slice_get}
 use Rattle.mx_request.specs.declared.requests.Request.{Request}
-use Rattle.mx_plain.specs.History.{opening, IsRight}
-use Rattle.mx_plain.specs.declared.journal.Entry as journaled
+use Rattle.mx_state.specs.History.{opening, IsRight}
+use Rattle.mx_state.specs.declared.journal.Entry as journaled
 use Rattle.mx_script.specs.Sessions.{Outline, limit_of}
 use Rattle.mx_script.specs.declared.lines.Line.{Line}
 use Rattle.mx_script.specs.declared.lines.Line.TheVariants.{Ask}

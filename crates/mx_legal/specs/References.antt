@@ -1,6 +1,6 @@
 -- The deeds of a run: what its transcripts say that each process did, with the cells of its references.
 use Rattle.std.specs.Prelude.{ℕ, ◌+◌, ◌*◌, List, map}
-use Rattle.mx_plain.specs.declared.journal.Entry as journaled
+use Rattle.mx_state.specs.declared.journal.Entry as journaled
 use Rattle.mx_script.specs.Sessions.{Outline}
 use Rattle.mx_legal.specs.declared.elements.Element.{Element}
 use Rattle.mx_legal.specs.declared.elements.Event.TheVariants.{Seen}

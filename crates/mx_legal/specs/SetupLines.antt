@@ -1,6 +1,6 @@
 -- What the rules make of the setup in a legal run: its lines within the limit enter the first entries of the journal, in order.
 use Rattle.std.specs.Prelude.{◌≡◌, ℕ, ◌+◌, ◌<◌, List, [], ◌∷◌, Some, slice_get}
-use Rattle.mx_plain.specs.declared.journal.Entry as journaled
+use Rattle.mx_state.specs.declared.journal.Entry as journaled
 use Rattle.mx_script.specs.Sessions.{Outline}
 use Rattle.mx_legal.specs.declared.transcripts.Event2.TheVariants.{Entry}
 use Rattle.mx_legal.specs.Legal.{IsLegal, setup_entries}

@@ -1,10 +1,10 @@
 -- Stability: the rules still hold of what was done before when the journal grows by an entry, and when a process does one
 -- deed more.
 use Rattle.std.specs.Prelude.{◌≡◌, ℕ, ◌+◌, ◌<◌, ◌≤◌, List, [], ◌∷◌, ◌++◌, length, Some, slice_get}
-use Rattle.mx_plain.specs.History.{replay, IsRight, IsRightEntry}
-use Rattle.mx_plain.specs.Plain.{Plain}
-use Rattle.mx_plain.specs.Requests.{plain}
-use Rattle.mx_plain.specs.declared.journal.Entry as journaled
+use Rattle.mx_state.specs.History.{replay, IsRight, IsRightEntry}
+use Rattle.mx_state.specs.Plain.{Plain}
+use Rattle.mx_state.specs.Requests.{plain}
+use Rattle.mx_state.specs.declared.journal.Entry as journaled
 use Rattle.mx_script.specs.Sessions.{Outline}
 use Rattle.mx_script.specs.declared.lines.Line.{Line}
 use Rattle.mx_legal.specs.declared.elements.Element.{Element}

@@ -4,7 +4,7 @@ ghost use Rattle.std.specs.Prelude.{◌≡◌};
 ghost use Rattle.std.specs.Option.{option_map};
 ghost use Rattle.mx_legal.specs.Lines.{entry_at};
 
-use mx_plain::{Entry, Journal};
+use mx_state::{Entry, Journal};
 
 /// The entry of this number, counted from 1; `None` where the journal has none of it. Takes no memory.
 pub fn entry_at(journal: &Journal, number: u32) -> Option<&Entry>

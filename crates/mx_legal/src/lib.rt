@@ -4,7 +4,7 @@
 //! (`Points`), words read (`Reads`), the full journal (`FullJournal`), gated falls (`Falls`), and all of them together
 //! (`Legal`, one field a rule). The laws say that what was right of a run so far stays right as it goes on (`Stability`,
 //! `Continuing`), and what the rules make of the setup (`SetupLines`). The crate has the types of transcripts, and small
-//! readers that machines and printers share. Stands on `mx_plain` (journal, history, descriptors), `mx_script` (sessions) and
+//! readers that machines and printers share. Stands on `mx_state` (journal, history, descriptors), `mx_script` (sessions) and
 //! `mx_request`; takes no memory.
 #![tactic(auto)]
 

@@ -9,17 +9,17 @@ use Rattle.mx_sdw.specs.Judging.{judgement}
 use Rattle.mx_sdw.specs.declared.denials.Denial.{Denial}
 use Rattle.mx_sdw.specs.declared.descriptors.Cell.{Cell}
 use Rattle.mx_sdw.specs.Descriptors.{Descriptor}
-use Rattle.mx_plain.specs.History.{opening, replay, MayAsk}
-use Rattle.mx_plain.specs.Plain.{Plain, Answer}
-use Rattle.mx_plain.specs.Requests.{plain}
+use Rattle.mx_state.specs.History.{opening, replay, MayAsk}
+use Rattle.mx_state.specs.Plain.{Plain, Answer}
+use Rattle.mx_state.specs.Requests.{plain}
 use Rattle.mx_script.specs.Sessions.{Outline, limit_of}
-use Rattle.mx_plain.specs.Table.{descriptor}
+use Rattle.mx_state.specs.Table.{descriptor}
 use Rattle.mx_legal.specs.declared.elements.Element.{Element}
 use Rattle.mx_legal.specs.declared.elements.Event.TheVariants.{Seen}
 use Rattle.mx_legal.specs.declared.elements.Kind.{Kind}
 use Rattle.mx_legal.specs.declared.elements.Kind.TheVariants as kind
 use Rattle.mx_legal.specs.declared.elements.Outcome.TheVariants as outcome
-use Rattle.mx_plain.specs.declared.journal.Entry as journaled
+use Rattle.mx_state.specs.declared.journal.Entry as journaled
 use Rattle.mx_script.specs.declared.lines.Line.{Line}
 use Rattle.mx_script.specs.declared.lines.Line.TheVariants.{Ask, Set, Lda, Sta}
 use Rattle.mx_script.specs.declared.lines.Operand.{Operand}

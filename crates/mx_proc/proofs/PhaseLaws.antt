@@ -4,11 +4,11 @@ use Rattle.std.specs.List.{slice_get}
 use Rattle.std.proofs.lemmas.Bool.{cases_lt}
 use Rattle.std.proofs.lemmas.List.{append-nil, length-map, length-take, map-append, map_push, take-append-le, take-take, take_all}
 use Rattle.std.proofs.lemmas.Option.{slice_get_within}
-use Rattle.mx_plain.specs.Requests.{plain, is_path_request}
+use Rattle.mx_state.specs.Requests.{plain, is_path_request}
 use Rattle.mx_script.specs.Sessions.{Outline, limit_of}
 use Rattle.mx_legal.specs.declared.elements.Event.TheVariants.{Seen}
 use Rattle.mx_request.specs.declared.requests.Request.{Request}
-use Rattle.mx_plain.specs.declared.journal.Entry as journaled
+use Rattle.mx_state.specs.declared.journal.Entry as journaled
 use Rattle.mx_script.specs.declared.lines.Line.{Line}
 use Rattle.mx_script.specs.declared.lines.Line.TheVariants.{Ask, Set, Lda, Sta}
 use Rattle.mx_legal.specs.declared.transcripts.Event2.{Event2}

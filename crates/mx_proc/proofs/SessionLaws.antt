@@ -6,7 +6,7 @@ use Rattle.mx_name.specs.Principals.{PlainPrincipal}
 use Rattle.mx_request.specs.PathRequests as setup
 use Rattle.mx_request.specs.declared.requests.Request.{Request}
 use Rattle.mx_request.specs.declared.requests.Request.TheVariants as ask
-use Rattle.mx_plain.specs.Requests.{is_path_request}
+use Rattle.mx_state.specs.Requests.{is_path_request}
 use Rattle.mx_script.specs.Sessions.{Outline, is_session, is_setup_request, is_short, are_scripts, limit_of, limit_or_most}
 use Rattle.mx_script.specs.declared.lines.Line.{Line}
 use Rattle.mx_request.proofs.CutLaws.{both}

@@ -2,10 +2,10 @@
 use Rattle.std.proofs.Common.{◌≡◌, ◌≢◌, ℕ, zero, suc, ◌+◌, ◌<◌, ◌≤◌, Bool, true, false, List, [], ◌∷◌, ◌++◌, length, refl, ap, sym, ◌∙◌, subst, arith, append_assoc, add-zero}
 use Rattle.std.proofs.lemmas.List.{append-nil}
 use Rattle.std.specs.Prelude.{if◌then◌else◌, ◌==◌}
-use Rattle.mx_plain.specs.Plain.{Plain}
-use Rattle.mx_plain.specs.History.{replay, IsRight, IsRightEntry}
-use Rattle.mx_plain.specs.Requests.{plain}
-use Rattle.mx_plain.specs.declared.journal.Entry as journaled
+use Rattle.mx_state.specs.Plain.{Plain}
+use Rattle.mx_state.specs.History.{replay, IsRight, IsRightEntry}
+use Rattle.mx_state.specs.Requests.{plain}
+use Rattle.mx_state.specs.declared.journal.Entry as journaled
 use Rattle.mx_script.specs.declared.lines.Line.{Line}
 use Rattle.mx_legal.specs.declared.transcripts.Event2.{Event2}
 use Rattle.mx_legal.specs.declared.transcripts.Event2.TheVariants.{Core, Entry}

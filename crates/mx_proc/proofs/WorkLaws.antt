@@ -4,7 +4,7 @@ use Rattle.std.specs.List.{slice_get}
 use Rattle.std.proofs.lemmas.List.{length-take-le, take_all, take_more}
 use Rattle.std.proofs.lemmas.Option.{slice_get-get_or}
 use Rattle.mx_script.specs.Sessions.{Outline, is_session, limit_of}
-use Rattle.mx_plain.specs.declared.journal.Entry.{Entry}
+use Rattle.mx_state.specs.declared.journal.Entry.{Entry}
 use Rattle.mx_script.specs.declared.lines.Line.{Line}
 use Rattle.mx_script.specs.declared.lines.Line.TheVariants.{Ask, Set, Lda, Sta}
 use Rattle.mx_request.specs.declared.requests.Request.{Request}

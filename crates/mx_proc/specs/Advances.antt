@@ -1,8 +1,8 @@
 -- Helpers of the loop: a line keeps what holds of the run so far.
 use Rattle.std.specs.Prelude.{◌≡◌, ℕ, ◌+◌, ◌*◌, ◌≤◌, List, [], ◌∷◌, ◌++◌, length}
-use Rattle.mx_plain.specs.History.{MayAsk}
+use Rattle.mx_state.specs.History.{MayAsk}
 use Rattle.mx_script.specs.Sessions.{Outline, limit_of}
-use Rattle.mx_plain.specs.Table.{descriptor}
+use Rattle.mx_state.specs.Table.{descriptor}
 use Rattle.mx_script.specs.declared.lines.Line.{Line}
 use Rattle.mx_script.specs.declared.lines.Line.TheVariants.{Ask, Set, Lda, Sta}
 use Rattle.mx_script.specs.declared.lines.Operand.{Operand}

@@ -1,8 +1,8 @@
 -- Helpers of the loops: what holds during the setup, and while the process p works through its script.
 use Rattle.std.specs.Prelude.{◌≡◌, ℕ, ◌+◌, ◌≤◌, IsTrue, List, [], ◌∷◌, ◌++◌, length, map, take, Some, slice_get}
 use Rattle.mx_name.specs.Principals.{PlainPrincipal}
-use Rattle.mx_plain.specs.History.{opening}
-use Rattle.mx_plain.specs.Requests.{is_path_request}
+use Rattle.mx_state.specs.History.{opening}
+use Rattle.mx_state.specs.Requests.{is_path_request}
 use Rattle.mx_script.specs.Sessions.{Outline, limit_of}
 use Rattle.mx_script.specs.declared.lines.Line.{Line}
 use Rattle.mx_script.specs.declared.lines.Line.TheVariants.{Ask, Set, Lda, Sta}

@@ -1,11 +1,11 @@
 -- Helpers of the loop: what holds of a run while process p is at work, after these of its lines. The transcripts of the
 -- processes before it are whole, those after it have not begun.
 use Rattle.std.specs.Prelude.{◌≡◌, ◌≢◌, ℕ, ◌<◌, ◌≤◌, List, [], ◌∷◌, ◌++◌, length, Some, slice_get}
-use Rattle.mx_plain.specs.History.{opening, replay, IsRight}
+use Rattle.mx_state.specs.History.{opening, replay, IsRight}
 use Rattle.mx_script.specs.Sessions.{Outline, limit_of}
 use Rattle.mx_legal.specs.declared.elements.Element.{Element}
 use Rattle.mx_legal.specs.declared.elements.Event.TheVariants.{Seen}
-use Rattle.mx_plain.specs.declared.journal.Entry as journaled
+use Rattle.mx_state.specs.declared.journal.Entry as journaled
 use Rattle.mx_script.specs.declared.lines.Line.{Line}
 use Rattle.mx_legal.specs.declared.transcripts.Event2.TheVariants.{Core}
 use Rattle.mx_legal.specs.Deeds.{Deeds, Loads}

@@ -2,7 +2,7 @@
 //!
 //! [`run`] promises a legal run in the definitions of `mx_legal`, whose rings fall only through gates; a reader needs nothing
 //! of this crate's `specs/`. They say what one line makes of the machine (`Machine`), what holds of a run so far (`Running`),
-//! and that each line keeps it (`Advances`, `Phases`). Stands on `mx_plain` (the supervisor), `mx_script` (sessions) and
+//! and that each line keeps it (`Advances`, `Phases`). Stands on `mx_state` (the supervisor), `mx_script` (sessions) and
 //! `mx_legal` (the rules of a run).
 #![tactic(auto)]
 

@@ -2,7 +2,7 @@
 
 ghost use Rattle.std.specs.Prelude.{false, ◌≡◌, ◌<◌, ◌≤◌, ◌+◌, ◌*◌, List, [], ◌∷◌, ◌++◌, IfOk, OnOk, length};
 ghost use Rattle.mx_sdw.specs.Judging.{judgement};
-ghost use Rattle.mx_plain.specs.History.{MayAsk};
+ghost use Rattle.mx_state.specs.History.{MayAsk};
 ghost use Rattle.mx_script.specs.Sessions.{IsSession, limit_of};
 ghost use Rattle.mx_script.specs.declared.lines.Line.TheVariants as lines;
 ghost use Rattle.mx_proc.specs.Advances.{LiesWithin};
@@ -17,10 +17,10 @@ use mx_legal::{
     Element, Event, Event2, Events, Kind, Outcome, Registers, Result2, Step, Transcript,
     Transcripts, first_line,
 };
-use mx_plain::{Entry, Journal, State};
 use mx_request::{Reply, Request};
 use mx_script::{Base, Line, Operand, Principals, Session};
 use mx_sdw::{Cell, Denial, Desc, Ring, Word, judge};
+use mx_state::{Entry, Journal, State};
 use std::alloc::{AllocError, Global};
 use std::marker::Model;
 use std::mem;

@@ -6,8 +6,8 @@ ghost use Rattle.mx_legal.specs.Legal.{IsLegal};
 
 use crate::machine::Machine;
 use mx_legal::Transcripts;
-use mx_plain::Journal;
 use mx_script::Session;
+use mx_state::Journal;
 use std::alloc::{AllocError, Global};
 
 /// What a session came to: every call in order, and what each line of each process came to.

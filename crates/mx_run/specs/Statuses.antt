@@ -3,7 +3,7 @@ use Rattle.std.specs.Prelude.{◌≡◌, ℕ, ◌≤◌, ◌<◌, List, [], ◌�
 use Rattle.std.specs.Fmt.{decimal}
 use Rattle.mx_io.specs.Bytes.{TakesAll, TakesTooMany, Appends}
 use Rattle.mx_script.specs.Sessions.{Outline}
-use Rattle.mx_plain.specs.declared.journal.Entry.{Entry}
+use Rattle.mx_state.specs.declared.journal.Entry.{Entry}
 use Rattle.mx_legal.specs.Falls.{HasGatedFalls}
 use Rattle.mx_script.specs.FirstBadLine.{IsFirstBad}
 use Rattle.mx_legal.specs.Legal.{IsLegal}

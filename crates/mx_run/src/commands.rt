@@ -13,9 +13,9 @@ ghost use Rattle.mx_run.specs.Statuses.{IsRun, IsDone, IsBadText, IsTooLong, Tel
 use itoa::Buffer;
 use mx_io::{ReadError, Sink, Source, WriteFault, read_all, write_all};
 use mx_legal::Transcripts;
-use mx_plain::Journal;
 use mx_proc::run;
 use mx_script::{Session, SessionError, read_session};
+use mx_state::Journal;
 use mx_text::{TextError, print};
 use std::alloc::{AllocError, Global};
 

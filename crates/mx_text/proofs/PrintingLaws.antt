@@ -5,7 +5,7 @@ use Rattle.std.proofs.lemmas.List.{take-append-drop}
 use Rattle.std.specs.Fmt.{decimal}
 use Rattle.std.specs.Result.{OnErr}
 use Rattle.std.specs.Prelude.{Result, Ok, Err}
-use Rattle.mx_plain.specs.declared.journal.Entry.{Entry}
+use Rattle.mx_state.specs.declared.journal.Entry.{Entry}
 use Rattle.mx_io.specs.Bytes.{Appends, AppendsPart}
 use Rattle.mx_text.specs.Printing.{IsSent, IsCutShort}
 use Rattle.mx_text.specs.RunText.{entry_text, entries_text, step_text, steps_text, parts_text}

@@ -9,7 +9,7 @@ use Rattle.mx_legal.specs.declared.elements.Kind.{Kind}
 use Rattle.mx_legal.specs.declared.elements.Kind.TheVariants as kind
 use Rattle.mx_legal.specs.declared.elements.Outcome.{Outcome}
 use Rattle.mx_legal.specs.declared.elements.Outcome.TheVariants as outcome
-use Rattle.mx_plain.specs.declared.journal.Entry as journaled
+use Rattle.mx_state.specs.declared.journal.Entry as journaled
 use Rattle.mx_legal.specs.declared.transcripts.Event2.{Event2}
 use Rattle.mx_legal.specs.declared.transcripts.Event2.TheVariants.{Core, Entry}
 use Rattle.mx_legal.specs.declared.transcripts.Result2.{Result2}

@@ -16,7 +16,7 @@ use entries::add_entry;
 use lines::add_step;
 use mx_io::{Sink, WriteFault, write_all};
 use mx_legal::{Step, Transcript, Transcripts};
-use mx_plain::{Entry, Journal};
+use mx_state::{Entry, Journal};
 use numbers::add_labelled;
 use std::alloc::{AllocError, Global};
 use thiserror::Error;

@@ -4,9 +4,9 @@ use crate::print;
 use mx_io::MemorySink;
 use mx_legal::{Element, Event, Event2, Kind, Outcome, Result2, Transcript, Transcripts};
 use mx_list::Sequence;
-use mx_plain::{Entry, Journal};
 use mx_request::{Reply, Request};
 use mx_sdw::{Denial, Ring};
+use mx_state::{Entry, Journal};
 use std::alloc::{AllocError, Global};
 use std::test::Fail;
 

@@ -5,7 +5,7 @@ ghost use Rattle.std.specs.Fmt.{decimal};
 ghost use Rattle.mx_text.specs.RunText.{entry_text};
 
 use super::numbers::add_decimal;
-use mx_plain::Entry;
+use mx_state::Entry;
 use std::alloc::AllocError;
 
 /// Adds `NUMBER PROCESS RING REQUEST = REPLY` and a newline.

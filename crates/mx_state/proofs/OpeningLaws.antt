@@ -1,0 +1,24 @@
+-- The state before any entry is sound.
+use Rattle.std.proofs.Common.{◌≡◌, ◌≤◌, ℕ, zero, suc, List, [], ◌∷◌, length, map, Some, subst, slice_get, arith}
+use Rattle.std.proofs.lemmas.List.{length-map}
+use Rattle.mx_name.specs.Principals.{PlainPrincipal}
+use Rattle.mx_hier.specs.Branches.{Hierarchy}
+use Rattle.mx_state.specs.declared.states.ProcessState.{ProcessState}
+use Rattle.mx_state.specs.History.{fresh}
+use Rattle.mx_state.specs.Sound.{IsSound, IsSoundProcess}
+
+fresh_is_sound : (next : ℕ) (principals : List PlainPrincipal) (i : ℕ) (process : ProcessState)
+    → slice_get (map fresh principals) i ≡ Some process → IsSoundProcess next process
+fresh_is_sound next [] i process e = cc
+fresh_is_sound next (who ∷ others) zero process e =
+    let same : fresh who ≡ process = cc in
+    subst (IsSoundProcess next) same (record { made = λ i uid h. cc; once = λ i uid h. cc })
+fresh_is_sound next (who ∷ others) (suc i) process e = fresh_is_sound next others i process e
+
+pub opened_is_sound : (h : Hierarchy) (principals : List PlainPrincipal) (processes : List ProcessState) → length principals ≤ 15
+    → processes ≡ map fresh principals → IsSound (record { hierarchy = h; processes = processes })
+opened_is_sound h principals processes few e =
+    rw e (record {
+      process_count = omega (arith, length-map principals fresh);
+      processes = λ i process f. fresh_is_sound h.next principals i process f;
+    })

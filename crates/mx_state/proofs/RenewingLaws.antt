@@ -1,0 +1,209 @@
+-- A request that changes one segment changes the descriptors of it that are renewed, and no other.
+use Rattle.std.proofs.Common.{◌≡◌, ◌≢◌, ◌⊎◌, ◌≤◌, ◌<◌, ◌+◌, ◌-◌, ℕ, zero, suc, List, [], ◌∷◌, length, get_or, Option, Some, None, Bool, true, false, cond, inl, inr, refl, ap, sym, ◌∙◌, subst, slice_get, Result, arith}
+use Rattle.std.proofs.lemmas.Bool.{cases_eq}
+use Rattle.std.proofs.lemmas.List.Elements.{Contains-get_or, Contains-append_right}
+use Rattle.std.proofs.lemmas.List.Kept.{AllPairs-cons}
+use Rattle.std.proofs.lemmas.Option.{slice_get_within}
+use Rattle.std.specs.List.{Contains, AllPairs}
+use Rattle.mx_sdw.specs.Descriptors.{Descriptor}
+use Rattle.mx_hier.specs.Branches.{Hierarchy}
+use Rattle.mx_hier.specs.Rules.{Answer, Answers}
+use Rattle.mx_hier.specs.declared.refusals.HierError.{HierError}
+use Rattle.mx_state.specs.declared.changes.Change.{Change}
+use Rattle.mx_state.specs.declared.states.ProcessState.{ProcessState}
+use Rattle.mx_state.specs.Changes.{change, AreChanges, IsBefore}
+use Rattle.mx_state.specs.Knowing.{segno_of}
+use Rattle.mx_state.specs.Plain.{Plain}
+use Rattle.mx_state.specs.Renewing.{held_by, held_from, same_desc, renewed_as, renewed}
+use Rattle.mx_state.specs.Sound.{IsSound}
+use Rattle.mx_state.specs.Table.{descriptor}
+use Rattle.mx_state.proofs.AnswerLaws.{plain_state, after_call}
+use Rattle.mx_state.proofs.Descriptors.{same_unless, changes_at}
+use Rattle.mx_state.proofs.EqualLaws.{descs_are, descs_apart}
+use Rattle.mx_state.proofs.Lists.{Contains-first, Contains-cases, nothing_contained, AllPairs-none, some_in}
+use Rattle.mx_state.proofs.SegmentLaws.{IsAsBefore}
+
+-- where a held descriptor comes from
+record IsHeld (s : Plain) (first : ℕ) (processes : List ProcessState) (uid : ℕ) (c : Change) : Type 0 where
+  place : ℕ
+  process : ProcessState
+  number : c.process ≡ place + first
+  there : slice_get processes place ≡ Some process
+  segno : segno_of process.known uid ≡ Some c.segno
+  desc : c.desc ≡ descriptor s c.process c.segno
+
+later_held : (s : Plain) (first : ℕ) (x : ProcessState) (xs : List ProcessState) (uid : ℕ) (c : Change) → IsHeld s (first + 1) xs uid c → IsHeld s first (x ∷ xs) uid c
+later_held s first x xs uid c h =
+    record { place = suc h.place; process = h.process; number = omega (arith, h.number); there = h.there; segno = h.segno; desc = h.desc }
+
+is_held : (s : Plain) (first : ℕ) (processes : List ProcessState) (uid : ℕ) (c : Change) → Contains (held_from s first processes uid) c
+    → IsHeld s first processes uid c
+is_held s first [] uid c h = absurd (nothing_contained c h)
+is_held s first (x ∷ xs) uid c h = by_number (segno_of x.known uid) refl h (is_held s (first + 1) xs uid c)
+  where
+    by_number : (o : Option ℕ) → segno_of x.known uid ≡ o → Contains (held_by s first o (held_from s (first + 1) xs uid)) c
+        → (Contains (held_from s (first + 1) xs uid) c → IsHeld s (first + 1) xs uid c) → IsHeld s first (x ∷ xs) uid c
+    by_number None t k later = later_held s first x xs uid c (later k)
+    by_number (Some n) t k later =
+        elim (Contains-cases (change first n (descriptor s first n)) (held_from s (first + 1) xs uid) c k) [
+          | inl same ↦ subst (IsHeld s first (x ∷ xs) uid) same (record { place = 0; process = x; number = omega arith; there = refl; segno = t; desc = refl })
+          | inr rest ↦ later_held s first x xs uid c (later rest)
+        ]
+
+held_has : (s : Plain) (p : ℕ) (o : Option ℕ) (changes : List Change) (c : Change) → Contains changes c → Contains (held_by s p o changes) c
+held_has s p None changes c h = h
+held_has s p (Some n) changes c h = Contains-append_right (change p n (descriptor s p n) ∷ []) changes c h
+
+all_held : (s : Plain) (first : ℕ) (processes : List ProcessState) (uid place p n : ℕ) (process : ProcessState) → p ≡ place + first
+    → slice_get processes place ≡ Some process → segno_of process.known uid ≡ Some n
+    → Contains (held_from s first processes uid) (change p n (descriptor s p n))
+all_held s first [] uid place p n process number there e = cc
+all_held s first (x ∷ xs) uid zero p n process number there e =
+    let same : process ≡ x = cc in
+    let at : p ≡ first = omega arith in
+    let here : segno_of x.known uid ≡ Some n = rw (← same) e in
+    rw (here, at) (Contains-first (change first n (descriptor s first n)) (held_from s (first + 1) xs uid))
+all_held s first (x ∷ xs) uid (suc place) p n process number there e =
+    held_has s first (segno_of x.known uid) (held_from s (first + 1) xs uid) (change p n (descriptor s p n))
+    (all_held s (first + 1) xs uid place p n process (omega arith) there e)
+
+-- what is renewed was held, and is another now
+record IsRenewed (t : Plain) (held : List Change) (c : Change) : Type 0 where
+  old : Change
+  there : Contains held old
+  is : change old.process old.segno (descriptor t old.process old.segno) ≡ c
+  differs : same_desc old.desc (descriptor t old.process old.segno) ≡ false
+
+later_renewed : (t : Plain) (x : Change) (xs : List Change) (c : Change) → IsRenewed t xs c → IsRenewed t (x ∷ xs) c
+later_renewed t x xs c r = record { old = r.old; there = Contains-append_right (x ∷ []) xs r.old r.there; is = r.is; differs = r.differs }
+
+is_renewed : (t : Plain) (held : List Change) (c : Change) → Contains (renewed t held) c → IsRenewed t held c
+is_renewed t [] c h = absurd (nothing_contained c h)
+is_renewed t (x ∷ xs) c h = by_test (same_desc x.desc (descriptor t x.process x.segno)) refl h (is_renewed t xs c)
+  where
+    by_test : (b : Bool) → same_desc x.desc (descriptor t x.process x.segno) ≡ b
+        → Contains (cond b (renewed t xs) (change x.process x.segno (descriptor t x.process x.segno) ∷ renewed t xs)) c
+        → (Contains (renewed t xs) c → IsRenewed t xs c) → IsRenewed t (x ∷ xs) c
+    by_test true e k later = later_renewed t x xs c (later k)
+    by_test false e k later =
+        elim (Contains-cases (change x.process x.segno (descriptor t x.process x.segno)) (renewed t xs) c k) [
+          | inl same ↦ record { old = x; there = Contains-first x xs; is = same; differs = e }
+          | inr rest ↦ later_renewed t x xs c (later rest)
+        ]
+
+renewed_has : (t : Plain) (x : Change) (desc : Descriptor) (changes : List Change) (c : Change) → Contains changes c → Contains (renewed_as x desc changes) c
+renewed_has t x desc changes c h = by_test (same_desc x.desc desc)
+  where
+    by_test : (b : Bool) → Contains (cond b changes (change x.process x.segno desc ∷ changes)) c
+    by_test true = h
+    by_test false = Contains-append_right (change x.process x.segno desc ∷ []) changes c h
+
+renewed_first : (t : Plain) (p n : ℕ) (d : Descriptor) (changes : List Change) → same_desc d (descriptor t p n) ≡ false
+    → Contains (renewed_as (change p n d) (descriptor t p n) changes) (change p n (descriptor t p n))
+renewed_first t p n d changes differs = rw differs (Contains-first (change p n (descriptor t p n)) changes)
+
+all_renewed : (t : Plain) (held : List Change) (p n : ℕ) (d : Descriptor) → Contains held (change p n d) → same_desc d (descriptor t p n) ≡ false
+    → Contains (renewed t held) (change p n (descriptor t p n))
+all_renewed t [] p n d h differs = absurd (nothing_contained (change p n d) h)
+all_renewed t (x ∷ xs) p n d h differs =
+    elim (Contains-cases x xs (change p n d) h) [
+      | inl same ↦ subst (λ y. Contains (renewed_as y (descriptor t y.process y.segno) (renewed t xs)) (change p n (descriptor t p n))) (sym same)
+          (renewed_first t p n d (renewed t xs) differs)
+      | inr rest ↦ renewed_has t x (descriptor t x.process x.segno) (renewed t xs) (change p n (descriptor t p n)) (all_renewed t xs p n d rest differs)
+    ]
+
+-- they are in order
+in_order : (s t : Plain) (first : ℕ) (processes : List ProcessState) (uid : ℕ) → AllPairs IsBefore (renewed t (held_from s first processes uid))
+in_order s t first [] uid = AllPairs-none IsBefore
+in_order s t first (x ∷ xs) uid = by_number (segno_of x.known uid) (in_order s t (first + 1) xs uid)
+  where
+    by_test : (b : Bool) (n : ℕ) → AllPairs IsBefore (renewed t (held_from s (first + 1) xs uid))
+        → AllPairs IsBefore (cond b (renewed t (held_from s (first + 1) xs uid))
+        (change first n (descriptor t first n) ∷ renewed t (held_from s (first + 1) xs uid)))
+    by_test true n later = later
+    by_test false n later =
+        AllPairs-cons IsBefore (change first n (descriptor t first n)) (renewed t (held_from s (first + 1) xs uid))
+        (λ k e l.
+        let c = get_or (renewed t (held_from s (first + 1) xs uid)) k e in
+        let r = is_renewed t (held_from s (first + 1) xs uid) c (Contains-get_or (renewed t (held_from s (first + 1) xs uid)) k e l) in
+        let h = is_held s (first + 1) xs uid r.old r.there in
+        let at : r.old.process ≡ c.process = ap (λ (z : Change). z.process) r.is in
+        inl (omega (arith, h.number)))
+        later
+
+    by_number : (o : Option ℕ) → AllPairs IsBefore (renewed t (held_from s (first + 1) xs uid))
+        → AllPairs IsBefore (renewed t (held_by s first o (held_from s (first + 1) xs uid)))
+    by_number None later = later
+    by_number (Some n) later = by_test (same_desc (descriptor s first n) (descriptor t first n)) n later
+
+renewing_changes : (s : Plain) (h : Hierarchy) (uid : ℕ) → IsSound s → IsAsBefore (λ u. u ≡ uid) s.hierarchy h
+    → AreChanges s (record s { hierarchy = h }) (renewed (record s { hierarchy = h }) (held_from s 1 s.processes uid))
+renewing_changes s h uid sound before = record {
+  each = λ p n d c. each_one p n d (is_renewed t held (change p n d) c);
+  all = λ p n low high differ.
+      let l : p - 1 < length s.processes = omega arith in
+      let w = some_in s.processes (p - 1) l in
+      by_test p n low w.0 w.1 differ (same_desc (descriptor s p n) (descriptor t p n)) refl;
+  ordered = in_order s t 1 s.processes uid;
+}
+  where
+    t : Plain
+    t = record s { hierarchy = h }
+
+    held : List Change
+    held = held_from s 1 s.processes uid
+
+    each_one : (p n : ℕ) (d : Descriptor) → IsRenewed t held (change p n d)
+        → (descriptor t p n ≡ d) × (descriptor s p n ≢ d) × (1 ≤ p) × (p ≤ length t.processes)
+    each_one p n d r =
+        let own = is_held s 1 s.processes uid r.old r.there in
+        let within = slice_get_within s.processes own.place own.process own.there in
+        let P : Change → Type 0 = λ c. (descriptor t c.process c.segno ≡ c.desc) × (descriptor s c.process c.segno ≢ c.desc) × (1 ≤ c.process) × (c.process ≤ length t.processes) in
+        subst P r.is (
+          refl,
+          (λ same. descs_apart r.old.desc (descriptor t r.old.process r.old.segno) r.differs (own.desc ∙ same)),
+          omega (arith, own.number),
+          omega (arith, own.number, within),
+        )
+
+    other_uid : (p n : ℕ) (process : ProcessState) → 1 ≤ p → slice_get s.processes (p - 1) ≡ Some process → descriptor s p n ≢ descriptor t p n
+        → ((u : ℕ) → 8 ≤ n → slice_get process.known (n - 8) ≡ Some u → u ≡ uid → ⊥) → ⊥
+    other_uid p n process low there differ apart =
+        differ (same_unless (λ u. u ≡ uid) s h p n process sound before low there apart)
+
+    by_uid : (p n : ℕ) (process : ProcessState) → 1 ≤ p → slice_get s.processes (p - 1) ≡ Some process
+        → descriptor s p n ≢ descriptor t p n → (o : Option ℕ) → segno_of process.known uid ≡ o → segno_of process.known uid ≡ Some n
+    by_uid p n process low there differ None e =
+        absurd (other_uid p n process low there differ (λ u above at same.
+        let once : segno_of process.known u ≡ Some (n - 8 + 8) = (sound.processes (p - 1) process there).once (n - 8) u at in
+        let own : segno_of process.known uid ≡ Some (n - 8 + 8) = subst (λ v. segno_of process.known v ≡ Some (n - 8 + 8)) same once in
+        cc))
+    by_uid p n process low there differ (Some m) e = by_number (cases_eq m n)
+      where
+        by_number : (m ≡ n) ⊎ (m ≡ n → ⊥) → segno_of process.known uid ≡ Some n
+        by_number (inl same) = e ∙ ap (λ k. Some k) same
+        by_number (inr apart) =
+            absurd (other_uid p n process low there differ (λ u above at same.
+            let once : segno_of process.known u ≡ Some (n - 8 + 8) = (sound.processes (p - 1) process there).once (n - 8) u at in
+            let own : segno_of process.known uid ≡ Some (n - 8 + 8) = subst (λ v. segno_of process.known v ≡ Some (n - 8 + 8)) same once in
+            let both : m ≡ n - 8 + 8 = let f = sym e ∙ own in cc in
+            apart (omega arith)))
+
+    by_test : (p n : ℕ) → 1 ≤ p → (process : ProcessState) → slice_get s.processes (p - 1) ≡ Some process → descriptor s p n ≢ descriptor t p n
+        → (same : Bool) → same_desc (descriptor s p n) (descriptor t p n) ≡ same
+        → Contains (renewed t held) (change p n (descriptor t p n))
+    by_test p n low process there differ true e = absurd (differ (descs_are (descriptor s p n) (descriptor t p n) e))
+    by_test p n low process there differ false e =
+        all_renewed t held p n (descriptor s p n)
+        (all_held s 1 s.processes uid (p - 1) p n process (omega arith) there (by_uid p n process low there differ (segno_of process.known uid) refl)) e
+
+-- the same as the program's steps
+pub call_renews : {A : Type 0} (meant : Answer A) (h k : Hierarchy) (processes : List ProcessState) (uid : ℕ) (s : Plain) (changes held : List Change)
+    (call : Result A HierError) → Answers meant h call k → IsAsBefore (λ u. u ≡ uid) h meant.after → IsSound (plain_state h processes)
+    → plain_state h processes ≡ s → held ≡ held_from (plain_state h processes) 1 processes uid → changes ≡ renewed (plain_state k processes) held
+    → AreChanges s (plain_state k processes) changes
+call_renews meant h k processes uid s changes held call says before sound seen first then =
+    changes_at (plain_state h processes) (plain_state k processes) s (plain_state k processes)
+    (renewed (plain_state k processes) (held_from (plain_state h processes) 1 processes uid)) changes seen refl
+    (then ∙ ap (renewed (plain_state k processes)) first)
+    (renewing_changes (plain_state h processes) k uid sound (after_call (λ u. u ≡ uid) meant h k call says before))

@@ -1,0 +1,36 @@
+-- A history of the plain supervisor: what its state is after a journal, and when a journal is right.
+use Rattle.std.specs.Prelude.{◌≡◌, ℕ, ◌*◌, ◌≤◌, false, IsTrue, List, [], ◌∷◌, length, map}
+use Rattle.mx_name.specs.Principals.{PlainPrincipal}
+use Rattle.mx_hier.specs.Opening as hierarchy
+use Rattle.mx_request.specs.declared.requests.Request.{Request}
+use Rattle.mx_state.specs.declared.journal.Entry.{Entry}
+use Rattle.mx_state.specs.declared.states.ProcessState.{ProcessState}
+use Rattle.mx_state.specs.Plain.{Plain}
+use Rattle.mx_state.specs.Requests.{plain, is_path_request}
+
+-- a process at the start knows its stacks alone, and works in the root
+abbrev pub fresh : PlainPrincipal → ProcessState
+fresh who = record { principal = who; working_directory = []; known = []; ended = false }
+
+-- the state before any entry: the first pages are those of the stacks, eight for each process
+abbrev pub opening : List PlainPrincipal → Plain
+opening principals = record { hierarchy = hierarchy.opening (8 * length principals); processes = map fresh principals }
+
+-- the state after these entries
+abbrev pub replay : Plain → List Entry → Plain
+replay s [] = s
+replay s (entry ∷ entries) = replay (plain s entry.process entry.ring entry.request).state entries
+
+-- who may make the request: the initializer a path request, a process every request
+abbrev pub MayAsk : Plain → ℕ → Request → Type 0
+MayAsk s p request = (p ≤ length s.processes) × (p ≡ 0 → IsTrue (is_path_request request))
+
+-- an entry in its place: its process may make it, and its reply is what the plain supervisor gives
+pub record IsRightEntry (s : Plain) (entry : Entry) : Type 0 where
+  pub maker : MayAsk s entry.process entry.request
+  pub reply : (plain s entry.process entry.ring entry.request).reply ≡ entry.reply
+
+-- each entry is right in its place
+abbrev pub IsRight : Plain → List Entry → Type 0
+IsRight s [] = Unit {0}
+IsRight s (entry ∷ entries) = IsRightEntry s entry × IsRight (plain s entry.process entry.ring entry.request).state entries

@@ -1,0 +1,51 @@
+-- Helpers that only private contracts cite: the descriptors of one segment, held before a request and renewed after it.
+use Rattle.std.specs.Prelude.{ℕ, ◌+◌, ◌==◌, Bool, true, false, not, ◌&&◌, List, [], ◌∷◌, Option, Some, None, if◌then◌else◌}
+use Rattle.mx_sdw.specs.Descriptors.{Descriptor}
+use Rattle.mx_sdw.specs.Rings.{Bracketing}
+use Rattle.mx_sdw.specs.declared.descriptors.DescKind.{DescKind}
+use Rattle.mx_sdw.specs.declared.descriptors.DescKind.TheVariants.{Unknown, Gone, Segment}
+use Rattle.mx_state.specs.declared.changes.Change.{Change}
+use Rattle.mx_state.specs.declared.states.ProcessState.{ProcessState}
+use Rattle.mx_state.specs.Changes.{change}
+use Rattle.mx_state.specs.Knowing.{segno_of}
+use Rattle.mx_state.specs.Plain.{Plain}
+use Rattle.mx_state.specs.Table.{descriptor}
+
+-- the descriptor under the segment's number, where a process knows it
+abbrev pub held_by : Plain → ℕ → Option ℕ → List Change → List Change
+held_by s p None later = later
+held_by s p (Some segno) later = change p segno (descriptor s p segno) ∷ later
+
+-- those of these processes, the first of which is process p
+abbrev pub held_from : Plain → ℕ → List ProcessState → ℕ → List Change
+held_from s p [] uid = []
+held_from s p (process ∷ processes) uid = held_by s p (segno_of process.known uid) (held_from s (p + 1) processes uid)
+
+abbrev pub same_kind : DescKind → DescKind → Bool
+same_kind Unknown Unknown = true
+same_kind Gone Gone = true
+same_kind Segment Segment = true
+same_kind _ _ = false
+
+abbrev pub same_flag : Bool → Bool → Bool
+same_flag true flag = flag
+same_flag false flag = not flag
+
+abbrev pub same_brackets : Bracketing → Bracketing → Bool
+same_brackets a b = (a.r1 == b.r1) && ((a.r2 == b.r2) && (a.r3 == b.r3))
+
+abbrev pub same_flags : Descriptor → Descriptor → Bool → Bool
+same_flags a b rest = same_flag a.r b.r && (same_flag a.e b.e && (same_flag a.w b.w && rest))
+
+abbrev pub same_desc : Descriptor → Descriptor → Bool
+same_desc a b =
+    same_kind a.kind b.kind
+    && (same_brackets a.brackets b.brackets && same_flags a b ((a.gate == b.gate) && ((a.page == b.page) && (a.bound == b.bound))))
+
+-- those that are no longer what was held, as they are now
+abbrev pub renewed_as : Change → Descriptor → List Change → List Change
+renewed_as held desc later = if same_desc held.desc desc then later else change held.process held.segno desc ∷ later
+
+abbrev pub renewed : Plain → List Change → List Change
+renewed t [] = []
+renewed t (held ∷ later) = renewed_as held (descriptor t held.process held.segno) (renewed t later)

@@ -1,0 +1,70 @@
+//! The descriptors of one segment, held before a request and renewed after it.
+
+ghost use Rattle.std.specs.Prelude.{◌≡◌, ◌≤◌, [], length, vec_capacity, IfOk};
+ghost use Rattle.mx_state.specs.Renewing.{held_from, same_desc, renewed};
+
+use crate::changes::{Change, Changes};
+use crate::states::ProcessState;
+use crate::tables::descriptor;
+use mx_hier::Hier;
+use mx_list::Sequence;
+use mx_sdw::Desc;
+use std::alloc::{AllocError, Global};
+
+/// The descriptor of a segment in each process that knows it, in order of process.
+pub(crate) fn held(
+    alloc: Global,
+    hier: &Hier,
+    processes: &[ProcessState],
+    uid: u32,
+) -> Result<Changes, AllocError>
+    requires { length processes.now ≤ 15 }
+    ensures { IfOk result (λ held. held ≡ held_from (record { hierarchy = hier.now; processes = processes.now }) 1 processes.now uid) }
+{
+    let mut held = Changes::new(alloc);
+    let mut p: u8 = 1;
+    for process in processes {
+        if let Some(segno) = process.known.segno_of(uid) {
+            let desc = descriptor(hier, processes, p, segno);
+            held.push(Change {
+                process: p,
+                segno,
+                desc,
+            })?;
+        }
+        p += 1;
+    }
+    Ok(held)
+}
+
+/// Those of the held descriptors that are others now, as they are now. Takes no memory but the room that is given.
+pub(crate) fn renewed(
+    hier: &Hier,
+    processes: &[ProcessState],
+    held: &[Change],
+    room: Vec<Change>,
+) -> Changes
+    requires few { length held.now ≤ 15 }
+    requires empty { room.items ≡ [] }
+    requires room { length held.now ≤ vec_capacity room }
+    ensures { result ≡ renewed (record { hierarchy = hier.now; processes = processes.now }) held.now }
+{
+    let mut changes = room;
+    for change in held {
+        let desc = descriptor(hier, processes, change.process, change.segno);
+        if !is_same(&change.desc, &desc) {
+            changes.push_reserved(Change {
+                process: change.process,
+                segno: change.segno,
+                desc,
+            });
+        }
+    }
+    Changes::of(changes)
+}
+
+fn is_same(held: &Desc, desc: &Desc) -> bool
+    ensures { result ≡ same_desc held.now desc.now }
+{
+    held == desc
+}

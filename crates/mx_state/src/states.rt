@@ -1,0 +1,157 @@
+//! The plain supervisor as a program.
+
+ghost use Rattle.std.specs.Prelude.{◌≡◌, ◌+◌, ◌*◌, ◌≤◌, length, IfOk, OnErr};
+ghost use Rattle.mx_state.specs.Changes.{AreChanges};
+ghost use Rattle.mx_state.specs.History.{opening, MayAsk};
+ghost use Rattle.mx_state.specs.Plain.{answer};
+ghost use Rattle.mx_state.specs.Requests.{plain};
+ghost use Rattle.mx_state.specs.Table.{descriptor};
+
+use crate::changes::Applied;
+use crate::openings::{fresh_processes, make_initializer};
+use crate::tables::descriptor;
+use crate::uids::Uids;
+use mx_hier::Hier;
+use mx_name::{Path, Principal};
+use mx_request::Request;
+use mx_sdw::{Desc, Ring};
+use std::alloc::{AllocError, Global};
+use std::marker::Model;
+
+/// A process: its principal, its working directory, the uids of its known segments, the first at segment number 8, and
+/// whether it has ended.
+#[derive(Debug, Drop)]
+pub struct ProcessState {
+    pub principal: Principal,
+    pub working_directory: Path,
+    pub known: Uids,
+    pub ended: bool,
+}
+
+/// The state of the plain supervisor: the hierarchy, and the processes 1 to 15.
+#[derive(Debug, Drop)]
+pub struct State {
+    pub(crate) hier: Hier,
+    pub(crate) initializer: Principal,
+    pub(crate) root: Path,
+    pub(crate) processes: Vec<ProcessState>,
+}
+
+impl Model for State {
+    ghost use Rattle.mx_state.specs.Plain.{Plain};
+    ghost use Rattle.mx_state.specs.Sound.{HoldsSound};
+
+    ghost Value = { Plain };
+
+    ghost view = { λ a. record { hierarchy = a.hier; processes = a.processes.items } };
+
+    ghost invariant = { λ a. HoldsSound a.initializer a.root (record { hierarchy = a.hier; processes = a.processes.items }) };
+}
+
+impl State {
+    /// The state before any entry, for the principals of 1 to 15 processes.
+    pub fn new(alloc: Global, principals: &[Principal]) -> Result<State, AllocError>
+        requires some { 1 ≤ length principals.now }
+        requires most { length principals.now ≤ 15 }
+        ensures { IfOk result (λ state. state ≡ opening principals.now) }
+    {
+        let initializer = make_initializer(alloc)?;
+        let processes = fresh_processes(alloc, principals)?;
+        // Each process has eight stacks, of one page each.
+        let hier = Hier::new(alloc, 8 * principals.len() as u32)?;
+        Ok(State {
+            hier,
+            initializer,
+            root: Path::root(alloc),
+            processes,
+        })
+    }
+
+    /// Answers the request of process `p` in a ring as the plain supervisor does; process 0 is the initializer, which makes
+    /// path requests alone. The changes are exactly the descriptors that differ afterwards. A refusal changes nothing, and nor
+    /// does want of memory, the only error.
+    pub fn apply(
+        &mut self,
+        alloc: Global,
+        p: u8,
+        ring: Ring,
+        request: &Request,
+    ) -> Result<Applied, AllocError>
+        requires { MayAsk self.old p request.now }
+        ensures answer { IfOk result (λ applied. plain self.old p ring request.now ≡ answer applied.reply self.new) }
+        ensures changes { IfOk result (λ applied. AreChanges self.old self.new applied.changes) }
+        ensures processes { length self.new.processes ≡ length self.old.processes }
+        ensures err { OnErr result (self.new ≡ self.old) }
+    {
+        match request {
+            Request::CreateDir { path, d1, d2 } => {
+                let applied = self.create_dir(alloc, p, ring, path, *d1, *d2)?;
+                Ok(applied)
+            }
+            Request::CreateSeg {
+                path,
+                words,
+                brackets,
+            } => {
+                let applied = self.create_seg(alloc, p, ring, path, *words, brackets)?;
+                Ok(applied)
+            }
+            Request::CreateLink { path, target } => {
+                let applied = self.create_link(alloc, p, ring, path, target)?;
+                Ok(applied)
+            }
+            Request::Rename { path, name } => {
+                let applied = self.rename(alloc, p, ring, path, name)?;
+                Ok(applied)
+            }
+            Request::Delete { path } => {
+                let applied = self.delete(alloc, p, ring, path)?;
+                Ok(applied)
+            }
+            Request::SetAcl { path, id, modes } => {
+                let applied = self.set_acl(alloc, p, ring, path, id, *modes)?;
+                Ok(applied)
+            }
+            Request::DelAcl { path, id } => {
+                let applied = self.del_acl(alloc, p, ring, path, id)?;
+                Ok(applied)
+            }
+            Request::SetBrackets { path, brackets } => {
+                let applied = self.set_brackets(alloc, p, ring, path, brackets)?;
+                Ok(applied)
+            }
+            Request::SetDirBrackets { path, d1, d2 } => {
+                let applied = self.set_dir_brackets(alloc, p, ring, path, *d1, *d2)?;
+                Ok(applied)
+            }
+            Request::Status { path } => {
+                let reply = self.status(alloc, p, ring, path)?;
+                Ok(Applied::unchanged(alloc, reply))
+            }
+            Request::List { path } => {
+                let reply = self.list(alloc, p, ring, path)?;
+                Ok(Applied::unchanged(alloc, reply))
+            }
+            Request::ChangeWdir { path } => {
+                let applied = self.change_wdir(alloc, p, ring, path)?;
+                Ok(applied)
+            }
+            Request::Initiate { path } => {
+                let applied = self.initiate(alloc, p, ring, path)?;
+                Ok(applied)
+            }
+            Request::Logout => Ok(self.logout(alloc, p)),
+        }
+    }
+
+    /// The descriptor that process `p` has of a segment number: unknown where the number stands for nothing, gone where its
+    /// segment was deleted. Its words lie in the 65,536 cells of the memory. Takes no memory.
+    pub fn descriptor(&self, p: u8, segno: u16) -> Desc
+        requires some { 1 ≤ p }
+        requires process { p ≤ length self.now.processes }
+        ensures value { result ≡ descriptor self.now p segno }
+        ensures within { 64 * result.page + result.bound ≤ 65536 }
+    {
+        descriptor(&self.hier, self.processes.as_slice(), p, segno)
+    }
+}
