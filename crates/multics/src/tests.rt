@@ -181,45 +181,58 @@ fn words_are_one_word(rt: HostRuntime) -> Result<(), Fail> {
     Ok(())
 }
 
+// A sink with less room than the run has bytes holds what fits, at status 4; with room for all of it nothing fails.
 #[test]
-fn a_failing_end_is_told(rt: HostRuntime) -> Result<(), Fail> {
+fn a_sink_holds_what_fits(rt: HostRuntime) -> Result<(), Fail> {
     let text = text_of(rt.alloc(), &SMALLEST)?;
-    let source = call(
-        rt.alloc(),
-        &["run"],
-        &text,
-        &Ends {
-            source_fails: &[0],
-            sink_fails: &[],
-            room: 4096,
-        },
-    )?;
-    assert_eq!(rt; source.status, 3);
-    assert!(rt; source.written.is_empty());
-    let sink = call(
-        rt.alloc(),
-        &["run"],
-        &text,
-        &Ends {
-            source_fails: &[],
-            sink_fails: &[0],
-            room: 4096,
-        },
-    )?;
-    assert_eq!(rt; sink.status, 4);
-    assert!(rt; sink.written.is_empty());
-    let room = call(
-        rt.alloc(),
-        &["run"],
-        &text,
-        &Ends {
+    for room in 0..SMALLEST_RUN.len() + 1 {
+        let ends = Ends {
             source_fails: &[],
             sink_fails: &[],
-            room: 10,
-        },
-    )?;
-    assert_eq!(rt; room.status, 4);
-    assert!(rt; room.written.as_slice() == b"journal 4\n".as_slice());
+            room,
+        };
+        let answer = call(rt.alloc(), &["run"], &text, &ends)?;
+        let status = if room < SMALLEST_RUN.len() { 4 } else { 0 };
+        assert_eq!(rt; answer.status, status);
+        assert!(rt; answer.written.as_slice() == &SMALLEST_RUN[..room]);
+    }
+    Ok(())
+}
+
+// Each call of the source fails in turn, and nothing is written; one after the last is not made.
+#[test]
+fn a_source_fails_in_turn(rt: HostRuntime) -> Result<(), Fail> {
+    let text = text_of(rt.alloc(), &SMALLEST)?;
+    // 135 bytes come in 20 pieces of 7 and less, and one more call finds the end.
+    for failing in 0..22u32 {
+        let ends = Ends {
+            source_fails: &[failing],
+            sink_fails: &[],
+            room: 4096,
+        };
+        let answer = call(rt.alloc(), &["run"], &text, &ends)?;
+        if failing < 21 {
+            assert_eq!(rt; answer.status, 3);
+            assert!(rt; answer.written.is_empty());
+        } else {
+            assert_eq!(rt; answer.status, 0);
+        }
+    }
+    Ok(())
+}
+
+// The first call of the sink fails.
+#[test]
+fn a_failing_sink_is_told(rt: HostRuntime) -> Result<(), Fail> {
+    let text = text_of(rt.alloc(), &SMALLEST)?;
+    let ends = Ends {
+        source_fails: &[],
+        sink_fails: &[0],
+        room: 4096,
+    };
+    let answer = call(rt.alloc(), &["run"], &text, &ends)?;
+    assert_eq!(rt; answer.status, 4);
+    assert!(rt; answer.written.is_empty());
     Ok(())
 }
 

@@ -1,5 +1,5 @@
 -- Helpers of the top call: what its parts answer.
-use Rattle.std.specs.Prelude.{◌≡◌, ◌⊎◌, ℕ, ◌++◌, List, Option, codes}
+use Rattle.std.specs.Prelude.{◌≡◌, ◌⊎◌, ℕ, ◌++◌, List, [], Option, Some, codes}
 use Rattle.std.specs.Fmt.{decimal}
 use Rattle.mx_io.specs.Bytes.{Appends}
 use Rattle.mx_script.specs.Sessions.{Outline}
@@ -44,3 +44,13 @@ pub record IsRefusedText (spelled : List ℕ) (sink sink' : Option (List ℕ)) :
   pub number : ℕ
   pub first : IsFirstBad spelled number
   pub printed : Appends sink sink' (codes "bad line " ++ decimal number ++ codes "\n")
+
+-- what is due for a session, and for bytes that were read: what is written of them into an empty sink
+abbrev pub IsDueForSession : Outline → List ℕ → Type 0
+IsDueForSession session text = IsPrintedLegal session (Some []) (Some text)
+
+abbrev pub IsRunDueForBytes : List ℕ → List ℕ → Type 0
+IsRunDueForBytes spelled text = IsPrintedRun spelled (Some []) (Some text)
+
+abbrev pub IsDueForBytes : List ℕ → List ℕ → Type 0
+IsDueForBytes spelled text = IsRunDueForBytes spelled text ⊎ IsRefusedText spelled (Some []) (Some text)

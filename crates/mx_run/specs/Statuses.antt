@@ -1,7 +1,7 @@
 -- What each status of the top call means. A source's bytes and a sink's are spoken of where they are told.
-use Rattle.std.specs.Prelude.{◌≡◌, ℕ, ◌≤◌, ◌<◌, List, [], ◌∷◌, ◌++◌, length, Option, Some, None, codes}
+use Rattle.std.specs.Prelude.{◌≡◌, ◌⊎◌, ℕ, ◌≤◌, ◌<◌, List, [], ◌∷◌, ◌++◌, length, Option, Some, None, codes}
 use Rattle.std.specs.Fmt.{decimal}
-use Rattle.mx_io.specs.Bytes.{TakesAll, TakesTooMany, Appends}
+use Rattle.mx_io.specs.Bytes.{TakesAll, TakesTooMany, Appends, AppendsPart}
 use Rattle.mx_script.specs.Sessions.{Outline}
 use Rattle.mx_state.specs.declared.journal.Entry.{Entry}
 use Rattle.mx_legal.specs.Falls.{HasGatedFalls}
@@ -48,6 +48,23 @@ pub record IsBadText (source source' sink sink' : Option (List ℕ)) : Type 0 wh
 pub record IsTooLong (source source' sink sink' : Option (List ℕ)) : Type 0 where
   pub read : TakesTooMany most_bytes source source'
   pub printed : Appends sink sink' (codes "too long\n")
+
+-- What status 0 writes into an empty sink: the run text of a legal run of the session that the source held.
+abbrev pub IsRunDue : Option (List ℕ) → Option (List ℕ) → List ℕ → Type 0
+IsRunDue source source' text = IsDone source source' (Some []) (Some text)
+
+-- What is due for a source, where no end fails and memory is there: that, or what status 5 or 6 writes.
+abbrev pub IsDueFor : Option (List ℕ) → Option (List ℕ) → List ℕ → Type 0
+IsDueFor source source' text = IsRunDue source source' text
+    ⊎ (IsBadText source source' (Some []) (Some text) ⊎ IsTooLong source source' (Some []) (Some text))
+
+-- What is due for the words of a command: what status 2 writes, or for a run what is due for the source.
+abbrev pub IsDue : List (List ℕ) → Option (List ℕ) → Option (List ℕ) → List ℕ → Type 0
+IsDue words source source' text = ((IsRun words → ⊥) × (text ≡ bad_words_text)) ⊎ (IsRun words × IsDueFor source source' text)
+
+-- Status 4, and status 1 where anything was written. The sink gained the front of such a text, and not all of it.
+abbrev pub AppendsFront : (List ℕ → Type 0) → Option (List ℕ) → Option (List ℕ) → Type 0
+AppendsFront IsSuch sink sink' = (text : List ℕ) × IsSuch text × AppendsPart sink sink' text
 
 -- a source that tells the text of a session, within the limit
 abbrev pub TellsSession : Option (List ℕ) → Type 0

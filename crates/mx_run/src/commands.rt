@@ -3,12 +3,12 @@
 ghost use Rattle.std.specs.Prelude.{◌≡◌, ◌⊎◌, ◌≤◌, ◌++◌, ◌↔◌, map, length, IfOk, IsTrue, codes};
 ghost use Rattle.std.specs.Fmt.{decimal};
 ghost use Rattle.std.specs.String.{string_bytes};
-ghost use Rattle.mx_io.specs.Bytes.{Appends};
+ghost use Rattle.mx_io.specs.Bytes.{Appends, AppendsPart};
 ghost use Rattle.mx_io.specs.Faults.{Rose};
-ghost use Rattle.mx_run.specs.Endings.{Ends, EndsInside, EndsText, IsPrintedLegal, IsPrintedRun, IsRefusedText};
+ghost use Rattle.mx_run.specs.Endings.{Ends, EndsInside, EndsText, IsDueForBytes, IsDueForSession, IsRunDueForBytes, IsPrintedLegal, IsPrintedRun, IsRefusedText};
 ghost use Rattle.mx_text.specs.RunText.{run_text};
 ghost use Rattle.mx_script.specs.SessionTexts.{IsSomeSession};
-ghost use Rattle.mx_run.specs.Statuses.{IsRun, IsDone, IsBadText, IsTooLong, TellsSession, TellsNoSession, TellsTooMuch, bad_words_text};
+ghost use Rattle.mx_run.specs.Statuses.{IsRun, IsDone, IsBadText, IsTooLong, IsDue, IsDueFor, IsRunDue, AppendsFront, TellsSession, TellsNoSession, TellsTooMuch, bad_words_text};
 
 use itoa::Buffer;
 use mx_io::{ReadError, Sink, Source, WriteFault, read_all, write_all};
@@ -41,7 +41,7 @@ enum Status {
 /// | Status | Comes | Written |
 /// |---|---|---|
 /// | 0 | the session was run | the run text |
-/// | 1 | memory was wanting | the front of a text that another status writes, or nothing |
+/// | 1 | memory was wanting | the front of the run text, or nothing |
 /// | 2 | the words are not accepted; the source is not read, and no memory is taken | `bad words` |
 /// | 3 | the source failed | nothing |
 /// | 4 | the sink failed | the front of what the status otherwise due writes |
@@ -63,10 +63,13 @@ pub fn multics<R, S: Source, K: Sink>(
     ensures unread { (IsRun (map string_bytes words.now) → ⊥) → source.new ≡ source.old }
     ensures bad_words_text { result ≡ 2 → Appends (K.out sink.old) (K.out sink.new) bad_words_text }
 
-    // Statuses 3 and 4 come only where a count of faults rose.
+    // Statuses 3 and 4 come only where a count of faults rose. At status 3 nothing is written, at status 4 the front of what was
+    // due, and at status 1 nothing or the front of a run text.
     ensures source_fault { result ≡ 3 → Rose (S.faults source.old) (S.faults source.new) }
     ensures nothing_written { result ≡ 3 → sink.new ≡ sink.old }
     ensures sink_fault { result ≡ 4 → Rose (K.faults sink.old) (K.faults sink.new) }
+    ensures cut_short { result ≡ 4 → AppendsFront (IsDue (map string_bytes words.now) (S.left source.old) (S.left source.new)) (K.out sink.old) (K.out sink.new) }
+    ensures given_up { result ≡ 1 → (sink.new ≡ sink.old) ⊎ AppendsFront (IsRunDue (S.left source.old) (S.left source.new)) (K.out sink.old) (K.out sink.new) }
 
     // Status 5 comes exactly where the bytes are no session, and status 6 exactly past the limit, short of a fault and of
     // want of memory.
@@ -102,6 +105,8 @@ fn command<S: Source, K: Sink>(
     ensures source_fault { result ≡ Status.SourceFault → Rose (S.faults source.old) (S.faults source.new) }
     ensures nothing_written { result ≡ Status.SourceFault → sink.new ≡ sink.old }
     ensures sink_fault { result ≡ Status.SinkFault → Rose (K.faults sink.old) (K.faults sink.new) }
+    ensures cut_short { result ≡ Status.SinkFault → AppendsFront (IsDue (map string_bytes words.now) (S.left source.old) (S.left source.new)) (K.out sink.old) (K.out sink.new) }
+    ensures given_up { result ≡ Status.Memory → (sink.new ≡ sink.old) ⊎ AppendsFront (IsRunDue (S.left source.old) (S.left source.new)) (K.out sink.old) (K.out sink.new) }
     ensures bad_text { result ≡ Status.BadText → IsBadText (S.left source.old) (S.left source.new) (K.out sink.old) (K.out sink.new) }
     ensures no_session { IsRun (map string_bytes words.now) → TellsNoSession (S.left source.old) → Ends Status.BadText result }
     ensures too_long { result ≡ Status.TooLong → IsTooLong (S.left source.old) (S.left source.new) (K.out sink.old) (K.out sink.new) }
@@ -131,6 +136,8 @@ fn run_source<S: Source, K: Sink>(alloc: Global, source: &mut S, sink: &mut K) -
     ensures source_fault { result ≡ Status.SourceFault → Rose (S.faults source.old) (S.faults source.new) }
     ensures nothing_written { result ≡ Status.SourceFault → sink.new ≡ sink.old }
     ensures sink_fault { result ≡ Status.SinkFault → Rose (K.faults sink.old) (K.faults sink.new) }
+    ensures cut_short { result ≡ Status.SinkFault → AppendsFront (IsDueFor (S.left source.old) (S.left source.new)) (K.out sink.old) (K.out sink.new) }
+    ensures given_up { result ≡ Status.Memory → (sink.new ≡ sink.old) ⊎ AppendsFront (IsRunDue (S.left source.old) (S.left source.new)) (K.out sink.old) (K.out sink.new) }
     ensures bad_text { result ≡ Status.BadText → IsBadText (S.left source.old) (S.left source.new) (K.out sink.old) (K.out sink.new) }
     ensures no_session { TellsNoSession (S.left source.old) → Ends Status.BadText result }
     ensures too_long { result ≡ Status.TooLong → IsTooLong (S.left source.old) (S.left source.new) (K.out sink.old) (K.out sink.new) }
@@ -151,6 +158,8 @@ fn run_bytes<K: Sink>(alloc: Global, bytes: &[u8], sink: &mut K) -> Status
     requires { length bytes.now ≤ 4194304 }
     ensures done { result ≡ Status.Done → IsPrintedRun bytes.now (K.out sink.old) (K.out sink.new) }
     ensures sink_fault { result ≡ Status.SinkFault → Rose (K.faults sink.old) (K.faults sink.new) }
+    ensures cut_short { result ≡ Status.SinkFault → AppendsFront (IsDueForBytes bytes.now) (K.out sink.old) (K.out sink.new) }
+    ensures given_up { result ≡ Status.Memory → (sink.new ≡ sink.old) ⊎ AppendsFront (IsRunDueForBytes bytes.now) (K.out sink.old) (K.out sink.new) }
     ensures bad_text { result ≡ Status.BadText → IsRefusedText bytes.now (K.out sink.old) (K.out sink.new) }
     ensures no_session { (IsSomeSession bytes.now → ⊥) → EndsInside Status.BadText result }
     ensures complete { IsSomeSession bytes.now → EndsInside Status.Done result }
@@ -167,6 +176,8 @@ fn run_bytes<K: Sink>(alloc: Global, bytes: &[u8], sink: &mut K) -> Status
 fn run_session<K: Sink>(alloc: Global, session: &Session, sink: &mut K) -> Status
     ensures done { result ≡ Status.Done → IsPrintedLegal session.now (K.out sink.old) (K.out sink.new) }
     ensures sink_fault { result ≡ Status.SinkFault → Rose (K.faults sink.old) (K.faults sink.new) }
+    ensures cut_short { result ≡ Status.SinkFault → AppendsFront (IsDueForSession session.now) (K.out sink.old) (K.out sink.new) }
+    ensures given_up { result ≡ Status.Memory → (sink.new ≡ sink.old) ⊎ AppendsFront (IsDueForSession session.now) (K.out sink.old) (K.out sink.new) }
     ensures ends { EndsInside Status.Done result }
 {
     match run(alloc, session) {
@@ -184,6 +195,7 @@ fn print_run<K: Sink>(
 ) -> Status
     ensures done { result ≡ Status.Done → Appends (K.out sink.old) (K.out sink.new) (run_text journal.now transcripts.now) }
     ensures sink_fault { result ≡ Status.SinkFault → Rose (K.faults sink.old) (K.faults sink.new) }
+    ensures part { (result ≡ Status.SinkFault) ⊎ (result ≡ Status.Memory) → AppendsPart (K.out sink.old) (K.out sink.new) (run_text journal.now transcripts.now) }
     ensures ends { EndsInside Status.Done result }
 {
     match print(alloc, journal, transcripts, sink) {
@@ -197,6 +209,8 @@ fn print_run<K: Sink>(
 fn report_bad_line<K: Sink>(alloc: Global, number: u32, sink: &mut K) -> Status
     ensures printed { result ≡ Status.BadText → Appends (K.out sink.old) (K.out sink.new) (codes "bad line " ++ decimal number ++ codes "\n") }
     ensures sink_fault { result ≡ Status.SinkFault → Rose (K.faults sink.old) (K.faults sink.new) }
+    ensures part { result ≡ Status.SinkFault → AppendsPart (K.out sink.old) (K.out sink.new) (codes "bad line " ++ decimal number ++ codes "\n") }
+    ensures unwritten { result ≡ Status.Memory → sink.new ≡ sink.old }
     ensures ends { EndsInside Status.BadText result }
 {
     match bad_line_text(alloc, number) {
@@ -221,6 +235,7 @@ fn report<K: Sink>(sink: &mut K, text: &[u8], status: Status) -> Status
     ensures which { (result ≡ status) ⊎ (result ≡ Status.SinkFault) }
     ensures printed { result ≡ status → Appends (K.out sink.old) (K.out sink.new) text.now }
     ensures sink_fault { result ≡ Status.SinkFault → Rose (K.faults sink.old) (K.faults sink.new) }
+    ensures part { result ≡ Status.SinkFault → AppendsPart (K.out sink.old) (K.out sink.new) text.now }
 {
     match write_all(sink, text) {
         Ok(()) => status,

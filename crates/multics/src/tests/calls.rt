@@ -13,6 +13,7 @@ pub(super) struct Answer {
 }
 
 /// What a call is given: which calls of the ends fail, and how much room the sink has.
+#[derive(Drop)]
 pub(super) struct Ends<'a> {
     pub(super) source_fails: &'a [u32],
     pub(super) sink_fails: &'a [u32],
