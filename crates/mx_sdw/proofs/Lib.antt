@@ -1,3 +1,5 @@
-pub mod Orders
-pub mod OctalLaws
-pub mod JudgingLaws
+mod OctalLaws
+mod Orders
+mod JudgingLaws
+pub mod SameLaws
+pub mod WordLaws

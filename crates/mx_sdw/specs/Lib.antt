@@ -1,8 +1,13 @@
 pub mod Rings
 pub mod Words
 pub mod Descriptors
+pub mod Admissible
 pub mod Operations
 pub mod Denials
 pub mod Judging
 pub mod Granting
 pub mod Octal
+pub mod Bits
+pub mod DescriptorWords
+pub mod CellWords
+pub mod Same

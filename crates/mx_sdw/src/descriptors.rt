@@ -1,7 +1,8 @@
 //! Segment descriptors.
 
-ghost use Rattle.std.specs.Prelude.{◌≡◌};
+ghost use Rattle.std.specs.Prelude.{◌≡◌, ◌↔◌, IsTrue};
 ghost use Rattle.mx_sdw.specs.Descriptors.{unknown_desc, gone_desc, segment_desc, empty_desc};
+ghost use Rattle.mx_sdw.specs.Same.{same_desc};
 
 use crate::rings::Brackets;
 use std::marker::Model;
@@ -155,5 +156,13 @@ impl Desc {
         ensures { result ≡ self.now.bound }
     {
         self.bound
+    }
+
+    /// Whether the other is the same descriptor, in each field.
+    pub fn is_same(&self, other: &Desc) -> bool
+        ensures test { result ≡ same_desc self.now other.now }
+        ensures same { IsTrue result ↔ (self.now ≡ other.now) }
+    {
+        self == other
     }
 }

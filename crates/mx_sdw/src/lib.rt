@@ -6,7 +6,9 @@
 //! and takes no memory, but for the bytes that [`write_octal`] appends to the caller's vector.
 #![tactic(auto)]
 
+mod cell_words;
 mod denials;
+mod descriptor_words;
 mod descriptors;
 mod judging;
 mod laws;
@@ -15,10 +17,15 @@ mod operations;
 mod rings;
 mod words;
 
+pub use cell_words::CellWord;
 pub use denials::Denial;
+pub use descriptor_words::{DescView, DescWord};
 pub use descriptors::{Cell, Desc, DescKind};
 pub use judging::{judge, new_ring};
-pub use laws::{each_denial_has_its_own_text, each_octal_number_has_one_spelling, judged_in_order};
+pub use laws::{
+    each_cell_word_has_one_cell, each_denial_has_its_own_text, each_descriptor_word_has_one_view,
+    each_octal_number_has_one_spelling, judged_in_order,
+};
 pub use octal::{read_octal_number, write_octal};
 pub use operations::Op;
 pub use rings::{Brackets, Ring};
