@@ -1,8 +1,18 @@
+ghost use Rattle.std.specs.Prelude.{◌≡◌, ◌<◌, ◌≤◌, IfSome};
+ghost use Rattle.mx_pages.specs.Runs.{pages_for};
+
 use std::marker::Model;
 use thiserror::Error;
 
-/// How many pages there are, each of 64 words: this model's own choice. They are numbered from 0.
-pub const PAGES: u32 = 1_024;
+/// How many pages there are.
+const PAGES: u32 = 1_024;
+
+/// How many pages of 64 words so many words need.
+pub fn pages_for(words: u32) -> u32
+    ensures { result ≡ pages_for words }
+{
+    words.div_ceil(64)
+}
 
 /// No run of free pages is long enough.
 #[derive(Clone, Copy, Debug, PartialEq, Eq, Error)]
