@@ -71,7 +71,7 @@ impl MemorySink {
 }
 
 impl Sink for MemorySink {
-    ghost use Rattle.std.specs.Prelude.{◌≡◌, ℕ, ◌<◌, ◌≤◌, length, Some};
+    ghost use Rattle.std.specs.Prelude.{◌≡◌, ◌≢◌, ℕ, ◌<◌, ◌≤◌, length, Some};
     ghost use Rattle.mx_io.specs.Bytes.{Appends};
     ghost use Rattle.mx_io.specs.Faults.{Rose};
     ghost use Rattle.mx_io.specs.Writing.{IsWithinOffer, taken};
@@ -88,6 +88,7 @@ impl Sink for MemorySink {
         ensures count { IsWithinOffer (length bytes.now) result }
         ensures bytes { Appends (Some self.old.out) (Some self.new.out) (taken result bytes.now) }
         ensures cause { result ≡ Put.Fault → Rose self.old.calls.faults self.new.calls.faults }
+        ensures only { result ≢ Put.Fault → self.new.calls.faults ≡ self.old.calls.faults }
         ensures later { self.old.calls.faults ≤ self.new.calls.faults }
     {
         if self.calls.is_failing() || self.room == 0 {

@@ -43,7 +43,7 @@ impl MemorySource {
 }
 
 impl Source for MemorySource {
-    ghost use Rattle.std.specs.Prelude.{◌≡◌, ℕ, ◌<◌, ◌≤◌, ◌++◌, drop, length, Some};
+    ghost use Rattle.std.specs.Prelude.{◌≡◌, ◌≢◌, ℕ, ◌<◌, ◌≤◌, ◌++◌, drop, length, Some};
     ghost use Rattle.mx_io.specs.Bytes.{Takes, IsAtEnd};
     ghost use Rattle.mx_io.specs.Faults.{Rose};
     ghost use Rattle.mx_io.specs.Reading.{IsWithinRoom, given};
@@ -62,6 +62,7 @@ impl Source for MemorySource {
         ensures bytes { Takes (Some self.old.left) (Some self.new.left) (given result buf.new) }
         ensures end { result ≡ Got.End → IsAtEnd (Some self.old.left) }
         ensures cause { result ≡ Got.Fault → Rose self.old.calls.faults self.new.calls.faults }
+        ensures only { result ≢ Got.Fault → self.new.calls.faults ≡ self.old.calls.faults }
         ensures later { self.old.calls.faults ≤ self.new.calls.faults }
     {
         if self.calls.is_failing() {

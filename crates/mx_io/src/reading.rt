@@ -40,6 +40,7 @@ pub fn read_all<S: Source>(
     ensures within { IfOk result (λ bytes. length bytes.items ≤ limit) }
     ensures too_long { IsErrOf result ReadError.TooLong → TakesTooMany limit (S.left source.old) (S.left source.new) }
     ensures cause { IsErrOf result ReadError.Fault → Rose (S.faults source.old) (S.faults source.new) }
+    ensures only { (IsErrOf result ReadError.Fault → ⊥) → S.faults source.new ≡ S.faults source.old }
     ensures err { OnErr result (TakesAtMost (limit + 1) (S.left source.old) (S.left source.new)) }
     ensures later { S.faults source.old ≤ S.faults source.new }
 {
@@ -66,6 +67,7 @@ fn read_by_pieces<S: Source>(
     ensures within { IfOk result (λ bytes. length bytes.items ≤ limit) }
     ensures too_long { IsErrOf result ReadError.TooLong → TakesTooMany limit (S.left source.old) (S.left source.new) }
     ensures cause { IsErrOf result ReadError.Fault → Rose (S.faults source.old) (S.faults source.new) }
+    ensures only { (IsErrOf result ReadError.Fault → ⊥) → S.faults source.new ≡ S.faults source.old }
     ensures err { OnErr result (TakesAtMost (limit + 1) (S.left source.old) (S.left source.new)) }
     ensures later { S.faults source.old ≤ S.faults source.new }
 {

@@ -1,4 +1,4 @@
-ghost use Rattle.std.specs.Prelude.{◌≡◌, ℕ, ◌<◌, ◌≤◌, List, Option, length};
+ghost use Rattle.std.specs.Prelude.{◌≡◌, ◌≢◌, ℕ, ◌<◌, ◌≤◌, List, Option, length};
 ghost use Rattle.mx_io.specs.Bytes.{Takes, IsAtEnd};
 ghost use Rattle.mx_io.specs.Faults.{Rose};
 ghost use Rattle.mx_io.specs.Reading.{IsWithinRoom, given};
@@ -19,7 +19,7 @@ pub trait Source {
     /// The bytes still to come, where the source tells them.
     ghost left: { Self → Option (List ℕ) };
 
-    /// How often a read has failed.
+    /// How often a read has failed: a count that rises where a read is a fault, and there only.
     ghost faults: { Self → ℕ };
 
     /// Reads some bytes into a buffer that is not empty. The bytes that are left lose exactly the bytes that it gave.
@@ -29,5 +29,6 @@ pub trait Source {
         ensures bytes { Takes (left self.old) (left self.new) (given result buf.new) }
         ensures end { result ≡ Got.End → IsAtEnd (left self.old) }
         ensures cause { result ≡ Got.Fault → Rose (faults self.old) (faults self.new) }
+        ensures only { result ≢ Got.Fault → faults self.new ≡ faults self.old }
         ensures later { faults self.old ≤ faults self.new };
 }

@@ -1,12 +1,13 @@
-ghost use Rattle.std.specs.Prelude.{◌≡◌, ℕ, ◌<◌, ◌≤◌, length, None};
+ghost use Rattle.std.specs.Prelude.{◌≡◌, ◌≢◌, ℕ, ◌<◌, ◌≤◌, length, IfOk, IfErr, None, Some};
 ghost use Rattle.std.specs.Io.KnownBytes as known;
+ghost use Rattle.std.specs.IoError.{error_kind};
 ghost use Rattle.mx_io.specs.Bytes.{Takes, IsAtEnd, Appends};
 ghost use Rattle.mx_io.specs.Faults.{Rose};
 ghost use Rattle.mx_io.specs.Reading.{IsWithinRoom, given};
 ghost use Rattle.mx_io.specs.Writing.{IsWithinOffer, taken};
 
 use crate::{Got, Put, Sink, Source};
-use std::io::{ErrorKind, Read, Write};
+use std::io::{self, ErrorKind, Read, Write};
 use std::marker::Model;
 
 /// A reader of std as a source. It tells no bytes of its own: which bytes come, only the reader's contract says. Each error
@@ -36,6 +37,21 @@ impl<R: Read + Drop> StdSource<R> {
     }
 }
 
+/// What a read of std came to, `None` where it was interrupted and is to be made again.
+fn got_by(read: io::Result<usize>) -> Option<Got>
+    ensures bytes { IfOk read (λ count. 1 ≤ count → result ≡ Some (Got.Bytes count)) }
+    ensures end { IfOk read (λ count. count ≡ 0 → result ≡ Some Got.End) }
+    ensures again { IfErr read (λ error. error_kind error ≡ ErrorKind.Interrupted → result ≡ None) }
+    ensures failed { IfErr read (λ error. error_kind error ≢ ErrorKind.Interrupted → result ≡ Some Got.Fault) }
+{
+    match read {
+        Ok(0) => Some(Got::End),
+        Ok(count) => Some(Got::Bytes(count)),
+        Err(error) if error.kind() == ErrorKind::Interrupted => None,
+        Err(_) => Some(Got::Fault),
+    }
+}
+
 /// One read, made again while it is interrupted.
 #[tactic(auto, using(crate::proofs::KnownBytes::known_bytes))]
 fn read_once<R: Read>(reader: &mut R, buf: &mut [u8]) -> Got
@@ -45,11 +61,8 @@ fn read_once<R: Read>(reader: &mut R, buf: &mut [u8]) -> Got
     ensures known_end { result ≡ Got.End → known.IsAtEnd (R.remaining reader.new) }
 {
     for _ in 0..u64::MAX {
-        match reader.read(buf) {
-            Ok(0) => return Got::End,
-            Ok(count) => return Got::Bytes(count),
-            Err(error) if error.kind() == ErrorKind::Interrupted => {}
-            Err(_) => return Got::Fault,
+        if let Some(got) = got_by(reader.read(buf)) {
+            return got;
         }
     }
     Got::Fault
@@ -66,6 +79,7 @@ impl<R: Read + Drop> Source for StdSource<R> {
         ensures bytes { Takes None None (given result buf.new) }
         ensures end { result ≡ Got.End → IsAtEnd None }
         ensures cause { result ≡ Got.Fault → Rose self.old.faults self.new.faults }
+        ensures only { result ≢ Got.Fault → self.new.faults ≡ self.old.faults }
         ensures later { self.old.faults ≤ self.new.faults }
         ensures known { known.Consumes (R.remaining self.old.inner) (R.remaining self.new.inner) (given result buf.new) }
         ensures known_end { result ≡ Got.End → known.IsAtEnd (R.remaining self.new.inner) }
@@ -105,6 +119,21 @@ impl<W: Write + Drop> StdSink<W> {
     }
 }
 
+/// What a write of std came to, `None` where it was interrupted and is to be made again.
+fn put_by(written: io::Result<usize>) -> Option<Put>
+    ensures bytes { IfOk written (λ count. 1 ≤ count → result ≡ Some (Put.Bytes count)) }
+    ensures nothing { IfOk written (λ count. count ≡ 0 → result ≡ Some Put.Fault) }
+    ensures again { IfErr written (λ error. error_kind error ≡ ErrorKind.Interrupted → result ≡ None) }
+    ensures failed { IfErr written (λ error. error_kind error ≢ ErrorKind.Interrupted → result ≡ Some Put.Fault) }
+{
+    match written {
+        Ok(0) => Some(Put::Fault),
+        Ok(count) => Some(Put::Bytes(count)),
+        Err(error) if error.kind() == ErrorKind::Interrupted => None,
+        Err(_) => Some(Put::Fault),
+    }
+}
+
 /// One write, made again while it is interrupted.
 #[tactic(auto, using(crate::proofs::KnownBytes::known_bytes))]
 fn write_once<W: Write>(writer: &mut W, bytes: &[u8]) -> Put
@@ -112,11 +141,8 @@ fn write_once<W: Write>(writer: &mut W, bytes: &[u8]) -> Put
     ensures known { known.Appends (W.contents writer.old) (W.contents writer.new) (taken result bytes.now) }
 {
     for _ in 0..u64::MAX {
-        match writer.write(bytes) {
-            Ok(0) => return Put::Fault,
-            Ok(count) => return Put::Bytes(count),
-            Err(error) if error.kind() == ErrorKind::Interrupted => {}
-            Err(_) => return Put::Fault,
+        if let Some(put) = put_by(writer.write(bytes)) {
+            return put;
         }
     }
     Put::Fault
@@ -132,6 +158,7 @@ impl<W: Write + Drop> Sink for StdSink<W> {
         ensures count { IsWithinOffer (length bytes.now) result }
         ensures bytes { Appends None None (taken result bytes.now) }
         ensures cause { result ≡ Put.Fault → Rose self.old.faults self.new.faults }
+        ensures only { result ≢ Put.Fault → self.new.faults ≡ self.old.faults }
         ensures later { self.old.faults ≤ self.new.faults }
         ensures known { known.Appends (W.contents self.old.inner) (W.contents self.new.inner) (taken result bytes.now) }
     {
@@ -140,5 +167,77 @@ impl<W: Write + Drop> Sink for StdSink<W> {
             self.faults = self.faults.saturating_add(1);
         }
         put
+    }
+}
+
+#[cfg(test)]
+mod tests {
+    use super::*;
+    use std::test::Fail;
+
+    /// Its first call answers an error, and each later one moves one byte.
+    #[derive(Drop)]
+    struct Stumbling {
+        error: Option<ErrorKind>,
+    }
+
+    impl Read for Stumbling {
+        fn read(&mut self, buf: &mut [u8]) -> io::Result<usize> {
+            if let Some(kind) = self.error.take() {
+                return Err(io::Error::from(kind));
+            }
+            Ok(buf.len().min(1))
+        }
+    }
+
+    impl Write for Stumbling {
+        fn write(&mut self, buf: &[u8]) -> io::Result<usize> {
+            if let Some(kind) = self.error.take() {
+                return Err(io::Error::from(kind));
+            }
+            Ok(buf.len().min(1))
+        }
+
+        fn flush(&mut self) -> io::Result<()> {
+            Ok(())
+        }
+    }
+
+    /// Each error of these ends the call but the first, after which it is made again.
+    const ERRORS: [(ErrorKind, bool); 9] = [
+        (ErrorKind::Interrupted, true),
+        (ErrorKind::WouldBlock, false),
+        (ErrorKind::TimedOut, false),
+        (ErrorKind::BrokenPipe, false),
+        (ErrorKind::ConnectionReset, false),
+        (ErrorKind::UnexpectedEof, false),
+        (ErrorKind::StorageFull, false),
+        (ErrorKind::PermissionDenied, false),
+        (ErrorKind::Other, false),
+    ];
+
+    #[test]
+    fn a_read_is_made_again_after_an_interruption_alone(rt: HostRuntime) -> Result<(), Fail> {
+        for (kind, again) in ERRORS {
+            let mut source = StdSource::new(Stumbling { error: Some(kind) });
+            let mut buf = [0u8; 4];
+            let got = source.read(&mut buf);
+            assert_eq!(rt; got, if again { Got::Bytes(1) } else { Got::Fault });
+            assert_eq!(rt; source.faults, if again { 0 } else { 1 });
+            assert_eq!(rt; source.read(&mut buf), Got::Bytes(1));
+        }
+        Ok(())
+    }
+
+    #[test]
+    fn a_write_is_made_again_after_an_interruption_alone(rt: HostRuntime) -> Result<(), Fail> {
+        for (kind, again) in ERRORS {
+            let mut sink = StdSink::new(Stumbling { error: Some(kind) });
+            let put = sink.write(b"abc");
+            assert_eq!(rt; put, if again { Put::Bytes(1) } else { Put::Fault });
+            assert_eq!(rt; sink.faults, if again { 0 } else { 1 });
+            assert_eq!(rt; sink.write(b"abc"), Put::Bytes(1));
+        }
+        Ok(())
     }
 }

@@ -1,11 +1,11 @@
-use Rattle.std.proofs.Common.{ℕ, ◌≤◌, ◌+◌, ◌-◌, vec_len}
+use Rattle.std.proofs.Common.{◌≡◌, ℕ, ◌≤◌, ◌+◌, ◌-◌, vec_len}
 use Rattle.mx_io.specs.Bytes.{Takes}
 use Rattle.mx_io.proofs.reading.read_by_pieces.Given as goal
 
--- the bytes so far are taken, at most one more than the limit
+-- the bytes so far are taken, at most one more than the limit, and no read was a fault
 pub record IsRead (taken : Type 0) (old new count most : ℕ) : Type 0 where
   pub takes : taken
-  pub later : old ≤ new
+  pub same : new ≡ old
   pub within : count ≤ most
 
 abbrev pub invariant-loop-bytes : goal.invariant-loop-bytes

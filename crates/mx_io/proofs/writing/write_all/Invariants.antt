@@ -1,11 +1,11 @@
-use Rattle.std.proofs.Common.{length, ◌-◌, ℕ, ◌≤◌, take}
+use Rattle.std.proofs.Common.{◌≡◌, length, ◌-◌, ℕ, ◌≤◌, take}
 use Rattle.mx_io.specs.Bytes.{Appends}
 use Rattle.mx_io.proofs.writing.write_all.Given as goal
 
--- the first bytes are written
+-- the first bytes are written, and no write was a fault
 pub record IsWritten (part : Type 0) (old new written many : ℕ) : Type 0 where
   pub appends : part
-  pub later : old ≤ new
+  pub same : new ≡ old
   pub within : written ≤ many
 
 abbrev pub invariant-loop-written : goal.invariant-loop-written
