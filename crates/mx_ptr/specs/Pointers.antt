@@ -43,7 +43,8 @@ parts_of word =
 abbrev pub pointer_in : ℕ → Option PointerParts
 pointer_in word = if nat_eq (tag_of word) pointer_tag then Some (parts_of word) else None
 
--- the numbers of a pointer that has a word
+-- a pointer that has a word: its ring is one of eight, its segment number has four octal digits, and its word number is
+-- below 2 ^ 14
 pub record IsPackable (p : PointerParts) : Type 0 where
   pub ring : p.ring ≤ 7
   pub segno : p.segno ≤ 4095

@@ -1,6 +1,6 @@
 //! Pointers and pointer words.
 
-ghost use Rattle.std.specs.Prelude.{◌≡◌, ◌≤◌, IfSome};
+ghost use Rattle.std.specs.Prelude.{◌≡◌, IfSome};
 ghost use Rattle.mx_ptr.specs.Pointers.{pointer_word, pointer_in, IsPackable};
 
 use crate::layout::{POINTER_TAG, tagged};
@@ -33,8 +33,7 @@ impl Model for Pointer {
 impl Pointer {
     /// Its word, for a segment number up to 4,095 and a word number up to 16,383.
     pub fn pack(&self) -> Word
-        requires segno { self.now.segno ≤ 4095 }
-        requires word { self.now.word ≤ 16383 }
+        requires { IsPackable self.now }
         ensures { result ≡ pointer_word self.now }
     {
         let place = 2 * u64::from(self.word) + if self.further { 1 } else { 0 };
