@@ -1,7 +1,7 @@
 //! What follows from the definitions alone.
 
 ghost use Rattle.std.specs.Prelude.{◌≡◌, ℕ, ◌≤◌, ◌↔◌, List, [], ◌∷◌, ◌++◌, length, true, Some, Ok, Err};
-ghost use Rattle.mx_mail.specs.Processes.{PlainProcess, AreProcesses, process_at};
+ghost use Rattle.mx_mail.specs.Processes.{PlainProcess, AreProcesses, end_process, process_at};
 ghost use Rattle.mx_mail.specs.Sending.{send_message};
 ghost use Rattle.mx_mail.specs.Sleeping.{AreOthersAsleep};
 ghost use Rattle.mx_mail.specs.Taking.{messages_of, take_message, is_ready};
@@ -9,10 +9,14 @@ ghost use Rattle.mx_mail.specs.Taking.{messages_of, take_message, is_ready};
 use crate::mail::{MailError, Taken};
 use crate::processes::ExecutionState;
 
-/// A message that is sent waits behind the others, and no other process changes. Where none waited, it is the next one taken.
+/// A message that is sent waits behind the others. Its receiver goes on as it did, and no other process changes. Where none
+/// waited, it is the next one taken.
 pub fn a_message_waits_behind_the_others()
     ensures behind { (before after : List PlainProcess) (sender to word : ℕ) → send_message before sender to word ≡ Ok after
         → messages_of after to ≡ messages_of before to ++ (sender, word) ∷ [] }
+    ensures receiver { (before after : List PlainProcess) (sender to word : ℕ) (old new : PlainProcess)
+        → send_message before sender to word ≡ Ok after → process_at before to ≡ Some old → process_at after to ≡ Some new
+        → new.state ≡ old.state }
     ensures others { (before after : List PlainProcess) (sender to word q : ℕ) → send_message before sender to word ≡ Ok after
         → (q ≡ to → ⊥) → process_at after q ≡ process_at before q }
     ensures alone { (before after : List PlainProcess) (sender to word : ℕ) → send_message before sender to word ≡ Ok after
@@ -37,6 +41,13 @@ pub fn the_oldest_message_is_taken()
         → ((take_message processes p).taken ≡ Taken.Message sender word) × (messages_of (take_message processes p).processes p ≡ later) }
     ensures others { (processes : List PlainProcess) (p q : ℕ) → (q ≡ p → ⊥)
         → process_at (take_message processes p).processes q ≡ process_at processes q }
+{}
+
+/// A process that ends drops the messages that waited for it, and no other process changes.
+pub fn an_end_drops_what_waits()
+    ensures own { (processes : List PlainProcess) (p : ℕ) (process : PlainProcess) → process_at (end_process processes p) p ≡ Some process
+        → (process.state ≡ ExecutionState.Ended) × (process.messages ≡ []) }
+    ensures others { (processes : List PlainProcess) (p q : ℕ) → (q ≡ p → ⊥) → process_at (end_process processes p) q ≡ process_at processes q }
 {}
 
 /// `Nobody` is answered exactly where no message waits for the process, and each other process has ended, or waits and has

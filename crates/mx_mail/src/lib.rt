@@ -11,7 +11,7 @@ mod mail;
 mod processes;
 
 pub use laws::{
-    a_message_is_refused_in_order, a_message_waits_behind_the_others,
+    a_message_is_refused_in_order, a_message_waits_behind_the_others, an_end_drops_what_waits,
     nobody_where_the_others_are_asleep, one_that_waits_is_ready, the_oldest_message_is_taken,
 };
 pub use mail::{Mail, MailError, Taken};
