@@ -25,9 +25,13 @@ abbrev pub largest : List ℕ → ℕ
 largest [] = 0
 largest (ring ∷ rest) = max ring (largest rest)
 
--- the largest of the current ring, the base's ring, and the rings along the chain
+-- the rings that have a hand in an operand: the current ring, the base's ring, and the rings along the chain
+abbrev pub rings_of : Operand → List ℕ
+rings_of o = o.current ∷ o.base.ring ∷ rings_along o.chain
+
+-- the largest of them
 abbrev pub effective_ring : Operand → ℕ
-effective_ring o = largest (o.current ∷ o.base.ring ∷ rings_along o.chain)
+effective_ring o = largest (rings_of o)
 
 -- the last pointer of a chain that begins at a pointer
 abbrev pub last_pointer : PointerParts → List Indirection → PointerParts

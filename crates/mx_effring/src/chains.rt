@@ -1,6 +1,7 @@
 //! Chains of indirect words.
 
 ghost use Rattle.std.specs.Prelude.{◌≡◌, max};
+ghost use Rattle.mx_ptr.specs.Pointers.{IsPackable};
 ghost use Rattle.mx_effring.specs.Chains.{last_pointer, largest, rings_along};
 
 use mx_ptr::Pointer;
@@ -16,17 +17,34 @@ pub(crate) struct Indirection {
 
 impl Model for Indirection {
     ghost use Rattle.mx_effring.specs.Chains.{Indirection as Read};
+    ghost use Rattle.mx_ptr.specs.Pointers.{IsPackable};
 
     ghost Value = { Read };
 
     ghost view = { λ i. record { pointer = i.pointer; r1 = i.r1 } };
 
+    ghost invariant = { λ i. IsPackable i.pointer };
+
     ghost inverse = { λ i. record { pointer = i.pointer; r1 = i.r1 } };
+}
+
+impl Indirection {
+    /// What stands for a word that was not read yet.
+    pub(crate) fn none(ring: Ring) -> Indirection {
+        let pointer = Pointer {
+            ring,
+            segno: 0,
+            word: 0,
+            further: false,
+        };
+        Indirection { pointer, r1: ring }
+    }
 }
 
 /// The last pointer of a chain that begins at `first`.
 pub(crate) fn last_pointer(first: Pointer, chain: &[Indirection]) -> Pointer
-    ensures { result ≡ last_pointer first chain.now }
+    ensures value { result ≡ last_pointer first chain.now }
+    ensures packable { IsPackable first → IsPackable result }
 {
     match chain {
         [] => first,

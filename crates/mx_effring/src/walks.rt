@@ -1,9 +1,9 @@
 //! The walk of an operand through its indirect words.
 
 ghost use Rattle.std.specs.Prelude.{◌≡◌, ◌↔◌, [], Some, None, IsOk, IfErr, OnOk, OnErr};
-ghost use Rattle.mx_ptr.specs.Pointers.{parts_of};
+ghost use Rattle.mx_ptr.specs.Pointers.{parts_of, IsPackable};
 ghost use Rattle.mx_effring.specs.Chains.{effective_ring, place_of, read_on, IsBounded};
-ghost use Rattle.mx_effring.specs.Walks.{wanted, refuses, IsWanting};
+ghost use Rattle.mx_effring.specs.Walks.{wanted, refuses, IsPlace, IsWanting};
 
 use crate::chains::{Indirection, last_pointer, raised, raised_along};
 use mx_ptr::{Pointer, is_link};
@@ -61,17 +61,16 @@ impl Walk {
             current,
             base,
             indirect,
-            chain: [Indirection {
-                pointer: base,
-                r1: current,
-            }; 8],
+            chain: [Indirection::none(current); 8],
             count: 0,
         }
     }
 
-    /// What it asks for: the next indirect word, at the effective ring so far, or nothing more.
+    /// What it asks for: the next indirect word, at the effective ring so far, or nothing more. Where the base has a pointer
+    /// word, so has each place that the walk asks for.
     pub fn want(&self) -> Want
         ensures value { result ≡ wanted self.now }
+        ensures place { IsPackable self.now.base → IsPlace result }
         ensures bounded { IsBounded self.now }
     {
         let place = self.place();
@@ -117,6 +116,7 @@ impl Walk {
 
     fn place(&self) -> Pointer
         ensures value { result ≡ place_of self.now }
+        ensures packable { IsPackable self.now.base → IsPackable result }
         ensures bounded { IsBounded self.now }
     {
         let base = Pointer {
