@@ -1,5 +1,5 @@
-mod OctalLaws
-mod Orders
-mod JudgingLaws
+pub mod Orders
+pub mod OctalLaws
+pub mod JudgingLaws
 pub mod SameLaws
 pub mod WordLaws
