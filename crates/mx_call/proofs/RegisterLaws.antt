@@ -1,5 +1,5 @@
 -- What a granted call and a granted return make of the registers.
-use Rattle.std.proofs.Common.{◌≡◌, ℕ, ◌<◌, ◌≤◌, ◌⊎◌, ◌↔◌, min, max, false, List, [], ◌∷◌, length, slice_get, slice_set, Some, Ok, Err, IsOk, refl, sym, ap, subst, rules}
+use Rattle.std.proofs.Common.{◌≡◌, ℕ, ◌<◌, ◌≤◌, ◌⊎◌, ◌↔◌, min, max, false, List, [], ◌∷◌, length, slice_get, slice_set, Some, Ok, Err, IsOk, refl, sym, ap, subst, arith, rules}
 use Rattle.std.proofs.Math.Nat.{le_refl, le_trans}
 use Rattle.std.proofs.lemmas.List.{get_or-set_other, length-map}
 use Rattle.std.proofs.lemmas.Option.{slice_get-get_or}
@@ -13,8 +13,9 @@ use Rattle.mx_sdw.specs.Descriptors.{Descriptor}
 use Rattle.mx_sdw.specs.Granting.{IsGranted}
 use Rattle.mx_sdw.specs.Judging.{judgement}
 use Rattle.mx_sdw.proofs.JudgingLaws.{granted_is_allowed}
-use Rattle.mx_ptr.specs.Pointers.{PointerParts}
-use Rattle.mx_call.specs.Registers.{Registers, IsSound, going_on, stack_base, way_back, raised_to}
+use Rattle.mx_ptr.specs.Pointers.{PointerParts, IsPackable}
+use Rattle.mx_call.specs.Loading.{loaded}
+use Rattle.mx_call.specs.Registers.{Registers, ArePackable, IsSound, going_on, stack_base, way_back, raised_to}
 use Rattle.mx_call.specs.Transfers.{calling, call_judgement, called, IsCalled, IsReturned, IsGate}
 
 allowed : (d : Descriptor) (op : Op) (ring word : ℕ) (r : Result Cell Denial) → judgement d op ring word ≡ r → IsOk r → IsGranted d op ring word
@@ -142,3 +143,60 @@ returned_stays_sound before after target s r = record {
   plain = rw r.pointers (All-map (λ p. p.further ≡ false) (raised_to after.ring) before.pr s.plain);
   procedure = rw r.procedure refl;
 }
+
+pub loaded_stays_sound : (before : Registers) (n : ℕ) (target : PointerParts) → IsSound before
+    → before.ring ≤ target.ring → target.further ≡ false → IsSound (loaded before n target)
+loaded_stays_sound before n target s above plain = record {
+  eight = search rules;
+  above = All-set (λ p. before.ring ≤ p.ring) before.pr n target above s.above;
+  plain = All-set (λ p. p.further ≡ false) before.pr n target plain s.plain;
+  procedure = s.procedure;
+}
+
+pub loaded_stays_packable : (before : Registers) (n : ℕ) (target : PointerParts) → ArePackable before → IsPackable target
+    → ArePackable (loaded before n target)
+loaded_stays_packable before n target s h = record {
+  ring = s.ring;
+  procedure = s.procedure;
+  pr = All-set IsPackable before.pr n target h s.pr;
+}
+
+-- the pointers that a transfer puts into the registers
+base_packable : (ring : ℕ) → ring ≤ 7 → IsPackable (stack_base ring)
+base_packable ring h = record { ring = h; segno = omega arith; word = omega arith }
+
+going_on_packable : (target : PointerParts) (ring : ℕ) → IsPackable target → ring ≤ 7 → IsPackable (going_on target ring)
+going_on_packable target ring h low = record { ring = low; segno = h.segno; word = h.word }
+
+way_back_packable : (g : Registers) → ArePackable g → IsPackable (way_back g)
+way_back_packable g a = record { ring = a.ring; segno = a.procedure.segno; word = a.procedure.word }
+
+raised_packable : (ring : ℕ) (p : PointerParts) → ring ≤ 7 → IsPackable p → IsPackable (raised_to ring p)
+raised_packable ring p low h = record { ring = let high = h.ring in omega arith; segno = h.segno; word = h.word }
+
+called_packable : (before : Registers) (target : PointerParts) (d : Descriptor) → ArePackable before → IsPackable target
+    → ArePackable (called before target d)
+called_packable before target d s h =
+    let ring : ℕ = min target.ring d.brackets.r2 in
+    let low : ring ≤ 7 = (let high = h.ring in omega arith) in
+    record {
+      ring = low;
+      procedure = going_on_packable target ring h low;
+      pr = All-set IsPackable (slice_set before.pr 0 (stack_base ring)) 7 (way_back before) (way_back_packable before s)
+          (All-set IsPackable before.pr 0 (stack_base ring) (base_packable ring low) s.pr);
+    }
+
+pub called_stays_packable : (before after : Registers) (target : PointerParts) (d : Descriptor) → length before.pr ≡ 8
+    → ArePackable before → IsPackable target → IsCalled before target d after → ArePackable after
+called_stays_packable before after target d eight s h c =
+    subst ArePackable (sym (one_call before after target d eight c)) (called_packable before target d s h)
+
+pub returned_stays_packable : (before after : Registers) (target : PointerParts) → ArePackable before → IsPackable target
+    → IsReturned before target after → ArePackable after
+returned_stays_packable before after target s h r =
+    let low : after.ring ≤ 7 = rw r.current h.ring in
+    record {
+      ring = low;
+      procedure = rw r.procedure (going_on_packable target after.ring h low);
+      pr = rw r.pointers (All-map IsPackable (raised_to after.ring) before.pr (λ k d i. raised_packable after.ring _ low (s.pr k d i)));
+    }

@@ -1,2 +1,3 @@
 pub mod Registers
+pub mod Loading
 pub mod Transfers

@@ -1,7 +1,7 @@
 -- The registers of a process.
 use Rattle.std.specs.Prelude.{◌≡◌, ℕ, ◌≤◌, max, false, List, length}
 use Rattle.std.specs.List.{All}
-use Rattle.mx_ptr.specs.Pointers.{PointerParts}
+use Rattle.mx_ptr.specs.Pointers.{PointerParts, IsPackable}
 
 -- the current ring, the procedure pointer, the pointer registers, and the accumulator
 pub record Registers : Type 0 where
@@ -17,6 +17,12 @@ pub record IsSound (g : Registers) : Type 0 where
   pub above : All (λ p. g.ring ≤ p.ring) g.pr
   pub plain : All (λ p. p.further ≡ false) g.pr
   pub procedure : g.procedure.further ≡ false
+
+-- every pointer in the registers has a word, also with the current ring in it: so each can be stored
+pub record ArePackable (g : Registers) : Type 0 where
+  pub ring : g.ring ≤ 7
+  pub procedure : IsPackable g.procedure
+  pub pr : All IsPackable g.pr
 
 -- the procedure pointer of a process that goes on at a target, in a ring
 abbrev pub going_on : PointerParts → ℕ → PointerParts

@@ -1,9 +1,10 @@
 //! What follows from the definitions alone.
 
-ghost use Rattle.std.specs.Prelude.{◌≡◌, ◌↔◌, ◌<◌, ◌≤◌, length, IsOk};
+ghost use Rattle.std.specs.Prelude.{◌≡◌, ◌↔◌, ℕ, ◌<◌, ◌≤◌, false, length, IsOk};
 ghost use Rattle.mx_sdw.specs.Descriptors.{Descriptor};
-ghost use Rattle.mx_ptr.specs.Pointers.{PointerParts};
-ghost use Rattle.mx_call.specs.Registers.{Registers, IsSound};
+ghost use Rattle.mx_ptr.specs.Pointers.{PointerParts, IsPackable};
+ghost use Rattle.mx_call.specs.Loading.{loaded, opening_registers};
+ghost use Rattle.mx_call.specs.Registers.{ArePackable, Registers, IsSound};
 ghost use Rattle.mx_call.specs.Transfers.{call_judgement, called, returned, IsCalled, IsReturned, IsGate};
 
 /// The register rules leave nothing open: a granted call or return has one outcome.
@@ -14,13 +15,28 @@ pub fn registers_have_one_outcome()
         → IsReturned before target after ↔ (after ≡ returned before target) }
 {}
 
-/// No pointer register's ring is ever below the current ring, and no register ever asks for further indirection: a granted
-/// call or return leaves it so.
+/// No pointer register's ring is ever below the current ring, and no register ever asks for further indirection: so it is
+/// at the start, and a granted call or return, and the load of a pointer register with an effective pointer, leave it so.
 pub fn registers_stay_sound()
+    ensures opening { IsSound opening_registers }
     ensures call { (before after : Registers) (target : PointerParts) (d : Descriptor) → IsSound before
         → IsOk (call_judgement before target d) → IsCalled before target d after → IsSound after }
     ensures ret { (before after : Registers) (target : PointerParts) → IsSound before
         → IsReturned before target after → IsSound after }
+    ensures load { (before : Registers) (n : ℕ) (target : PointerParts) → IsSound before
+        → before.ring ≤ target.ring → target.further ≡ false → IsSound (loaded before n target) }
+{}
+
+/// Every pointer in the registers can be stored in a word: so it is at the start, and a call, a return and a load leave it
+/// so, where their target has a word.
+pub fn registers_stay_packable()
+    ensures opening { ArePackable opening_registers }
+    ensures call { (before after : Registers) (target : PointerParts) (d : Descriptor) → length before.pr ≡ 8
+        → ArePackable before → IsPackable target → IsCalled before target d after → ArePackable after }
+    ensures ret { (before after : Registers) (target : PointerParts) → ArePackable before → IsPackable target
+        → IsReturned before target after → ArePackable after }
+    ensures load { (before : Registers) (n : ℕ) (target : PointerParts) → ArePackable before → IsPackable target
+        → ArePackable (loaded before n target) }
 {}
 
 /// A granted call never raises the current ring. It lowers it only through a gate, into the second bracket, where the

@@ -1,9 +1,9 @@
-//! The registers of a process, and the two instructions that change its ring: call and return.
+//! The registers of a process, and the instructions that change them: call, return, and the load of a pointer register.
 //!
 //! [`call`] and [`ret`] are denied exactly as the judging rule of `mx_sdw` denies them, and what they make of the registers
 //! is a relation between those before and after, one field a rule of Schroeder and Saltzer's. Laws over these relations
 //! say that a call never raises the ring and lowers it only through a gate, that a return never lowers it, and that no
-//! pointer register ever falls below it. The crate stands on `mx_sdw` and `mx_ptr` and takes no memory.
+//! pointer register ever falls below it, and that each can be stored. The crate stands on `mx_sdw` and `mx_ptr` and takes no memory.
 #![tactic(auto)]
 
 mod laws;
@@ -13,8 +13,8 @@ mod tests;
 mod transfers;
 
 pub use laws::{
-    registers_have_one_outcome, registers_stay_sound, returns_never_lower_the_ring,
-    rings_fall_through_gates,
+    registers_have_one_outcome, registers_stay_packable, registers_stay_sound,
+    returns_never_lower_the_ring, rings_fall_through_gates,
 };
 pub use registers::Regs;
 pub use transfers::{call, ret};

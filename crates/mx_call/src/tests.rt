@@ -36,6 +36,21 @@ fn procedure(r1: u8, r2: u8, r3: u8, gate: u16) -> Result<Desc, Fail> {
 }
 
 #[test]
+fn a_loaded_pointer_register_is_stored(rt: HostRuntime) -> Result<(), Fail> {
+    let mut regs = Regs::opening();
+    assert_eq!(rt; regs.pr[2].pack().value(), 0o000440000043);
+    let target = Pointer {
+        ring: regs.ring,
+        segno: 0o12,
+        word: 7,
+        further: false,
+    };
+    regs.load(2, &target);
+    assert_eq!(rt; regs.pr[2].pack().value(), 0o001240001643);
+    Ok(())
+}
+
+#[test]
 fn through_a_gate_and_back(rt: HostRuntime) -> Result<(), Fail> {
     let main = procedure(4, 4, 4, 1)?;
     let gates = procedure(1, 3, 5, 2)?;

@@ -1,10 +1,10 @@
 //! Calls and returns.
 
 ghost use Rattle.std.specs.Prelude.{◌≡◌, ◌↔◌, map, IsOk, IfOk, IfErr, Err};
-ghost use Rattle.mx_call.specs.Registers.{stack_base, going_on, way_back, raised_to};
+ghost use Rattle.mx_call.specs.Registers.{going_on, way_back, raised_to};
 ghost use Rattle.mx_call.specs.Transfers.{calling, call_judgement, return_judgement, IsCalled, IsReturned};
 
-use crate::registers::Regs;
+use crate::registers::{Regs, stack_base};
 use mx_ptr::Pointer;
 use mx_sdw::{Denial, Desc, Op, Ring, judge, new_ring};
 
@@ -87,18 +87,6 @@ fn way_back(regs: &Regs) -> Pointer
     Pointer {
         ring: regs.ring,
         ..regs.procedure
-    }
-}
-
-/// The word 0 of the stack of a ring.
-fn stack_base(ring: Ring) -> Pointer
-    ensures { result ≡ stack_base ring }
-{
-    Pointer {
-        ring,
-        segno: u16::from(ring.number()),
-        word: 0,
-        further: false,
     }
 }
 

@@ -1,0 +1,11 @@
+use Rattle.mx_call.proofs.RegisterLaws.{called_stays_packable, returned_stays_packable, loaded_stays_packable}
+use Rattle.mx_call.proofs.laws.registers_stay_packable.Goals as goal
+
+pub returns-clause-call : goal.returns-clause-call
+returns-clause-call c = called_stays_packable
+
+pub returns-clause-ret : goal.returns-clause-ret
+returns-clause-ret c = returned_stays_packable
+
+pub returns-clause-load : goal.returns-clause-load
+returns-clause-load c = loaded_stays_packable
