@@ -27,9 +27,19 @@ impl Model for Walk {
 
     ghost Value = { Operand };
 
-    ghost view = { λ w. record { current = w.current; base = w.base; indirect = w.indirect; chain = take w.count w.chain } };
+    ghost view = { λ w. record {
+      current = w.current;
+      base = w.base;
+      indirect = w.indirect;
+      chain = take w.count w.chain;
+    } };
 
-    ghost invariant = { λ w. (w.count ≤ 8) × IsBounded (record { current = w.current; base = w.base; indirect = w.indirect; chain = take w.count w.chain }) };
+    ghost invariant = { λ w. (w.count ≤ 8) × IsBounded (record {
+      current = w.current;
+      base = w.base;
+      indirect = w.indirect;
+      chain = take w.count w.chain;
+    }) };
 }
 
 /// What a walk asks for.
@@ -66,8 +76,8 @@ impl Walk {
         }
     }
 
-    /// What it asks for: the next indirect word, at the effective ring so far, or nothing more. Where the base has a pointer
-    /// word, so has each place that the walk asks for.
+    /// What it asks for: the next indirect word, at the effective ring so far, or nothing more. Where the base has a
+    /// pointer word, so has each place that the walk asks for.
     pub fn want(&self) -> Want
         ensures value { result ≡ wanted self.now }
         ensures place { IsPackable self.now.base → IsPlace result }

@@ -1,6 +1,7 @@
 use std::marker::Model;
 
-/// The calls made of an end in memory, with the numbers of those that are to fault. The counts have 64 bits and stop at the last number.
+/// The calls made of an end in memory, with the numbers of those that are to fault. The counts have 64 bits and stop at
+/// the last number.
 #[derive(Debug, Drop)]
 pub(crate) struct Calls {
     fails: Vec<u32>,

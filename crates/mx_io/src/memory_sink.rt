@@ -15,8 +15,8 @@ impl From<AllocError> for Memory {
     }
 }
 
-/// A sink in memory, which tells its bytes. It takes all its memory when it is made, takes bytes in pieces, and faults where
-/// no room is left and at calls that its maker named.
+/// A sink in memory, which tells its bytes. It takes all its memory when it is made, takes bytes in pieces, and faults
+/// where no room is left and at calls that its maker named.
 #[derive(Debug, Drop)]
 pub struct MemorySink {
     bytes: Vec<u8>,
@@ -39,8 +39,9 @@ impl Model for MemorySink {
 impl MemorySink {
     ghost use Rattle.std.specs.Prelude.{◌≡◌, ◌≤◌, [], IfOk};
 
-    /// An empty sink with room for so many bytes. A write takes at most `piece` bytes and at most the room that is left.
-    /// Call number i, counted from 0, faults where i is in `fails`, and so does each call made when no room is left.
+    /// An empty sink with room for so many bytes. A write takes at most `piece` bytes and at most the room that is
+    /// left. Call number i, counted from 0, faults where i is in `fails`, and so does each call made when no room is
+    /// left.
     pub fn new(
         alloc: Global,
         room: usize,

@@ -25,8 +25,8 @@ impl Model for MemorySource {
 impl MemorySource {
     ghost use Rattle.std.specs.Prelude.{◌≡◌, ◌≤◌};
 
-    /// A source of these bytes. A call gives at most `piece` of them, and call number i, counted from 0, faults where i is
-    /// in `fails`.
+    /// A source of these bytes. A call gives at most `piece` of them, and call number i, counted from 0, faults where i
+    /// is in `fails`.
     pub fn new(bytes: Vec<u8>, fails: Vec<u32>, piece: usize) -> MemorySource
         requires { 1 ≤ piece }
         ensures bytes { result.left ≡ bytes.items }

@@ -29,8 +29,9 @@ impl From<AllocError> for ReadError {
     }
 }
 
-/// Reads a source to its end, where that comes after at most `limit` bytes. Each turn takes at least one byte, so there are
-/// at most `limit + 2` turns, and at most `limit + 1` bytes are taken. On an error the bytes read before it stay taken.
+/// Reads a source to its end, where that comes after at most `limit` bytes. Each turn takes at least one byte, so there
+/// are at most `limit + 2` turns, and at most `limit + 1` bytes are taken. On an error the bytes read before it stay
+/// taken.
 pub fn read_all<S: Source>(
     alloc: Global,
     source: &mut S,

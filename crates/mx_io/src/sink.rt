@@ -20,7 +20,8 @@ pub trait Sink {
     /// How often a write has failed: a count that rises where a write is a fault, and there only.
     ghost faults: { Self → ℕ };
 
-    /// Offers some bytes, at least one. The bytes taken grow by exactly those that it took, from the front of the offer.
+    /// Offers some bytes, at least one. The bytes taken grow by exactly those that it took, from the front of the
+    /// offer.
     fn write(&mut self, bytes: &[u8]) -> Put
         requires { 0 < length bytes.now }
         ensures count { IsWithinOffer (length bytes.now) result }

@@ -10,9 +10,9 @@ use crate::{Got, Put, Sink, Source};
 use std::io::{self, ErrorKind, Read, Write};
 use std::marker::Model;
 
-/// A reader of std as a source. It tells no bytes of its own: which bytes come, only the reader's contract says. Each error
-/// but an interruption is a fault; an interrupted read is made again, as std's `read_to_end` does. The count of faults has
-/// 64 bits and stops at the last number.
+/// A reader of std as a source. It tells no bytes of its own: which bytes come, only the reader's contract says. Each
+/// error but an interruption is a fault; an interrupted read is made again, as std's `read_to_end` does. The count of
+/// faults has 64 bits and stops at the last number.
 #[derive(Drop)]
 pub struct StdSource<R: Read + Drop> {
     reader: R,
@@ -81,7 +81,8 @@ impl<R: Read + Drop> Source for StdSource<R> {
         ensures cause { result ≡ Got.Fault → Rose self.old.faults self.new.faults }
         ensures only { result ≢ Got.Fault → self.new.faults ≡ self.old.faults }
         ensures later { self.old.faults ≤ self.new.faults }
-        ensures known { known.Consumes (R.remaining self.old.inner) (R.remaining self.new.inner) (given result buf.new) }
+        ensures known { known.Consumes (R.remaining self.old.inner) (R.remaining self.new.inner)
+            (given result buf.new) }
         ensures known_end { result ≡ Got.End → known.IsAtEnd (R.remaining self.new.inner) }
     {
         let got = read_once(&mut self.reader, buf);
@@ -92,8 +93,9 @@ impl<R: Read + Drop> Source for StdSource<R> {
     }
 }
 
-/// A writer of std as a sink. It tells no bytes of its own: what was written, only the writer's contract says. Each error
-/// but an interruption is a fault, and so is a write that takes nothing; an interrupted write is made again, as std's
+/// A writer of std as a sink. It tells no bytes of its own: what was written, only the writer's contract says. Each
+/// error but an interruption is a fault, and so is a write that takes nothing; an interrupted write is made again, as
+/// std's
 /// `write_all` does. The count of faults has 64 bits and stops at the last number.
 #[derive(Drop)]
 pub struct StdSink<W: Write + Drop> {

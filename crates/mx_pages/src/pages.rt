@@ -68,7 +68,8 @@ impl Pages {
         ensures full { OnErr result (run_given self.old n ≡ None) }
         ensures after { self.new ≡ after_run self.old n (run_given self.old n) }
         ensures lowest { IfOk result (λ first. IsLowestRun self.old n first) }
-        ensures only { IfOk result (λ first. (page : ℕ) → IsFree self.new page ↔ (IsFree self.old page × (IsInRun n first page → ⊥))) }
+        ensures only { IfOk result (λ first. (page : ℕ)
+            → IsFree self.new page ↔ (IsFree self.old page × (IsInRun n first page → ⊥))) }
     {
         let Some(first) = self.next(n) else {
             return Err(PagesFull);

@@ -1,8 +1,9 @@
--- Pointer words and link words. The layout is this model's own: twelve octal digits, of which four are the segment number,
--- one the ring, five twice the word number and the bit for further indirection, and two the tag.
+-- Pointer words and link words. The layout is this model's own: twelve octal digits, of which four are the segment
+-- number, one the ring, five twice the word number and the bit for further indirection, and two the tag.
 use Rattle.std.specs.Prelude.{ℕ, ◌+◌, ◌*◌, ◌/◌, ◌%◌, ◌^◌, ◌≤◌, nat_eq, Bool, if◌then◌else◌, Option, Some, None}
 
--- a pointer: the ring in it, the segment and the word that it points to, and whether a further indirect word stands there
+-- a pointer: the ring in it, the segment and the word that it points to, and whether a further indirect word stands
+-- there
 pub record PointerParts : Type 0 where
   pub ring : ℕ
   pub segno : ℕ

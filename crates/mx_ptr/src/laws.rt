@@ -17,6 +17,7 @@ pub fn each_pointer_has_one_word(pointer: &Pointer, word: Word)
 /// the word number and the further bit, two for the tag.
 pub fn words_in_octal(pointer: &Pointer, index: u16)
     ensures pointer { IsPackable pointer.now → digits 12 (pointer_word pointer.now)
-        ≡ digits 4 pointer.now.segno ++ digits 1 pointer.now.ring ++ digits 5 (place_of pointer.now.word pointer.now.further) ++ codes "43" }
+        ≡ digits 4 pointer.now.segno ++ digits 1 pointer.now.ring
+        ++ digits 5 (place_of pointer.now.word pointer.now.further) ++ codes "43" }
     ensures link { index ≤ 16383 → digits 12 (link_word index) ≡ codes "00000" ++ digits 5 (2 * index) ++ codes "46" }
 {}

@@ -18,7 +18,8 @@ pub record Descriptor : Type 0 where
 
 -- zeros in all fields but the kind
 abbrev pub empty_desc : DescKind → Descriptor
-empty_desc kind = record { kind = kind; brackets = lowest_brackets; r = false; e = false; w = false; gate = 0; page = 0; bound = 0 }
+empty_desc kind =
+    record { kind = kind; brackets = lowest_brackets; r = false; e = false; w = false; gate = 0; page = 0; bound = 0 }
 
 -- the descriptor of a number that is not known
 abbrev pub unknown_desc : Descriptor

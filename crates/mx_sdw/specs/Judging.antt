@@ -46,4 +46,5 @@ granted_unless (Some denial) cell = Err denial
 
 -- what the judging rule answers for a descriptor, an operation, a ring and a word
 unfoldable pub judgement : Descriptor → Op → ℕ → ℕ → Result Cell Denial
-judgement d op ring word = granted_unless (find (λ denial. applies denial d op ring word) judging_order) (cell_of d word)
+judgement d op ring word =
+    granted_unless (find (λ denial. applies denial d op ring word) judging_order) (cell_of d word)

@@ -24,4 +24,5 @@ same_flags a b rest = same_flag a.r b.r && (same_flag a.e b.e && (same_flag a.w 
 abbrev pub same_desc : Descriptor → Descriptor → Bool
 same_desc a b =
     same_kind a.kind b.kind
-    && (same_brackets a.brackets b.brackets && same_flags a b ((a.gate == b.gate) && ((a.page == b.page) && (a.bound == b.bound))))
+    && (same_brackets a.brackets b.brackets
+    && same_flags a b ((a.gate == b.gate) && ((a.page == b.page) && (a.bound == b.bound))))

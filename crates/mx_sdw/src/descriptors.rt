@@ -43,9 +43,27 @@ impl Model for Desc {
 
     ghost Value = { Descriptor };
 
-    ghost view = { λ d. record { kind = d.kind; brackets = d.brackets; r = d.r; e = d.e; w = d.w; gate = d.gate; page = d.page; bound = d.bound } };
+    ghost view = { λ d. record {
+      kind = d.kind;
+      brackets = d.brackets;
+      r = d.r;
+      e = d.e;
+      w = d.w;
+      gate = d.gate;
+      page = d.page;
+      bound = d.bound;
+    } };
 
-    ghost inverse = { λ d. record { kind = d.kind; brackets = d.brackets; r = d.r; e = d.e; w = d.w; gate = d.gate; page = d.page; bound = d.bound } };
+    ghost inverse = { λ d. record {
+      kind = d.kind;
+      brackets = d.brackets;
+      r = d.r;
+      e = d.e;
+      w = d.w;
+      gate = d.gate;
+      page = d.page;
+      bound = d.bound;
+    } };
 }
 
 impl Desc {

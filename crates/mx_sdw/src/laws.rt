@@ -22,7 +22,8 @@ use crate::words::Word;
 /// word and allows the access, and is otherwise denied with the first denial whose condition holds.
 pub fn judged_in_order(desc: &Desc, op: Op, ring: Ring, word: u32)
     ensures granted { (judgement desc.now op ring word ≡ Ok (cell_of desc.now word)) ↔ IsGranted desc.now op ring word }
-    ensures denied { (denial : DenialValue) → (judgement desc.now op ring word ≡ Err denial) ↔ IsFirst denial desc.now op ring word }
+    ensures denied { (denial : DenialValue)
+        → (judgement desc.now op ring word ≡ Err denial) ↔ IsFirst denial desc.now op ring word }
 {}
 
 /// No two denials have the same text, so a printed denial says which one it is.
@@ -43,7 +44,8 @@ pub fn each_octal_number_has_one_spelling(n: u64, text: &[u8], digits: usize)
 pub fn each_descriptor_word_has_one_view(view: &DescView, word: DescWord, number: u64)
     ensures view { FitsWord view.now → desc_view (desc_word view.now) ≡ view.now }
     ensures word { desc_word (desc_view word) ≡ word }
-    ensures exactly { IsDescWord number ↔ (FitsWord (desc_view number) × ((bits number 62 2 ≡ 2) ⊎ (bits number 18 44 ≡ 0))) }
+    ensures exactly { IsDescWord number
+        ↔ (FitsWord (desc_view number) × ((bits number 62 2 ≡ 2) ⊎ (bits number 18 44 ≡ 0))) }
 {}
 
 /// A cell word gives back the value, the writer and the stamp that were put into it, and each is made of its three.

@@ -2,8 +2,10 @@
 //!
 //! [`judge`] says whether an operation is granted on a descriptor, and with which denial if not. Its contract gives the
 //! answer as one definition, the first denial of a table in order; a law says the same as a table of what is granted.
-//! Octal numbers are read and written with one spelling for each number. The crate stands on the standard library alone
-//! and takes no memory, but for the bytes that [`write_octal`] appends to the caller's vector.
+//! [`DescWord`] and [`CellWord`] are the words of 64 bits in which descriptors and cells lie where threads share them;
+//! each is tied to what it says by a layout, and each word has one spelling. Octal numbers are read and written with
+//! one spelling for each number. The crate stands on the standard library alone and takes no memory, but for the bytes
+//! that [`write_octal`] appends to the caller's vector.
 #![tactic(auto)]
 
 mod cell_words;
