@@ -1,5 +1,5 @@
--- What a call and a return make of the registers, after Schroeder and Saltzer. This model's own choice is that a call itself
--- leaves the way back in pointer register 7. The target's ring is the effective ring.
+-- What a call and a return make of the registers, after Schroeder and Saltzer. This model's own choice is that a call
+-- itself leaves the way back in pointer register 7. The target's ring is the effective ring.
 use Rattle.std.specs.Prelude.{◌≡◌, ℕ, ◌<◌, ◌≤◌, min, nat_eq, length, map, slice_get, slice_set, Some, Result}
 use Rattle.mx_sdw.specs.declared.descriptors.Cell.{Cell}
 use Rattle.mx_sdw.specs.declared.denials.Denial.{Denial}
@@ -22,8 +22,8 @@ call_judgement g target d = judgement d (calling g target) target.ring target.wo
 abbrev pub return_judgement : PointerParts → Descriptor → Result Cell Denial
 return_judgement target d = judgement d Return target.ring target.word
 
--- the registers before and after a granted call: the process goes on at the target, in the smaller of the effective ring
--- and the second bracket, with that ring's stack in pointer register 0 and the way back in pointer register 7
+-- the registers before and after a granted call: the process goes on at the target, in the smaller of the effective
+-- ring and the second bracket, with that ring's stack in pointer register 0 and the way back in pointer register 7
 pub record IsCalled (before : Registers) (target : PointerParts) (d : Descriptor) (after : Registers) : Type 0 where
   pub current : after.ring ≡ min target.ring d.brackets.r2
   pub procedure : after.procedure ≡ going_on target after.ring
@@ -33,7 +33,8 @@ pub record IsCalled (before : Registers) (target : PointerParts) (d : Descriptor
   pub count : length after.pr ≡ length before.pr
   pub accumulator : after.a ≡ before.a
 
--- and a granted return: the process goes on at the target, in the effective ring, and no pointer register stays below it
+-- and a granted return: the process goes on at the target, in the effective ring, and no pointer register stays below
+-- it
 pub record IsReturned (before : Registers) (target : PointerParts) (after : Registers) : Type 0 where
   pub current : after.ring ≡ target.ring
   pub procedure : after.procedure ≡ going_on target after.ring
@@ -44,11 +45,16 @@ pub record IsReturned (before : Registers) (target : PointerParts) (after : Regi
 abbrev pub called : Registers → PointerParts → Descriptor → Registers
 called g target d =
     let ring : ℕ = min target.ring d.brackets.r2 in
-    record g { ring = ring; procedure = going_on target ring; pr = slice_set (slice_set g.pr 0 (stack_base ring)) 7 (way_back g) }
+    record g {
+      ring = ring;
+      procedure = going_on target ring;
+      pr = slice_set (slice_set g.pr 0 (stack_base ring)) 7 (way_back g);
+    }
 
 -- and after a granted return
 abbrev pub returned : Registers → PointerParts → Registers
-returned g target = record g { ring = target.ring; procedure = going_on target target.ring; pr = map (raised_to target.ring) g.pr }
+returned g target =
+    record g { ring = target.ring; procedure = going_on target target.ring; pr = map (raised_to target.ring) g.pr }
 
 -- a target that is entered through a gate: one of the first words, from above the second bracket up to the third
 pub record IsGate (target : PointerParts) (d : Descriptor) : Type 0 where

@@ -15,8 +15,9 @@ pub fn registers_have_one_outcome()
         → IsReturned before target after ↔ (after ≡ returned before target) }
 {}
 
-/// No pointer register's ring is ever below the current ring, and no register ever asks for further indirection: so it is
-/// at the start, and a granted call or return, and the load of a pointer register with an effective pointer, leave it so.
+/// No pointer register's ring is ever below the current ring, and no register ever asks for further indirection: so it
+/// is at the start, and a granted call or return, and the load of a pointer register with an effective pointer, leave
+/// it so.
 pub fn registers_stay_sound()
     ensures opening { IsSound opening_registers }
     ensures call { (before after : Registers) (target : PointerParts) (d : Descriptor) → IsSound before
@@ -27,8 +28,8 @@ pub fn registers_stay_sound()
         → before.ring ≤ target.ring → target.further ≡ false → IsSound (loaded before n target) }
 {}
 
-/// Every pointer in the registers can be stored in a word: so it is at the start, and a call, a return and a load leave it
-/// so, where their target has a word.
+/// Every pointer in the registers can be stored in a word: so it is at the start, and a call, a return and a load leave
+/// it so, where their target has a word.
 pub fn registers_stay_packable()
     ensures opening { ArePackable opening_registers }
     ensures call { (before after : Registers) (target : PointerParts) (d : Descriptor) → length before.pr ≡ 8

@@ -1,9 +1,10 @@
 //! The registers of a process, and the instructions that change them: call, return, and the load of a pointer register.
 //!
-//! [`call`] and [`ret`] are denied exactly as the judging rule of `mx_sdw` denies them, and what they make of the registers
-//! is a relation between those before and after, one field a rule of Schroeder and Saltzer's. Laws over these relations
-//! say that a call never raises the ring and lowers it only through a gate, that a return never lowers it, and that no
-//! pointer register ever falls below it, and that each can be stored. The crate stands on `mx_sdw` and `mx_ptr` and takes no memory.
+//! [`call`] and [`ret`] are denied exactly as the judging rule of `mx_sdw` denies them, and what they make of the
+//! registers is a relation between those before and after, one field a rule of Schroeder and Saltzer's. Laws over these
+//! relations say that a call never raises the ring and lowers it only through a gate, that a return never lowers it,
+//! that no pointer register ever falls below it, and that each can be stored. The crate stands on `mx_sdw` and
+//! `mx_ptr` and takes no memory.
 #![tactic(auto)]
 
 mod laws;

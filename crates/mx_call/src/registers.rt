@@ -48,8 +48,8 @@ impl Regs {
         }
     }
 
-    /// Loads pointer register `n`, 0 to 7, with the effective pointer of an operand: its ring is never below the current
-    /// one, and it asks for no further indirection.
+    /// Loads pointer register `n`, 0 to 7, with the effective pointer of an operand: its ring is never below the
+    /// current one, and it asks for no further indirection.
     pub fn load(&mut self, n: u8, target: &Pointer)
         requires number { n ≤ 7 }
         requires ring { self.old.ring ≤ target.now.ring }

@@ -8,8 +8,8 @@ use crate::registers::{Regs, stack_base};
 use mx_ptr::Pointer;
 use mx_sdw::{Denial, Desc, Op, Ring, judge, new_ring};
 
-/// The registers after a call of `target`, a word of the segment that `desc` describes, where `target.ring` is the effective
-/// ring. Denied as the judging rule denies a call from the current ring (Schroeder and Saltzer).
+/// The registers after a call of `target`, a word of the segment that `desc` describes, where `target.ring` is the
+/// effective ring. Denied as the judging rule denies a call from the current ring (Schroeder and Saltzer).
 pub fn call(regs: &Regs, target: &Pointer, desc: &Desc) -> Result<Regs, Denial>
     ensures granted { IsOk result ↔ IsOk (call_judgement regs.now target.now desc.now) }
     ensures ok { IfOk result (λ after. IsCalled regs.now target.now desc.now after) }
