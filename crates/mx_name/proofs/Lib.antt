@@ -1,3 +1,4 @@
+pub mod CutLaws
 pub mod FirstFaults
 pub mod IdLaws
 pub mod PathLaws

@@ -1,5 +1,5 @@
 -- What texts spell and how they are read: one text for each value, one value for each text, and the bytes that no text has.
-use Rattle.std.proofs.Common.{ℕ, ◌≡◌, eqb, Bool, true, false, cond, ◌&&◌, not, List, [], ◌∷◌, ◌++◌, length, Option, None, Some, Result, Ok, Err, ◌+◌, ◌==◌, length-append, append-nil, take, drop, suc, ltb, ◌-◌, refl, ap, sym, ◌∙◌, subst, arith}
+use Rattle.std.proofs.Common.{ℕ, ◌≡◌, ◌≤◌, eqb, Bool, true, false, cond, ◌&&◌, not, List, [], ◌∷◌, ◌++◌, length, Option, None, Some, Result, Ok, Err, ◌+◌, ◌==◌, length-append, append-nil, take, drop, suc, ltb, ◌-◌, refl, ap, sym, ◌∙◌, subst, arith}
 use Rattle.std.specs.List.{list_all, slice_split, onto_first, join_with_byte}
 use Rattle.std.specs.Option.{option_or}
 use Rattle.std.specs.Result.{result_ok}
@@ -8,16 +8,15 @@ use Rattle.std.proofs.lemmas.Bool.Decides.{nat_tests}
 use Rattle.std.proofs.lemmas.List.Splits.{join_with_byte-slice_split}
 use Rattle.mx_name.specs.declared.names.NameError.{NameError}
 use Rattle.mx_name.specs.declared.names.NameError.TheVariants.{Empty}
-use Rattle.mx_name.specs.declared.identifiers.Component.{Component}
-use Rattle.mx_name.specs.declared.identifiers.Component.TheVariants.{Any, Literal}
 use Rattle.mx_name.specs.Answers.{unless, judged}
 use Rattle.mx_name.specs.Paths.{IsPath, path_text, names_text, resolved}
 use Rattle.mx_name.specs.Pathnames.{is_absolute, climbs, after_marks, names_of, first_fault, pathname_fault, pathname_of, is_pathname_byte}
 use Rattle.mx_name.specs.Principals.{PlainPrincipal, IsPrincipal, is_principal_byte, components_fault, three, spelled, principal_of, principal_text}
-use Rattle.mx_name.specs.Identifiers.{PlainAclId, IsAclId, component_of, component_text, component_fault, id_fault, id_parts, with_stars, acl_id_of, acl_id_text}
+use Rattle.mx_name.specs.Identifiers.{Component, Any, Literal, PlainAclId, IsAclId, component_of, component_text, component_fault, id_fault, id_parts, with_stars, acl_id_of, acl_id_text}
 use Rattle.mx_name.proofs.FirstFaults.{or_left, or_right}
 use Rattle.mx_name.proofs.PathLaws.{pathname_names}
 use Rattle.mx_name.specs.OrderLaws.{both_left, both_right, and_false}
+use Rattle.mx_name.specs.Stars.{star_is, component_takes}
 use Rattle.mx_name.specs.Names.{is_free, is_name_byte, name_fault, name_of, fault_of}
 
 -- a byte that fails the test is no byte that passes it
@@ -122,20 +121,8 @@ principal_is_free byte p f d e =
     let parts = all_three (fault_of is_principal_byte 22 p.person) (fault_of is_principal_byte 9 p.project) (fault_of is_principal_byte 1 p.tag) e in
     free_three byte p.person p.project p.tag d (component_is_free byte 22 p.person f parts.0) (component_is_free byte 9 p.project f parts.1) (component_is_free byte 1 p.tag f parts.2)
 
--- a component's text is read as the component, and spelled as it was written
-star_is : (text : List ℕ) → pointwise ◌==◌ text (42 ∷ []) ≡ true → 42 ∷ [] ≡ text
-star_is [] h = absurd (cc)
-star_is (c ∷ []) h = let same : c ≡ 42 = grind (arith, nat_tests, both_left (eqb c 42) true h) in rw same refl
-star_is (c ∷ d ∷ more) h = absurd (let no = both_right (eqb c 42) false h in cc)
-
-component_takes : (text : List ℕ) → component_text (component_of text) ≡ text
-component_takes text = by_test (pointwise ◌==◌ text (42 ∷ [])) refl
-  where
-    by_test : (b : Bool) → pointwise ◌==◌ text (42 ∷ []) ≡ b → component_text (cond b Any (Literal text)) ≡ text
-    by_test true h = star_is text h
-    by_test false h = refl
-
-component_again : (most : ℕ) (k : Component) → component_fault most k ≡ None → component_of (component_text k) ≡ k
+-- a component's text is read as the component
+pub component_again : (most : ℕ) (k : Component) → component_fault most k ≡ None → component_of (component_text k) ≡ k
 component_again most Any e = refl
 component_again most (Literal text) e = by_test (pointwise ◌==◌ text (42 ∷ [])) refl
   where
@@ -284,3 +271,16 @@ pub path_again : (names : List (List ℕ)) → IsPath names → (base : List (Li
 path_again names path base =
     let text = path_text names in
     ap (λ (b : Bool). cond b [] (take (length base - climbs text) base) ++ names_of text) (path_absolute names) ∙ path_names names path.names_fit
+
+-- and is no longer than it may be
+pub faultless_within : (p : ℕ → Bool) (most : ℕ) (text : List ℕ) → fault_of p most text ≡ None → length text ≤ most
+faultless_within p most text e = grind (arith, nat_tests, e)
+
+-- nor are the components of a principal
+pub components_within : (p : PlainPrincipal) → IsPrincipal p → (length p.person ≤ 22) × (length p.project ≤ 9) × (length p.tag ≤ 1)
+components_within p e =
+    let parts = all_three (fault_of is_principal_byte 22 p.person) (fault_of is_principal_byte 9 p.project) (fault_of is_principal_byte 1 p.tag) e in (
+      faultless_within is_principal_byte 22 p.person parts.0,
+      faultless_within is_principal_byte 9 p.project parts.1,
+      faultless_within is_principal_byte 1 p.tag parts.2,
+    )

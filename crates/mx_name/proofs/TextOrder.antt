@@ -1,15 +1,14 @@
 -- The order of identifiers of equal rank is the byte order of their texts.
-use Rattle.std.proofs.Common.{ℕ, ◌≡◌, ◌<◌, true, List, [], ◌∷◌, ◌++◌, None, refl, ap, ◌∙◌, arith}
+use Rattle.std.proofs.Common.{ℕ, ◌≡◌, ◌<◌, true, List, [], ◌∷◌, ◌++◌, None, refl, ap, sym, ◌∙◌, arith}
 use Rattle.std.specs.List.{list_all}
 use Rattle.std.specs.Ordering.{nat_cmp, ordering_then}
 use Rattle.std.specs.Cmp.Lexicographic.{slice_cmp}
 use Rattle.std.specs.declared.cmp.Ordering.{Ordering}
 use Rattle.std.specs.declared.cmp.Ordering.TheVariants.{Less, Equal, Greater}
 use Rattle.std.proofs.lemmas.Bool.Decides.{nat_tests}
-use Rattle.mx_name.specs.declared.identifiers.Component.{Component}
-use Rattle.mx_name.specs.declared.identifiers.Component.TheVariants.{Any, Literal}
-use Rattle.mx_name.specs.Principals.{is_principal_byte}
-use Rattle.mx_name.specs.Identifiers.{PlainAclId, IsAclId, component_text, component_fault, acl_id_text}
+use Rattle.mx_name.specs.Principals.{PlainPrincipal, is_principal_byte}
+use Rattle.mx_name.specs.Stars.{component_takes}
+use Rattle.mx_name.specs.Identifiers.{Component, Any, Literal, PlainAclId, IsAclId, component_of, component_text, component_fault, id_parts, acl_id_text}
 use Rattle.mx_name.specs.IdentifierOrder.{component_cmp, components_cmp}
 use Rattle.mx_name.specs.OrderLaws.{both_left, both_right}
 use Rattle.mx_name.proofs.TextLaws.{faultless_fits, all_three}
@@ -59,6 +58,23 @@ at_end most Any (Literal (d ∷ ds)) e f = rw (below_literal 42 d (omega arith) 
 at_end most (Literal []) Any e f = absurd (cc)
 at_end most (Literal (c ∷ cs)) Any e f = rw (above_literal 42 c (omega arith) (byte_of c cs (faultless_fits is_principal_byte most (c ∷ cs) e))) refl
 at_end most (Literal xs) (Literal ys) e f = refl
+
+-- the components as they are written are compared so
+written_at : (most : ℕ) (x y : List ℕ) → component_fault most (component_of x) ≡ None → component_fault most (component_of y) ≡ None
+    → slice_cmp nat_cmp x y ≡ component_cmp (component_of x) (component_of y)
+written_at most x y e f =
+    ap (λ (text : List ℕ). slice_cmp nat_cmp text y) (sym (component_takes x))
+    ∙ ap (slice_cmp nat_cmp (component_text (component_of x))) (sym (component_takes y))
+    ∙ at_end most (component_of x) (component_of y) e f
+
+pub written_cmp : (p q : PlainPrincipal) → IsAclId (id_parts p) → IsAclId (id_parts q)
+    → ordering_then (ordering_then (slice_cmp nat_cmp p.person q.person) (slice_cmp nat_cmp p.project q.project)) (slice_cmp nat_cmp p.tag q.tag)
+    ≡ components_cmp (id_parts p) (id_parts q)
+written_cmp p q e f =
+    let a = all_three (component_fault 22 (component_of p.person)) (component_fault 9 (component_of p.project)) (component_fault 1 (component_of p.tag)) e in
+    let b = all_three (component_fault 22 (component_of q.person)) (component_fault 9 (component_of q.project)) (component_fault 1 (component_of q.tag)) f in
+    rw (written_at 22 p.person q.person a.0 b.0, written_at 9 p.project q.project a.1 b.1, written_at 1 p.tag q.tag a.2 b.2)
+    (sym (assoc (component_cmp (component_of p.person) (component_of q.person)) (component_cmp (component_of p.project) (component_of q.project)) (component_cmp (component_of p.tag) (component_of q.tag))))
 
 pub text_order : (x y : PlainAclId) → IsAclId x → IsAclId y → slice_cmp nat_cmp (acl_id_text x) (acl_id_text y) ≡ components_cmp x y
 text_order x y e f =

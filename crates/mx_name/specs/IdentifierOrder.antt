@@ -3,9 +3,7 @@ use Rattle.std.specs.Ordering.{nat_cmp, ordering_then}
 use Rattle.std.specs.Cmp.Lexicographic.{slice_cmp}
 use Rattle.std.specs.declared.cmp.Ordering.{Ordering}
 use Rattle.std.specs.declared.cmp.Ordering.TheVariants.{Less, Equal, Greater}
-use Rattle.mx_name.specs.declared.identifiers.Component.{Component}
-use Rattle.mx_name.specs.declared.identifiers.Component.TheVariants.{Any, Literal}
-use Rattle.mx_name.specs.Identifiers.{PlainAclId, id_rank}
+use Rattle.mx_name.specs.Identifiers.{Component, Any, Literal, PlainAclId, id_rank}
 
 -- `*` is below every literal, as its byte is; literals are in byte order
 abbrev pub component_cmp : Component → Component → Ordering
@@ -16,7 +14,9 @@ component_cmp (Literal own) (Literal other) = slice_cmp nat_cmp own other
 
 -- component by component, which is the byte order of the texts
 abbrev pub components_cmp : PlainAclId → PlainAclId → Ordering
-components_cmp x y = ordering_then (component_cmp x.person y.person) (ordering_then (component_cmp x.project y.project) (component_cmp x.tag y.tag))
+components_cmp x y =
+    ordering_then (component_cmp x.person y.person)
+    (ordering_then (component_cmp x.project y.project) (component_cmp x.tag y.tag))
 
 -- by rank, then so
 abbrev pub id_cmp : PlainAclId → PlainAclId → Ordering

@@ -5,11 +5,14 @@ use Rattle.std.specs.Option.{option_or}
 use Rattle.std.specs.Result.{result_ok, result_err}
 use Rattle.std.specs.Cmp.Lexicographic.{pointwise}
 use Rattle.mx_name.specs.declared.names.NameError.{NameError}
-use Rattle.mx_name.specs.declared.identifiers.Component.{Component}
-use Rattle.mx_name.specs.declared.identifiers.Component.TheVariants.{Any, Literal}
 use Rattle.mx_name.specs.Names.{fault_of}
 use Rattle.mx_name.specs.Answers.{judged}
 use Rattle.mx_name.specs.Principals.{PlainPrincipal, is_principal_byte, spelled}
+
+-- a component is every text, written `*`, or this text alone
+pub data Component : Type 0 where
+  Any : Component
+  Literal : List ℕ → Component
 
 -- an identifier's three components
 pub record PlainAclId : Type 0 where
@@ -32,7 +35,8 @@ component_fault most (Literal text) = fault_of is_principal_byte most text
 
 -- the first bad component
 abbrev pub id_fault : PlainAclId → Option NameError
-id_fault id = option_or (component_fault 22 id.person) (option_or (component_fault 9 id.project) (component_fault 1 id.tag))
+id_fault id =
+    option_or (component_fault 22 id.person) (option_or (component_fault 9 id.project) (component_fault 1 id.tag))
 
 -- what is true of every AclId
 abbrev pub IsAclId : PlainAclId → Type 0
@@ -69,7 +73,8 @@ component_matches (Literal own) text = pointwise ◌==◌ own text
 
 -- an identifier matches a principal where each component does
 abbrev pub id_matches : PlainAclId → PlainPrincipal → Bool
-id_matches id who = component_matches id.person who.person && component_matches id.project who.project && component_matches id.tag who.tag
+id_matches id who =
+    component_matches id.person who.person && component_matches id.project who.project && component_matches id.tag who.tag
 
 -- what `*` adds to the rank at its place
 abbrev pub weight : ℕ → Component → ℕ

@@ -3,8 +3,10 @@ pub mod Pathnames
 pub mod Paths
 pub mod Principals
 pub mod Identifiers
+pub mod IdentifierOrder
 pub mod Answers
 pub mod Cuts
+pub mod Texts
 pub mod Parts
-pub mod IdentifierOrder
 pub mod OrderLaws
+pub mod Stars

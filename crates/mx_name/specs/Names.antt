@@ -1,6 +1,7 @@
 -- Entry names: what a name may hold, and the first thing that is wrong with a text that is none.
 use Rattle.std.specs.Prelude.{ℕ, Bool, ◌&&◌, not, ◌==◌, nat_lt, List, Option, None, Some, Result, if◌then◌else◌, length, codes}
 use Rattle.std.specs.List.{list_any, list_all}
+use Rattle.std.specs.Cmp.Lexicographic.{pointwise}
 use Rattle.std.specs.Result.{result_ok}
 use Rattle.mx_name.specs.declared.names.NameError.{NameError}
 use Rattle.mx_name.specs.declared.names.NameError.TheVariants.{Empty, TooLong, BadChar}
@@ -32,3 +33,7 @@ name_of text = result_ok (name_reading text)
 -- a text without the byte
 abbrev pub is_free : ℕ → List ℕ → Bool
 is_free byte text = list_all (λ c. not (c == byte)) text
+
+-- two equal names
+abbrev pub same_name : List ℕ → List ℕ → Bool
+same_name x y = pointwise ◌==◌ x y

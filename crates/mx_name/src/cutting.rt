@@ -2,13 +2,13 @@
 ghost use Rattle.std.specs.Prelude.{◌≡◌, ◌==◌, ◌<◌, length, IfSome};
 ghost use Rattle.std.specs.List.{slice_split};
 ghost use Rattle.std.specs.Option.{option_map};
-ghost use Rattle.mx_name.specs.Cuts.{parts_by};
+ghost use Rattle.mx_name.specs.Cuts.{cut_at};
+ghost use Rattle.mx_name.specs.Parts.{parts_by};
 
-/// What stands before the first `mark` of a text and what after it.
-#[tactic(auto, using(crate::proofs::Splitting::behind_none))]
-pub(crate) fn cut(mark: u8, text: &[u8]) -> Option<(&[u8], &[u8])>
-    ensures parts { slice_split (λ c. c == mark) text.now
-        ≡ parts_by mark text.now (option_map (λ p. (p.0.now, p.1.now)) result) }
+/// What stands before the first `mark` of a text, and what after it; none where it has no `mark`. Takes no memory.
+#[tactic(auto, unfolding(crate::specs::Cuts::cut_at))]
+pub fn cut(mark: u8, text: &[u8]) -> Option<(&[u8], &[u8])>
+    ensures cut { option_map (λ p. (p.0.now, p.1.now)) result ≡ cut_at mark text.now }
     ensures shorter { IfSome result (λ p. length p.1.now < length text.now) }
 {
     for (i, byte) in text.iter().enumerate() {
@@ -17,4 +17,14 @@ pub(crate) fn cut(mark: u8, text: &[u8]) -> Option<(&[u8], &[u8])>
         }
     }
     None
+}
+
+/// The same, said of all parts of the text between marks.
+#[tactic(auto, using(crate::proofs::CutLaws::parts_cut))]
+pub(crate) fn first_part(mark: u8, text: &[u8]) -> Option<(&[u8], &[u8])>
+    ensures parts { slice_split (λ c. c == mark) text.now
+        ≡ parts_by mark text.now (option_map (λ p. (p.0.now, p.1.now)) result) }
+    ensures shorter { IfSome result (λ p. length p.1.now < length text.now) }
+{
+    cut(mark, text)
 }

@@ -2,138 +2,80 @@
 ghost use Rattle.std.specs.Prelude.{◌≡◌, ◌+◌, ◌≤◌, ◌++◌, ℕ, Some, IfOk, OnOk, OnErr};
 ghost use Rattle.std.specs.Ordering.{nat_cmp, ordering_then};
 ghost use Rattle.std.specs.Cmp.Lexicographic.{slice_cmp};
-ghost use Rattle.mx_name.specs.Answers.{Answers};
-ghost use Rattle.mx_name.specs.Principals.{PlainPrincipal};
 ghost use Rattle.mx_name.specs.Parts.{plain};
-ghost use Rattle.mx_name.specs.Identifiers.{PlainAclId, IsAclId, component_of, component_fault, component_text, component_matches, weight, id_fault, id_matches, id_rank, id_parts, maker_id, acl_id_reading, acl_id_of, acl_id_text};
-ghost use Rattle.mx_name.specs.IdentifierOrder.{component_cmp, components_cmp, id_cmp};
+ghost use Rattle.mx_name.specs.Identifiers.{PlainAclId, IsAclId, component_of, component_fault, component_matches, weight, id_fault, id_matches, id_rank, id_parts, maker_id, acl_id_reading, acl_id_of, acl_id_text};
+ghost use Rattle.mx_name.specs.IdentifierOrder.{components_cmp, id_cmp};
 
 use crate::names::NameError;
 use crate::principals::{Parts, Principal, component_fault, spelled};
 use crate::spelling::append_components;
-use mx_list::Bytes;
-use std::alloc::{AllocError, Global};
+use crate::texts::Text;
+use std::alloc::AllocError;
 use std::cmp::Ordering;
+use std::hash::{Hash, Hasher};
 use std::marker::Model;
 
-/// A component of an identifier.
-#[derive(Debug, Drop, Clone, PartialEq, Eq, Hash)]
-pub enum Component {
-    /// Every text, written `*`.
-    Any,
-    /// This text alone.
-    Literal(Bytes),
-}
-
-impl Component {
-    fn read(alloc: Global, text: &[u8]) -> Result<Component, AllocError>
-        ensures { IfOk result (λ component. component ≡ component_of text.now) }
-    {
-        if text == b"*".as_slice() {
-            return Ok(Component::Any);
-        }
-        let text = Bytes::of_slice(alloc, text)?;
-        Ok(Component::Literal(text))
-    }
-
-    fn literal(text: &Bytes) -> Result<Component, AllocError>
-        ensures { IfOk result (λ component. component ≡ Component.Literal text.now) }
-    {
-        let text = text.clone()?;
-        Ok(Component::Literal(text))
-    }
-
-    fn order(&self, other: &Component) -> Ordering
-        ensures { result ≡ component_cmp self.now other.now }
-    {
-        match (self, other) {
-            (Component::Any, Component::Any) => Ordering::Equal,
-            (Component::Any, Component::Literal(_)) => Ordering::Less,
-            (Component::Literal(_), Component::Any) => Ordering::Greater,
-            (Component::Literal(own), Component::Literal(other)) => own.cmp(other),
-        }
-    }
-
-    fn bytes(&self) -> &[u8]
-        ensures { result.now ≡ component_text self.now }
-    {
-        match self {
-            Component::Any => b"*".as_slice(),
-            Component::Literal(text) => text.items(),
-        }
-    }
-
-    fn copy(&self) -> Result<Component, AllocError>
-        ensures { IfOk result (λ component. component ≡ self.now) }
-    {
-        self.clone()
-    }
-
-    fn matches(&self, text: &Bytes) -> bool
-        ensures { result ≡ component_matches self.now text.now }
-    {
-        match self {
-            Component::Any => true,
-            Component::Literal(own) => own == text,
-        }
-    }
-
-    fn weight(&self, most: u8) -> u8
-        ensures value { result ≡ weight most self.now }
-        ensures bound { result ≤ most }
-    {
-        match self {
-            Component::Any => most,
-            Component::Literal(_) => 0,
-        }
-    }
-}
-
-/// The identifier of an access list entry, as `Person.*.tag`: three components as a principal has them, each a literal or `*`.
-#[derive(Debug, Drop, PartialEq, Eq, Hash)]
+/// The identifier of an access list entry, as `Person.*.tag`: three components as a principal has them, each a literal
+/// or `*`. They are held as they are written.
+#[derive(Clone, Copy, Debug)]
 pub struct AclId {
-    person: Component,
-    project: Component,
-    tag: Component,
+    person: Text<22>,
+    project: Text<9>,
+    tag: Text<1>,
 }
 
 impl Model for AclId {
-    ghost use Rattle.mx_name.specs.Identifiers.{PlainAclId, IsAclId};
+    ghost use Rattle.mx_name.specs.Identifiers.{PlainAclId, IsAclId, component_text, id_parts};
+    ghost use Rattle.mx_name.specs.Stars.{written_so};
 
     ghost Value = { PlainAclId };
 
-    ghost view = { λ a. record { person = a.person; project = a.project; tag = a.tag } };
+    ghost view = { λ a. id_parts (record { person = a.person; project = a.project; tag = a.tag }) };
 
-    ghost inverse = { λ d. record { person = d.person; project = d.project; tag = d.tag } };
+    ghost inverse = { λ d. record {
+      person = component_text d.person;
+      project = component_text d.project;
+      tag = component_text d.tag;
+    } };
 
-    ghost invariant = { λ a. IsAclId (record { person = a.person; project = a.project; tag = a.tag }) };
+    ghost invariant = { λ a. IsAclId (id_parts (record { person = a.person; project = a.project; tag = a.tag })) };
+
+    ghost inverse_ok = { λ a h. written_so a };
 }
 
-impl Clone for AclId {
-    ghost is_clone = { λ a b. b ≡ a };
+/// Two identifiers are equal where the order does not tell them apart.
+impl PartialEq for AclId {
+    ghost use Rattle.std.specs.Ordering.{eq_by_cmp};
+    ghost use Rattle.std.specs.Cmp.{partial_equiv_from_equiv, eq_by_cmp_equiv};
+    ghost use Rattle.mx_name.specs.IdentifierOrder.{id_cmp};
+    ghost use Rattle.mx_name.specs.OrderLaws.{id_total};
 
-    fn clone(&self) -> Result<AclId, AllocError> {
-        let person = self.person.copy()?;
-        let project = self.project.copy()?;
-        let tag = self.tag.copy()?;
-        Ok(AclId {
-            person,
-            project,
-            tag,
-        })
+    ghost eq = { eq_by_cmp id_cmp };
+
+    ghost laws = { partial_equiv_from_equiv (eq_by_cmp_equiv id_total) };
+
+    fn eq(&self, other: &Self) -> bool {
+        self.cmp(other) == Ordering::Equal
     }
+}
+
+impl Eq for AclId {
+    ghost use Rattle.std.specs.Cmp.{eq_by_cmp_equiv};
+    ghost use Rattle.mx_name.specs.OrderLaws.{id_total};
+
+    ghost laws = { eq_by_cmp_equiv id_total };
 }
 
 /// Identifiers are in the order in which an access list keeps them: by rank, equal ranks in byte order of their texts.
 impl PartialOrd for AclId {
     ghost use Rattle.std.specs.Prelude.{Some};
-    ghost use Rattle.std.specs.Cmp.{po};
+    ghost use Rattle.std.specs.Cmp.{partial_order_from_total};
     ghost use Rattle.mx_name.specs.IdentifierOrder.{id_cmp};
-    ghost use Rattle.mx_name.specs.OrderLaws.{id_total, id_ties};
+    ghost use Rattle.mx_name.specs.OrderLaws.{id_total};
 
     ghost partial_cmp = { λ a b. Some (id_cmp a b) };
 
-    ghost laws = { po id_total id_ties };
+    ghost laws = { partial_order_from_total id_total };
 
     fn partial_cmp(&self, other: &Self) -> Option<Ordering> {
         Some(self.cmp(other))
@@ -143,7 +85,7 @@ impl PartialOrd for AclId {
 impl Ord for AclId {
     ghost use Rattle.std.specs.Prelude.{refl};
     ghost use Rattle.mx_name.specs.IdentifierOrder.{id_cmp};
-    ghost use Rattle.mx_name.specs.OrderLaws.{id_total, id_ties};
+    ghost use Rattle.mx_name.specs.OrderLaws.{id_total};
 
     ghost cmp = { id_cmp };
 
@@ -151,7 +93,7 @@ impl Ord for AclId {
 
     ghost matches_partial_cmp = { λ a b. refl };
 
-    ghost matches_eq = { id_ties };
+    ghost matches_eq = { λ a b. refl };
 
     fn cmp(&self, other: &Self) -> Ordering {
         match self.rank().cmp(&other.rank()) {
@@ -161,56 +103,70 @@ impl Ord for AclId {
     }
 }
 
+impl Hash for AclId {
+    ghost use Rattle.mx_name.specs.OrderLaws.{id_decides};
+    ghost use Rattle.mx_name.specs.Identifiers.{component_text};
+    ghost use Rattle.std.specs.Prelude.{◌++◌};
+    ghost use Rattle.std.specs.Hash.{slice, same_Alike};
+
+    ghost hash_input = { λ a. slice ⟦<u8 as Hash>⟧.hash_input (component_text a.person)
+        ++ slice ⟦<u8 as Hash>⟧.hash_input (component_text a.project)
+        ++ slice ⟦<u8 as Hash>⟧.hash_input (component_text a.tag) };
+
+    ghost respects_eq = { (same_Alike _ id_decides).fed };
+
+    fn hash<H: Hasher>(&self, state: &mut H) {
+        self.person.hash(state);
+        self.project.hash(state);
+        self.tag.hash(state);
+    }
+}
+
 impl AclId {
-    /// The identifier that a text spells. An empty text is `Empty`; then one without exactly three components is `BadChar`;
-    /// then the first bad component from the left answers: `Empty`, `TooLong`, `BadChar`, in this order.
-    pub fn read(alloc: Global, text: &[u8]) -> Result<AclId, NameError>
-        ensures answer { Answers NameError.Memory (acl_id_reading text.now) result }
+    /// The identifier that a text spells. An empty text is `Empty`; then one without exactly three components is
+    /// `BadChar`; then the first bad component from the left answers: `Empty`, `TooLong`, `BadChar`, in this order.
+    /// Takes no memory.
+    pub fn read(text: &[u8]) -> Result<AclId, NameError>
+        ensures answer { result ≡ acl_id_reading text.now }
         ensures spelled { IfOk result (λ id. acl_id_text id ≡ text.now) }
     {
         let parts = spelled(text)?;
-        if let Some(fault) = id_fault(&parts) {
-            return Err(fault);
+        match id_fault(&parts) {
+            Some(fault) => Err(fault),
+            None => Ok(AclId::of(&parts)),
         }
-        let id = AclId::of(alloc, &parts)?;
-        Ok(id)
     }
 
-    fn of(alloc: Global, parts: &Parts) -> Result<AclId, AllocError>
+    #[tactic(auto, using(crate::proofs::IdLaws::written_within))]
+    fn of(parts: &Parts) -> AclId
         requires { IsAclId (id_parts (plain parts.now)) }
-        ensures { IfOk result (λ id. id ≡ id_parts (plain parts.now)) }
+        ensures { result ≡ id_parts (plain parts.now) }
     {
-        let person = Component::read(alloc, parts.person)?;
-        let project = Component::read(alloc, parts.project)?;
-        let tag = Component::read(alloc, parts.tag)?;
-        Ok(AclId {
-            person,
-            project,
-            tag,
-        })
+        AclId {
+            person: Text::of(parts.person),
+            project: Text::of(parts.project),
+            tag: Text::of(parts.tag),
+        }
     }
 
-    /// `Person.Project.*`, the identifier of the entry that a new branch gets for its maker.
-    #[tactic(auto, using(crate::proofs::IdLaws::maker_fits))]
-    pub fn of_maker(who: &Principal) -> Result<AclId, AllocError>
-        ensures { IfOk result (λ id. id ≡ maker_id who.now) }
+    /// `Person.Project.*`, the identifier of the entry that a new branch gets for its maker. Takes no memory.
+    pub fn of_maker(who: &Principal) -> AclId
+        ensures { result ≡ maker_id who.now }
     {
-        let person = Component::literal(who.person())?;
-        let project = Component::literal(who.project())?;
-        Ok(AclId {
-            person,
-            project,
-            tag: Component::Any,
-        })
+        AclId {
+            person: Text::of(who.person()),
+            project: Text::of(who.project()),
+            tag: Text::of(b"*".as_slice()),
+        }
     }
 
     /// Whether the identifier matches a principal: each component is `*` or the principal's own. Takes no memory.
     pub fn matches(&self, who: &Principal) -> bool
         ensures { result ≡ id_matches self.now who.now }
     {
-        self.person.matches(who.person())
-            && self.project.matches(who.project())
-            && self.tag.matches(who.tag())
+        component_matches(self.person.bytes(), who.person())
+            && component_matches(self.project.bytes(), who.project())
+            && component_matches(self.tag.bytes(), who.tag())
     }
 
     /// 4 for `*` as the person, 2 as the project and 1 as the tag, summed: 0 to 7. Takes no memory.
@@ -218,7 +174,9 @@ impl AclId {
         ensures value { result ≡ id_rank self.now }
         ensures bound { result ≤ 7 }
     {
-        self.person.weight(4) + self.project.weight(2) + self.tag.weight(1)
+        weight(4, self.person.bytes())
+            + weight(2, self.project.bytes())
+            + weight(1, self.tag.bytes())
     }
 
     /// Appends the identifier's text; want of memory leaves the output as it was. The text is read as this identifier.
@@ -235,21 +193,27 @@ impl AclId {
         )
     }
 
-    /// Another such identifier.
-    pub fn copy(&self) -> Result<AclId, AllocError>
-        ensures { IfOk result (λ id. id ≡ self.now) }
-    {
-        self.clone()
-    }
-
     fn components_cmp(&self, other: &AclId) -> Ordering
         ensures { result ≡ components_cmp self.now other.now }
     {
         self.person
-            .order(&other.person)
-            .then(self.project.order(&other.project))
-            .then(self.tag.order(&other.tag))
+            .cmp(&other.person)
+            .then(self.project.cmp(&other.project))
+            .then(self.tag.cmp(&other.tag))
     }
+}
+
+fn component_matches(own: &[u8], text: &[u8]) -> bool
+    ensures { result ≡ component_matches (component_of own.now) text.now }
+{
+    own == b"*".as_slice() || own == text
+}
+
+fn weight(most: u8, text: &[u8]) -> u8
+    ensures value { result ≡ weight most (component_of text.now) }
+    ensures bound { result ≤ most }
+{
+    if text == b"*".as_slice() { most } else { 0 }
 }
 
 /// The fault of the first bad component from the left, where `*` is a good one.
@@ -273,7 +237,9 @@ fn starred_fault(most: usize, text: &[u8]) -> Option<NameError>
 
 /// Law: the order of identifiers is by rank, and equal ranks are in byte order of their texts.
 pub fn kept_order(a: &AclId, b: &AclId)
-    ensures { id_cmp a.now b.now ≡ ordering_then (nat_cmp (id_rank a.now) (id_rank b.now)) (slice_cmp nat_cmp (acl_id_text a.now) (acl_id_text b.now)) }
+    ensures { id_cmp a.now b.now
+        ≡ ordering_then (nat_cmp (id_rank a.now) (id_rank b.now))
+        (slice_cmp nat_cmp (acl_id_text a.now) (acl_id_text b.now)) }
 {
     let _ = &a.person;
     let _ = &b.person;

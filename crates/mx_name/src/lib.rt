@@ -1,9 +1,10 @@
 //! Names, pathnames, paths, principals and access list identifiers.
 //!
-//! Each type holds only texts of its own grammar, and its `read` answers exactly: the value that the text spells, or the
-//! first fault of the text in a fixed order, or want of memory. The definitions of reading and of spelling are functions
-//! on lists of bytes, inverse to one another, so that a grammar above can cite them. Resolving, matching and ranks are
-//! pinned by definitions too. Stands on the list type alone.
+//! Each type holds only texts of its own grammar, and its `read` answers exactly: the value that the text spells, or
+//! the first fault of the text in a fixed order. The definitions of reading and of spelling are functions on lists of
+//! bytes, inverse to one another, so that a grammar above can cite them. Resolving, matching and ranks are pinned by
+//! definitions too. Names, principals and identifiers are held in the value itself, and are copied as numbers are; a
+//! pathname and a path take one piece of memory each. Stands on the list type alone.
 #![tactic(auto)]
 
 mod cutting;
@@ -13,8 +14,10 @@ mod pathnames;
 mod paths;
 mod principals;
 mod spelling;
+mod texts;
 
-pub use identifiers::{AclId, Component, kept_order};
+pub use cutting::cut;
+pub use identifiers::{AclId, kept_order};
 pub use names::{EntryName, NameError};
 pub use pathnames::Pathname;
 pub use paths::{Path, PathError};
@@ -66,18 +69,17 @@ mod tests {
         ] {
             assert_eq!(rt; Pathname::read(alloc, text).err(), Some(want), "{text:?}");
         }
-        assert!(rt; EntryName::read(alloc, &long[..32]).is_ok());
+        assert!(rt; EntryName::read(&long[..32]).is_ok());
         assert_eq!(rt;
-            AclId::read(alloc, b"Jones.Faculty").err(),
+            AclId::read(b"Jones.Faculty").err(),
             Some(NameError::BadChar)
         );
     }
 
     #[test]
     fn identifiers_match_by_rank(rt: HostRuntime) -> Result<(), Fail> {
-        let alloc = rt.alloc();
-        let faculty = AclId::read(alloc, b"*.Faculty.*")?;
-        let jones = AclId::read(alloc, b"Jones.*.*")?;
+        let faculty = AclId::read(b"*.Faculty.*")?;
+        let jones = AclId::read(b"Jones.*.*")?;
         assert_eq!(rt; faculty.rank(), 5);
         assert_eq!(rt; jones.rank(), 3);
         for (text, by_faculty, by_jones) in [
@@ -85,7 +87,7 @@ mod tests {
             (b"Smith.Faculty.a", true, false),
             (b"Smith.Ops.a", false, false),
         ] {
-            let who = Principal::read(alloc, text)?;
+            let who = Principal::read(text)?;
             assert_eq!(rt; faculty.matches(&who), by_faculty);
             assert_eq!(rt; jones.matches(&who), by_jones);
         }

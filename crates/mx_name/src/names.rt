@@ -1,12 +1,11 @@
 //! Entry names, and the faults of texts that are none.
-ghost use Rattle.std.specs.Prelude.{◌≡◌, ℕ, Bool, Some, None, IfOk, length};
+ghost use Rattle.std.specs.Prelude.{◌≡◌, ℕ, Bool, Some, None, length};
 ghost use Rattle.std.specs.List.{list_all};
 ghost use Rattle.mx_name.specs.Names.{is_name_byte, fault_of, name_fault, name_reading};
-ghost use Rattle.mx_name.specs.Answers.{Answers};
 ghost use Rattle.mx_name.specs.declared.names.NameError.TheVariants.{Memory};
 
-use mx_list::Bytes;
-use std::alloc::{AllocError, Global};
+use crate::texts::Text;
+use std::alloc::AllocError;
 use std::marker::Model;
 use thiserror::Error;
 
@@ -22,7 +21,7 @@ pub enum NameError {
     /// It has a byte that its kind does not allow, or not three components.
     #[error("bad character")]
     BadChar,
-    /// Memory was wanting; the text itself has no fault.
+    /// Out of memory; the text itself has no fault. Only a pathname takes memory.
     #[error("out of memory")]
     Memory,
 }
@@ -37,9 +36,9 @@ impl From<AllocError> for NameError {
 
 /// The name of an entry in a directory: 1 to 32 bytes of printable ASCII, without the space and `> < * ? $ , | : =`
 /// (the characters are this model's choice). Also the form of reference names and of symbols.
-#[derive(Debug, Drop, PartialEq, Eq, PartialOrd, Ord, Hash)]
+#[derive(Clone, Copy, Debug, PartialEq, Eq, PartialOrd, Ord, Hash)]
 pub struct EntryName {
-    text: Bytes,
+    text: Text<32>,
 }
 
 impl Model for EntryName {
@@ -55,34 +54,27 @@ impl Model for EntryName {
     ghost invariant = { λ a. name_fault a.text ≡ None };
 }
 
-impl Clone for EntryName {
-    ghost is_clone = { λ a b. b ≡ a };
-
-    fn clone(&self) -> Result<EntryName, AllocError> {
-        let text = self.text.clone()?;
-        Ok(EntryName { text })
-    }
-}
-
 impl EntryName {
-    /// The name that a text is. `Empty`, `TooLong` and `BadChar` are tested in this order over the whole text.
-    pub fn read(alloc: Global, text: &[u8]) -> Result<EntryName, NameError>
-        ensures { Answers NameError.Memory (name_reading text.now) result }
+    /// The name that a text is. `Empty`, `TooLong` and `BadChar` are tested in this order over the whole text. Takes no
+    /// memory.
+    pub fn read(text: &[u8]) -> Result<EntryName, NameError>
+        ensures { result ≡ name_reading text.now }
     {
-        if let Some(fault) = name_fault(text) {
-            return Err(fault);
+        match name_fault(text) {
+            Some(fault) => Err(fault),
+            None => Ok(EntryName::of(text)),
         }
-        let name = EntryName::of(alloc, text)?;
-        Ok(name)
     }
 
     /// The name of a text that has no fault.
-    pub(crate) fn of(alloc: Global, text: &[u8]) -> Result<EntryName, AllocError>
+    #[tactic(auto, using(crate::proofs::TextLaws::faultless_within))]
+    pub(crate) fn of(text: &[u8]) -> EntryName
         requires { name_fault text.now ≡ None }
-        ensures { IfOk result (λ name. name ≡ text.now) }
+        ensures { result ≡ text.now }
     {
-        let text = Bytes::of_slice(alloc, text)?;
-        Ok(EntryName { text })
+        EntryName {
+            text: Text::of(text),
+        }
     }
 
     /// The bytes of the name.
@@ -90,14 +82,7 @@ impl EntryName {
         ensures value { result.now ≡ self.now }
         ensures name { name_fault self.now ≡ None }
     {
-        self.text.items()
-    }
-
-    /// Another such name.
-    pub fn copy(&self) -> Result<EntryName, AllocError>
-        ensures { IfOk result (λ name. name ≡ self.now) }
-    {
-        self.clone()
+        self.text.bytes()
     }
 }
 

@@ -3,17 +3,17 @@ ghost use Rattle.std.specs.Prelude.{◌≡◌, ◌==◌, ◌≤◌, ℕ, Some, N
 ghost use Rattle.std.specs.List.{slice_split};
 ghost use Rattle.std.specs.Option.{option_map};
 ghost use Rattle.mx_name.specs.Pathnames.{is_absolute, climbs, after_marks, names_of, first_fault, pathname_fault, pathname_reading};
-ghost use Rattle.mx_name.specs.Cuts.{names_in};
+ghost use Rattle.mx_name.specs.Parts.{names_in};
 ghost use Rattle.mx_name.specs.Answers.{Answers};
 
-use crate::cutting::cut;
+use crate::cutting::first_part;
 use crate::names::{NameError, name_fault};
 use mx_list::Bytes;
 use std::alloc::{AllocError, Global};
 use std::marker::Model;
 
-/// A pathname as written: at most 168 bytes; names with `>` between them, behind one `>` (from the root), any number of `<`
-/// (each goes up one directory), or nothing. It is seen as its text.
+/// A pathname as written: at most 168 bytes; names with `>` between them, behind one `>` (from the root), any number of
+/// `<` (each goes up one directory), or nothing. It is seen as its text.
 #[derive(Debug, Drop, PartialEq, Eq)]
 pub struct Pathname {
     text: Bytes,
@@ -85,10 +85,12 @@ pub(crate) fn climbs(text: &[u8]) -> usize
     ensures count { result ≡ climbs text.now }
     ensures within { result ≤ length text.now }
 {
-    match text {
-        [first, rest @ ..] => { if *first == b'<' { 1 + climbs(rest) } else { 0 } }
-        [] => 0,
+    for (i, byte) in text.iter().enumerate() {
+        if *byte != b'<' {
+            return i;
+        }
     }
+    text.len()
 }
 
 /// What follows the marks at the front.
@@ -133,11 +135,12 @@ fn pathname_fault(text: &[u8]) -> Option<NameError>
 fn names_fault(names: &[u8]) -> Option<NameError>
     ensures { result ≡ first_fault (slice_split (λ c. c == 62) names.now) }
 {
-    let Some((name, rest)) = cut(b'>', names) else {
-        return name_fault(names);
-    };
-    if let Some(fault) = name_fault(name) {
-        return Some(fault);
+    let mut left = names;
+    while let Some((name, rest)) = first_part(b'>', left) {
+        if let Some(fault) = name_fault(name) {
+            return Some(fault);
+        }
+        left = rest;
     }
-    names_fault(rest)
+    name_fault(left)
 }

@@ -6,7 +6,7 @@ ghost use Rattle.mx_name.specs.Paths.{IsPath, path_text, names_text, kept, resol
 ghost use Rattle.mx_name.specs.Answers.{Answers};
 ghost use Rattle.mx_name.specs.declared.paths.PathError.TheVariants.{Memory};
 
-use crate::cutting::cut;
+use crate::cutting::first_part;
 use crate::names::EntryName;
 use crate::pathnames::{Pathname, climbs, is_absolute, named};
 use mx_list::Sequence;
@@ -75,9 +75,9 @@ impl Path {
         }
     }
 
-    /// The path that a pathname stands for, from a base: an absolute pathname's names; for a relative one as many last names
-    /// as it has `<` are taken off the base, and its own are appended. `AboveRoot` exactly where there are more `<` than names
-    /// in the base, then `TooLong` exactly where the path's text exceeds 168 bytes.
+    /// The path that a pathname stands for, from a base: an absolute pathname's names; for a relative one as many last
+    /// names as it has `<` are taken off the base, and its own are appended. `AboveRoot` exactly where there are more
+    /// `<` than names in the base, then `TooLong` exactly where the path's text exceeds 168 bytes.
     pub fn resolve(alloc: Global, base: &Path, name: &Pathname) -> Result<Path, PathError>
         ensures { Answers PathError.Memory (resolution base.now name.now) result }
     {
@@ -97,8 +97,8 @@ impl Path {
         self.names.items()
     }
 
-    /// Appends the path's text: `>` before each name, and `>` alone for the root; want of memory leaves the output as it was.
-    /// The text is a pathname that stands for this path, from any base.
+    /// Appends the path's text: `>` before each name, and `>` alone for the root; want of memory leaves the output as
+    /// it was. The text is a pathname that stands for this path, from any base.
     pub fn append_to(&self, out: &mut Vec<u8>) -> Result<(), AllocError>
         ensures ok { OnOk result (out.new.items ≡ out.old.items ++ path_text self.now) }
         ensures err { OnErr result (out.new.items ≡ out.old.items) }
@@ -157,10 +157,11 @@ fn names_length(names: &[EntryName]) -> usize
     ensures value { result ≡ length (names_text names.now) }
     ensures bound { result ≤ 168 }
 {
-    match names {
-        [first, rest @ ..] => 1 + first.bytes().len() + names_length(rest),
-        [] => 0,
+    let mut length = 0;
+    for name in names {
+        length += 1 + name.bytes().len();
     }
+    length
 }
 
 /// The same of the names of a pathname.
@@ -175,6 +176,7 @@ fn added_length(text: &[u8]) -> usize
     }
 }
 
+/// The names, in one piece of memory.
 fn resolved(
     alloc: Global,
     base: &[EntryName],
@@ -184,34 +186,34 @@ fn resolved(
     requires names { first_fault (names_of text.now) ≡ None }
     ensures { IfOk result (λ names. names ≡ resolved base.now text.now) }
 {
-    let mut names = copies(alloc, kept(base, text))?;
-    let Some(rest) = named(text) else {
-        return Ok(names);
-    };
-    add_names(alloc, &mut names, rest)?;
-    Ok(names)
+    let kept = kept(base, text);
+    let mut names = Vec::with_capacity(alloc, kept.len() + most_names(text))?;
+    names.extend_from_slice(kept)?;
+    if let Some(added) = named(text) {
+        add_names(&mut names, added)?;
+    }
+    Ok(Sequence::of(names))
 }
 
-fn copies(alloc: Global, names: &[EntryName]) -> Result<Sequence<EntryName>, AllocError>
-    ensures { IfOk result (λ list. list ≡ names.now) }
+/// No pathname has more names: it has one more than separators.
+fn most_names(text: &[u8]) -> usize
+    ensures { result ≤ length text.now + 1 }
 {
-    let list = Sequence::of_slice(alloc, names)?;
-    Ok(list)
+    let separators = text.iter().filter(|byte| **byte == b'>').count();
+    separators + 1
 }
 
 /// Appends the names of a text that has no bad name.
-fn add_names(alloc: Global, names: &mut Sequence<EntryName>, text: &[u8]) -> Result<(), AllocError>
+fn add_names(names: &mut Vec<EntryName>, text: &[u8]) -> Result<(), AllocError>
     requires { first_fault (slice_split (λ c. c == 62) text.now) ≡ None }
-    ensures { OnOk result (names.new ≡ names.old ++ slice_split (λ c. c == 62) text.now) }
+    ensures { OnOk result (names.new.items ≡ names.old.items ++ slice_split (λ c. c == 62) text.now) }
 {
-    let Some((name, rest)) = cut(b'>', text) else {
-        let name = EntryName::of(alloc, text)?;
-        names.push(name)?;
-        return Ok(());
-    };
-    let name = EntryName::of(alloc, name)?;
-    names.push(name)?;
-    add_names(alloc, names, rest)?;
+    let mut left = text;
+    while let Some((name, rest)) = first_part(b'>', left) {
+        names.push(EntryName::of(name))?;
+        left = rest;
+    }
+    names.push(EntryName::of(left))?;
     Ok(())
 }
 
@@ -244,13 +246,9 @@ fn push_names(out: &mut Vec<u8>, names: &[EntryName]) -> Result<(), AllocError>
     ensures ok { OnOk result (out.new.items ≡ out.old.items ++ names_text names.now) }
     ensures err { OnErr result ((more : List ℕ) × (out.new.items ≡ out.old.items ++ more)) }
 {
-    match names {
-        [first, rest @ ..] => {
-            out.push(b'>')?;
-            out.extend_from_slice(first.bytes())?;
-            push_names(out, rest)?;
-            Ok(())
-        }
-        [] => Ok(()),
+    for name in names {
+        out.push(b'>')?;
+        out.extend_from_slice(name.bytes())?;
     }
+    Ok(())
 }

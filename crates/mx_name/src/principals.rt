@@ -2,24 +2,23 @@
 ghost use Rattle.std.specs.Prelude.{◌≡◌, ◌==◌, ◌++◌, ℕ, Some, IfOk, OnOk, OnErr, Ok, Err};
 ghost use Rattle.std.specs.List.{list_all, slice_split};
 ghost use Rattle.mx_name.specs.Names.{fault_of};
-ghost use Rattle.mx_name.specs.Answers.{Answers};
 ghost use Rattle.mx_name.specs.Principals.{PlainPrincipal, is_principal_byte, components_fault, three, spelled, principal_reading, principal_of, principal_text, IsPrincipal};
 ghost use Rattle.mx_name.specs.Parts.{plain, spelling};
 
-use crate::cutting::cut;
+use crate::cutting::first_part;
 use crate::names::NameError;
 use crate::spelling::append_components;
-use mx_list::Bytes;
-use std::alloc::{AllocError, Global};
+use crate::texts::Text;
+use std::alloc::AllocError;
 use std::marker::Model;
 
-/// A principal, `Person.Project.tag`: a person of 1 to 22, a project of 1 to 9 and a tag of one letter, digit or `_` (these
-/// bounds are this model's choice).
-#[derive(Debug, Drop, PartialEq, Eq, PartialOrd, Ord, Hash)]
+/// A principal, `Person.Project.tag`: a person of 1 to 22, a project of 1 to 9 and a tag of one letter, digit or `_`
+/// (these bounds are this model's choice).
+#[derive(Clone, Copy, Debug, PartialEq, Eq, PartialOrd, Ord, Hash)]
 pub struct Principal {
-    person: Bytes,
-    project: Bytes,
-    tag: Bytes,
+    person: Text<22>,
+    project: Text<9>,
+    tag: Text<1>,
 }
 
 impl Model for Principal {
@@ -34,67 +33,50 @@ impl Model for Principal {
     ghost invariant = { λ a. IsPrincipal (record { person = a.person; project = a.project; tag = a.tag }) };
 }
 
-impl Clone for Principal {
-    ghost is_clone = { λ a b. b ≡ a };
-
-    fn clone(&self) -> Result<Principal, AllocError> {
-        let person = self.person.clone()?;
-        let project = self.project.clone()?;
-        let tag = self.tag.clone()?;
-        Ok(Principal {
-            person,
-            project,
-            tag,
-        })
-    }
-}
-
 impl Principal {
-    /// The principal that a text spells. An empty text is `Empty`; then one without exactly three components is `BadChar`;
-    /// then the first bad component from the left answers: `Empty`, `TooLong`, `BadChar`, in this order.
-    pub fn read(alloc: Global, text: &[u8]) -> Result<Principal, NameError>
-        ensures answer { Answers NameError.Memory (principal_reading text.now) result }
+    /// The principal that a text spells. An empty text is `Empty`; then one without exactly three components is
+    /// `BadChar`; then the first bad component from the left answers: `Empty`, `TooLong`, `BadChar`, in this order.
+    /// Takes no memory.
+    pub fn read(text: &[u8]) -> Result<Principal, NameError>
+        ensures answer { result ≡ principal_reading text.now }
         ensures spelled { IfOk result (λ who. principal_text who ≡ text.now) }
     {
         let parts = spelled(text)?;
-        if let Some(fault) = components_fault(&parts) {
-            return Err(fault);
+        match components_fault(&parts) {
+            Some(fault) => Err(fault),
+            None => Ok(Principal::of(&parts)),
         }
-        let who = Principal::of(alloc, &parts)?;
-        Ok(who)
     }
 
-    fn of(alloc: Global, parts: &Parts) -> Result<Principal, AllocError>
+    #[tactic(auto, using(crate::proofs::TextLaws::components_within))]
+    fn of(parts: &Parts) -> Principal
         requires { IsPrincipal (plain parts.now) }
-        ensures { IfOk result (λ who. who ≡ plain parts.now) }
+        ensures { result ≡ plain parts.now }
     {
-        let person = Bytes::of_slice(alloc, parts.person)?;
-        let project = Bytes::of_slice(alloc, parts.project)?;
-        let tag = Bytes::of_slice(alloc, parts.tag)?;
-        Ok(Principal {
-            person,
-            project,
-            tag,
-        })
+        Principal {
+            person: Text::of(parts.person),
+            project: Text::of(parts.project),
+            tag: Text::of(parts.tag),
+        }
     }
 
-    pub(crate) fn person(&self) -> &Bytes
+    pub(crate) fn person(&self) -> &[u8]
         ensures value { result.now ≡ self.now.person }
         ensures principal { IsPrincipal self.now }
     {
-        &self.person
+        self.person.bytes()
     }
 
-    pub(crate) fn project(&self) -> &Bytes
+    pub(crate) fn project(&self) -> &[u8]
         ensures { result.now ≡ self.now.project }
     {
-        &self.project
+        self.project.bytes()
     }
 
-    pub(crate) fn tag(&self) -> &Bytes
+    pub(crate) fn tag(&self) -> &[u8]
         ensures { result.now ≡ self.now.tag }
     {
-        &self.tag
+        self.tag.bytes()
     }
 
     /// Appends the principal's text; want of memory leaves the output as it was. The text is read as this principal.
@@ -105,17 +87,10 @@ impl Principal {
     {
         append_components(
             out,
-            self.person.items(),
-            self.project.items(),
-            self.tag.items(),
+            self.person.bytes(),
+            self.project.bytes(),
+            self.tag.bytes(),
         )
-    }
-
-    /// Another such principal.
-    pub fn copy(&self) -> Result<Principal, AllocError>
-        ensures { IfOk result (λ who. who ≡ self.now) }
-    {
-        self.clone()
     }
 }
 
@@ -142,13 +117,13 @@ pub(crate) fn spelled(text: &[u8]) -> Result<Parts<'_>, NameError>
 fn three(text: &[u8]) -> Result<Parts<'_>, NameError>
     ensures { spelling result ≡ three (slice_split (λ c. c == 46) text.now) }
 {
-    let Some((person, rest)) = cut(b'.', text) else {
+    let Some((person, rest)) = first_part(b'.', text) else {
         return Err(NameError::BadChar);
     };
-    let Some((project, tag)) = cut(b'.', rest) else {
+    let Some((project, tag)) = first_part(b'.', rest) else {
         return Err(NameError::BadChar);
     };
-    match cut(b'.', tag) {
+    match first_part(b'.', tag) {
         Some(_) => Err(NameError::BadChar),
         None => Ok(Parts {
             person,

@@ -11,7 +11,8 @@ pub(crate) fn append_components(
     project: &[u8],
     tag: &[u8],
 ) -> Result<(), AllocError>
-    ensures ok { OnOk result (out.new.items ≡ out.old.items ++ join_with_byte 46 (person.now ∷ project.now ∷ tag.now ∷ [])) }
+    ensures ok { OnOk result
+        (out.new.items ≡ out.old.items ++ join_with_byte 46 (person.now ∷ project.now ∷ tag.now ∷ [])) }
     ensures err { OnErr result (out.new.items ≡ out.old.items) }
 {
     let length = out.len();
@@ -30,7 +31,8 @@ fn push_components(
     project: &[u8],
     tag: &[u8],
 ) -> Result<(), AllocError>
-    ensures ok { OnOk result (out.new.items ≡ out.old.items ++ join_with_byte 46 (person.now ∷ project.now ∷ tag.now ∷ [])) }
+    ensures ok { OnOk result
+        (out.new.items ≡ out.old.items ++ join_with_byte 46 (person.now ∷ project.now ∷ tag.now ∷ [])) }
     ensures err { OnErr result ((more : List ℕ) × (out.new.items ≡ out.old.items ++ more)) }
 {
     out.extend_from_slice(person)?;

@@ -1,8 +1,7 @@
-use Rattle.std.proofs.Common.{◌≡◌, ◌==◌, take, drop}
-use Rattle.std.specs.List.{slice_split}
-use Rattle.mx_name.specs.Cuts.{behind}
+use Rattle.std.proofs.Common.{◌≡◌, take, drop}
+use Rattle.mx_name.specs.Cuts.{behind, cut_at}
 use Rattle.mx_name.proofs.cutting.cut.Given as goal
 
--- the parts of the whole text are the parts of what is left, behind what was passed
+-- the cut of the whole text is the cut of what is left, behind what was passed
 abbrev pub invariant-loop-i : goal.invariant-loop-i
-invariant-loop-i l = slice_split (λ c. c == l.mark) l.text ≡ behind (take l.i l.text) (slice_split (λ c. c == l.mark) (drop l.i l.text))
+invariant-loop-i l = cut_at l.mark l.text ≡ behind (take l.i l.text) (cut_at l.mark (drop l.i l.text))

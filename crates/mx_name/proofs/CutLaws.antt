@@ -1,0 +1,61 @@
+-- Laws of cuts: what a cut takes apart is its text, and a front without the byte is cut off again.
+use Rattle.std.proofs.Common.{ℕ, ◌≡◌, ◌==◌, Bool, true, false, cond, not, List, [], ◌∷◌, ◌++◌, Option, None, Some, refl, ap, subst}
+use Rattle.std.specs.List.{slice_split, onto_first}
+use Rattle.std.proofs.lemmas.Bool.{eqb-true, eq-eqb}
+use Rattle.mx_name.specs.Names.{is_free}
+use Rattle.mx_name.specs.Cuts.{behind, cut_at}
+use Rattle.mx_name.specs.Parts.{parts_by}
+use Rattle.mx_name.specs.OrderLaws.{both_left, both_right}
+
+some_is : {A : Type 0} (a b : A) → Some a ≡ Some b → a ≡ b
+some_is a b e = cc
+
+fails : (b : Bool) → not b ≡ true → b ≡ false
+fails true e = cc
+fails false e = refl
+
+-- what a cut says of its text
+abbrev pub IsCut : ℕ → List ℕ → List ℕ × List ℕ → Type 0
+IsCut byte text p = (text ≡ p.0 ++ byte ∷ p.1) × (is_free byte p.0 ≡ true)
+
+cut_on : (byte c : ℕ) (cs : List ℕ) (p : List ℕ × List ℕ) (test : Bool) (o : Option (List ℕ × List ℕ)) → (c == byte) ≡ test
+    → cond test (Some ([], cs)) (behind (c ∷ []) o) ≡ Some p → ((q : List ℕ × List ℕ) → o ≡ Some q → IsCut byte cs q)
+    → IsCut byte (c ∷ cs) p
+cut_on byte c cs p true o t e on =
+    let here = eqb-true c byte t in
+    let P : List ℕ × List ℕ → Type 0 = IsCut byte (c ∷ cs) in
+    subst P (some_is _ _ e) (ap (λ x. x ∷ cs) here, refl)
+cut_on byte c cs p false None t e on = cc
+cut_on byte c cs p false (Some q) t e on =
+    let later = on q refl in
+    let P : List ℕ × List ℕ → Type 0 = IsCut byte (c ∷ cs) in
+    subst P (some_is _ _ e) (ap (λ xs. c ∷ xs) later.0, rw t later.1)
+
+-- a cut is of its text, and at the first such byte
+pub cut_takes : (byte : ℕ) (text : List ℕ) (p : List ℕ × List ℕ) → cut_at byte text ≡ Some p → IsCut byte text p
+unfolding cut_at
+cut_takes byte [] p e = cc
+cut_takes byte (c ∷ cs) p e = cut_on byte c cs p (c == byte) (cut_at byte cs) refl e (cut_takes byte cs)
+
+-- a front without the byte is cut off
+pub cut_again : (byte : ℕ) (front rest : List ℕ) → is_free byte front ≡ true → cut_at byte (front ++ byte ∷ rest) ≡ Some (front, rest)
+unfolding cut_at
+cut_again byte [] rest e = rw (eq-eqb byte byte refl) refl
+cut_again byte (c ∷ cs) rest e =
+    rw (
+      fails (c == byte) (both_left (not (c == byte)) (is_free byte cs) e),
+      cut_again byte cs rest (both_right (not (c == byte)) (is_free byte cs) e),
+    ) refl
+
+-- the parts of a text are those by its cut
+parts_on : (byte c : ℕ) (cs : List ℕ) (test : Bool) (o : Option (List ℕ × List ℕ)) → slice_split (λ c. c == byte) cs ≡ parts_by byte cs o
+    → cond test ([] ∷ slice_split (λ c. c == byte) cs) (onto_first c (slice_split (λ c. c == byte) cs))
+    ≡ parts_by byte (c ∷ cs) (cond test (Some ([], cs)) (behind (c ∷ []) o))
+parts_on byte c cs true o e = refl
+parts_on byte c cs false None e = ap (onto_first c) e
+parts_on byte c cs false (Some q) e = ap (onto_first c) e
+
+pub parts_cut : (byte : ℕ) (text : List ℕ) → slice_split (λ c. c == byte) text ≡ parts_by byte text (cut_at byte text)
+unfolding cut_at
+parts_cut byte [] = refl
+parts_cut byte (c ∷ cs) = parts_on byte c cs (c == byte) (cut_at byte cs) (parts_cut byte cs)

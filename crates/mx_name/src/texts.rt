@@ -1,0 +1,105 @@
+//! Short texts, held in the value itself.
+ghost use Rattle.std.specs.Prelude.{◌≡◌, ◌≤◌, ◌<◌, ◌==◌, Some, refl, length};
+ghost use Rattle.std.specs.Ordering.{nat_cmp};
+ghost use Rattle.std.specs.Cmp.{partial_equiv_from_equiv};
+ghost use Rattle.std.specs.Cmp.Lexicographic.{pointwise, slice_cmp, nat_list_eq_equiv, nat_list_cmp_total, texts_ties, texts_po, bytes_decides};
+ghost use Rattle.std.specs.Hash.{slice, same_Alike};
+
+use std::cmp::Ordering;
+use std::hash::{Hash, Hasher};
+use std::marker::Model;
+
+/// A text of at most MOST bytes, seen as the list of its bytes. The bytes behind it are zero, so that it is its bytes
+/// alone.
+#[derive(Clone, Copy, Debug)]
+pub struct Text<const MOST: usize> {
+    bytes: [u8; MOST],
+    size: u8,
+}
+
+impl<const MOST: usize> Model for Text<MOST> {
+    ghost use Rattle.std.specs.Prelude.{ℕ, ◌-◌, List, ◌++◌, take, replicate, length};
+    ghost use Rattle.mx_name.specs.Texts.{IsText, given_back};
+
+    ghost Value = { List ℕ };
+
+    ghost view = { λ a. take a.size a.bytes };
+
+    ghost inverse = { λ d. record { bytes = d ++ replicate (MOST - length d) 0; size = length d } };
+
+    ghost invariant = { λ a. IsText MOST a.size a.bytes };
+
+    ghost inverse_ok = { λ a text. given_back MOST a text };
+}
+
+impl<const MOST: usize> Text<MOST> {
+    /// The text of these bytes.
+    pub fn of(bytes: &[u8]) -> Text<MOST>
+        requires within { length bytes.now ≤ MOST }
+        requires counted { length bytes.now < 256 }
+        ensures { result ≡ bytes.now }
+    {
+        let mut held = [0; MOST];
+        held[..bytes.len()].copy_from_slice(bytes);
+        Text {
+            bytes: held,
+            size: bytes.len() as u8,
+        }
+    }
+
+    /// The bytes of the text.
+    pub fn bytes(&self) -> &[u8]
+        ensures value { result.now ≡ self.now }
+        ensures within { length self.now ≤ MOST }
+    {
+        &self.bytes[..usize::from(self.size)]
+    }
+}
+
+impl<const MOST: usize> PartialEq for Text<MOST> {
+    ghost eq = { pointwise ◌==◌ };
+
+    ghost laws = { partial_equiv_from_equiv nat_list_eq_equiv };
+
+    fn eq(&self, other: &Self) -> bool {
+        self.bytes() == other.bytes()
+    }
+}
+
+impl<const MOST: usize> Eq for Text<MOST> {
+    ghost laws = { nat_list_eq_equiv };
+}
+
+impl<const MOST: usize> PartialOrd for Text<MOST> {
+    ghost partial_cmp = { λ xs ys. Some (slice_cmp nat_cmp xs ys) };
+
+    ghost laws = { texts_po };
+
+    fn partial_cmp(&self, other: &Self) -> Option<Ordering> {
+        Some(self.cmp(other))
+    }
+}
+
+impl<const MOST: usize> Ord for Text<MOST> {
+    ghost cmp = { slice_cmp nat_cmp };
+
+    ghost total = { nat_list_cmp_total };
+
+    ghost matches_partial_cmp = { λ xs ys. refl };
+
+    ghost matches_eq = { texts_ties };
+
+    fn cmp(&self, other: &Self) -> Ordering {
+        self.bytes().cmp(&other.bytes())
+    }
+}
+
+impl<const MOST: usize> Hash for Text<MOST> {
+    ghost hash_input = { slice ⟦<u8 as Hash>⟧.hash_input };
+
+    ghost respects_eq = { (same_Alike (slice ⟦<u8 as Hash>⟧.hash_input) bytes_decides).fed };
+
+    fn hash<H: Hasher>(&self, state: &mut H) {
+        self.bytes().hash(state);
+    }
+}
