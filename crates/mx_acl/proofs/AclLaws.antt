@@ -10,26 +10,25 @@ use Rattle.std.specs.Map.{keys_of, lookup, remove_entry}
 use Rattle.std.specs.FinMap.Entries.{put, find, where_key, is_sorted, find-put, find-where_key}
 use Rattle.mx_name.specs.Identifiers.{PlainAclId}
 use Rattle.mx_name.specs.IdentifierOrder.{id_cmp}
-use Rattle.mx_name.specs.OrderLaws.{id_total, id_ties, id_equal}
-use Rattle.mx_name.specs.contracts.identifiers.AclIdPartialEq.TheImpl.{eq-value}
+use Rattle.mx_name.specs.OrderLaws.{id_total, id_equal}
 use Rattle.mx_acl.specs.declared.modes.Modes.{Modes}
 use Rattle.mx_acl.proofs.EntryLaws.{lookup_is_find, strict, rising, put_is, removed_is}
 
-pub found : (id : PlainAclId) (es : List (PlainAclId × Modes)) → lookup (eq-value.it id) es ≡ find id_cmp id es
-found id es = lookup_is_find id_cmp eq-value.it id_total id_ties id es
+pub found : (id : PlainAclId) (es : List (PlainAclId × Modes)) → lookup (eq_by_cmp id_cmp id) es ≡ find id_cmp id es
+found id es = lookup_is_find id_cmp (eq_by_cmp id_cmp) id_total (λ x y. refl) id es
 
 pub in_order : (es : List (PlainAclId × Modes)) → T (is_sorted id_cmp es) → IsSorted id_cmp (keys_of es)
-in_order es t = rising id_cmp eq-value.it id_total id_ties es t
+in_order es t = rising id_cmp (eq_by_cmp id_cmp) id_total (λ x y. refl) es t
 
-pub strictly : (es : List (PlainAclId × Modes)) → IsSorted id_cmp (keys_of es) → IsDistinct eq-value.it (keys_of es) → T (is_sorted id_cmp es)
-strictly es up apart = strict id_cmp eq-value.it id_total id_ties es up apart
+pub strictly : (es : List (PlainAclId × Modes)) → IsSorted id_cmp (keys_of es) → IsDistinct (eq_by_cmp id_cmp) (keys_of es) → T (is_sorted id_cmp es)
+strictly es up apart = strict id_cmp (eq_by_cmp id_cmp) id_total (λ x y. refl) es up apart
 
 pub set_is : (old new : List (PlainAclId × Modes)) (id : PlainAclId) (modes : Modes) → T (is_sorted id_cmp old) → T (is_sorted id_cmp new)
-    → ((q : PlainAclId) → lookup (eq-value.it q) new ≡ cond (eq-value.it id q) (Some modes) (lookup (eq-value.it q) old)) → new ≡ put id_cmp id modes old
-set_is old new id modes t u updated = put_is id_cmp eq-value.it id_total id_ties id_equal old new id modes t u updated
+    → ((q : PlainAclId) → lookup (eq_by_cmp id_cmp q) new ≡ cond (eq_by_cmp id_cmp id q) (Some modes) (lookup (eq_by_cmp id_cmp q) old)) → new ≡ put id_cmp id modes old
+set_is old new id modes t u updated = put_is id_cmp (eq_by_cmp id_cmp) id_total (λ x y. refl) id_equal old new id modes t u updated
 
-pub taken_is : (id : PlainAclId) (es : List (PlainAclId × Modes)) → T (is_sorted id_cmp es) → remove_entry (eq-value.it id) es ≡ where_key id_cmp (λ other. not (eq_by_cmp id_cmp id other)) es
-taken_is id es t = removed_is id_cmp eq-value.it id_total id_ties id es t
+pub taken_is : (id : PlainAclId) (es : List (PlainAclId × Modes)) → T (is_sorted id_cmp es) → remove_entry (eq_by_cmp id_cmp id) es ≡ where_key id_cmp (λ other. not (eq_by_cmp id_cmp id other)) es
+taken_is id es t = removed_is id_cmp (eq_by_cmp id_cmp) id_total (λ x y. refl) id es t
 
 pub entry_put : (es : List (PlainAclId × Modes)) (id : PlainAclId) (modes : Modes) (other : PlainAclId)
     → find id_cmp other (put id_cmp id modes es) ≡ cond (eq_by_cmp id_cmp other id) (Some modes) (find id_cmp other es)

@@ -1,9 +1,7 @@
 -- Two identifiers that match one principal never have equal rank.
 use Rattle.std.proofs.Common.{ℕ, ◌≡◌, ◌+◌, ◌*◌, ◌≤◌, true, ◌&&◌, List, refl, ap, sym, ◌∙◌, arith}
 use Rattle.std.specs.Cmp.Lexicographic.{same_text}
-use Rattle.mx_name.specs.declared.identifiers.Component.{Component}
-use Rattle.mx_name.specs.declared.identifiers.Component.TheVariants.{Any, Literal}
-use Rattle.mx_name.specs.Identifiers.{PlainAclId, component_matches, id_matches, id_rank, weight}
+use Rattle.mx_name.specs.Identifiers.{Component, Any, Literal, PlainAclId, component_matches, id_matches, id_rank, weight}
 use Rattle.mx_name.specs.OrderLaws.{both_left, both_right}
 use Rattle.mx_name.specs.Principals.{PlainPrincipal}
 

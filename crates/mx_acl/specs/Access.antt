@@ -1,5 +1,5 @@
 -- Access control lists: sets of pairs of an identifier and modes, no identifier twice.
-use Rattle.std.specs.Prelude.{Bool, ◌&&◌, not, ◌≤◌, T, nat_lt, nat_le, List, [], ◌∷◌, Option, None, Some, if◌then◌else◌, length}
+use Rattle.std.specs.Prelude.{ℕ, Bool, ◌&&◌, not, ◌≤◌, T, nat_lt, nat_le, List, [], ◌∷◌, Option, None, Some, if◌then◌else◌, length}
 use Rattle.std.specs.Ordering.{eq_by_cmp}
 use Rattle.std.specs.Option.{is_none, option_map, unwrap_or}
 use Rattle.std.specs.FinMap.Entries.{put, find, where_key, is_sorted}
@@ -18,10 +18,14 @@ pub record Access : Type 0 where
   pub kind : AclKind
   pub entries : List (PlainAclId × Modes)
 
--- what is true of every access list: no identifier stands twice, and there are at most 64 pairs
+-- so many pairs fill an access list (this model's choice)
+abbrev pub most_entries : ℕ
+most_entries = 64
+
+-- what is true of every access list: no identifier stands twice, and there are no more pairs than that
 pub record IsAccess (entries : List (PlainAclId × Modes)) : Type 0 where
   pub in_order : T (is_sorted id_cmp entries)
-  pub within : length entries ≤ 64
+  pub within : length entries ≤ most_entries
 
 -- two equal identifiers
 abbrev pub same_id : PlainAclId → PlainAclId → Bool
@@ -39,11 +43,15 @@ with_entry acl id modes = record acl { entries = put id_cmp id modes acl.entries
 abbrev pub without_entry : Access → PlainAclId → Access
 without_entry acl id = record acl { entries = where_key id_cmp (λ other. not (same_id id other)) acl.entries }
 
--- modes of the other kind, or m without s, are invalid; 64 pairs fill a list for a new identifier
-abbrev pub set_fault : Access → PlainAclId → Modes → Option AclError
-set_fault acl id modes =
+-- modes of the other kind, or m without s, are invalid; as many pairs as the limit fill a list for a new identifier
+abbrev pub fault_within : ℕ → Access → PlainAclId → Modes → Option AclError
+fault_within limit acl id modes =
     if not (suits acl.kind modes) then Some InvalidMode
-    else (if is_none (entry_of acl id) && nat_le 64 (length acl.entries) then Some Full else None)
+    else (if is_none (entry_of acl id) && nat_le limit (length acl.entries) then Some Full else None)
+
+-- why an entry of an access list is not set
+abbrev pub set_fault : Access → PlainAclId → Modes → Option AclError
+set_fault acl id modes = fault_within most_entries acl id modes
 
 -- the one of lesser rank; no two pairs that match one principal have equal rank
 abbrev pub lesser : PlainAclId × Modes → Option (PlainAclId × Modes) → PlainAclId × Modes

@@ -23,7 +23,7 @@ pub enum AclError {
     /// The list has 64 entries, and the identifier is not among them.
     #[error("access list full")]
     Full,
-    /// Memory was wanting; the entry may be set.
+    /// Out of memory; the entry may be set.
     #[error("out of memory")]
     Memory,
 }
@@ -37,6 +37,9 @@ impl From<AllocError> for AclError {
         AclError::Memory
     }
 }
+
+/// The most entries of an access list (this model's choice).
+const MOST: usize = 64;
 
 /// The identifier is not among the entries.
 #[derive(Clone, Copy, Debug, PartialEq, Eq, Error)]
@@ -75,7 +78,7 @@ impl Clone for Acl {
 
 impl Acl {
     ghost use Rattle.mx_name.specs.Answers.{unless, Answers};
-    ghost use Rattle.mx_acl.specs.Access.{IsAccess, same_id, entry_of, with_entry, without_entry, set_fault, modes_for};
+    ghost use Rattle.mx_acl.specs.Access.{IsAccess, same_id, entry_of, with_entry, without_entry, fault_within, set_fault, modes_for};
     ghost use Rattle.mx_acl.specs.Deciding.{IsMatch, IsDeciding};
 
     /// The empty list of a kind. Takes no memory yet.
@@ -105,14 +108,28 @@ impl Acl {
 
     /// Sets the modes of an identifier, anew or in place of those that stand. `InvalidMode` exactly where a letter is of the
     /// other kind or m stands without s; then `Full` exactly where 64 entries stand and the identifier is not among them.
-    /// A refusal, and the want of memory, change nothing.
+    /// A refusal comes as itself, never as `Memory`: it is found before any memory is taken. Whatever is answered but `Ok`,
+    /// nothing has changed.
     pub fn set(&mut self, id: AclId, modes: Modes) -> Result<(), AclError>
         ensures answer { Answers AclError.Memory (unless (set_fault self.old id modes) tt) result }
         ensures ok { OnOk result (self.new ≡ with_entry self.old id modes) }
-        ensures entries { OnOk result ((other : PlainAclId) → entry_of self.new other ≡ (if same_id other id then Some modes else entry_of self.old other)) }
+        ensures entries { OnOk result ((other : PlainAclId)
+            → entry_of self.new other ≡ (if same_id other id then Some modes else entry_of self.old other)) }
         ensures err { OnErr result (self.new ≡ self.old) }
     {
-        if let Some(fault) = self.set_fault(&id, modes) {
+        self.set_within(MOST, id, modes)
+    }
+
+    /// The same where so many entries fill the list.
+    fn set_within(&mut self, limit: usize, id: AclId, modes: Modes) -> Result<(), AclError>
+        requires { limit ≤ 64 }
+        ensures answer { Answers AclError.Memory (unless (fault_within limit self.old id modes) tt) result }
+        ensures ok { OnOk result (self.new ≡ with_entry self.old id modes) }
+        ensures entries { OnOk result ((other : PlainAclId)
+            → entry_of self.new other ≡ (if same_id other id then Some modes else entry_of self.old other)) }
+        ensures err { OnErr result (self.new ≡ self.old) }
+    {
+        if let Some(fault) = self.fault_within(limit, &id, modes) {
             return Err(fault);
         }
         put_entry(&mut self.entries, id, modes)?;
@@ -124,7 +141,8 @@ impl Acl {
     pub fn remove(&mut self, id: &AclId) -> Result<(), NoEntry>
         ensures found { IsOk result ↔ IsSome (entry_of self.old id.now) }
         ensures ok { OnOk result (self.new ≡ without_entry self.old id.now) }
-        ensures entries { OnOk result ((other : PlainAclId) → entry_of self.new other ≡ (if same_id other id.now then None else entry_of self.old other)) }
+        ensures entries { OnOk result ((other : PlainAclId)
+            → entry_of self.new other ≡ (if same_id other id.now then None else entry_of self.old other)) }
         ensures err { OnErr result (self.new ≡ self.old) }
     {
         if take_entry(&mut self.entries, id) {
@@ -151,13 +169,13 @@ impl Acl {
         first_match(&self.entries, who).unwrap_or(Modes::Null)
     }
 
-    fn set_fault(&self, id: &AclId, modes: Modes) -> Option<AclError>
-        ensures { result ≡ set_fault self.now id.now modes }
+    fn fault_within(&self, limit: usize, id: &AclId, modes: Modes) -> Option<AclError>
+        ensures { result ≡ fault_within limit self.now id.now modes }
     {
         if !modes.suits(self.kind) {
             return Some(AclError::InvalidMode);
         }
-        if !has_entry(&self.entries, id) && self.entries.len() >= 64 {
+        if !has_entry(&self.entries, id) && self.entries.len() >= limit {
             return Some(AclError::Full);
         }
         None
