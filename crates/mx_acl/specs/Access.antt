@@ -61,7 +61,8 @@ lesser pair (Some other) = if nat_lt (id_rank other.0) (id_rank pair.0) then oth
 -- the pair of least rank among those that match
 abbrev pub deciding : PlainPrincipal → List (PlainAclId × Modes) → Option (PlainAclId × Modes)
 deciding who [] = None
-deciding who (pair ∷ pairs) = if id_matches pair.0 who then Some (lesser pair (deciding who pairs)) else deciding who pairs
+deciding who (pair ∷ pairs) =
+    if id_matches pair.0 who then Some (lesser pair (deciding who pairs)) else deciding who pairs
 
 -- its modes decide; null where no pair matches
 abbrev pub modes_for : Access → PlainPrincipal → Modes

@@ -1,8 +1,9 @@
 //! Access control lists: which modes an identifier gives, and which entry decides for a principal.
 //!
-//! A contract sees a list as a set of pairs of an identifier and modes, written in the order of the identifiers. `set` and
-//! `remove` say which set they leave and exactly when they refuse; `modes_of` is the modes of the matching pair of least
-//! rank, said as a function of the set and, once more, in words of the set alone. Stands on names and on an ordered map.
+//! A contract sees a list as a set of pairs of an identifier and modes, written in the order of the identifiers. `set`
+//! and `remove` say which set they leave and exactly when they refuse; `modes_of` is the modes of the matching pair of
+//! least rank, said as a function of the set and, once more, in words of the set alone. Stands on names and on an
+//! ordered map.
 #![tactic(auto)]
 
 mod lists;

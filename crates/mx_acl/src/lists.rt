@@ -46,8 +46,8 @@ const MOST: usize = 64;
 #[error("no such entry")]
 pub struct NoEntry;
 
-/// An access control list: a set of at most 64 pairs of an identifier and modes, no identifier twice. They are kept by rank,
-/// equal ranks in byte order of their texts (this model's choice).
+/// An access control list: a set of at most 64 pairs of an identifier and modes, no identifier twice. They are kept by
+/// rank, equal ranks in byte order of their texts (this model's choice).
 #[derive(Debug, Drop)]
 pub struct Acl {
     kind: AclKind,
@@ -106,10 +106,10 @@ impl Acl {
         self.clone()
     }
 
-    /// Sets the modes of an identifier, anew or in place of those that stand. `InvalidMode` exactly where a letter is of the
-    /// other kind or m stands without s; then `Full` exactly where 64 entries stand and the identifier is not among them.
-    /// A refusal comes as itself, never as `Memory`: it is found before any memory is taken. Whatever is answered but `Ok`,
-    /// nothing has changed.
+    /// Sets the modes of an identifier, anew or in place of those that stand. `InvalidMode` exactly where a letter is
+    /// of the other kind or m stands without s; then `Full` exactly where 64 entries stand and the identifier is not
+    /// among them. A refusal comes as itself, never as `Memory`: it is found before any memory is taken. Whatever is
+    /// answered but `Ok`, nothing has changed.
     pub fn set(&mut self, id: AclId, modes: Modes) -> Result<(), AclError>
         ensures answer { Answers AclError.Memory (unless (set_fault self.old id modes) tt) result }
         ensures ok { OnOk result (self.new ≡ with_entry self.old id modes) }
@@ -136,8 +136,8 @@ impl Acl {
         Ok(())
     }
 
-    /// Removes the entry of an identifier. `NoEntry` exactly where the identifier is not among the entries, and then nothing
-    /// changes. Takes no memory.
+    /// Removes the entry of an identifier. `NoEntry` exactly where the identifier is not among the entries, and then
+    /// nothing changes. Takes no memory.
     pub fn remove(&mut self, id: &AclId) -> Result<(), NoEntry>
         ensures found { IsOk result ↔ IsSome (entry_of self.old id.now) }
         ensures ok { OnOk result (self.new ≡ without_entry self.old id.now) }
@@ -157,7 +157,8 @@ impl Acl {
     pub fn modes_of(&self, who: &Principal) -> Modes
         ensures value { result ≡ modes_for self.now who.now }
         ensures least { (id : PlainAclId) (modes : Modes) → IsDeciding self.now who.now id modes → result ≡ modes }
-        ensures none { ((id : PlainAclId) (modes : Modes) → IsMatch self.now who.now id modes → ⊥) → result ≡ Modes.Null }
+        ensures none { ((id : PlainAclId) (modes : Modes) → IsMatch self.now who.now id modes → ⊥)
+            → result ≡ Modes.Null }
     {
         self.decided(who)
     }
@@ -239,5 +240,6 @@ fn first_match(entries: &IndexMap<AclId, Modes>, who: &Principal) -> Option<Mode
 
 /// Law: two entries that match one principal never have equal rank.
 pub fn one_of_a_rank(a: &AclId, b: &AclId, who: &Principal)
-    ensures { id_matches a.now who.now ≡ true → id_matches b.now who.now ≡ true → id_rank a.now ≡ id_rank b.now → a.now ≡ b.now }
+    ensures { id_matches a.now who.now ≡ true → id_matches b.now who.now ≡ true
+        → id_rank a.now ≡ id_rank b.now → a.now ≡ b.now }
 {}

@@ -38,7 +38,8 @@ use Modes::{A, E, Ew, M, Ma, Null, R, Re, Rew, Rw, S, Sa, Sm, Sma, W};
 const ALL: [Modes; 15] = [Null, R, E, W, Re, Rw, Ew, Rew, S, M, A, Sm, Sa, Ma, Sma];
 
 impl Modes {
-    /// The modes that a text spells: `null`, or one or more letters of `rew`, or of `sma`, in this order. None for any other.
+    /// The modes that a text spells: `null`, or one or more letters of `rew`, or of `sma`, in this order. None for any
+    /// other.
     #[tactic(auto, using(crate::proofs::ModesLaws::modes_takes))]
     pub fn read(text: &[u8]) -> Option<Modes>
         ensures value { result ≡ modes_of_text text.now }

@@ -1,5 +1,5 @@
 -- What stands at a number of a list of lots, and the number at which a segment stands.
-use Rattle.std.proofs.Common.{ℕ, zero, suc, ◌≡◌, ◌+◌, ◌-◌, ◌<◌, ◌≤◌, Bool, true, false, cond, ◌==◌, ltb, ◌||◌, List, [], ◌∷◌, ◌++◌, length, get_or, map, set, Option, None, Some, refl, ap, sym, ◌∙◌, ◌⊎◌, inl, inr, arith}
+use Rattle.std.proofs.Common.{ℕ, zero, suc, ◌≡◌, ◌+◌, ◌-◌, ◌<◌, ◌≤◌, Bool, true, false, cond, ◌==◌, ltb, ◌||◌, List, [], ◌∷◌, ◌++◌, length, get_or, map, set, Option, None, Some, IfSome, refl, ap, sym, ◌∙◌, ◌⊎◌, inl, inr, arith}
 use Rattle.std.specs.List.{position_or_len}
 use Rattle.std.proofs.lemmas.Bool.{eqb-true, eqb-false, eq-eqb, ltb-false, lt-ltb, cases_lt, false≢true}
 use Rattle.std.proofs.lemmas.List.{get_or-set_other, get_or_past, get_or_append_left, get_or-append_right}
@@ -8,7 +8,7 @@ use Rattle.std.proofs.lemmas.List.Sums.{position_or_len_is, fails_before_first}
 use Rattle.mx_sdw.specs.Rings.{Bracketing}
 use Rattle.mx_kst.specs.declared.lots.Lot.{Lot}
 use Rattle.mx_kst.specs.declared.lots.Lot.TheVariants.{Free, Stack, Branch, Linkage}
-use Rattle.mx_kst.specs.declared.lots.Section.{Section}
+use Rattle.mx_kst.specs.Sections.{PlainSection, IsWithinPage}
 use Rattle.mx_kst.specs.Lots.{is_branch, is_segment, is_section_of, lot_of, number_of}
 use Rattle.mx_kst.specs.Initiating.{lots_given}
 use Rattle.mx_kst.specs.Terminating.{lot_without, lots_without}
@@ -76,27 +76,30 @@ first_place lots uid n p only =
     by_test m below true t = let same : m ≡ n = only m (segment_is uid (lot_of lots m) t) in absurd (omega arith)
     by_test m below false t = refl
 
-given_branch : (segno uid i v : ℕ) (section : Option Section) → lot_of (lots_given segno uid section) i ≡ Branch v → (i ≡ 0) × (uid ≡ v)
+given_branch : (segno uid i v : ℕ) (section : Option PlainSection) → lot_of (lots_given segno uid section) i ≡ Branch v → (i ≡ 0) × (uid ≡ v)
 given_branch segno uid zero v None e = (refl, cc)
 given_branch segno uid (suc i) v None e = absurd (cc)
 given_branch segno uid zero v (Some section) e = (refl, cc)
 given_branch segno uid (suc zero) v (Some section) e = absurd (cc)
 given_branch segno uid (suc (suc i)) v (Some section) e = absurd (cc)
 
-given_section : (segno uid i of page words : ℕ) (brackets : Bracketing) (section : Option Section) → lot_of (lots_given segno uid section) i ≡ Linkage of page brackets words
-    → (i ≡ 1) × (segno ≡ of)
+given_section : (segno uid i of page words : ℕ) (brackets : Bracketing) (section : Option PlainSection) → lot_of (lots_given segno uid section) i ≡ Linkage of page brackets words
+    → (i ≡ 1) × (segno ≡ of) × (IfSome section (λ s. IsWithinPage s.page s.words) → IsWithinPage page words)
 given_section segno uid zero of page words brackets None e = absurd (cc)
 given_section segno uid (suc i) of page words brackets None e = absurd (cc)
 given_section segno uid zero of page words brackets (Some section) e = absurd (cc)
-given_section segno uid (suc zero) of page words brackets (Some section) e = (refl, cc)
+given_section segno uid (suc zero) of page words brackets (Some section) e = (refl, cc, λ fits. so fits)
+  where
+    so : IsWithinPage section.page section.words → IsWithinPage page words
+    so fits = let own : section.page ≡ page = cc in let count : section.words ≡ words = cc in rw (← own, ← count) fits
 given_section segno uid (suc (suc i)) of page words brackets (Some section) e = absurd (cc)
 
-given_first : (segno uid : ℕ) (section : Option Section) → lot_of (lots_given segno uid section) 0 ≡ Branch uid
+given_first : (segno uid : ℕ) (section : Option PlainSection) → lot_of (lots_given segno uid section) 0 ≡ Branch uid
 given_first segno uid None = refl
 given_first segno uid (Some section) = refl
 
 -- where a segment stands among lots with others after them
-pub where_branch : (lots : List Lot) (segno uid n v : ℕ) (section : Option Section) → lot_of (lots ++ lots_given segno uid section) n ≡ Branch v
+pub where_branch : (lots : List Lot) (segno uid n v : ℕ) (section : Option PlainSection) → lot_of (lots ++ lots_given segno uid section) n ≡ Branch v
     → (lot_of lots n ≡ Branch v) ⊎ ((n ≡ length lots) × (uid ≡ v))
 where_branch lots segno uid n v section e = elim (cases_lt n (length lots)) [
   | inl below ↦ inl (sym (get_or_append_left lots (lots_given segno uid section) Free n below) ∙ e)
@@ -105,14 +108,15 @@ where_branch lots segno uid n v section e = elim (cases_lt n (length lots)) [
       inr (omega arith, given.1)
 ]
 
-pub where_section : (lots : List Lot) (segno uid n of page words : ℕ) (brackets : Bracketing) (section : Option Section)
+pub where_section : (lots : List Lot) (segno uid n of page words : ℕ) (brackets : Bracketing) (section : Option PlainSection)
     → lot_of (lots ++ lots_given segno uid section) n ≡ Linkage of page brackets words
-    → (lot_of lots n ≡ Linkage of page brackets words) ⊎ ((n ≡ length lots + 1) × (segno ≡ of))
+    → (lot_of lots n ≡ Linkage of page brackets words)
+    ⊎ ((n ≡ length lots + 1) × (segno ≡ of) × (IfSome section (λ s. IsWithinPage s.page s.words) → IsWithinPage page words))
 where_section lots segno uid n of page words brackets section e = elim (cases_lt n (length lots)) [
   | inl below ↦ inl (sym (get_or_append_left lots (lots_given segno uid section) Free n below) ∙ e)
   | inr past ↦
       let given = given_section segno uid (n - length lots) of page words brackets section (sym (get_or-append_right lots (lots_given segno uid section) (length lots) n Free refl past) ∙ e) in
-      inr (omega arith, given.1)
+      inr (omega arith, given.1, given.2)
 ]
 
 at_seam : (xs ys : List Lot) (n i : ℕ) → n ≡ length xs + i → get_or (xs ++ ys) n Free ≡ get_or ys i Free
@@ -120,9 +124,9 @@ at_seam xs ys n i e =
     get_or-append_right xs ys (length xs) n Free refl (omega arith)
     ∙ ap (λ k. get_or ys k Free) (let rest : n - length xs ≡ i = omega arith in rest)
 
-pub given_stands : (lots : List Lot) (segno uid : ℕ) (section : Option Section) → lot_of (lots ++ lots_given segno uid section) (length lots) ≡ Branch uid
+pub given_stands : (lots : List Lot) (segno uid : ℕ) (section : Option PlainSection) → lot_of (lots ++ lots_given segno uid section) (length lots) ≡ Branch uid
 given_stands lots segno uid section = at_seam lots (lots_given segno uid section) (length lots) 0 (omega arith) ∙ given_first segno uid section
 
-pub section_stands : (lots : List Lot) (segno uid n : ℕ) (section : Section) → n ≡ length lots + 1
+pub section_stands : (lots : List Lot) (segno uid n : ℕ) (section : PlainSection) → n ≡ length lots + 1
     → lot_of (lots ++ lots_given segno uid (Some section)) n ≡ Linkage segno section.page section.brackets section.words
 section_stands lots segno uid n section e = at_seam lots (lots_given segno uid (Some section)) n 1 e

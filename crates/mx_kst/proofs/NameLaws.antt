@@ -10,7 +10,8 @@ use Rattle.std.proofs.lemmas.List.{get_or-set_same, get_or-set_other, set_past, 
 use Rattle.std.proofs.lemmas.Map.Keys.{IsDistinct-push}
 use Rattle.std.proofs.lemmas.Map.Entries.{option_filter, lookup-filter-values}
 use Rattle.std.proofs.lemmas.Map.Made.{IsDistinct-keys_filter}
-use Rattle.mx_kst.specs.Names.{RingNames, names_in, same_name, named}
+use Rattle.mx_name.specs.Names.{same_name}
+use Rattle.mx_kst.specs.Names.{RingNames, names_in, named}
 use Rattle.mx_kst.specs.Initiating.{with_name}
 use Rattle.mx_kst.specs.Terminating.{names_without, other_than}
 use Rattle.mx_kst.proofs.LotLaws.{mapped_at}

@@ -6,7 +6,8 @@ use Rattle.mx_sdw.specs.Rings.{Bracketing}
 use Rattle.mx_kst.specs.declared.lots.Lot.{Lot}
 use Rattle.mx_kst.specs.declared.lots.Lot.TheVariants.{Free, Stack, Branch, Linkage}
 use Rattle.mx_kst.specs.Lots.{stacks, lot_of, number_of}
-use Rattle.mx_kst.specs.Names.{RingNames, no_names, same_name}
+use Rattle.mx_name.specs.Names.{same_name}
+use Rattle.mx_kst.specs.Names.{RingNames, no_names}
 use Rattle.mx_kst.specs.KnownSegments.{KnownSegments, IsSound, at_first}
 use Rattle.mx_kst.proofs.LotLaws.{stands, first_place}
 
@@ -35,6 +36,7 @@ first_sound = record {
   one_entry = λ ring. subst (λ (es : RingNames). IsDistinct same_name (keys_of es)) (sym (no_name 8 ring)) tt;
   names_known = λ ring segno name e. absurd (none_some segno (ap (lookup (same_name name)) (sym (no_name 8 ring)) ∙ e));
   section_next = λ n of page words brackets e. absurd (no_section (range_with_len 0 8) n of page words brackets e);
+  section_within = λ n of page words brackets e. absurd (no_section (range_with_len 0 8) n of page words brackets e);
 }
   where
     none_some : (segno : ℕ) → None ≡ Some segno → ⊥

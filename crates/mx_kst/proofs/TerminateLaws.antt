@@ -77,6 +77,9 @@ terminated_sound k segno sound branch = record {
       let other : (of == segno) ≡ false = sym (ap (is_section_of segno) old.1) ∙ second_false (n == segno) (is_section_of segno (lot_of k.lots n)) old.0 in
       let stood = sound.section_next n of page words brackets old.1 in
       (stood.0, branch_stays k.lots segno of other stood.1);
+  section_within = λ n of page words brackets e.
+      let old = was_section (n == segno || is_section_of segno (lot_of k.lots n)) (lot_of k.lots n) (lot_of (lots_without segno k.lots) n) of page words brackets (freed k.lots segno n) e in
+      sound.section_within n of page words brackets old.1;
 }
   where
     was : (m uid : ℕ) → lot_of (lots_without segno k.lots) m ≡ Branch uid → lot_of k.lots m ≡ Branch uid

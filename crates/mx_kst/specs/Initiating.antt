@@ -3,10 +3,11 @@ use Rattle.std.specs.Prelude.{◌≡◌, ◌<◌, IfSome, ℕ, ◌+◌, ◌==◌
 use Rattle.std.specs.Option.{is_none, option_map}
 use Rattle.mx_kst.specs.declared.lots.Lot.{Lot}
 use Rattle.mx_kst.specs.declared.lots.Lot.TheVariants.{Branch, Linkage}
-use Rattle.mx_kst.specs.declared.lots.Section.{Section}
 use Rattle.mx_kst.specs.declared.segments.Known.{Known}
 use Rattle.mx_kst.specs.declared.segments.KstError.{KstError}
 use Rattle.mx_kst.specs.declared.segments.KstError.TheVariants.{NameDup, Full}
+use Rattle.mx_name.specs.Answers.{unless}
+use Rattle.mx_kst.specs.Sections.{PlainSection}
 use Rattle.mx_kst.specs.Lots.{numbers_left, lot_of, number_of}
 use Rattle.mx_kst.specs.Names.{RingNames, names_in, named}
 use Rattle.mx_kst.specs.KnownSegments.{KnownSegments}
@@ -22,30 +23,36 @@ abbrev pub is_taken : KnownSegments → ℕ → ℕ → Option (List ℕ) → Bo
 is_taken k uid ring None = false
 is_taken k uid ring (Some name) = is_another (number_of k.lots uid) (named k.names ring name)
 
--- a number for the segment, and one for its linkage section
-abbrev pub numbers_needed : Option Section → ℕ
-numbers_needed None = 1
-numbers_needed (Some section) = 2
+-- a number for the segment, and one for its linkage section, where one is wanted
+abbrev pub numbers_needed : Bool → ℕ
+numbers_needed false = 1
+numbers_needed true = 2
 
 -- the segment is not known, and too few numbers are left
-abbrev pub is_full : KnownSegments → ℕ → Option Section → Bool
-is_full k uid section = is_none (number_of k.lots uid) && nat_lt (numbers_left k.lots) (numbers_needed section)
+abbrev pub is_full : KnownSegments → ℕ → Bool → Bool
+is_full k uid wanted = is_none (number_of k.lots uid) && nat_lt (numbers_left k.lots) (numbers_needed wanted)
+
+-- why a segment is not initiated: its name is taken; else there is no number for it
+abbrev pub refusal : KnownSegments → ℕ → ℕ → Option (List ℕ) → Bool → Option KstError
+refusal k uid ring name wanted =
+    if is_taken k uid ring name then Some NameDup
+    else (if is_full k uid wanted then Some Full else None)
 
 -- a segment keeps the number that it has; else it gets the next one, and its linkage section the one after that
-abbrev pub known_by : Option ℕ → ℕ → Option Section → Known
+abbrev pub known_by : Option ℕ → ℕ → Option PlainSection → Known
 known_by (Some own) next section = record { segno = own; fresh = false; linkage = None }
 known_by None next section = record { segno = next; fresh = true; linkage = option_map (λ _. next + 1) section }
 
-abbrev pub known_as : List Lot → ℕ → Option Section → Known
+abbrev pub known_as : List Lot → ℕ → Option PlainSection → Known
 known_as lots uid section = known_by (number_of lots uid) (length lots) section
 
 -- the lots of a segment that gets this number and of its linkage section
-abbrev pub lots_given : ℕ → ℕ → Option Section → List Lot
+abbrev pub lots_given : ℕ → ℕ → Option PlainSection → List Lot
 lots_given segno uid None = Branch uid ∷ []
 lots_given segno uid (Some section) = Branch uid ∷ Linkage segno section.page section.brackets section.words ∷ []
 
 -- the lots with those of a segment that gets its number now
-abbrev pub lots_with : List Lot → Known → ℕ → Option Section → List Lot
+abbrev pub lots_with : List Lot → Known → ℕ → Option PlainSection → List Lot
 lots_with lots known uid section = if known.fresh then lots ++ lots_given known.segno uid section else lots
 
 -- the names with one more for a number, unless none is given or it stands in the ring already
@@ -59,15 +66,13 @@ pub record Initiated : Type 0 where
   pub known : Known
   pub after : KnownSegments
 
-abbrev pub initiate : KnownSegments → ℕ → ℕ → Option (List ℕ) → Option Section → Result Initiated KstError
+abbrev pub initiate : KnownSegments → ℕ → ℕ → Option (List ℕ) → Option PlainSection → Result Initiated KstError
 initiate k uid ring name section =
     let known : Known = known_as k.lots uid section in
-    if is_taken k uid ring name then Err NameDup
-    else (if is_full k uid section then Err Full
-    else Ok (record {
+    unless (refusal k uid ring name (is_some section)) (record {
       known = known;
       after = record { lots = lots_with k.lots known uid section; names = with_name k.names ring name known.segno };
-    }))
+    })
 
 -- a call's answer, with what the process knows then
 abbrev pub outcome : Result Known KstError → KnownSegments → Result Initiated KstError
@@ -75,7 +80,7 @@ outcome (Ok known) after = Ok (record { known = known; after = after })
 outcome (Err e) after = Err e
 
 -- what is left of it in words of the numbers and names alone
-pub record IsInitiated (before : KnownSegments) (uid ring : ℕ) (name : Option (List ℕ)) (section : Option Section) (known : Known) (after : KnownSegments) : Type 0 where
+pub record IsInitiated (before : KnownSegments) (uid ring : ℕ) (name : Option (List ℕ)) (section : Option PlainSection) (known : Known) (after : KnownSegments) : Type 0 where
   -- the segment has the number
   pub number : number_of after.lots uid ≡ Some known.segno
   pub lot : lot_of after.lots known.segno ≡ Branch uid
@@ -87,7 +92,7 @@ pub record IsInitiated (before : KnownSegments) (uid ring : ℕ) (name : Option 
   pub linkage : (n : ℕ) → known.linkage ≡ Some n → (n ≡ known.segno + 1)
       × IfSome section (λ s. lot_of after.lots n ≡ Linkage known.segno s.page s.brackets s.words)
   -- so many numbers are given, and what was given stays
-  pub given : length after.lots ≡ length before.lots + (if known.fresh then numbers_needed section else 0)
+  pub given : length after.lots ≡ length before.lots + (if known.fresh then numbers_needed (is_some section) else 0)
   pub lots : (n : ℕ) → n < length before.lots → lot_of after.lots n ≡ lot_of before.lots n
   -- the name stands for the number, and every other name for what it stood for
   pub own_name : IfSome name (λ text. named after.names ring text ≡ Some known.segno)

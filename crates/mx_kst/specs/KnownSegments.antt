@@ -6,7 +6,9 @@ use Rattle.mx_sdw.specs.Rings.{Bracketing}
 use Rattle.mx_kst.specs.declared.lots.Lot.{Lot}
 use Rattle.mx_kst.specs.declared.lots.Lot.TheVariants.{Branch, Linkage}
 use Rattle.mx_kst.specs.Lots.{last_number, stacks, lot_of, is_branch}
-use Rattle.mx_kst.specs.Names.{RingNames, no_names, names_in, same_name, named}
+use Rattle.mx_name.specs.Names.{same_name}
+use Rattle.mx_kst.specs.Sections.{IsWithinPage}
+use Rattle.mx_kst.specs.Names.{RingNames, no_names, names_in, named}
 
 pub record KnownSegments : Type 0 where
   pub lots : List Lot
@@ -29,3 +31,6 @@ pub record IsSound (k : KnownSegments) : Type 0 where
   -- a linkage section has the number after that of its segment, which is known
   pub section_next : (n of page words : ℕ) (brackets : Bracketing) → lot_of k.lots n ≡ Linkage of page brackets words
       → (n ≡ of + 1) × (is_branch (lot_of k.lots of) ≡ true)
+  -- and lies within a page
+  pub section_within : (n of page words : ℕ) (brackets : Bracketing) → lot_of k.lots n ≡ Linkage of page brackets words
+      → IsWithinPage page words

@@ -1,4 +1,5 @@
 pub mod Lots
+pub mod Sections
 pub mod Names
 pub mod KnownSegments
 pub mod Initiating

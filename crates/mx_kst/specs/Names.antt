@@ -1,7 +1,7 @@
 -- Reference names: for each ring, from 0 on, the names that stand in it with the numbers that they stand for.
-use Rattle.std.specs.Prelude.{ℕ, ◌==◌, Bool, List, [], replicate, Option, slice_index_or}
-use Rattle.std.specs.Cmp.Lexicographic.{pointwise}
+use Rattle.std.specs.Prelude.{ℕ, List, [], replicate, Option, slice_index_or}
 use Rattle.std.specs.Map.{lookup}
+use Rattle.mx_name.specs.Names.{same_name}
 
 -- the names of one ring, the oldest first
 abbrev pub RingNames : Type 0
@@ -14,9 +14,6 @@ no_names = replicate 8 []
 -- the names of a ring
 abbrev pub names_in : List RingNames → ℕ → RingNames
 names_in names ring = slice_index_or names ring []
-
-abbrev pub same_name : List ℕ → List ℕ → Bool
-same_name x y = pointwise ◌==◌ x y
 
 -- the number that a name stands for in a ring
 abbrev pub named : List RingNames → ℕ → List ℕ → Option ℕ

@@ -1,10 +1,12 @@
 //! What a segment number stands for.
-ghost use Rattle.std.specs.Prelude.{◌≡◌, ◌+◌, ◌≤◌, ◌<◌, true, length, IfOk, IfSome};
+ghost use Rattle.std.specs.Prelude.{◌≡◌, ◌+◌, ◌≤◌, ◌<◌, true, length, is_some, IfOk, IfSome};
 ghost use Rattle.std.specs.Vec.{vec_len, vec_capacity};
 ghost use Rattle.mx_kst.specs.Lots.{last_number, stacks, lot_of, number_of, is_branch, is_segment, is_section_of};
+ghost use Rattle.mx_kst.specs.Sections.{IsWithinPage};
 ghost use Rattle.mx_kst.specs.Initiating.{numbers_needed, lots_with};
 ghost use Rattle.mx_kst.specs.Terminating.{lot_without, lots_without};
 
+use crate::sections::Section;
 use crate::segments::Known;
 use mx_sdw::{Brackets, Ring};
 use std::alloc::{AllocError, Global};
@@ -12,7 +14,8 @@ use std::alloc::{AllocError, Global};
 /// The last segment number of a process (this model's limit).
 pub const LAST_NUMBER: u16 = 127;
 
-/// What a segment number of a process stands for.
+/// What a segment number of a process stands for. (In the manuals LOT is the Linkage Offset Table, which is something
+/// else.)
 #[derive(Clone, Copy, Debug, PartialEq, Eq)]
 pub enum Lot {
     /// Nothing: the number is not given yet, or was taken away.
@@ -28,24 +31,13 @@ pub enum Lot {
     Linkage {
         /// The object segment's number.
         of: u16,
-        /// The section's page.
+        /// The section's page, at most 1,023.
         page: u16,
         /// The section's brackets, as of its making.
         brackets: Brackets,
-        /// How many link words it has.
+        /// How many link words it has, 1 to 64.
         words: u16,
     },
-}
-
-/// A linkage section to be made.
-#[derive(Clone, Copy, Debug, PartialEq, Eq)]
-pub struct Section {
-    /// Its page.
-    pub page: u16,
-    /// Its brackets.
-    pub brackets: Brackets,
-    /// How many link words it has.
-    pub words: u16,
 }
 
 impl Lot {
@@ -134,23 +126,19 @@ fn place_of(lots: &[Lot], uid: u32) -> Option<usize>
 
 /// Adds the lots of a segment that gets its number now, and of its linkage section. Takes no memory.
 pub(crate) fn add_lots(lots: &mut Vec<Lot>, known: &Known, uid: u32, section: Option<Section>)
-    requires within { known.now.fresh ≡ true → length lots.old.items + numbers_needed section ≤ last_number + 1 }
+    requires within { known.now.fresh ≡ true
+        → length lots.old.items + numbers_needed (is_some section) ≤ last_number + 1 }
     requires room { last_number < vec_capacity lots.old }
     ensures lots { lots.new.items ≡ lots_with lots.old.items known.now uid section }
     ensures room { vec_capacity lots.old ≤ vec_capacity lots.new }
+    ensures section { known.now.fresh ≡ true → IfSome section (λ s. IsWithinPage s.page s.words) }
 {
     if !known.fresh {
         return;
     }
     lots.push(Lot::Branch { uid }).unwrap();
     if let Some(section) = section {
-        lots.push(Lot::Linkage {
-            of: known.segno,
-            page: section.page,
-            brackets: section.brackets,
-            words: section.words,
-        })
-        .unwrap();
+        lots.push(section.lot(known.segno)).unwrap();
     }
 }
 

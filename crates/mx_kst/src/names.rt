@@ -2,7 +2,8 @@
 ghost use Rattle.std.specs.Prelude.{◌≡◌, ◌<◌, List, ℕ, [], ◌∷◌, ◌++◌, length, map, not, ◌==◌, None, IfOk, OnOk, OnErr};
 ghost use Rattle.std.specs.Map.{lookup};
 ghost use Rattle.std.specs.Option.{option_copied};
-ghost use Rattle.mx_kst.specs.Names.{RingNames, no_names, names_in, same_name, named};
+ghost use Rattle.mx_name.specs.Names.{same_name};
+ghost use Rattle.mx_kst.specs.Names.{RingNames, no_names, names_in, named};
 ghost use Rattle.mx_kst.specs.Initiating.{with_name};
 ghost use Rattle.mx_kst.specs.Terminating.{names_without};
 
@@ -45,8 +46,7 @@ impl Names {
         ensures ok { OnOk result (self.new ≡ self.old ++ (name.now, segno) ∷ []) }
         ensures err { OnErr result (self.new ≡ self.old) }
     {
-        let name = name.copy()?;
-        self.numbers.insert(name, segno)?;
+        self.numbers.insert(*name, segno)?;
         Ok(())
     }
 

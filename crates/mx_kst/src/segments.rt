@@ -5,8 +5,9 @@ ghost use Rattle.mx_name.specs.Answers.{Answers};
 ghost use Rattle.mx_kst.specs.Lots.{numbers_left, lot_of, number_of, is_branch, is_section_of};
 ghost use Rattle.mx_kst.specs.Names.{named};
 
-use crate::lots::{self, LAST_NUMBER, Lot, Section};
+use crate::lots::{self, LAST_NUMBER, Lot};
 use crate::names::{self, Names};
+use crate::sections::Section;
 use mx_name::EntryName;
 use mx_sdw::Ring;
 use std::alloc::{AllocError, Global};
@@ -33,7 +34,7 @@ pub enum KstError {
     /// The segment is not known, and too few numbers are left for it and its linkage section.
     #[error("known segment table full")]
     Full,
-    /// Memory was wanting; the segment may be initiated.
+    /// Out of memory; the segment may be initiated.
     #[error("out of memory")]
     Memory,
 }
@@ -53,9 +54,9 @@ impl From<AllocError> for KstError {
 #[error("unknown segment number")]
 pub struct UnknownSegno;
 
-/// The known segment table of a process. Numbers 0 to 7 are its stacks; segments and their linkage sections get the numbers
-/// from 8 to [`LAST_NUMBER`] in order, and no number is used again (linkage sections with numbers of their own are this
-/// model's choice).
+/// The known segment table of a process. Numbers 0 to 7 are its stacks; segments and their linkage sections get the
+/// numbers from 8 to [`LAST_NUMBER`] in order, and no number is used again (linkage sections with numbers of their own
+/// are this model's choice).
 #[derive(Debug, Drop)]
 pub struct Kst {
     /// By number, those given so far; with room for all.
@@ -74,12 +75,13 @@ impl Model for Kst {
 
     ghost view = { λ a. record { lots = a.lots.items; names = a.names.items } };
 
-    ghost invariant = { λ a. IsSound (record { lots = a.lots.items; names = a.names.items }) × (last_number < vec_capacity a.lots) };
+    ghost invariant = { λ a. IsSound (record { lots = a.lots.items; names = a.names.items })
+        × (last_number < vec_capacity a.lots) };
 }
 
 impl Kst {
     ghost use Rattle.mx_kst.specs.KnownSegments.{at_first, IsSound};
-    ghost use Rattle.mx_kst.specs.Initiating.{is_taken, is_full, known_as, initiate, outcome};
+    ghost use Rattle.mx_kst.specs.Initiating.{is_taken, is_full, refusal, known_as, initiate, outcome};
     ghost use Rattle.mx_kst.specs.Terminating.{terminate};
 
     /// The stacks, and no names. Takes the memory for all numbers here.
@@ -91,11 +93,32 @@ impl Kst {
         Ok(Kst { lots, names })
     }
 
-    /// Makes a segment known, and gives it a reference name in a ring where one is given. A segment that is known keeps its
-    /// number and gets no linkage section; else it gets the next number, and the linkage section, where one is wanted, the
-    /// number after that. `NameDup` exactly where the name stands in the ring for another number than the segment's; then
-    /// `Full` exactly where the segment is not known and too few numbers are left. A refusal, and want of memory, change
-    /// nothing.
+    /// Why `initiate` would refuse a segment in a ring under a name, if one is given, and with a linkage section, if
+    /// one is wanted: `NameDup` before `Full`, and never `Memory`. None exactly where it would not refuse. Takes no
+    /// memory.
+    pub fn refusal(
+        &self,
+        uid: u32,
+        ring: Ring,
+        name: Option<&EntryName>,
+        wanted: bool,
+    ) -> Option<KstError>
+        ensures { result ≡ refusal self.now uid ring (option_copied name.entry) wanted }
+    {
+        if self.is_taken(uid, ring, name) {
+            Some(KstError::NameDup)
+        } else if self.is_full(uid, wanted) {
+            Some(KstError::Full)
+        } else {
+            None
+        }
+    }
+
+    /// Makes a segment known, and gives it a reference name in a ring where one is given. A segment that is known keeps
+    /// its number and gets no linkage section; else it gets the next number, and the linkage section, where one is
+    /// wanted, the number after that. `NameDup` exactly where the name stands in the ring for another number than the
+    /// segment's; then `Full` exactly where the segment is not known and too few numbers are left. A refusal, and want
+    /// of memory, change nothing.
     pub fn initiate(
         &mut self,
         uid: u32,
@@ -103,14 +126,12 @@ impl Kst {
         name: Option<&EntryName>,
         section: Option<Section>,
     ) -> Result<Known, KstError>
-        ensures answer { Answers KstError.Memory (initiate self.old uid ring (option_copied name.entry) section) (outcome result self.new) }
+        ensures answer { Answers KstError.Memory (initiate self.old uid ring (option_copied name.entry) section)
+            (outcome result self.new) }
         ensures err { OnErr result (self.new ≡ self.old) }
     {
-        if self.is_taken(uid, ring, name) {
-            return Err(KstError::NameDup);
-        }
-        if self.is_full(uid, &section) {
-            return Err(KstError::Full);
+        if let Some(refusal) = self.refusal(uid, ring, name, section.is_some()) {
+            return Err(refusal);
         }
         let known = self.known_as(uid, &section);
         names::add_name(&mut self.names, ring, name, known.segno)?;
@@ -118,8 +139,8 @@ impl Kst {
         Ok(known)
     }
 
-    /// Takes away a segment's number, its names in all rings and its linkage section. Refused exactly where the number is not
-    /// that of a known segment, as stacks and linkage sections are not; then nothing changes. Takes no memory.
+    /// Takes away a segment's number, its names in all rings and its linkage section. Refused exactly where the number
+    /// is not that of a known segment, as stacks and linkage sections are not; then nothing changes. Takes no memory.
     pub fn terminate(&mut self, segno: u16) -> Result<(), UnknownSegno>
         ensures ok { OnOk result (terminate self.old segno ≡ Some self.new) }
         ensures refused { OnErr result (terminate self.old segno ≡ None) }
@@ -137,6 +158,7 @@ impl Kst {
     pub fn by_name(&self, ring: Ring, name: &EntryName) -> Option<u16>
         ensures value { result ≡ named self.now.names ring name.now }
         ensures known { IfSome result (λ segno. is_branch (lot_of self.now.lots segno) ≡ true) }
+        ensures sound { IsSound self.now }
     {
         names::named(&self.names, ring, name)
     }
@@ -145,13 +167,15 @@ impl Kst {
     pub fn by_uid(&self, uid: u32) -> Option<u16>
         ensures value { result ≡ number_of self.now.lots uid }
         ensures only { (n : ℕ) → (result ≡ Some n) ↔ (lot_of self.now.lots n ≡ Lot.Branch uid) }
+        ensures sound { IsSound self.now }
     {
         lots::number_of(&self.lots, uid)
     }
 
     /// What a number stands for. Takes no memory.
     pub fn lot(&self, segno: u16) -> Lot
-        ensures { result ≡ lot_of self.now.lots segno }
+        ensures value { result ≡ lot_of self.now.lots segno }
+        ensures sound { IsSound self.now }
     {
         lots::lot_of(&self.lots, segno)
     }
@@ -177,10 +201,10 @@ impl Kst {
         }
     }
 
-    fn is_full(&self, uid: u32, section: &Option<Section>) -> bool
-        ensures { result ≡ is_full self.now uid section.now }
+    fn is_full(&self, uid: u32, wanted: bool) -> bool
+        ensures { result ≡ is_full self.now uid wanted }
     {
-        let needed = if section.is_some() { 2 } else { 1 };
+        let needed = if wanted { 2 } else { 1 };
         self.by_uid(uid).is_none() && self.left() < needed
     }
 

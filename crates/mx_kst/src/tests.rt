@@ -10,11 +10,8 @@ fn ring(n: u8) -> Result<Ring, Fail> {
 }
 
 fn section(page: u16) -> Result<Section, Fail> {
-    Ok(Section {
-        page,
-        brackets: Brackets::new(ring(4)?, ring(4)?, ring(4)?).ok_or("brackets")?,
-        words: 2,
-    })
+    let brackets = Brackets::new(ring(4)?, ring(4)?, ring(4)?).ok_or("brackets")?;
+    Ok(Section::new(page, brackets, 2).ok_or("a section")?)
 }
 
 fn fresh(segno: u16, linkage: Option<u16>) -> Known {
@@ -63,7 +60,7 @@ fn a_linkage_section_goes_with_its_object(rt: HostRuntime) -> Result<(), Fail> {
     let linkage = Lot::Linkage {
         of: 0o10,
         page: 40,
-        brackets: section(40)?.brackets,
+        brackets: Brackets::new(ring(4)?, ring(4)?, ring(4)?).ok_or("brackets")?,
         words: 2,
     };
     assert_eq!(rt; kst.lot(0o11), linkage);
@@ -99,7 +96,7 @@ fn names_stand_ring_by_ring(rt: HostRuntime) -> Result<(), Fail> {
         (2, 5, b"alpha", Ok(fresh(0o11, None))),
         (1, 5, b"alpha", Err(KstError::NameDup)),
     ] {
-        let name = EntryName::read(alloc, text)?;
+        let name = EntryName::read(text)?;
         assert_eq!(rt; kst.initiate(uid, ring(n)?, Some(&name), None), want);
         assert_eq!(rt; kst.by_name(ring(n)?, &name).is_some(), true);
     }
@@ -109,7 +106,7 @@ fn names_stand_ring_by_ring(rt: HostRuntime) -> Result<(), Fail> {
         (4, b"beta", None),
         (5, b"alpha", Some(0o11)),
     ] {
-        let name = EntryName::read(alloc, text)?;
+        let name = EntryName::read(text)?;
         assert_eq!(rt; kst.by_name(ring(n)?, &name), want);
     }
     Ok(())

@@ -7,7 +7,8 @@ use Rattle.std.proofs.lemmas.Bool.Decides.{Decides-eqb}
 use Rattle.std.proofs.lemmas.Cmp.{nat_list_eq_equiv}
 use Rattle.std.proofs.lemmas.Map.Views.{Contains-from_lookup, lookup-from_Contains}
 use Rattle.std.proofs.lemmas.Slice.Eq.{slice_eq-Decides}
-use Rattle.mx_object.specs.Objects.{PlainObjectMap, same_name, symbols_of, has_twice, word_of, Defines}
+use Rattle.mx_name.specs.Names.{same_name}
+use Rattle.mx_object.specs.Objects.{PlainObjectMap, symbols_of, has_twice, word_of, Defines}
 
 same : (x y : List ℕ) → same_name x y ≡ true → x ≡ y
 same x y = (slice_eq-Decides Decides-eqb x y (same_name x y) refl).0

@@ -4,7 +4,8 @@ use Rattle.std.specs.Cmp.{nat_eq_equiv}
 use Rattle.std.specs.Cmp.Lexicographic.{lists_equiv}
 use Rattle.std.specs.List.{list_any}
 use Rattle.std.proofs.lemmas.List.{at_drop_more}
-use Rattle.mx_object.specs.Objects.{same_name, symbols_of, has_twice}
+use Rattle.mx_name.specs.Names.{same_name}
+use Rattle.mx_object.specs.Objects.{symbols_of, has_twice}
 
 abbrev pub is_seen : List (Bor (List ℕ)) → List ℕ → Bool
 is_seen seen name = list_any (λ k. same_name name k.now) seen

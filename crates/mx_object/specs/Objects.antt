@@ -1,21 +1,18 @@
 -- Object maps: the words of an object segment that are gates, the words that its symbols stand for, and its links.
-use Rattle.std.specs.Prelude.{◌≡◌, ℕ, ◌==◌, ◌≤◌, Bool, false, ◌||◌, nat_lt, List, [], ◌∷◌, length, Option, None, Some, Result, if◌then◌else◌}
+use Rattle.std.specs.Prelude.{◌≡◌, ℕ, ◌≤◌, Bool, false, ◌||◌, nat_lt, List, [], ◌∷◌, length, Option, None, Some, Result, if◌then◌else◌}
 use Rattle.std.specs.List.{list_any, Contains, slice_get}
 use Rattle.std.specs.Map.{lookup, keys_of}
-use Rattle.std.specs.Cmp.Lexicographic.{pointwise}
 use Rattle.mx_name.specs.Answers.{unless}
+use Rattle.mx_name.specs.Names.{same_name}
 use Rattle.mx_object.specs.declared.objects.ObjectError.{ObjectError}
 use Rattle.mx_object.specs.declared.objects.ObjectError.TheVariants.{Twice, TooMany}
 
--- so many words from 0 on are gates; each definition is a symbol and its word; each link is a segment's name and a symbol
+-- so many words from 0 on are gates; each definition is a symbol and its word;
+-- each link is a segment's name and a symbol
 pub record PlainObjectMap : Type 0 where
   pub gate : ℕ
   pub definitions : List (List ℕ × ℕ)
   pub links : List (List ℕ × List ℕ)
-
--- two equal names
-abbrev pub same_name : List ℕ → List ℕ → Bool
-same_name x y = pointwise ◌==◌ x y
 
 -- the symbols that are defined, in their order
 abbrev pub symbols_of : List (List ℕ × ℕ) → List (List ℕ)

@@ -1,8 +1,8 @@
 //! Object maps: the gates, the definitions and the links of an object segment.
 //!
-//! A contract sees a map as its three parts. `new` answers `Twice` exactly where a symbol is defined twice and then `TooMany`
-//! exactly where there are more than 64 definitions or links; `definition` gives a word exactly where the symbol is defined
-//! with it, and `link` the pair of each number. Stands on names and on an ordered set.
+//! A contract sees a map as its three parts. `new` answers `Twice` exactly where a symbol is defined twice and then
+//! `TooMany` exactly where there are more than 64 definitions or links; `definition` gives a word exactly where the
+//! symbol is defined with it, and `link` the pair of each number. Stands on names and on an ordered set.
 #![tactic(auto)]
 
 mod objects;
@@ -20,7 +20,7 @@ mod tests {
     fn definitions(alloc: Global, numbers: &[u8]) -> Result<Definitions, Fail> {
         let mut definitions = Definitions::new(alloc);
         for n in numbers {
-            let symbol = EntryName::read(alloc, &[b's', b'0' + n / 10 % 10, b'0' + n % 10])?;
+            let symbol = EntryName::read(&[b's', b'0' + n / 10 % 10, b'0' + n % 10])?;
             definitions.push((symbol, u16::from(*n)))?;
         }
         Ok(definitions)
@@ -29,8 +29,8 @@ mod tests {
     fn links(alloc: Global, count: u8) -> Result<Links, Fail> {
         let mut links = Links::new(alloc);
         for _ in 0..count {
-            let segment = EntryName::read(alloc, b"math")?;
-            let symbol = EntryName::read(alloc, b"sqrt")?;
+            let segment = EntryName::read(b"math")?;
+            let symbol = EntryName::read(b"sqrt")?;
             links.push((segment, symbol))?;
         }
         Ok(links)
@@ -38,7 +38,7 @@ mod tests {
 
     fn library(alloc: Global) -> Result<ObjectMap, Fail> {
         let mut definitions = Definitions::new(alloc);
-        definitions.push((EntryName::read(alloc, b"sqrt")?, 5))?;
+        definitions.push((EntryName::read(b"sqrt")?, 5))?;
         Ok(ObjectMap::new(alloc, 1, definitions, Links::new(alloc))?)
     }
 
@@ -52,7 +52,7 @@ mod tests {
         let alloc = rt.alloc();
         let library = library(alloc)?;
         for (text, want) in [(b"sqrt".as_slice(), Some(5)), (b"cos", None)] {
-            let symbol = EntryName::read(alloc, text)?;
+            let symbol = EntryName::read(text)?;
             assert_eq!(rt; library.definition(&symbol), want);
         }
         assert_eq!(rt; library.gate(), 1);

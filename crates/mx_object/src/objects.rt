@@ -2,7 +2,8 @@
 ghost use Rattle.std.specs.Prelude.{◌≡◌, ◌⊎◌, ◌↔◌, ℕ, Some, Err, IfOk};
 ghost use Rattle.std.specs.Option.{option_map};
 ghost use Rattle.std.specs.Map.{lookup};
-ghost use Rattle.mx_object.specs.Objects.{IsObjectMap, same_name, symbols_of, has_twice, object_map, word_of, link_of, Defines};
+ghost use Rattle.mx_name.specs.Names.{same_name};
+ghost use Rattle.mx_object.specs.Objects.{IsObjectMap, symbols_of, has_twice, object_map, word_of, link_of, Defines};
 ghost use Rattle.mx_object.specs.declared.objects.ObjectError.TheVariants.{Memory};
 
 use indexmap::IndexSet;
@@ -30,7 +31,7 @@ pub enum ObjectError {
     /// There are more than 64 definitions, or more than 64 links.
     #[error("too many definitions or links")]
     TooMany,
-    /// Memory was wanting; nothing is said of the parts.
+    /// Out of memory; nothing is said of the parts.
     #[error("out of memory")]
     Memory,
 }
@@ -43,8 +44,8 @@ impl From<AllocError> for ObjectError {
     }
 }
 
-/// The map of an object segment: how many words from 0 on are gates, at most 64 definitions, no symbol twice, and at most 64
-/// links.
+/// The map of an object segment: how many words from 0 on are gates, at most 64 definitions, no symbol twice, and at
+/// most 64 links.
 #[derive(Debug, Drop, PartialEq, Eq)]
 pub struct ObjectMap {
     gate: u16,
@@ -79,15 +80,16 @@ impl Clone for ObjectMap {
 }
 
 impl ObjectMap {
-    /// The map of these parts. `Twice` exactly where a symbol is defined twice, then `TooMany` exactly where there are more than
-    /// 64 definitions or more than 64 links; `Memory` may stand in place of any answer.
+    /// The map of these parts. `Twice` exactly where a symbol is defined twice, then `TooMany` exactly where there are
+    /// more than 64 definitions or more than 64 links; `Memory` may stand in place of any answer.
     pub fn new(
         alloc: Global,
         gate: u16,
         definitions: Definitions,
         links: Links,
     ) -> Result<ObjectMap, ObjectError>
-        ensures { (result ≡ object_map (record { gate = gate; definitions = definitions; links = links })) ⊎ (result ≡ Err Memory) }
+        ensures { (result ≡ object_map (record { gate = gate; definitions = definitions; links = links }))
+            ⊎ (result ≡ Err Memory) }
     {
         if repeats(alloc, definitions.items())? {
             return Err(ObjectError::Twice);

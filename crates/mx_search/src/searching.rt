@@ -35,7 +35,8 @@ pub fn search<F: Finder>(
     finder: &F,
 ) -> Result<Option<Found>, AllocError>
     ensures value { IfOk result (λ answer. answer ≡ first_found (answers (F.answer finder.now) rules.now name.now)) }
-    ensures first { IfOk result (λ answer. (found : Found) → (answer ≡ Some found) ↔ IsFirstFound (answers (F.answer finder.now) rules.now name.now) found) }
+    ensures first { IfOk result (λ answer. (found : Found)
+        → (answer ≡ Some found) ↔ IsFirstFound (answers (F.answer finder.now) rules.now name.now) found) }
 {
     let answer = first_found(rules.items(), name, finder)?;
     Ok(answer)

@@ -45,7 +45,7 @@ fn found(alloc: Global, items: Sequence<Rule>) -> Result<Option<Found>, Fail> {
         working: 7,
         named: 5,
     };
-    let name = EntryName::read(alloc, b"math")?;
+    let name = EntryName::read(b"math")?;
     Ok(search(&rules, &name, &finder)?)
 }
 

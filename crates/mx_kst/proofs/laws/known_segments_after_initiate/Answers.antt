@@ -7,5 +7,5 @@ returns c = record {
   words = λ before after uid ring name section known sound low e.
       let within : ring < length before.names = omega (arith, sound.rings) in
       initiated before uid ring name section known after within e;
-  sound = λ before after uid ring name section known sound e. sound_initiated before uid ring name section known after sound e;
+  sound = λ before after uid ring name section known sound fits e. sound_initiated before uid ring name section known after sound fits e;
 }

@@ -1,6 +1,6 @@
 use Rattle.std.proofs.Common.{◌≡◌, drop}
 use Rattle.std.specs.Map.{lookup}
-use Rattle.mx_object.specs.Objects.{same_name}
+use Rattle.mx_name.specs.Names.{same_name}
 use Rattle.mx_object.proofs.objects.word_of.Given as goal
 
 -- what is left defines the symbol as all does

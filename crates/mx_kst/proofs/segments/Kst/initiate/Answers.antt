@@ -1,23 +1,25 @@
-use Rattle.std.proofs.Common.{List, arith, ap, sym, ◌∙◌}
+use Rattle.std.proofs.Common.{◌≡◌, true, List, is_some, None, rules, arith, ap, sym, ◌∙◌}
 use Rattle.std.specs.Option.{option_copied}
 use Rattle.std.proofs.lemmas.List.{with_items_is}
 use Rattle.mx_kst.specs.declared.segments.Known.{Known}
 use Rattle.mx_kst.specs.Names.{RingNames}
-use Rattle.mx_kst.specs.Initiating.{is_full, known_as, lots_with, with_name}
+use Rattle.mx_kst.specs.Initiating.{refusal, known_as, lots_with, with_name}
 use Rattle.mx_kst.specs.KnownSegments.{KnownSegments}
-use Rattle.mx_kst.proofs.InitiateLaws.{sound_after}
+use Rattle.mx_kst.proofs.InitiateLaws.{not_full, sound_after}
 use Rattle.mx_kst.proofs.segments.Kst.initiate.Goals as goal
 
 pub invariant_of-self-2 : goal.invariant_of-self-2
 invariant_of-self-2 c =
     let k : KnownSegments = record { lots = c.self.inside.lots.items; names = c.self.inside.names.items } in
     let name = option_copied c.args.name in
-    let room = ap (λ (s : KnownSegments). is_full s c.args.uid c.args.section) c.self.view_is ∙ sym c.is_full.ensures ∙ c.if-is_full.false in
+    let none : c.refusal.result ≡ None = search rules in
+    let room = not_full k c.args.uid c.args.ring name (is_some c.args.section) (ap (λ (s : KnownSegments). refusal s c.args.uid c.args.ring name (is_some c.args.section)) c.self.view_is ∙ ap (refusal c.args.self.now c.args.uid c.args.ring name) (sym c.is_some.ensures) ∙ sym c.refusal.ensures ∙ none) in
     let known = c.known_as-known.ensures ∙ ap (λ (s : KnownSegments). known_as s.lots c.args.uid c.args.section) (sym c.self.view_is) in
     let lots = c.add_lots.ensures.lots ∙ ap (λ (x : Known). lots_with k.lots x c.args.uid c.args.section) known in
+    let fits = λ (t : (known_as k.lots c.args.uid c.args.section).fresh ≡ true). c.add_lots.ensures.section (ap (λ (x : Known). x.fresh) known ∙ t) in
     let names =
     with_items_is c.self.inside.names c.add_name.new.names (omega arith)
     ∙ c.in_ok-add_name.ensures.ok
     ∙ ap (λ (x : Known). with_name c.deref_mut.result.now c.args.ring name x.segno) known
     ∙ ap (λ (xs : List RingNames). with_name xs c.args.ring name (known_as k.lots c.args.uid c.args.section).segno) c.deref_mut.ensures.value in
-    (sound_after k c.args.uid c.args.ring name c.args.section _ _ c.self.invariant.0 room lots names, omega (arith, c.add_lots.ensures.room))
+    (sound_after k c.args.uid c.args.ring name c.args.section _ _ c.self.invariant.0 room fits lots names, omega (arith, c.add_lots.ensures.room))
