@@ -1,5 +1,5 @@
 -- What `initiate` leaves is sound, and what it leaves in words of the numbers and names alone.
-use Rattle.std.proofs.Common.{ℕ, ◌≡◌, ◌+◌, ◌<◌, ◌≤◌, Bool, true, false, ◌&&◌, not, cond, ◌==◌, ltb, List, ◌++◌, length, take, Option, None, Some, is_some, Result, Ok, Err, refl, ap, sym, subst, ◌∙◌, inl, inr, arith}
+use Rattle.std.proofs.Common.{ℕ, ◌≡◌, ◌+◌, ◌<◌, ◌≤◌, Bool, true, false, ◌&&◌, not, cond, ◌==◌, ltb, List, ◌++◌, length, take, Option, None, Some, is_some, Result, Ok, refl, ap, sym, subst, ◌∙◌, inl, inr, arith}
 use Rattle.std.specs.Option.{is_none, IfSome, option_map}
 use Rattle.std.proofs.lemmas.Bool.{ltb-false, eqb-true, true≢false}
 use Rattle.std.proofs.lemmas.List.{length-append, length-take, take-append-le, get_or_append_left}

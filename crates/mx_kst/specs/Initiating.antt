@@ -80,14 +80,16 @@ outcome (Ok known) after = Ok (record { known = known; after = after })
 outcome (Err e) after = Err e
 
 -- what is left of it in words of the numbers and names alone
-pub record IsInitiated (before : KnownSegments) (uid ring : ℕ) (name : Option (List ℕ)) (section : Option PlainSection) (known : Known) (after : KnownSegments) : Type 0 where
+pub record IsInitiated (before : KnownSegments) (uid ring : ℕ) (name : Option (List ℕ)) (section : Option PlainSection)
+    (known : Known) (after : KnownSegments) : Type 0 where
   -- the segment has the number
   pub number : number_of after.lots uid ≡ Some known.segno
   pub lot : lot_of after.lots known.segno ≡ Branch uid
   -- it had it before, or no number was given from this one on
   pub old : known.fresh ≡ false → number_of before.lots uid ≡ Some known.segno
   pub fresh : known.fresh ≡ true → known.segno ≡ length before.lots
-  -- a linkage section is made exactly where one is wanted and the segment was not known; it has the number after the segment's
+  -- a linkage section is made exactly where one is wanted and the segment was not known;
+  -- it has the number after the segment's
   pub made : is_some known.linkage ≡ (known.fresh && is_some section)
   pub linkage : (n : ℕ) → known.linkage ≡ Some n → (n ≡ known.segno + 1)
       × IfSome section (λ s. lot_of after.lots n ≡ Linkage known.segno s.page s.brackets s.words)
@@ -96,4 +98,5 @@ pub record IsInitiated (before : KnownSegments) (uid ring : ℕ) (name : Option 
   pub lots : (n : ℕ) → n < length before.lots → lot_of after.lots n ≡ lot_of before.lots n
   -- the name stands for the number, and every other name for what it stood for
   pub own_name : IfSome name (λ text. named after.names ring text ≡ Some known.segno)
-  pub other_names : (r : ℕ) (other : List ℕ) → (r ≡ ring → name ≡ Some other → ⊥) → named after.names r other ≡ named before.names r other
+  pub other_names : (r : ℕ) (other : List ℕ) → (r ≡ ring → name ≡ Some other → ⊥)
+      → named after.names r other ≡ named before.names r other

@@ -1,4 +1,5 @@
--- What a process knows: what each number given so far stands for, and its reference names. And what is true of it at every moment.
+-- What a process knows: what each number given so far stands for, and its reference names.
+-- And what is true of it at every moment.
 use Rattle.std.specs.Prelude.{◌≡◌, ℕ, ◌+◌, ◌≤◌, true, List, take, length, Some}
 use Rattle.std.specs.List.{IsDistinct}
 use Rattle.std.specs.Map.{keys_of}
@@ -27,7 +28,8 @@ pub record IsSound (k : KnownSegments) : Type 0 where
   -- no name stands twice in a ring
   pub one_entry : (ring : ℕ) → IsDistinct same_name (keys_of (names_in k.names ring))
   -- each name stands for a segment that is known
-  pub names_known : (ring segno : ℕ) (name : List ℕ) → named k.names ring name ≡ Some segno → is_branch (lot_of k.lots segno) ≡ true
+  pub names_known : (ring segno : ℕ) (name : List ℕ) → named k.names ring name ≡ Some segno
+      → is_branch (lot_of k.lots segno) ≡ true
   -- a linkage section has the number after that of its segment, which is known
   pub section_next : (n of page words : ℕ) (brackets : Bracketing) → lot_of k.lots n ≡ Linkage of page brackets words
       → (n ≡ of + 1) × (is_branch (lot_of k.lots of) ≡ true)

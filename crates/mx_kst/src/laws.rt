@@ -10,11 +10,12 @@ ghost use Rattle.mx_kst.specs.Terminating.{terminate, IsTerminated};
 /// After `initiate` the segment has its number and the number stands for it; a fresh number was never given before; the
 /// name stands for the number; and all else that was known stays.
 pub fn known_segments_after_initiate()
-    ensures words { (before after : KnownSegments) (uid ring : ℕ) (name : Option (List ℕ)) (section : Option PlainSection)
-        (known : Known) → IsSound before → ring ≤ 7 → initiate before uid ring name section ≡ Ok (record { known = known; after = after })
+    ensures words { (before after : KnownSegments) (uid ring : ℕ) (name : Option (List ℕ))
+        (section : Option PlainSection) (known : Known) → IsSound before → ring ≤ 7
+        → initiate before uid ring name section ≡ Ok (record { known = known; after = after })
         → IsInitiated before uid ring name section known after }
-    ensures sound { (before after : KnownSegments) (uid ring : ℕ) (name : Option (List ℕ)) (section : Option PlainSection)
-        (known : Known) → IsSound before → IfSome section (λ s. IsWithinPage s.page s.words)
+    ensures sound { (before after : KnownSegments) (uid ring : ℕ) (name : Option (List ℕ))
+        (section : Option PlainSection) (known : Known) → IsSound before → IfSome section (λ s. IsWithinPage s.page s.words)
         → initiate before uid ring name section ≡ Ok (record { known = known; after = after }) → IsSound after }
 {}
 
