@@ -1,4 +1,5 @@
--- The processes and the messages that wait for them. A process is its place in the list, counted from 1; there is no process 0.
+-- The processes and the messages that wait for them. A process is its place in the list, counted from 1; there is no
+-- process 0.
 use Rattle.std.specs.Prelude.{◌≡◌, ℕ, ◌≤◌, ◌==◌, ◌-◌, List, [], length, slice_get, slice_set, replicate, Option, None, if◌then◌else◌}
 use Rattle.std.specs.List.{All}
 use Rattle.mx_mail.specs.declared.processes.ExecutionState.{ExecutionState}
@@ -33,8 +34,8 @@ end_process processes p = with_process processes p (process_in Ended [])
 abbrev pub IsFromProcess : ℕ → ℕ × ℕ → Type 0
 IsFromProcess count message = (1 ≤ message.0) × (message.0 ≤ count)
 
--- what is true of each of so many processes: at most 64 messages wait for it, each sender is a process, and none waits for
--- a process that has ended
+-- what is true of each of so many processes: at most 64 messages wait for it, each sender is a process, and none waits
+-- for a process that has ended
 pub record IsProcess (count : ℕ) (process : PlainProcess) : Type 0 where
   pub within : length process.messages ≤ 64
   pub senders : All (IsFromProcess count) process.messages

@@ -31,4 +31,5 @@ unless_refused None processes = Ok processes
 -- the processes after a message was sent, or the first refusal that applies
 abbrev pub send_message : List PlainProcess → ℕ → ℕ → ℕ → Result (List PlainProcess) MailError
 send_message processes sender to word =
-    unless_refused (send_refusal (process_at processes to)) (deliver processes to (process_at processes to) (sender, word))
+    unless_refused (send_refusal (process_at processes to))
+    (deliver processes to (process_at processes to) (sender, word))

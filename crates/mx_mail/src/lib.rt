@@ -1,9 +1,9 @@
 //! Messages between processes.
 //!
 //! A contract sees the list of the processes, each with its state and the messages that wait for it in the order sent.
-//! `send`, `take` and `end` are one definition each on such lists. The laws say the same in plain words: a message waits
-//! behind those that were sent before it, `Nobody` is answered exactly where every other process is asleep, and where no
-//! process runs, one that waits is ready. Only `new` and `send` take memory. Stands on `mx_sdw` for its words.
+//! `send`, `take` and `end` are one definition each on such lists. The laws say the same in plain words: a message
+//! waits behind those that were sent before it, `Nobody` is answered exactly where every other process is asleep, and
+//! where no process runs, one that waits is ready. Only `new` and `send` take memory. Stands on `mx_sdw` for its words.
 #![tactic(auto)]
 
 mod laws;

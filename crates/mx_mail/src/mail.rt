@@ -87,14 +87,15 @@ impl Mail {
         self.processes.len() as u8
     }
 
-    /// Sends a word to process `to`, behind the messages that wait for it; a process may send to itself. `NoProcess` exactly
-    /// where there is no such process, then `Ended` exactly where it has ended, then `Full` exactly where 64 messages wait
-    /// for it. A refusal, and the want of memory, change nothing.
+    /// Sends a word to process `to`, behind the messages that wait for it; a process may send to itself. `NoProcess`
+    /// exactly where there is no such process, then `Ended` exactly where it has ended, then `Full` exactly where 64
+    /// messages wait for it. A refusal, and the want of memory, change nothing.
     pub fn send(&mut self, sender: u8, to: u8, word: Word) -> Result<(), MailError>
         requires some { 1 ≤ sender }
         requires process { sender ≤ length self.old }
         ensures ok { OnOk result (send_message self.old sender to word ≡ Ok self.new) }
-        ensures refused { IfErr result (λ error. (send_message self.old sender to word ≡ Err error) ⊎ ((error ≡ MailError.Memory) × IsOk (send_message self.old sender to word))) }
+        ensures refused { IfErr result (λ error. (send_message self.old sender to word ≡ Err error)
+            ⊎ ((error ≡ MailError.Memory) × IsOk (send_message self.old sender to word))) }
         ensures err { OnErr result (self.new ≡ self.old) }
         ensures count { length self.new ≡ length self.old }
     {
@@ -122,9 +123,9 @@ impl Mail {
         self.processes.get(usize::from(p).checked_sub(1)?)
     }
 
-    /// Takes the oldest message that waits for process `p`. Without one the answer is `Nobody` exactly where every other
-    /// process has ended or waits without a message, else `Waiting`, and then `p` waits. After a message and after `Nobody`
-    /// it is running, also where it had ended. Takes no memory.
+    /// Takes the oldest message that waits for process `p`. Without one the answer is `Nobody` exactly where every
+    /// other process has ended or waits without a message, else `Waiting`, and then `p` waits. After a message and
+    /// after `Nobody` it is running, also where it had ended. Takes no memory.
     pub fn take(&mut self, p: u8) -> Taken
         requires some { 1 ≤ p }
         requires process { p ≤ length self.old }
