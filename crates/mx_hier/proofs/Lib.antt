@@ -3,6 +3,7 @@ pub mod NameLaws
 pub mod KeyLaws
 pub mod KeptLaws
 pub mod WalkLaws
+pub mod StrangerLaws
 pub mod SoundLaws
 pub mod ChangeLaws
 pub mod SortLaws

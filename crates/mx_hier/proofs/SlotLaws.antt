@@ -6,7 +6,8 @@ use Rattle.std.specs.Option.{IfSome, option_map}
 use Rattle.std.specs.Borrow.{Bor}
 use Rattle.mx_hier.specs.declared.branches.Branch.{Branch}
 use Rattle.mx_hier.specs.Branches.{branch_of}
-use Rattle.mx_hier.specs.Changing.{changed, without}
+use Rattle.mx_hier.specs.Changing.{changed}
+use Rattle.mx_hier.specs.Delete.{without}
 use Rattle.mx_hier.specs.Listed.{present, slot_of, emptied, changed_at, AreKeyed}
 
 -- none of these branches has the uid

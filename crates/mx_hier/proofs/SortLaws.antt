@@ -1,13 +1,13 @@
 -- Names have one sorted order, which `in_byte_order` gives: names that the order does not tell apart are the same.
-use Rattle.std.proofs.Common.{ℕ, suc, ◌≡◌, ◌+◌, Bool, true, false, cond, List, [], ◌∷◌, Ordering, Less, Equal, Greater, is_lt, is_eq, true≢false, refl, sym, ap, ap₂, subst, ◌∙◌, arith, IsPermutation, IsSorted}
+use Rattle.std.proofs.Common.{ℕ, zero, suc, ◌≡◌, ◌+◌, ◌<◌, length, get_or, Bool, true, false, cond, List, [], ◌∷◌, Ordering, Less, Equal, Greater, is_lt, is_eq, true≢false, refl, sym, ap, ap₂, subst, ◌∙◌, arith, IsPermutation, IsSorted}
 use Rattle.std.specs.Bool.{⊤}
 use Rattle.std.specs.List.{sum_by}
 use Rattle.std.specs.Ordering.{nat_cmp, ordering_reverse}
 use Rattle.std.specs.Cmp.Lexicographic.{slice_cmp, texts_ties, same_text}
 use Rattle.std.proofs.lemmas.Cmp.{nat_list_cmp_total, tied_itself}
-use Rattle.std.proofs.lemmas.List.Sorted.{sum_by-IsPermutation}
+use Rattle.std.proofs.lemmas.List.Sorted.{sum_by-IsPermutation, IsPermutation-refl, IsPermutation-sym, IsPermutation-trans, IsPermutation-cons, IsPermutation-middle}
 use Rattle.std.proofs.lemmas.List.Sums.{sum_by-cons}
-use Rattle.mx_hier.specs.Asking.{placed, in_byte_order}
+use Rattle.mx_hier.specs.List.{placed, in_byte_order}
 
 abbrev before : List ℕ → List ℕ → Bool
 before a b = is_lt (slice_cmp nat_cmp a b)
@@ -112,3 +112,32 @@ one_order (x ∷ xs) (y ∷ ys) up up' same =
 pub sorted_names : (names sorted : List (List ℕ)) → IsPermutation names sorted → IsSorted (slice_cmp nat_cmp) sorted → sorted ≡ in_byte_order names
 sorted_names names sorted moved up =
     one_order sorted (in_byte_order names) (rises_sorted sorted up) (rises_in_byte_order names) (λ f. sum_by-IsPermutation f names sorted moved ∙ sym (sum_in_byte_order f names))
+
+rises_is_sorted : (names : List (List ℕ)) → Rises names → IsSorted (slice_cmp nat_cmp) names
+rises_is_sorted [] up = λ k d p q. absurd (omega (arith, q))
+rises_is_sorted (name ∷ []) up = λ k d p q. absurd (omega (arith, q))
+rises_is_sorted (name ∷ next ∷ names) up = λ k d p q. at k d q
+  where
+    at : (k : ℕ) (d : List ℕ) → k + 1 < length (name ∷ next ∷ names) → before (get_or (name ∷ next ∷ names) (k + 1) d) (get_or (name ∷ next ∷ names) k d) ≡ false
+    at zero d q = up.0
+    at (suc k) d q = rw (Rattle.std.proofs.Common.add-one, sym Rattle.std.proofs.Common.add-one) (rises_is_sorted (next ∷ names) up.1 k d (omega arith) (omega (arith, q)))
+
+pub ascending : (names : List (List ℕ)) → IsSorted (slice_cmp nat_cmp) (in_byte_order names)
+ascending names = rises_is_sorted (in_byte_order names) (rises_in_byte_order names)
+
+placed_among : (name : List ℕ) (names : List (List ℕ)) → IsPermutation (name ∷ names) (placed name names)
+placed_among name [] = IsPermutation-refl (name ∷ [])
+placed_among name (next ∷ names) = by (before next name) (placed_among name names)
+  where
+    by : (b : Bool) → IsPermutation (name ∷ names) (placed name names) → IsPermutation (name ∷ next ∷ names) (cond b (next ∷ placed name names) (name ∷ next ∷ names))
+    by false rest = IsPermutation-refl (name ∷ next ∷ names)
+    by true rest =
+        IsPermutation-trans (name ∷ next ∷ names) (next ∷ name ∷ names) (next ∷ placed name names)
+        (IsPermutation-sym (next ∷ name ∷ names) (name ∷ next ∷ names) (IsPermutation-middle (next ∷ []) name names))
+        (IsPermutation-cons next (name ∷ names) (placed name names) rest)
+
+pub reordered : (names : List (List ℕ)) → IsPermutation names (in_byte_order names)
+reordered [] = IsPermutation-refl []
+reordered (name ∷ names) =
+    IsPermutation-trans (name ∷ names) (name ∷ in_byte_order names) (placed name (in_byte_order names))
+    (IsPermutation-cons name names (in_byte_order names) (reordered names)) (placed_among name (in_byte_order names))

@@ -1,85 +1,250 @@
--- What a request does to the branches leaves every segment on the pages that there are.
-use Rattle.std.proofs.Common.{◌≡◌, ℕ, eqb, cond, not, Bool, true, false, List, [], ◌∷◌, ◌++◌, Option, Some, sym, subst}
-use Rattle.mx_hier.specs.declared.branches.Branch.{Branch}
-use Rattle.mx_hier.specs.Branches.{branch_of}
+-- What a request does to the branches leaves every segment on pages of its own.
+use Rattle.std.proofs.Common.{◌≡◌, ◌≢◌, ◌⊎◌, inl, inr, ℕ, ◌+◌, ◌-◌, ◌<◌, ◌≤◌, eqb, cond, not, Bool, true, false, List, [], ◌∷◌, ◌++◌, Option, Some, None, refl, sym, ap, subst, ◌∙◌, arith}
+use Rattle.std.proofs.lemmas.Bool.{eqb-true, ne_eqb}
+use Rattle.std.specs.Option.{option_and_then}
 use Rattle.mx_acl.specs.Access.{Access}
+use Rattle.mx_pages.specs.Runs.{PageMap, pages_for, IsFreeRun, IsFree, after_run}
 use Rattle.mx_sdw.specs.Rings.{Bracketing}
+use Rattle.mx_hier.specs.declared.branches.Branch.{Branch}
+use Rattle.mx_hier.specs.declared.branches.Segment.{Segment}
 use Rattle.mx_hier.specs.declared.branches.Node.{Node}
 use Rattle.mx_hier.specs.declared.branches.Node.TheVariants.{Directory as IsDirectory, Segment as IsSegment, Link as IsLink}
-use Rattle.mx_hier.specs.Changing.{changed, without, with_node, acl_changed, bracketed, dir_bracketed}
-use Rattle.mx_hier.specs.Sound.{IsNodeWithin, AreWithin, IsSound}
+use Rattle.mx_hier.specs.Branches.{branch_of, as_segment, segment_in}
+use Rattle.mx_hier.specs.Changing.{changed, with_node, acl_changed}
+use Rattle.mx_hier.specs.Delete.{without}
+use Rattle.mx_hier.specs.SetBrackets.{bracketed}
+use Rattle.mx_hier.specs.SetDirectoryBrackets.{dir_bracketed}
+use Rattle.mx_hier.specs.Sound.{IsStored, HasPage, IsSound}
 use Rattle.mx_hier.specs.Listed.{Listed}
 
-pub within_added : (branches : List Branch) (branch : Branch) → AreWithin branches → IsNodeWithin branch.node → AreWithin (branches ++ branch ∷ [])
-within_added [] branch are is = (is, tt)
-within_added (x ∷ xs) branch are is = (are.0, within_added xs branch are.1 is)
+-- a segment stood there before, on the same pages
+pub record WasOn (old : Option Segment) (segment : Segment) : Type 0 where
+  pub was : Segment
+  pub there : old ≡ Some was
+  pub words : segment.words ≡ was.words
+  pub page : segment.page ≡ was.page
 
-one_changed : (b : Bool) (x : Branch) (f : Branch → Branch) → ((y : Branch) → IsNodeWithin y.node → IsNodeWithin (f y).node) → IsNodeWithin x.node → IsNodeWithin (cond b (f x) x).node
-one_changed true x f keeps is = keeps x is
-one_changed false x f keeps is = is
+was_itself : (old : Option Segment) (segment : Segment) → old ≡ Some segment → WasOn old segment
+was_itself old segment is = record { was = segment; there = is; words = refl; page = refl }
 
-pub within_changed : (uid : ℕ) (f : Branch → Branch) (branches : List Branch) → ((y : Branch) → IsNodeWithin y.node → IsNodeWithin (f y).node) → AreWithin branches → AreWithin (changed uid f branches)
-within_changed uid f [] keeps are = tt
-within_changed uid f (x ∷ xs) keeps are = (one_changed (eqb x.uid uid) x f keeps are.0, within_changed uid f xs keeps are.1)
+moved : (segment was : Segment) (page : ℕ) → segment.words ≡ was.words → segment.page ≡ was.page → HasPage segment page → HasPage was page
+moved segment was page words at has = subst (λ n. (was.page ≤ page) × (page < was.page + pages_for n)) words (subst (λ n. (n ≤ page) × (page < n + pages_for segment.words)) at has)
 
-one_kept : (b : Bool) (x : Branch) (xs : List Branch) → IsNodeWithin x.node → AreWithin xs → AreWithin (cond b (x ∷ xs) xs)
-one_kept true x xs is are = (is, are)
-one_kept false x xs is are = are
+stored_as : (segment was : Segment) → segment.words ≡ was.words → segment.page ≡ was.page → IsStored was → IsStored segment
+stored_as segment was words at is = record {
+  some = omega (arith, words, is.some);
+  most = omega (arith, words, is.most);
+  pages = subst (λ n. segment.page + pages_for n ≤ 1024) (sym words) (omega (arith, at, is.pages));
+}
 
-pub within_without : (uid : ℕ) (branches : List Branch) → AreWithin branches → AreWithin (without uid branches)
-within_without uid [] are = tt
-within_without uid (x ∷ xs) are = one_kept (not (eqb x.uid uid)) x (without uid xs) are.0 (within_without uid xs are.1)
-
-one_found : (b : Bool) (x branch : Branch) (rest : Option Branch) → cond b (Some x) rest ≡ Some branch
-    → IsNodeWithin x.node → (rest ≡ Some branch → IsNodeWithin branch.node) → IsNodeWithin branch.node
-one_found true x branch rest e is others = let same : x ≡ branch = cc in subst (λ b. IsNodeWithin b.node) same is
-one_found false x branch rest e is others = others e
-
-pub within_at : (uid : ℕ) (branches : List Branch) (branch : Branch) → branch_of branches uid ≡ Some branch → AreWithin branches → IsNodeWithin branch.node
-within_at uid [] branch e are = cc
-within_at uid (x ∷ xs) branch e are = one_found (eqb x.uid uid) x branch (branch_of xs uid) e are.0 (λ h. within_at uid xs branch h are.1)
-
-acl_keeps : (f : Access → Access) (node : Node) → IsNodeWithin node → IsNodeWithin (acl_changed f node)
-acl_keeps f (IsDirectory directory) is = tt
-acl_keeps f (IsSegment segment) is = is
-acl_keeps f (IsLink target) is = tt
-
-brackets_keep : (brackets : Bracketing) (node : Node) → IsNodeWithin node → IsNodeWithin (bracketed brackets node)
-brackets_keep brackets (IsDirectory directory) is = tt
-brackets_keep brackets (IsSegment segment) is = is
-brackets_keep brackets (IsLink target) is = tt
-
-dir_brackets_keep : (d1 d2 : ℕ) (node : Node) → IsNodeWithin node → IsNodeWithin (dir_bracketed d1 d2 node)
-dir_brackets_keep d1 d2 (IsDirectory directory) is = tt
-dir_brackets_keep d1 d2 (IsSegment segment) is = is
-dir_brackets_keep d1 d2 (IsLink target) is = tt
-
-sound_changed : (uid : ℕ) (f : Branch → Branch) (old new : Listed) → ((y : Branch) → IsNodeWithin y.node → IsNodeWithin (f y).node)
-    → new ≡ record old { branches = changed uid f old.branches } → IsSound old.branches old.next → IsSound new.branches new.next
-sound_changed uid f old new keeps e sound = subst (λ (t : Listed). IsSound t.branches t.next) (sym e) (record {
-  within = within_changed uid f old.branches keeps sound.within;
+-- each segment stands where it stood, and no page has become free
+pub sound_kept : (old new : List Branch) (next : ℕ) (pages : PageMap)
+    → ((uid : ℕ) (segment : Segment) → segment_in new uid ≡ Some segment → WasOn (segment_in old uid) segment)
+    → IsSound old next pages → IsSound new next pages
+sound_kept old new next pages kept sound = record {
   first = sound.first;
-})
+  last = sound.last;
+  stored = λ uid segment is. let w = kept uid segment is in stored_as segment w.was w.words w.page (sound.stored uid w.was w.there);
+  taken = λ uid page segment is has. let w = kept uid segment is in sound.taken uid page w.was w.there (moved segment w.was page w.words w.page has);
+  apart = λ uid other a b is also differ page has too.
+      let w = kept uid a is in
+      let v = kept other b also in
+      sound.apart uid other w.was v.was w.there v.there differ page (moved a w.was page w.words w.page has) (moved b v.was page v.words v.page too);
+}
 
-pub sound_acl : (uid : ℕ) (f : Access → Access) (old new : Listed)
+-- one branch changed
+module _ (f : Branch → Branch) (own : (x : Branch) → (f x).uid ≡ x.uid)
+    (kept : (x : Branch) (segment : Segment) → as_segment (f x).node ≡ Some segment → WasOn (as_segment x.node) segment) where
+  one_was : (b : Bool) (x : Branch) (uid : ℕ) (xs ys : List Branch) (segment : Segment)
+      → (segment_in ys uid ≡ Some segment → WasOn (segment_in xs uid) segment)
+      → segment_in (cond b (f x) x ∷ ys) uid ≡ Some segment → WasOn (segment_in (x ∷ xs) uid) segment
+  one_was true x uid xs ys segment rest is = by (eqb (f x).uid uid) (eqb x.uid uid) (ap (λ n. eqb n uid) (own x)) is
+    where
+      by : (c d : Bool) → c ≡ d → option_and_then (λ (branch : Branch). as_segment branch.node) (cond c (Some (f x)) (branch_of ys uid)) ≡ Some segment
+          → WasOn (option_and_then (λ (branch : Branch). as_segment branch.node) (cond d (Some x) (branch_of xs uid))) segment
+      by true true e is = kept x segment is
+      by true false e is = absurd (cc)
+      by false true e is = absurd (cc)
+      by false false e is = rest is
+  one_was false x uid xs ys segment rest is = by (eqb x.uid uid) is
+    where
+      by : (c : Bool) → option_and_then (λ (branch : Branch). as_segment branch.node) (cond c (Some x) (branch_of ys uid)) ≡ Some segment
+          → WasOn (option_and_then (λ (branch : Branch). as_segment branch.node) (cond c (Some x) (branch_of xs uid))) segment
+      by true is = was_itself (as_segment x.node) segment is
+      by false is = rest is
+
+  changed_was : (at uid : ℕ) (branches : List Branch) (segment : Segment) → segment_in (changed at f branches) uid ≡ Some segment
+      → WasOn (segment_in branches uid) segment
+  changed_was at uid [] segment is = absurd (cc)
+  changed_was at uid (x ∷ xs) segment is = one_was (eqb x.uid at) x uid xs (changed at f xs) segment (changed_was at uid xs segment) is
+
+  pub sound_changed : (at : ℕ) (pages : PageMap) (old new : Listed) → new ≡ record old { branches = changed at f old.branches }
+      → IsSound old.branches old.next pages → IsSound new.branches new.next pages
+  sound_changed at pages old new e sound =
+      subst (λ (t : Listed). IsSound t.branches t.next pages) (sym e)
+      (sound_kept old.branches (changed at f old.branches) old.next pages (λ uid segment is. changed_was at uid old.branches segment is) sound)
+
+acl_keeps : (f : Access → Access) (node : Node) (segment : Segment) → as_segment (acl_changed f node) ≡ Some segment → WasOn (as_segment node) segment
+acl_keeps f (IsDirectory directory) segment is = absurd (cc)
+acl_keeps f (IsSegment was) segment is =
+    let same : record was { acl = f was.acl } ≡ segment = cc in
+    record { was = was; there = refl; words = ap (λ (s : Segment). s.words) (sym same); page = ap (λ (s : Segment). s.page) (sym same) }
+acl_keeps f (IsLink target) segment is = absurd (cc)
+
+brackets_keep : (brackets : Bracketing) (node : Node) (segment : Segment) → as_segment (bracketed brackets node) ≡ Some segment → WasOn (as_segment node) segment
+brackets_keep brackets (IsDirectory directory) segment is = absurd (cc)
+brackets_keep brackets (IsSegment was) segment is =
+    let same : record was { brackets = brackets } ≡ segment = cc in
+    record { was = was; there = refl; words = ap (λ (s : Segment). s.words) (sym same); page = ap (λ (s : Segment). s.page) (sym same) }
+brackets_keep brackets (IsLink target) segment is = absurd (cc)
+
+dir_brackets_keep : (d1 d2 : ℕ) (node : Node) (segment : Segment) → as_segment (dir_bracketed d1 d2 node) ≡ Some segment → WasOn (as_segment node) segment
+dir_brackets_keep d1 d2 (IsDirectory directory) segment is = absurd (cc)
+dir_brackets_keep d1 d2 (IsSegment was) segment is = was_itself (Some was) segment is
+dir_brackets_keep d1 d2 (IsLink target) segment is = absurd (cc)
+
+pub sound_acl : (uid : ℕ) (f : Access → Access) (pages : PageMap) (old new : Listed)
     → new ≡ record old { branches = changed uid (λ branch. with_node (acl_changed f branch.node) branch) old.branches }
-    → IsSound old.branches old.next → IsSound new.branches new.next
-sound_acl uid f old new e sound =
-    sound_changed uid (λ branch. with_node (acl_changed f branch.node) branch) old new (λ branch is. acl_keeps f branch.node is) e sound
+    → IsSound old.branches old.next pages → IsSound new.branches new.next pages
+sound_acl uid f pages old new e sound =
+    sound_changed (λ branch. with_node (acl_changed f branch.node) branch) (λ x. refl) (λ x segment is. acl_keeps f x.node segment is) uid pages old new e sound
 
-pub sound_brackets : (uid : ℕ) (brackets : Bracketing) (old new : Listed)
+pub sound_brackets : (uid : ℕ) (brackets : Bracketing) (pages : PageMap) (old new : Listed)
     → new ≡ record old { branches = changed uid (λ branch. with_node (bracketed brackets branch.node) branch) old.branches }
-    → IsSound old.branches old.next → IsSound new.branches new.next
-sound_brackets uid brackets old new e sound =
-    sound_changed uid (λ branch. with_node (bracketed brackets branch.node) branch) old new (λ branch is. brackets_keep brackets branch.node is) e sound
+    → IsSound old.branches old.next pages → IsSound new.branches new.next pages
+sound_brackets uid brackets pages old new e sound =
+    sound_changed (λ branch. with_node (bracketed brackets branch.node) branch) (λ x. refl) (λ x segment is. brackets_keep brackets x.node segment is) uid pages old new e sound
 
-pub sound_dir_brackets : (uid d1 d2 : ℕ) (old new : Listed)
+pub sound_dir_brackets : (uid d1 d2 : ℕ) (pages : PageMap) (old new : Listed)
     → new ≡ record old { branches = changed uid (λ branch. with_node (dir_bracketed d1 d2 branch.node) branch) old.branches }
-    → IsSound old.branches old.next → IsSound new.branches new.next
-sound_dir_brackets uid d1 d2 old new e sound =
-    sound_changed uid (λ branch. with_node (dir_bracketed d1 d2 branch.node) branch) old new (λ branch is. dir_brackets_keep d1 d2 branch.node is) e sound
+    → IsSound old.branches old.next pages → IsSound new.branches new.next pages
+sound_dir_brackets uid d1 d2 pages old new e sound =
+    sound_changed (λ branch. with_node (dir_bracketed d1 d2 branch.node) branch) (λ x. refl) (λ x segment is. dir_brackets_keep d1 d2 x.node segment is) uid pages old new e sound
 
-pub sound_renamed : (uid : ℕ) (name : List ℕ) (old new : Listed)
+pub sound_renamed : (uid : ℕ) (name : List ℕ) (pages : PageMap) (old new : Listed)
     → new ≡ record old { branches = changed uid (λ branch. record branch { name = name }) old.branches }
-    → IsSound old.branches old.next → IsSound new.branches new.next
-sound_renamed uid name old new e sound = sound_changed uid (λ branch. record branch { name = name }) old new (λ branch is. is) e sound
+    → IsSound old.branches old.next pages → IsSound new.branches new.next pages
+sound_renamed uid name pages old new e sound =
+    sound_changed (λ branch. record branch { name = name }) (λ x. refl) (λ x segment is. was_itself (as_segment x.node) segment is) uid pages old new e sound
+
+-- one branch removed
+found_without : (at : ℕ) (branches : List Branch) (uid : ℕ) → uid ≢ at → branch_of (without at branches) uid ≡ branch_of branches uid
+found_without at [] uid apart = refl
+found_without at (x ∷ xs) uid apart = by_test (eqb x.uid at) refl (found_without at xs uid apart)
+  where
+    by_test : (b : Bool) → eqb x.uid at ≡ b → branch_of (without at xs) uid ≡ branch_of xs uid
+        → branch_of (cond (not b) (x ∷ without at xs) (without at xs)) uid ≡ branch_of (x ∷ xs) uid
+    by_test true t later =
+        let here : x.uid ≡ at = eqb-true x.uid at t in
+        rw (ne_eqb x.uid uid (λ same. apart (sym same ∙ here))) later
+    by_test false t later = ap (cond (eqb x.uid uid) (Some x)) later
+
+gone : (at : ℕ) (branches : List Branch) → branch_of (without at branches) at ≡ None
+gone at [] = refl
+gone at (x ∷ xs) = by_test (eqb x.uid at) refl (gone at xs)
+  where
+    by_test : (b : Bool) → eqb x.uid at ≡ b → branch_of (without at xs) at ≡ None → branch_of (cond (not b) (x ∷ without at xs) (without at xs)) at ≡ None
+    by_test true t later = later
+    by_test false t later = ap (λ (c : Bool). cond c (Some x) (branch_of (without at xs) at)) t ∙ later
+
+without_was : (at uid : ℕ) (branches : List Branch) (segment : Segment) → segment_in (without at branches) uid ≡ Some segment
+    → WasOn (segment_in branches uid) segment
+without_was at uid branches segment is = by (eqb uid at) refl
+  where
+    by : (b : Bool) → eqb uid at ≡ b → WasOn (segment_in branches uid) segment
+    by true t =
+        let none : segment_in (without at branches) uid ≡ None =
+        ap (λ n. segment_in (without at branches) n) (eqb-true uid at t) ∙ ap (option_and_then (λ (branch : Branch). as_segment branch.node)) (gone at branches) in
+        absurd (cc)
+    by false t =
+        was_itself (segment_in branches uid) segment
+        (sym (ap (option_and_then (λ (branch : Branch). as_segment branch.node)) (found_without at branches uid (λ same. absurd (grind arith)))) ∙ is)
+
+pub sound_without : (at : ℕ) (pages : PageMap) (old new : Listed) → new ≡ record old { branches = without at old.branches }
+    → IsSound old.branches old.next pages → IsSound new.branches new.next pages
+sound_without at pages old new e sound =
+    subst (λ (t : Listed). IsSound t.branches t.next pages) (sym e)
+    (sound_kept old.branches (without at old.branches) old.next pages (λ uid segment is. without_was at uid old.branches segment is) sound)
+
+-- one branch more: a segment is that of before, or the new one
+added_was : (branches : List Branch) (branch : Branch) (uid : ℕ) (segment : Segment) → segment_in (branches ++ branch ∷ []) uid ≡ Some segment
+    → (segment_in branches uid ≡ Some segment) ⊎ ((uid ≡ branch.uid) × (as_segment branch.node ≡ Some segment))
+added_was [] branch uid segment is = by (eqb branch.uid uid) refl is
+  where
+    by : (b : Bool) → eqb branch.uid uid ≡ b → option_and_then (λ (branch : Branch). as_segment branch.node) (cond b (Some branch) None) ≡ Some segment
+        → (None ≡ Some segment) ⊎ ((uid ≡ branch.uid) × (as_segment branch.node ≡ Some segment))
+    by true t is = inr (sym (eqb-true branch.uid uid t), is)
+    by false t is = inl is
+added_was (x ∷ xs) branch uid segment is = by (eqb x.uid uid) is (added_was xs branch uid segment)
+  where
+    by : (b : Bool) → option_and_then (λ (branch : Branch). as_segment branch.node) (cond b (Some x) (branch_of (xs ++ branch ∷ []) uid)) ≡ Some segment
+        → (segment_in (xs ++ branch ∷ []) uid ≡ Some segment → (segment_in xs uid ≡ Some segment) ⊎ ((uid ≡ branch.uid) × (as_segment branch.node ≡ Some segment)))
+        → (option_and_then (λ (branch : Branch). as_segment branch.node) (cond b (Some x) (branch_of xs uid)) ≡ Some segment) ⊎ ((uid ≡ branch.uid) × (as_segment branch.node ≡ Some segment))
+    by true is rest = inl is
+    by false is rest = rest is
+
+-- a directory or a link
+pub sound_added : (pages : PageMap) (old new : Listed) {branch : Branch} → new ≡ record { branches = old.branches ++ branch ∷ []; next = 1 + old.next }
+    → as_segment branch.node ≡ None → old.next < 4294967295 → IsSound old.branches old.next pages → IsSound new.branches new.next pages
+sound_added pages old new {branch} e none left sound =
+    subst (λ (t : Listed). IsSound t.branches t.next pages) (sym e) (record {
+      first = omega arith;
+      last = omega arith;
+      stored = λ uid segment is. sound.stored uid segment (was uid segment is);
+      taken = λ uid page segment is. sound.taken uid page segment (was uid segment is);
+      apart = λ uid other a b is also. sound.apart uid other a b (was uid a is) (was other b also);
+    })
+  where
+    was : (uid : ℕ) (segment : Segment) → segment_in (old.branches ++ branch ∷ []) uid ≡ Some segment → segment_in old.branches uid ≡ Some segment
+    was uid segment is = elim (added_was old.branches branch uid segment is) [ | inl before ↦ before | inr new ↦ absurd (cc) ]
+
+-- a segment, on pages that were free and are so no longer
+in_free_run : (pages : PageMap) (segment : Segment) (page : ℕ) → IsFreeRun pages (pages_for segment.words) segment.page → HasPage segment page → IsFree pages page
+in_free_run pages segment page run has =
+    let there : segment.page + (page - segment.page) ≡ page = omega (arith, has.0) in
+    subst (IsFree pages) there (run (page - segment.page) (omega (arith, has.0, has.1)))
+
+pub sound_made : (pages after : PageMap) (old new : Listed) {branch : Branch} {made : Segment} → new ≡ record { branches = old.branches ++ branch ∷ []; next = 1 + old.next }
+    → as_segment branch.node ≡ Some made → 1 ≤ made.words → made.words ≤ 1024 → old.next < 4294967295
+    → IsFreeRun pages (pages_for made.words) made.page → after ≡ after_run pages (pages_for made.words) (Some made.page)
+    → IsSound old.branches old.next pages → IsSound new.branches new.next after
+sound_made pages after old new {branch} {made} e node some most left run given sound =
+    subst (λ (t : Listed). IsSound t.branches t.next after) (sym e) (subst (λ (map : PageMap). IsSound (old.branches ++ branch ∷ []) (1 + old.next) map) (sym given) (record {
+      first = omega arith;
+      last = omega arith;
+      stored = λ uid segment is. elim (added_was old.branches branch uid segment is) [
+        | inl before ↦ sound.stored uid segment before
+        | inr new ↦ let same : made ≡ segment = cc in subst IsStored same is_stored
+      ];
+      taken = λ uid page segment is has free. elim (added_was old.branches branch uid segment is) [
+        | inl before ↦ sound.taken uid page segment before has (was_free page free)
+        | inr new ↦ let same : segment ≡ made = cc in still_free page (subst (λ s. HasPage s page) same has) free
+      ];
+      apart = λ uid other a b is also differ page has too. elim (added_was old.branches branch uid a is) [
+        | inl before ↦ elim (added_was old.branches branch other b also) [
+          | inl then ↦ sound.apart uid other a b before then differ page has too
+          | inr new ↦ let same : b ≡ made = cc in absurd (sound.taken uid page a before has (in_free_run pages made page run (subst (λ s. HasPage s page) same too)))
+        ]
+        | inr new ↦ let same : a ≡ made = cc in elim (added_was old.branches branch other b also) [
+          | inl then ↦ absurd (sound.taken other page b then too (in_free_run pages made page run (subst (λ s. HasPage s page) same has)))
+          | inr later ↦ absurd (differ (new.0 ∙ sym later.0))
+        ]
+      ];
+    }))
+  where
+    count : 1 ≤ pages_for made.words
+    count = grind arith
+
+    is_stored : IsStored made
+    is_stored = record { some = some; most = most; pages = omega (arith, count, (run (pages_for made.words - 1) (omega (arith, count))).1) }
+
+    was_free : (page : ℕ) → IsFree (after_run pages (pages_for made.words) (Some made.page)) page → IsFree pages page
+    was_free page free = let start = in_free_run pages made made.page run (omega arith, omega (arith, count)) in (omega (arith, start.0, free.0), free.1)
+    still_free : (page : ℕ) → HasPage made page → IsFree (after_run pages (pages_for made.words) (Some made.page)) page → ⊥
+    still_free page has free = omega (arith, has.1, free.0)
+
+-- what is found at a uid
+pub stored_at : (branches : List Branch) (next uid : ℕ) (pages : PageMap) (branch : Branch) (segment : Segment) → branch_of branches uid ≡ Some branch
+    → branch.node ≡ IsSegment segment → IsSound branches next pages → IsStored segment
+stored_at branches next uid pages branch segment is node sound =
+    sound.stored uid segment (ap (option_and_then (λ (branch : Branch). as_segment branch.node)) is ∙ ap as_segment node)

@@ -49,16 +49,19 @@ as_link _ = None
 abbrev pub directory_at : Hierarchy → ℕ → Option Directory
 directory_at h uid = if uid == 0 then Some h.root else option_and_then (λ branch. as_directory branch.node) (branch_of h.branches uid)
 
+abbrev pub segment_in : List Branch → ℕ → Option Segment
+segment_in branches uid = option_and_then (λ branch. as_segment branch.node) (branch_of branches uid)
+
 abbrev pub segment_at : Hierarchy → ℕ → Option Segment
-segment_at h uid = option_and_then (λ branch. as_segment branch.node) (branch_of h.branches uid)
+segment_at h uid = segment_in h.branches uid
 
 abbrev pub target_at : Hierarchy → ℕ → Option (List (List ℕ))
 target_at h uid = option_and_then (λ branch. as_link branch.node) (branch_of h.branches uid)
 
--- the directory that holds an entry: the root is its own
-abbrev pub parent_or_root : Option Branch → ℕ
-parent_or_root (Some branch) = branch.parent
-parent_or_root None = 0
+-- the uid of the directory that holds an entry: the root is its own
+abbrev pub holder : Hierarchy → ℕ → Option ℕ
+holder h uid = if uid == 0 then Some 0 else option_map (λ branch. branch.parent) (branch_of h.branches uid)
 
-abbrev pub holder : Hierarchy → ℕ → ℕ
-holder h uid = parent_or_root (branch_of h.branches uid)
+-- and that directory
+abbrev pub holding : Hierarchy → ℕ → Option Directory
+holding h uid = option_and_then (directory_at h) (holder h uid)

@@ -7,25 +7,29 @@ use Rattle.mx_acl.specs.Modes.{has_r, has_e, has_w, has_s, has_m, has_a}
 use Rattle.mx_hier.specs.declared.branches.Directory.{Directory}
 use Rattle.mx_hier.specs.declared.branches.Segment.{Segment}
 
--- a principal in a ring, and the working directory from which its pathnames are resolved
-pub record Caller : Type 0 where
+-- for whom access is asked: a principal in a ring
+pub record Subject : Type 0 where
   pub principal : PlainPrincipal
   pub ring : ℕ
+
+-- who makes a request, and the working directory from which its pathnames are resolved
+pub record Caller : Type 0 where
+  pub subject : Subject
   pub base : List (List ℕ)
 
 -- s on a directory, to ask for its entries: where the modes have it and the ring is at most D2
-abbrev pub has_status : Caller → Directory → Bool
+abbrev pub has_status : Subject → Directory → Bool
 has_status who directory = has_s (modes_for directory.acl who.principal) && nat_le who.ring directory.d2
 
 -- m, to change its entries, and a, to add entries: where the modes have it and the ring is at most D1
-abbrev pub has_modify : Caller → Directory → Bool
+abbrev pub has_modify : Subject → Directory → Bool
 has_modify who directory = has_m (modes_for directory.acl who.principal) && nat_le who.ring directory.d1
 
-abbrev pub has_append : Caller → Directory → Bool
+abbrev pub has_append : Subject → Directory → Bool
 has_append who directory = has_a (modes_for directory.acl who.principal) && nat_le who.ring directory.d1
 
 -- any of the three
-abbrev pub has_any : Caller → Directory → Bool
+abbrev pub has_any : Subject → Directory → Bool
 has_any who directory = has_status who directory || has_modify who directory || has_append who directory
 
 -- any access to a segment: r is left up to R2, w up to R1, and e from R1 to R3
@@ -35,7 +39,7 @@ keeps_any modes segment ring =
     || has_w modes && nat_le ring segment.brackets.r1
     || has_e modes && nat_le segment.brackets.r1 ring && nat_le ring segment.brackets.r3
 
-abbrev pub has_access : Caller → Segment → Bool
+abbrev pub has_access : Subject → Segment → Bool
 has_access who segment = keeps_any (modes_for segment.acl who.principal) segment who.ring
 
 -- one of these on what may be no directory, or no segment

@@ -1,16 +1,21 @@
--- The branches with the next uid, as what finds them keeps them.
-use Rattle.std.specs.Prelude.{◌≡◌, ℕ, ◌==◌, ◌+◌, ◌-◌, ◌<◌, List, [], ◌∷◌, length, map, Option, Some, None, Result, Ok, Err, if◌then◌else◌}
+-- Helpers: the branches with the next uid, as what finds them keeps them.
+use Rattle.std.specs.Prelude.{◌≡◌, ℕ, ◌==◌, ◌+◌, ◌-◌, ◌<◌, Bool, not, List, [], ◌∷◌, length, map, Option, Some, None, Result, Ok, Err, if◌then◌else◌}
 use Rattle.std.specs.Cmp.Lexicographic.{pointwise}
 use Rattle.std.specs.List.{slice_index_or, slice_set}
 use Rattle.std.specs.Option.{option_map, option_and_then}
-use Rattle.mx_acl.specs.Access.{Access}
+use Rattle.mx_name.specs.Identifiers.{PlainAclId}
+use Rattle.mx_acl.specs.Access.{Access, most_entries}
+use Rattle.mx_acl.specs.Modes.{suits}
+use Rattle.mx_acl.specs.declared.modes.Modes.{Modes}
 use Rattle.mx_acl.specs.declared.lists.AclError.{AclError}
 use Rattle.mx_acl.specs.declared.lists.AclError.TheVariants.{InvalidMode, Full, Memory}
 use Rattle.mx_hier.specs.declared.branches.Branch.{Branch}
 use Rattle.mx_hier.specs.declared.refusals.Refusal.{Refusal}
 use Rattle.mx_hier.specs.declared.refusals.Refusal.TheVariants as refusal
 use Rattle.mx_hier.specs.Branches.{branch_of, entries_of}
+use Rattle.mx_hier.specs.Callers.{on}
 use Rattle.mx_hier.specs.Changing.{acl_in}
+use Rattle.mx_hier.specs.SetAcl.{is_full}
 
 pub record Listed : Type 0 where
   pub branches : List Branch
@@ -42,19 +47,22 @@ acl_in_slot slot = option_and_then (λ branch. acl_in branch.node) slot
 abbrev pub acl_of : List Branch → ℕ → Option Access
 acl_of branches uid = acl_in_slot (branch_of branches uid)
 
--- An entry is set only where there is no fault, and refused only for its fault; memory may be wanting in any case.
+-- An entry is set only where there is no fault, and refused only for its fault; memory may be wanting where there is none.
 abbrev pub AclAnswers : Option AclError → Result (Unit {0}) AclError → Type 0
 AclAnswers fault (Ok done) = fault ≡ None
 AclAnswers fault (Err InvalidMode) = fault ≡ Some InvalidMode
 AclAnswers fault (Err Full) = fault ≡ Some Full
-AclAnswers fault (Err Memory) = Unit {0}
+AclAnswers fault (Err Memory) = fault ≡ None
 
--- The same of the refusals of `set_acl`.
+-- The same of the refusals of `set_acl` itself.
+abbrev pub acl_refusals : PlainAclId → Modes → Option Access → List (Bool × Refusal)
+acl_refusals id modes acl = (on (λ acl. not (suits acl.kind modes)) acl, refusal.InvalidMode) ∷ (on (is_full most_entries id) acl, refusal.AclFull) ∷ []
+
 abbrev pub AclTells : Option Refusal → Result (Unit {0}) AclError → Type 0
 AclTells why (Ok done) = why ≡ None
 AclTells why (Err InvalidMode) = why ≡ Some refusal.InvalidMode
 AclTells why (Err Full) = why ≡ Some refusal.AclFull
-AclTells why (Err Memory) = Unit {0}
+AclTells why (Err Memory) = why ≡ None
 
 -- each branch stands in the slot of its uid, and its directory was made before it
 abbrev pub AreKeyed : ℕ → List (Option Branch) → Type 0

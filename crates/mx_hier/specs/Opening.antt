@@ -1,7 +1,6 @@
 -- The hierarchy before any request.
 use Rattle.std.specs.Prelude.{ℕ, [], ◌∷◌, codes}
-use Rattle.mx_name.specs.declared.identifiers.Component.TheVariants.{Any, Literal}
-use Rattle.mx_name.specs.Identifiers.{PlainAclId}
+use Rattle.mx_name.specs.Identifiers.{Any, Literal, PlainAclId}
 use Rattle.mx_acl.specs.declared.modes.Modes.TheVariants.{Sma}
 use Rattle.mx_acl.specs.declared.modes.AclKind.TheVariants.{Directory as OfDirectory}
 use Rattle.mx_hier.specs.declared.branches.Directory.{Directory}

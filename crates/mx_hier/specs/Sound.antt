@@ -1,23 +1,24 @@
--- What is true of every hierarchy that the program reaches. Only the model of `Hier` cites this, and what it tells.
-use Rattle.std.specs.Prelude.{ℕ, ◌+◌, ◌*◌, ◌≤◌, List, [], ◌∷◌}
+-- What is true of every hierarchy that the program reaches.
+use Rattle.std.specs.Prelude.{◌≡◌, ◌≢◌, ℕ, ◌+◌, ◌≤◌, List, Some}
+use Rattle.mx_pages.specs.Runs.{PageMap, IsFree, IsInRun, AreApart, pages_for}
 use Rattle.mx_hier.specs.declared.branches.Branch.{Branch}
 use Rattle.mx_hier.specs.declared.branches.Segment.{Segment}
-use Rattle.mx_hier.specs.declared.branches.Node.{Node}
-use Rattle.mx_hier.specs.declared.branches.Node.TheVariants.{Directory as IsDirectory, Segment as IsSegment, Link as IsLink}
+use Rattle.mx_hier.specs.Branches.{segment_in}
 
--- a segment's words lie on the pages that there are
-abbrev pub IsWithin : Segment → Type 0
-IsWithin segment = 64 * segment.page + segment.words ≤ 65536
+-- a segment's words lie on pages that there are
+pub record IsStored (segment : Segment) : Type 0 where
+  pub some : 1 ≤ segment.words
+  pub most : segment.words ≤ 1024
+  pub pages : segment.page + pages_for segment.words ≤ 1024
 
-abbrev pub IsNodeWithin : Node → Type 0
-IsNodeWithin (IsSegment segment) = IsWithin segment
-IsNodeWithin (IsDirectory directory) = Unit {0}
-IsNodeWithin (IsLink target) = Unit {0}
+abbrev pub HasPage : Segment → ℕ → Type 0
+HasPage segment page = IsInRun (pages_for segment.words) segment.page page
 
-abbrev pub AreWithin : List Branch → Type 0
-AreWithin [] = Unit {0}
-AreWithin (branch ∷ branches) = IsNodeWithin branch.node × AreWithin branches
-
-pub record IsSound (branches : List Branch) (next : ℕ) : Type 0 where
-  pub within : AreWithin branches
+-- Uids count from 1, and the last that is given is 4,294,967,294. No page of a segment is free, and none is that of another.
+pub record IsSound (branches : List Branch) (next : ℕ) (pages : PageMap) : Type 0 where
   pub first : 1 ≤ next
+  pub last : next ≤ 4294967295
+  pub stored : (uid : ℕ) (segment : Segment) → segment_in branches uid ≡ Some segment → IsStored segment
+  pub taken : (uid page : ℕ) (segment : Segment) → segment_in branches uid ≡ Some segment → HasPage segment page → IsFree pages page → ⊥
+  pub apart : (uid other : ℕ) (a b : Segment) → segment_in branches uid ≡ Some a → segment_in branches other ≡ Some b → uid ≢ other
+      → AreApart (pages_for a.words) a.page (pages_for b.words) b.page

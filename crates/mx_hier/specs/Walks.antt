@@ -1,54 +1,67 @@
--- The walk of a path: from the root, name by name, following links (Multics Programmers' Manual).
-use Rattle.std.specs.Prelude.{ℕ, zero, suc, Bool, true, false, ◌&&◌, not, List, [], ◌∷◌, ◌++◌, Option, Some, None, Result, Ok, Err, is_none, if◌then◌else◌}
+-- The walk of a path: name by name from a directory, following links (Multics Programmers' Manual).
+use Rattle.std.specs.Prelude.{ℕ, zero, suc, Bool, true, false, List, [], ◌∷◌, ◌++◌, fold, Option, Some, None, Result, Ok, Err}
 use Rattle.mx_name.specs.declared.paths.PathError.{PathError}
 use Rattle.mx_name.specs.Paths.{resolution}
+use Rattle.mx_hier.specs.declared.branches.Directory.{Directory}
 use Rattle.mx_hier.specs.declared.refusals.Refusal.{Refusal}
 use Rattle.mx_hier.specs.declared.refusals.Refusal.TheVariants.{BadPath, NoEntry, NotADir, LinkLoop}
-use Rattle.mx_hier.specs.Branches.{Hierarchy, uid_in, directory_at, target_at, holder}
-use Rattle.mx_hier.specs.Callers.{Caller}
+use Rattle.mx_hier.specs.Branches.{Hierarchy, uid_in, directory_at, target_at, holding}
+use Rattle.mx_hier.specs.Callers.{Subject, Caller}
 use Rattle.mx_hier.specs.Rules.{say, onward}
 
--- Where names lead: to an entry; to a link that is to be followed, met in a directory, with the path that takes its place;
--- or to a refusal, to be said at a directory.
+-- Where names have led: to an entry; to a link that is followed, met in a directory, with the path that takes its place; or to
+-- a refusal, which is to be said at a directory.
 pub data Stop : Type 0 where
   Reached : ℕ → Stop
-  Linked : ℕ → List (List ℕ) → Stop
-  Refused : Refusal → ℕ → Stop
+  Linked : Option Directory → List (List ℕ) → Stop
+  Refused : Refusal → Option Directory → Stop
 
--- a link is followed at every name but the last, and at the last one where the request asks for it
-abbrev pub is_last : List (List ℕ) → Bool
-is_last [] = true
-is_last (name ∷ names) = false
+-- a link is followed: its target comes before these names; what is no link stays
+abbrev pub followed : Hierarchy → ℕ → List (List ℕ) → Option (List (List ℕ)) → Stop → Stop
+followed h uid names None stay = stay
+followed h uid names (Some target) stay = Linked (holding h uid) (target ++ names)
 
-abbrev pub followed_to : Hierarchy → Bool → ℕ → List (List ℕ) → Option (List (List ℕ))
-followed_to h follow uid names = if is_last names && not follow then None else target_at h uid
+-- the entry of a name in what has been reached
+abbrev pub found : Option Directory → Option ℕ → Stop
+found dir (Some uid) = Reached uid
+found dir None = Refused NoEntry dir
 
--- an entry in a directory, and the names that are left: a link's target comes before them
-abbrev pub entered : ℕ → ℕ → List (List ℕ) → Option (List (List ℕ)) → (ℕ → Stop) → Stop
-entered dir uid names None go_on = go_on uid
-entered dir uid names (Some target) go_on = Linked dir (target ++ names)
+abbrev pub entered : Hierarchy → ℕ → Option Directory → List ℕ → Stop
+entered h uid (Some directory) name = found (Some directory) (uid_in h.branches uid name)
+entered h uid None name = Refused NotADir (holding h uid)
 
-abbrev pub stepped : Hierarchy → Bool → ℕ → Option ℕ → List (List ℕ) → (ℕ → Stop) → Stop
-stepped h follow dir None names go_on = Refused NoEntry dir
-stepped h follow dir (Some uid) names go_on = entered dir uid names (followed_to h follow uid names) go_on
+-- one name more: a link is followed wherever a name comes after it
+abbrev pub step : Hierarchy → Stop → List ℕ → Stop
+step h (Reached uid) name = followed h uid (name ∷ []) (target_at h uid) (entered h uid (directory_at h uid) name)
+step h (Linked dir path) name = Linked dir (path ++ name ∷ [])
+step h (Refused why dir) name = Refused why dir
 
--- the names one after the other, from what has been reached
+-- a link at the last name is followed where the request asks for it
+abbrev pub ended : Hierarchy → Bool → Stop → Stop
+ended h true (Reached uid) = followed h uid [] (target_at h uid) (Reached uid)
+ended h true (Linked dir path) = Linked dir path
+ended h true (Refused why dir) = Refused why dir
+ended h false stop = stop
+
+-- the names one after the other, from a directory
 abbrev pub along : Hierarchy → Bool → ℕ → List (List ℕ) → Stop
-along h follow at [] = Reached at
-along h follow at (name ∷ names) =
-    if is_none (directory_at h at) then Refused NotADir (holder h at)
-    else stepped h follow at (uid_in h.branches at name) names (λ uid. along h follow uid names)
+along h follow dir names = ended h follow (fold (step h) (Reached dir) names)
 
-abbrev pub outcome : Hierarchy → Caller → Stop → (ℕ → List (List ℕ) → Result ℕ Refusal) → Result ℕ Refusal
-outcome h who (Reached uid) linked = Ok uid
-outcome h who (Refused why dir) linked = Err (say h who why dir)
-outcome h who (Linked dir path) linked = linked dir path
+-- The walk from a directory, where so many links may be followed: it begins at the root again with each, and one more is a
+-- link_loop. It ends at an entry, or at a refusal and the directory where that is to be said.
+abbrev pub outcome : Stop → (Option Directory → List (List ℕ) → Result ℕ (Refusal × Option Directory)) → Result ℕ (Refusal × Option Directory)
+outcome (Reached uid) linked = Ok uid
+outcome (Linked dir path) linked = linked dir path
+outcome (Refused why dir) linked = Err (why, dir)
 
--- The walk of a path from the root, where so many links may be followed: it begins at the root again with each, and one more
--- is a link_loop.
-abbrev pub walk : ℕ → Hierarchy → Caller → Bool → List (List ℕ) → Result ℕ Refusal
-walk zero h who follow path = outcome h who (along h follow 0 path) (λ dir path. Err (say h who LinkLoop dir))
-walk (suc left) h who follow path = outcome h who (along h follow 0 path) (λ dir path. walk left h who follow path)
+abbrev pub walk : ℕ → Hierarchy → Bool → ℕ → List (List ℕ) → Result ℕ (Refusal × Option Directory)
+walk zero h follow from names = outcome (along h follow from names) (λ dir path. Err (LinkLoop, dir))
+walk (suc left) h follow from names = outcome (along h follow from names) (λ dir path. walk left h follow 0 path)
+
+-- where a walk ended, as the caller is told
+abbrev pub told : Subject → Result ℕ (Refusal × Option Directory) → Result ℕ Refusal
+told who (Ok uid) = Ok uid
+told who (Err refusal) = Err (say who refusal.0 refusal.1)
 
 -- a pathname from the working directory
 abbrev pub path_or_refusal : Result (List (List ℕ)) PathError → Result (List (List ℕ)) Refusal
@@ -58,6 +71,10 @@ path_or_refusal (Err e) = Err BadPath
 abbrev pub resolved : Caller → List ℕ → Result (List (List ℕ)) Refusal
 resolved who pathname = path_or_refusal (resolution who.base pathname)
 
--- the entry of a pathname: ten links may be followed, at the last name too only where the request follows it
+-- what a path from the root leads to: ten links may be followed
+abbrev pub reached : Hierarchy → Subject → Bool → List (List ℕ) → Result ℕ Refusal
+reached h who follow path = told who (walk 10 h follow 0 path)
+
+-- the entry of a pathname: a link at the last name is followed only where the request asks for it
 abbrev pub entry : Hierarchy → Caller → List ℕ → Bool → Result ℕ Refusal
-entry h who pathname follow = onward (resolved who pathname) (λ path. walk 10 h who follow path)
+entry h who pathname follow = onward (resolved who pathname) (λ path. reached h who.subject follow path)

@@ -1,6 +1,9 @@
--- A caller as the program has him.
+-- Who asks, as the program has him.
 use Rattle.mx_hier.specs.declared.callers.Who.{Who}
-use Rattle.mx_hier.specs.Callers.{Caller}
+use Rattle.mx_hier.specs.Callers.{Subject, Caller}
+
+abbrev pub subject : Who → Subject
+subject who = record { principal = who.principal.now; ring = who.ring }
 
 abbrev pub caller : Who → Caller
-caller who = record { principal = who.principal.now; ring = who.ring; base = who.base.now }
+caller who = record { subject = subject who; base = who.base.now }

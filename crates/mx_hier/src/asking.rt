@@ -1,10 +1,15 @@
 //! Asking.
 
-ghost use Rattle.std.specs.Prelude.{◌≡◌, ◌+◌, ◌*◌, ◌≤◌, ◌<◌, Some, IfOk};
-ghost use Rattle.mx_hier.specs.Asking.{status, status_of, directory_status, node_status, list, directory, segment, desc_of, desc_for, parent_of, in_byte_order, names_in};
-ghost use Rattle.mx_hier.specs.Branches.{branch_of};
-ghost use Rattle.mx_hier.specs.Rules.{Tells};
-ghost use Rattle.mx_hier.specs.Who.{caller};
+ghost use Rattle.std.specs.Prelude.{◌≡◌, ◌+◌, ◌*◌, ◌≤◌, ◌<◌, Some, IfOk, IfNone};
+ghost use Rattle.mx_hier.specs.ChangeWorkingDirectory.{directory_refusals, directory};
+ghost use Rattle.mx_hier.specs.Connected.{desc_of, desc_for};
+ghost use Rattle.mx_hier.specs.Initiate.{segment_refusals, segment};
+ghost use Rattle.mx_hier.specs.List.{in_byte_order, list_at, list};
+ghost use Rattle.mx_hier.specs.Rules.{first_of, Tells, TellsFirst};
+ghost use Rattle.mx_hier.specs.Status.{status_of, status_at, status};
+ghost use Rattle.mx_hier.specs.Walks.{resolved};
+ghost use Rattle.mx_hier.specs.Who.{subject, caller};
+ghost use Rattle.mx_hier.specs.declared.branches.Node.TheVariants.{Directory as IsDirectory};
 
 use crate::branches::{Directory, Node, Segment};
 use crate::callers::Who;
@@ -42,50 +47,55 @@ impl Hier {
     /// What is said of an entry; of a link itself, and not of what it leads to. `NoInfo` where the caller has no s on the
     /// directory that holds it.
     pub fn status(&self, alloc: Global, who: &Who, path: &Pathname) -> Result<Status, HierError>
-        ensures { Tells (status self.now (caller who.now) path.now) result }
+        ensures answer { Tells (status self.now (caller who.now) path.now) result }
+        ensures told { TellsFirst (resolved (caller who.now) path.now) result }
     {
-        let uid = self.entry(alloc, who, path, false)??;
-        match self.directory_at(self.holder(uid)) {
-            Some(holder) if who.has_status(holder) => {}
-            Some(_) | None => return Err(HierError::Refused(Refusal::NoInfo)),
-        }
-        let status = self.status_of(who, uid)?;
+        let uid = self.entry(alloc, who, path, false)?;
+        let status = self.status_at(who, uid)?;
         Ok(status)
     }
 
-    fn status_of(&self, who: &Who, uid: u32) -> Result<Status, AllocError>
-        ensures { IfOk result (λ status. status ≡ status_of self.now (caller who.now) (branch_of self.now.branches uid)) }
+    fn status_at(&self, who: &Who, uid: u32) -> Result<Status, HierError>
+        ensures answer { Tells (status_at self.now (subject who.now) uid) result }
+        ensures told { TellsFirst (status_at self.now (subject who.now) uid) result }
     {
-        match self.tables.get(uid) {
-            None => Ok(directory_status(who, &self.root)),
-            Some(branch) => {
-                let status = node_status(who, &branch.node)?;
-                Ok(status)
-            }
+        match self.holding(uid) {
+            Some(holder) if who.has_status(holder) => {}
+            Some(_) | None => return Err(HierError::Refused(Refusal::NoInfo)),
         }
+        if uid == 0 {
+            return Ok(directory_status(who, &self.root));
+        }
+        let Some(branch) = self.tables.get(uid) else {
+            return Err(HierError::Refused(Refusal::NoInfo));
+        };
+        let status = status_of(who, &branch.node)?;
+        Ok(status)
     }
 
     /// The names of a directory's entries in byte order. `NotADir` and `IncorrectAccess`, where the caller has no s on it,
     /// are said at its holder.
     pub fn list(&self, alloc: Global, who: &Who, path: &Pathname) -> Result<Names, HierError>
-        ensures { Tells (list self.now (caller who.now) path.now) result }
+        ensures answer { Tells (list self.now (caller who.now) path.now) result }
+        ensures told { TellsFirst (resolved (caller who.now) path.now) result }
     {
-        let uid = self.entry(alloc, who, path, true)??;
-        let Some(directory) = self.directory_at(uid) else {
-            let why = self.say(who, Refusal::NotADir, self.holder(uid));
-            return Err(HierError::Refused(why));
-        };
-        if !who.has_status(directory) {
-            let why = self.say(who, Refusal::IncorrectAccess, self.holder(uid));
-            return Err(HierError::Refused(why));
-        }
-        let names = self.names_in(alloc, uid)?;
+        let uid = self.entry(alloc, who, path, true)?;
+        let names = self.list_at(alloc, who, uid)?;
         Ok(names)
     }
 
-    fn names_in(&self, alloc: Global, uid: u32) -> Result<Names, AllocError>
-        ensures { IfOk result (λ names. names ≡ names_in self.now uid) }
+    fn list_at(&self, alloc: Global, who: &Who, uid: u32) -> Result<Names, HierError>
+        ensures answer { Tells (list_at self.now (subject who.now) uid) result }
+        ensures told { TellsFirst (list_at self.now (subject who.now) uid) result }
     {
+        let Some(directory) = self.directory_at(uid) else {
+            let why = who.told(Refusal::NotADir, self.holding(uid));
+            return Err(HierError::Refused(why));
+        };
+        if !who.has_status(directory) {
+            let why = who.told(Refusal::IncorrectAccess, self.holding(uid));
+            return Err(HierError::Refused(why));
+        }
         let names = self.tables.names_in(alloc, uid)?;
         let sorted = in_byte_order(names)?;
         Ok(Names::of(sorted))
@@ -94,37 +104,50 @@ impl Hier {
     /// The path of a directory on which some mode is left to the caller, as it is written: where its links lead is not
     /// asked. `NotADir` and `IncorrectAccess` are said at its holder. For `change_wdir`.
     pub fn directory(&self, alloc: Global, who: &Who, path: &Pathname) -> Result<Path, HierError>
-        ensures { Tells (directory self.now (caller who.now) path.now) result }
+        ensures answer { Tells (directory self.now (caller who.now) path.now) result }
+        ensures told { TellsFirst (resolved (caller who.now) path.now) result }
     {
-        let path = resolved(alloc, who, path)??;
-        let uid = self.walk(alloc, 10, who, true, path.names())??;
-        let Some(directory) = self.directory_at(uid) else {
-            let why = self.say(who, Refusal::NotADir, self.holder(uid));
-            return Err(HierError::Refused(why));
-        };
-        if !who.has_any(directory) {
-            let why = self.say(who, Refusal::IncorrectAccess, self.holder(uid));
-            return Err(HierError::Refused(why));
+        let path = resolved(alloc, who, path)?;
+        let uid = self.reached(alloc, who, true, path.names())??;
+        match self.directory_refusal(who, uid) {
+            Some(why) => Err(HierError::Refused(why)),
+            None => Ok(path),
         }
-        Ok(path)
+    }
+
+    fn directory_refusal(&self, who: &Who, uid: u32) -> Option<Refusal>
+        ensures { result ≡ first_of (directory_refusals self.now (subject who.now) uid) }
+    {
+        match self.directory_at(uid) {
+            None => Some(who.told(Refusal::NotADir, self.holding(uid))),
+            Some(directory) if who.has_any(directory) => None,
+            Some(_) => Some(who.told(Refusal::IncorrectAccess, self.holding(uid))),
+        }
     }
 
     /// The uid of a segment to which some access is left to the caller. `NotASeg` and `IncorrectAccess` are said at its
     /// holder. For `initiate`.
     pub fn segment(&self, alloc: Global, who: &Who, path: &Pathname) -> Result<u32, HierError>
-        ensures value { Tells (segment self.now (caller who.now) path.now) result }
+        ensures answer { Tells (segment self.now (caller who.now) path.now) result }
+        ensures told { TellsFirst (resolved (caller who.now) path.now) result }
         ensures below { IfOk result (λ uid. uid < self.now.next) }
     {
-        let uid = self.entry(alloc, who, path, true)??;
-        let Some(segment) = self.segment_at(uid) else {
-            let why = self.say(who, Refusal::NotASeg, self.holder(uid));
-            return Err(HierError::Refused(why));
-        };
-        if !who.has_access(segment) {
-            let why = self.say(who, Refusal::IncorrectAccess, self.holder(uid));
-            return Err(HierError::Refused(why));
+        let uid = self.entry(alloc, who, path, true)?;
+        match self.segment_refusal(who, uid) {
+            Some(why) => Err(HierError::Refused(why)),
+            None => Ok(uid),
         }
-        Ok(uid)
+    }
+
+    fn segment_refusal(&self, who: &Who, uid: u32) -> Option<Refusal>
+        ensures value { result ≡ first_of (segment_refusals self.now (subject who.now) uid) }
+        ensures below { IfNone result (uid < self.now.next) }
+    {
+        match self.segment_at(uid) {
+            None => Some(who.told(Refusal::NotASeg, self.holding(uid))),
+            Some(segment) if who.has_access(segment) => None,
+            Some(_) => Some(who.told(Refusal::IncorrectAccess, self.holding(uid))),
+        }
     }
 
     /// The descriptor that a principal has of the segment of a uid: its flags are what the access list gives, and its words
@@ -138,20 +161,10 @@ impl Hier {
             Some(segment) => segment_desc(segment, who),
         }
     }
-
-    /// The uid of the directory that holds the entry of a uid; None where it was deleted. Takes no memory.
-    pub fn parent_of(&self, uid: u32) -> Option<u32>
-        ensures { result ≡ parent_of self.now uid }
-    {
-        match self.tables.get(uid) {
-            Some(branch) => Some(branch.parent),
-            None => None,
-        }
-    }
 }
 
 fn directory_status(who: &Who, directory: &Directory) -> Status
-    ensures { result ≡ directory_status (caller who.now) directory.now }
+    ensures { result ≡ status_of (subject who.now) (IsDirectory directory.now) }
 {
     Status::Directory {
         d1: directory.d1,
@@ -160,8 +173,8 @@ fn directory_status(who: &Who, directory: &Directory) -> Status
     }
 }
 
-fn node_status(who: &Who, node: &Node) -> Result<Status, AllocError>
-    ensures { IfOk result (λ status. status ≡ node_status (caller who.now) node.now) }
+fn status_of(who: &Who, node: &Node) -> Result<Status, AllocError>
+    ensures { IfOk result (λ status. status ≡ status_of (subject who.now) node.now) }
 {
     match node {
         Node::Directory(directory) => Ok(directory_status(who, directory)),

@@ -1,10 +1,13 @@
 //! Who asks, and what access is left to him.
 
 ghost use Rattle.std.specs.Prelude.{◌≡◌};
+ghost use Rattle.std.specs.Option.{option_map};
 ghost use Rattle.mx_hier.specs.Callers.{has_status, has_modify, has_append, has_any, has_access, keeps_any};
-ghost use Rattle.mx_hier.specs.Who.{caller};
+ghost use Rattle.mx_hier.specs.Rules.{say};
+ghost use Rattle.mx_hier.specs.Who.{subject};
 
 use crate::branches::{Directory, Segment};
+use crate::refusals::Refusal;
 use mx_acl::Modes;
 use mx_name::{Path, Principal};
 use mx_sdw::Ring;
@@ -20,37 +23,47 @@ pub struct Who<'a> {
 impl Who<'_> {
     /// Whether s on a directory is left to him.
     pub(crate) fn has_status(&self, directory: &Directory) -> bool
-        ensures { result ≡ has_status (caller self.now) directory.now }
+        ensures { result ≡ has_status (subject self.now) directory.now }
     {
         directory.acl.modes_of(self.principal).s() && self.ring.number() <= directory.d2.number()
     }
 
     /// Whether m on a directory is left to him.
     pub(crate) fn has_modify(&self, directory: &Directory) -> bool
-        ensures { result ≡ has_modify (caller self.now) directory.now }
+        ensures { result ≡ has_modify (subject self.now) directory.now }
     {
         directory.acl.modes_of(self.principal).m() && self.ring.number() <= directory.d1.number()
     }
 
     /// Whether a on a directory is left to him.
     pub(crate) fn has_append(&self, directory: &Directory) -> bool
-        ensures { result ≡ has_append (caller self.now) directory.now }
+        ensures { result ≡ has_append (subject self.now) directory.now }
     {
         directory.acl.modes_of(self.principal).a() && self.ring.number() <= directory.d1.number()
     }
 
     /// Whether any mode on a directory is left to him.
     pub(crate) fn has_any(&self, directory: &Directory) -> bool
-        ensures { result ≡ has_any (caller self.now) directory.now }
+        ensures { result ≡ has_any (subject self.now) directory.now }
     {
         self.has_status(directory) || self.has_modify(directory) || self.has_append(directory)
     }
 
     /// Whether any access to a segment is left to him.
     pub(crate) fn has_access(&self, segment: &Segment) -> bool
-        ensures { result ≡ has_access (caller self.now) segment.now }
+        ensures { result ≡ has_access (subject self.now) segment.now }
     {
         keeps_any(segment.acl.modes_of(self.principal), segment, self.ring)
+    }
+
+    /// A refusal as he is told it of a directory: `NoInfo` in its place where no s on the directory is left to him.
+    pub(crate) fn told(&self, why: Refusal, dir: Option<&Directory>) -> Refusal
+        ensures { result ≡ say (subject self.now) why (option_map (λ directory. directory.now) dir.entry) }
+    {
+        match dir {
+            Some(directory) if self.has_status(directory) => why,
+            Some(_) | None => Refusal::NoInfo,
+        }
     }
 }
 

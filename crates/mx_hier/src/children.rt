@@ -54,7 +54,7 @@ impl Children {
     {
         let mut names = Vec::new(alloc);
         for name in self.uids.keys() {
-            names.push(name.copy()?)?;
+            names.push(*name)?;
         }
         Ok(names)
     }

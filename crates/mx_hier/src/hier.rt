@@ -1,19 +1,12 @@
 //! The hierarchy.
 
 ghost use Rattle.std.specs.Prelude.{◌≡◌, ◌<◌, [], ◌∷◌, IfOk, IfSome};
-ghost use Rattle.std.specs.Borrow.{Lends, sem};
 ghost use Rattle.std.specs.Option.{option_map};
-ghost use Rattle.mx_pages.specs.contracts.pages.Pages.{the_row as pages_row};
-ghost use Rattle.mx_hier.specs.contracts.hier.Hier.{the_row};
-ghost use Rattle.mx_hier.specs.Branches.{Hierarchy, directory_at, segment_at, target_at, holder};
+ghost use Rattle.mx_hier.specs.Branches.{Hierarchy, directory_at, segment_at, target_at, holder, holding};
 ghost use Rattle.mx_hier.specs.Opening.{root, opening};
-ghost use Rattle.mx_hier.specs.Rules.{say};
-ghost use Rattle.mx_hier.specs.Sound.{IsWithin};
-ghost use Rattle.mx_hier.specs.Who.{caller};
+ghost use Rattle.mx_hier.specs.Sound.{IsStored};
 
 use crate::branches::{Directory, Node, Segment};
-use crate::callers::Who;
-use crate::refusals::Refusal;
 use crate::tables::Tables;
 use mx_acl::{Acl, AclKind, Modes};
 use mx_name::{AclId, Path};
@@ -38,7 +31,7 @@ impl Model for Hier {
 
     ghost view = { λ a. record { root = a.root; branches = a.tables.branches; next = a.tables.next; pages = a.pages } };
 
-    ghost invariant = { λ a. IsSound a.tables.branches a.tables.next };
+    ghost invariant = { λ a. IsSound a.tables.branches a.tables.next a.pages };
 }
 
 impl Hier {
@@ -56,14 +49,6 @@ impl Hier {
         })
     }
 
-    /// The pages that are left for segments. Takes no memory.
-    pub fn pages(&mut self) -> &mut Pages
-        ensures value { result.now ≡ self.old.pages }
-        ensures* writes_back { sem 𝓛 (Lends the_row pages_row self.entry result (λ w. record self.old { pages = w })) }
-    {
-        &mut self.pages
-    }
-
     /// The directory of a uid.
     pub(crate) fn directory_at(&self, uid: u32) -> Option<&Directory>
         ensures value { option_map (λ directory. directory.now) result ≡ directory_at self.now uid }
@@ -79,10 +64,10 @@ impl Hier {
     }
 
     /// The segment of a uid.
-    #[tactic(auto, using(crate::proofs::SoundLaws::within_at))]
+    #[tactic(auto, using(crate::proofs::SoundLaws::stored_at))]
     pub(crate) fn segment_at(&self, uid: u32) -> Option<&Segment>
         ensures value { option_map (λ segment. segment.now) result ≡ segment_at self.now uid }
-        ensures within { IfSome result (λ segment. IsWithin segment.now) }
+        ensures stored { IfSome result (λ segment. IsStored segment.now) }
         ensures below { IfSome result (λ segment. uid < self.now.next) }
     {
         match &self.tables.get(uid)?.node {
@@ -101,31 +86,32 @@ impl Hier {
         }
     }
 
-    /// The uid of the directory that holds the entry of a uid.
-    pub(crate) fn holder(&self, uid: u32) -> u32
+    /// The uid of the directory that holds the entry of a uid; the root holds itself.
+    pub(crate) fn holder(&self, uid: u32) -> Option<u32>
         ensures { result ≡ holder self.now uid }
     {
+        if uid == 0 {
+            return Some(0);
+        }
         match self.tables.get(uid) {
-            Some(branch) => branch.parent,
-            None => 0,
+            Some(branch) => Some(branch.parent),
+            None => None,
         }
     }
 
-    /// A refusal as the caller is told it of a directory.
-    pub(crate) fn say(&self, who: &Who, why: Refusal, dir: u32) -> Refusal
-        ensures { result ≡ say self.now (caller who.now) why dir }
+    /// The directory that holds the entry of a uid.
+    pub(crate) fn holding(&self, uid: u32) -> Option<&Directory>
+        ensures { option_map (λ directory. directory.now) result ≡ holding self.now uid }
     {
-        match self.directory_at(dir) {
-            Some(directory) if who.has_status(directory) => why,
-            Some(_) | None => Refusal::NoInfo,
-        }
+        let dir = self.holder(uid)?;
+        self.directory_at(dir)
     }
 }
 
 fn root(alloc: Global) -> Result<Directory, AllocError>
     ensures { IfOk result (λ directory. directory ≡ root) }
 {
-    let Ok(id) = AclId::read(alloc, b"*.SysDaemon.*") else {
+    let Ok(id) = AclId::read(b"*.SysDaemon.*") else {
         return Err(AllocError);
     };
     let acl = acl_of_one(alloc, AclKind::Directory, id, Modes::Sma)?;

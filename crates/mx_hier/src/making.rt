@@ -4,33 +4,38 @@
 //! root; what the walk to the directory says (`NoEntry`, `NotADir`, `LinkLoop`); `NotADir` where it leads to no directory;
 //! `IncorrectAccess` without a on that; `NameDup` where it has the name; `DirFull` at 256 entries. What the walk says, this
 //! `NotADir` and this `IncorrectAccess` are said at a directory: a caller without s on it is told `NoInfo` instead. An
-//! error, the want of memory too, leaves the hierarchy as it was.
+//! error, the want of memory too, leaves the hierarchy as it was. A request at a place that is found takes memory only once
+//! it is not refused.
 
-ghost use Rattle.std.specs.Prelude.{◌≡◌, ◌≤◌, ◌<◌, Some, None, IfOk, IfNone, OnOk, OnErr, Ok, nat_le, if◌then◌else◌};
-ghost use Rattle.mx_hier.specs.Branches.{uid_in};
-ghost use Rattle.mx_hier.specs.Making.{place, making, first_acl, pages_of, bracketing, is_settable, directory_rules, makeable, creation, added, create_dir, create_seg, create_link, segment_for};
-ghost use Rattle.mx_hier.specs.declared.branches.Segment.{Segment as SegmentValue};
-ghost use Rattle.mx_hier.specs.declared.making.Place.{Place as PlaceValue};
-ghost use Rattle.mx_hier.specs.Sound.{IsNodeWithin, IsWithin};
-ghost use Rattle.mx_hier.specs.Rules.{first_of, unless, Answers};
+ghost use Rattle.std.specs.Prelude.{◌≡◌, ◌+◌, ◌<◌, [], ◌∷◌, ◌++◌, Some, None, IfOk, IfErr, OnOk, OnErr};
+ghost use Rattle.std.specs.Option.{option_map};
+ghost use Rattle.mx_hier.specs.Branches.{uid_in, directory_at};
+ghost use Rattle.mx_hier.specs.Brackets.{bracketing, settable};
+ghost use Rattle.mx_hier.specs.CreateDirectory.{create_dir_at, create_dir};
+ghost use Rattle.mx_hier.specs.CreateSegment.{create_seg_at, create_seg};
+ghost use Rattle.mx_hier.specs.CreateLink.{create_link_at, create_link};
+ghost use Rattle.mx_hier.specs.Making.{last_name, parent_path, place, making_refusals, first_acl};
+ghost use Rattle.mx_hier.specs.Rules.{first_of, Answers, TellsFirst};
 ghost use Rattle.mx_hier.specs.Walks.{resolved};
-ghost use Rattle.mx_hier.specs.Who.{caller};
+ghost use Rattle.mx_hier.specs.Who.{subject, caller};
 
 use crate::branches::{Directory, Node, Segment};
 use crate::callers::Who;
 use crate::hier::{Hier, acl_of_one};
 use crate::refusals::{HierError, Refusal};
+use crate::tables::Tables;
 use crate::walks::resolved;
 use mx_acl::{Acl, AclKind, Modes};
-use mx_name::{AclId, EntryName, Pathname};
+use mx_name::{AclId, EntryName, Path, Pathname};
+use mx_pages::pages_for;
 use mx_sdw::{Brackets, Ring};
 use std::alloc::{AllocError, Global};
 
 /// Where an entry is to be made: a directory, and the name in it.
 #[derive(Debug, Drop)]
-pub struct Place {
-    pub dir: u32,
-    pub name: EntryName,
+pub(crate) struct Place {
+    pub(crate) dir: u32,
+    pub(crate) name: EntryName,
 }
 
 impl Hier {
@@ -44,14 +49,32 @@ impl Hier {
         d1: Ring,
         d2: Ring,
     ) -> Result<(), HierError>
-        ensures { Answers (create_dir self.old (caller who.now) path.now d1 d2) self.old result self.new }
+        ensures answer { Answers (create_dir self.old (caller who.now) path.now d1 d2) self.old result self.new }
+        ensures told { TellsFirst (resolved (caller who.now) path.now) result }
     {
-        let at = self.creation(alloc, who, path)??;
-        if let Some(why) = directory_refusal(who, d1, d2) {
-            return Err(HierError::Refused(why));
+        let path = resolved(alloc, who, path)?;
+        let at = self.place(alloc, who, path.names())??;
+        self.create_dir_at(alloc, who, &at, d1, d2)?;
+        Ok(())
+    }
+
+    fn create_dir_at(
+        &mut self,
+        alloc: Global,
+        who: &Who,
+        at: &Place,
+        d1: Ring,
+        d2: Ring,
+    ) -> Result<(), HierError>
+        ensures answer { Answers (create_dir_at self.old (subject who.now) at.now d1 d2) self.old result self.new }
+        ensures told { TellsFirst (create_dir_at self.old (subject who.now) at.now d1 d2) result }
+    {
+        let parent = self.parent(who, at)?;
+        if d1.number() > d2.number() || d1.number() < who.ring.number() {
+            return Err(HierError::Refused(Refusal::BadBrackets));
         }
-        let acl = first_acl(alloc, AclKind::Directory, who, Modes::Sma)?;
-        self.add(alloc, &at, Node::Directory(Directory { acl, d1, d2 }))?;
+        let acl = first_acl(alloc, parent, AclKind::Directory, who, Modes::Sma)?;
+        add(&mut self.tables, alloc, at, Node::Directory(Directory { acl, d1, d2 }))?;
         Ok(())
     }
 
@@ -66,12 +89,45 @@ impl Hier {
         words: u32,
         brackets: [Ring; 3],
     ) -> Result<(), HierError>
-        ensures { Answers (create_seg self.old (caller who.now) path.now words brackets) self.old result self.new }
+        ensures answer { Answers (create_seg self.old (caller who.now) path.now words brackets) self.old result self.new }
+        ensures told { TellsFirst (resolved (caller who.now) path.now) result }
     {
-        let at = self.creation(alloc, who, path)??;
-        let segment = self.new_segment(alloc, who, words, bracketing(&brackets))??;
-        self.add(alloc, &at, Node::Segment(segment))?;
-        let _first = self.pages.allot(pages_of(words));
+        let path = resolved(alloc, who, path)?;
+        let at = self.place(alloc, who, path.names())??;
+        self.create_seg_at(alloc, who, &at, words, &brackets)?;
+        Ok(())
+    }
+
+    fn create_seg_at(
+        &mut self,
+        alloc: Global,
+        who: &Who,
+        at: &Place,
+        words: u32,
+        rings: &[Ring; 3],
+    ) -> Result<(), HierError>
+        ensures answer { Answers (create_seg_at self.old (subject who.now) at.now words rings.now) self.old result self.new }
+        ensures told { TellsFirst (create_seg_at self.old (subject who.now) at.now words rings.now) result }
+    {
+        let parent = self.parent(who, at)?;
+        if words == 0 || words > 1024 {
+            return Err(HierError::Refused(Refusal::BadLength));
+        }
+        let Some(brackets) = settable(who.ring, rings) else {
+            return Err(HierError::Refused(Refusal::BadBrackets));
+        };
+        let Some(page) = self.pages.next(pages_for(words)) else {
+            return Err(HierError::Refused(Refusal::NoPages));
+        };
+        let acl = first_acl(alloc, parent, AclKind::Segment, who, Modes::Rw)?;
+        let segment = Segment {
+            acl,
+            brackets,
+            words: words as u16,
+            page: page as u16,
+        };
+        add(&mut self.tables, alloc, at, Node::Segment(segment))?;
+        let _first = self.pages.allot(pages_for(words));
         Ok(())
     }
 
@@ -84,70 +140,29 @@ impl Hier {
         path: &Pathname,
         target: &Pathname,
     ) -> Result<(), HierError>
-        ensures { Answers (create_link self.old (caller who.now) path.now target.now) self.old result self.new }
+        ensures answer { Answers (create_link self.old (caller who.now) path.now target.now) self.old result self.new }
+        ensures told { TellsFirst (resolved (caller who.now) path.now) result }
     {
-        let own = resolved(alloc, who, path)??;
-        let target = resolved(alloc, who, target)??;
-        let at = self.makeable(alloc, who, own.names())??;
-        self.add(alloc, &at, Node::Link(target))?;
+        let path = resolved(alloc, who, path)?;
+        let target = resolved(alloc, who, target)?;
+        let at = self.place(alloc, who, path.names())??;
+        self.create_link_at(alloc, who, &at, target)?;
         Ok(())
     }
 
-    /// Adds a branch with the next uid.
-    #[tactic(auto, using(crate::proofs::SoundLaws::within_added))]
-    fn add(&mut self, alloc: Global, at: &Place, node: Node) -> Result<(), AllocError>
-        requires free { uid_in self.old.branches at.now.dir at.now.name ≡ None }
-        requires below { at.now.dir < self.old.next }
-        requires within { IsNodeWithin node }
-        ensures ok { OnOk result (self.new ≡ added self.old at.now node) }
-        ensures err { OnErr result (self.new ≡ self.old) }
+    fn create_link_at(
+        &mut self,
+        alloc: Global,
+        who: &Who,
+        at: &Place,
+        target: Path,
+    ) -> Result<(), HierError>
+        ensures answer { Answers (create_link_at self.old (subject who.now) at.now target) self.old result self.new }
+        ensures told { TellsFirst (create_link_at self.old (subject who.now) at.now target) result }
     {
-        if self.tables.is_used_up() {
-            return Err(AllocError);
-        }
-        self.tables.add(alloc, at.dir, &at.name, node)?;
+        self.parent(who, at)?;
+        add(&mut self.tables, alloc, at, Node::Link(target))?;
         Ok(())
-    }
-
-    /// Where an entry of this pathname can be made.
-    fn creation(
-        &self,
-        alloc: Global,
-        who: &Who,
-        pathname: &Pathname,
-    ) -> Result<Result<Place, Refusal>, AllocError>
-        ensures value { IfOk result (λ at. at ≡ creation self.now (caller who.now) pathname.now) }
-        ensures free { (at : PlaceValue) → result ≡ Ok (Ok at) → uid_in self.now.branches at.dir at.name ≡ None }
-        ensures below { (at : PlaceValue) → result ≡ Ok (Ok at) → at.dir < self.now.next }
-    {
-        match resolved(alloc, who, pathname)? {
-            Ok(path) => {
-                let at = self.makeable(alloc, who, path.names())?;
-                Ok(at)
-            }
-            Err(why) => Ok(Err(why)),
-        }
-    }
-
-    /// Where an entry of this path can be made: its directory, where no refusal of every such request applies.
-    fn makeable(
-        &self,
-        alloc: Global,
-        who: &Who,
-        path: &[EntryName],
-    ) -> Result<Result<Place, Refusal>, AllocError>
-        ensures value { IfOk result (λ at. at ≡ makeable self.now (caller who.now) path.now) }
-        ensures free { (at : PlaceValue) → result ≡ Ok (Ok at) → uid_in self.now.branches at.dir at.name ≡ None }
-        ensures below { (at : PlaceValue) → result ≡ Ok (Ok at) → at.dir < self.now.next }
-    {
-        let at = match self.place(alloc, who, path)? {
-            Ok(at) => at,
-            Err(why) => return Ok(Err(why)),
-        };
-        match self.making_refusal(who, &at) {
-            Some(why) => Ok(Err(why)),
-            None => Ok(Ok(at)),
-        }
     }
 
     /// The directory and the name of a path.
@@ -157,115 +172,103 @@ impl Hier {
         who: &Who,
         path: &[EntryName],
     ) -> Result<Result<Place, Refusal>, AllocError>
-        ensures { IfOk result (λ at. at ≡ place self.now (caller who.now) path.now) }
+        ensures { IfOk result (λ at. at ≡ place self.now (subject who.now) path.now) }
     {
-        if path.is_empty() {
+        let Some(name) = last_name(path) else {
             return Ok(Err(Refusal::NameDup));
-        }
-        let last = path.len() - 1;
-        let dir = match self.walk(alloc, 10, who, true, &path[..last])? {
-            Ok(dir) => dir,
-            Err(why) => return Ok(Err(why)),
         };
-        let name = path[last].copy()?;
-        Ok(Ok(Place { dir, name }))
+        match self.reached(alloc, who, true, parent_path(path))? {
+            Ok(dir) => Ok(Ok(Place { dir, name: *name })),
+            Err(why) => Ok(Err(why)),
+        }
     }
 
-    /// Why no entry can be made there, whatever it is to be.
-    fn making_refusal(&self, who: &Who, at: &Place) -> Option<Refusal>
-        ensures value { result ≡ first_of (making self.now (caller who.now) at.now) }
-        ensures free { IfNone result (uid_in self.now.branches at.now.dir at.now.name ≡ None) }
-        ensures below { IfNone result (at.now.dir < self.now.next) }
+    /// The directory of a place where an entry can be made, whatever it is to be.
+    fn parent(&self, who: &Who, at: &Place) -> Result<&Directory, Refusal>
+        ensures refused { IfErr result (λ why. first_of (making_refusals self.now (subject who.now) at.now) ≡ Some why) }
+        ensures none { OnOk result (first_of (making_refusals self.now (subject who.now) at.now) ≡ None) }
+        ensures parent { IfOk result (λ parent. directory_at self.now at.now.dir ≡ Some parent.now) }
+        ensures free { OnOk result (uid_in self.now.branches at.now.dir at.now.name ≡ None) }
+        ensures below { OnOk result (at.now.dir < self.now.next) }
     {
-        let Some(directory) = self.directory_at(at.dir) else {
-            return Some(self.say(who, Refusal::NotADir, self.holder(at.dir)));
+        let Some(parent) = self.directory_at(at.dir) else {
+            return Err(who.told(Refusal::NotADir, self.holding(at.dir)));
         };
-        if !who.has_append(directory) {
-            return Some(self.say(who, Refusal::IncorrectAccess, at.dir));
+        if !who.has_append(parent) {
+            return Err(who.told(Refusal::IncorrectAccess, Some(parent)));
         }
         if self.tables.uid_in(at.dir, &at.name).is_some() {
-            return Some(Refusal::NameDup);
+            return Err(Refusal::NameDup);
         }
         if self.tables.count_in(at.dir) >= 256 {
-            return Some(Refusal::DirFull);
+            return Err(Refusal::DirFull);
         }
-        None
-    }
-
-    /// A new segment, unless it can't have this length or these brackets or there are no pages for it.
-    fn new_segment(
-        &self,
-        alloc: Global,
-        who: &Who,
-        words: u32,
-        brackets: Option<Brackets>,
-    ) -> Result<Result<Segment, Refusal>, AllocError>
-        ensures value { IfOk result (λ segment. segment ≡ segment_for self.now (caller who.now) words brackets) }
-        ensures within { (segment : SegmentValue) → result ≡ Ok (Ok segment) → IsWithin segment }
-        ensures words { (segment : SegmentValue) → result ≡ Ok (Ok segment) → (1 ≤ words) × (words ≤ 1024) }
-    {
-        if words == 0 || words > 1024 {
-            return Ok(Err(Refusal::BadLength));
-        }
-        let Some(brackets) = settable(brackets, who.ring) else {
-            return Ok(Err(Refusal::BadBrackets));
-        };
-        let Some(page) = self.pages.next(pages_of(words)) else {
-            return Ok(Err(Refusal::NoPages));
-        };
-        let acl = first_acl(alloc, AclKind::Segment, who, Modes::Rw)?;
-        Ok(Ok(Segment {
-            acl,
-            brackets,
-            words: words as u16,
-            page: page as u16,
-        }))
+        Ok(parent)
     }
 }
 
-/// Why a directory can't have these brackets.
-fn directory_refusal(who: &Who, d1: Ring, d2: Ring) -> Option<Refusal>
-    ensures { result ≡ first_of (directory_rules (caller who.now) d1 d2) }
+/// Adds a branch with the next uid. `AllocError` too where no uid is left.
+fn add(tables: &mut Tables, alloc: Global, at: &Place, node: Node) -> Result<(), AllocError>
+    requires free { uid_in tables.old.branches at.now.dir at.now.name ≡ None }
+    requires below { at.now.dir < tables.old.next }
+    ensures ok { OnOk result (tables.new ≡ record { branches = tables.old.branches ++ record { uid = tables.old.next; parent = at.now.dir; name = at.now.name; node = node } ∷ []; next = 1 + tables.old.next }) }
+    ensures left { OnOk result (tables.old.next < 4294967295) }
+    ensures err { OnErr result (tables.new ≡ tables.old) }
 {
-    if d1.number() > d2.number() || d1.number() < who.ring.number() {
-        Some(Refusal::BadBrackets)
+    if tables.is_used_up() {
+        return Err(AllocError);
+    }
+    tables.add(alloc, at.dir, &at.name, node)?;
+    Ok(())
+}
+
+/// The last of a path's names; the root's path has none.
+fn last_name(path: &[EntryName]) -> Option<&EntryName>
+    ensures { option_map (λ name. name.now) result ≡ last_name path.now }
+{
+    if path.is_empty() {
+        None
     } else {
-        None
+        path.get(path.len() - 1)
     }
 }
 
-/// Pages of 64 words that so many words take.
-fn pages_of(words: u32) -> u32
-    requires { words ≤ 1024 }
-    ensures { result ≡ pages_of words }
+/// The names before the last.
+fn parent_path(path: &[EntryName]) -> &[EntryName]
+    ensures { result.now ≡ parent_path path.now }
 {
-    words.div_ceil(64)
+    &path[..path.len().saturating_sub(1)]
 }
 
 /// Three rings as brackets, where they are in order.
-pub(crate) fn bracketing(brackets: &[Ring; 3]) -> Option<Brackets>
-    ensures { result ≡ bracketing brackets.now }
+fn bracketing(rings: &[Ring; 3]) -> Option<Brackets>
+    ensures { result ≡ bracketing rings.now }
 {
-    let [r1, r2, r3] = *brackets;
+    let [r1, r2, r3] = *rings;
     Brackets::new(r1, r2, r3)
 }
 
-/// The brackets, where a caller in the ring may set them.
-pub(crate) fn settable(brackets: Option<Brackets>, ring: Ring) -> Option<Brackets>
-    ensures { result ≡ (if is_settable brackets ring then brackets else None) }
+/// Three rings as brackets, where a caller in the ring may set them.
+pub(crate) fn settable(ring: Ring, rings: &[Ring; 3]) -> Option<Brackets>
+    ensures { result ≡ settable ring rings.now }
 {
-    brackets.filter(
-        |brackets: &Brackets| -> bool
-            ensures { result ≡ nat_le ring brackets.now.r1 }
-        { ring.number() <= brackets.r1().number() },
-    )
+    match bracketing(rings) {
+        Some(brackets) if ring.number() <= brackets.r1().number() => Some(brackets),
+        Some(_) | None => None,
+    }
 }
 
-/// The access list of a new branch.
-fn first_acl(alloc: Global, kind: AclKind, who: &Who, modes: Modes) -> Result<Acl, AllocError>
-    ensures { IfOk result (λ acl. acl ≡ first_acl kind (caller who.now) modes) }
+/// The access list of a new branch in a directory.
+fn first_acl(
+    alloc: Global,
+    _parent: &Directory,
+    kind: AclKind,
+    who: &Who,
+    modes: Modes,
+) -> Result<Acl, AllocError>
+    ensures { IfOk result (λ acl. acl ≡ first_acl _parent.now kind (subject who.now) modes) }
 {
-    let id = AclId::of_maker(who.principal)?;
+    let id = AclId::of_maker(who.principal);
     let acl = acl_of_one(alloc, kind, id, modes)?;
     Ok(acl)
 }

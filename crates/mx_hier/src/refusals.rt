@@ -6,7 +6,7 @@ ghost use Rattle.mx_hier.specs.Refusals.{refusal_number, refusal_text};
 use std::alloc::AllocError;
 use thiserror::Error;
 
-/// Why a request was refused: this model's own table of refusals, as far as it is met.
+/// Why a request was refused: this model's own table of refusals.
 #[derive(Clone, Copy, Debug, PartialEq, Eq)]
 pub enum Refusal {
     BadPath,
@@ -26,6 +26,14 @@ pub enum Refusal {
     NoAclEntry,
     NoPages,
     KstFull,
+    UnknownSegno,
+    NotLinkage,
+    SegmentNotFound,
+    NotObject,
+    NoDefinition,
+    NoProcess,
+    MailFull,
+    Ended,
 }
 
 impl Refusal {
@@ -51,6 +59,14 @@ impl Refusal {
             Refusal::NoAclEntry => 15,
             Refusal::NoPages => 16,
             Refusal::KstFull => 17,
+            Refusal::UnknownSegno => 18,
+            Refusal::NotLinkage => 19,
+            Refusal::SegmentNotFound => 20,
+            Refusal::NotObject => 21,
+            Refusal::NoDefinition => 22,
+            Refusal::NoProcess => 23,
+            Refusal::MailFull => 24,
+            Refusal::Ended => 25,
         }
     }
 
@@ -76,6 +92,14 @@ impl Refusal {
             Refusal::NoAclEntry => "no_acl_entry",
             Refusal::NoPages => "no_pages",
             Refusal::KstFull => "kst_full",
+            Refusal::UnknownSegno => "unknown_segno",
+            Refusal::NotLinkage => "not_linkage",
+            Refusal::SegmentNotFound => "segment_not_found",
+            Refusal::NotObject => "not_object",
+            Refusal::NoDefinition => "no_definition",
+            Refusal::NoProcess => "no_process",
+            Refusal::MailFull => "mail_full",
+            Refusal::Ended => "ended",
         }
     }
 }

@@ -3,7 +3,9 @@ ghost use Rattle.std.specs.Prelude.{◌≡◌, OnOk, OnErr, not, is_ok};
 ghost use Rattle.std.specs.Option.{is_none, option_map, option_and_then};
 ghost use Rattle.mx_acl.specs.Access.{entry_of, with_entry, without_entry, set_fault};
 ghost use Rattle.mx_hier.specs.Callers.{on};
-ghost use Rattle.mx_hier.specs.Changing.{with_node, acl_in, acl_changed, bracketed, dir_bracketed};
+ghost use Rattle.mx_hier.specs.Changing.{with_node, acl_in, acl_changed};
+ghost use Rattle.mx_hier.specs.SetBrackets.{bracketed};
+ghost use Rattle.mx_hier.specs.SetDirectoryBrackets.{dir_bracketed};
 ghost use Rattle.mx_hier.specs.Listed.{slot_of, emptied, changed_at, acl_in_slot, AclAnswers, with_name};
 
 use crate::branches::{Branch, Node};
@@ -145,8 +147,7 @@ fn set_list(acl: &mut Acl, id: &AclId, modes: Modes) -> Result<(), AclError>
     ensures ok { OnOk result (acl.new ≡ with_entry acl.old id.now modes) }
     ensures err { OnErr result (acl.new ≡ acl.old) }
 {
-    let id = id.copy()?;
-    acl.set(id, modes)?;
+    acl.set(*id, modes)?;
     Ok(())
 }
 

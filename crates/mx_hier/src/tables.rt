@@ -8,7 +8,10 @@ ghost use Rattle.mx_acl.specs.Access.{entry_of, with_entry, without_entry, set_f
 ghost use Rattle.mx_hier.specs.Callers.{on};
 ghost use Rattle.mx_hier.specs.declared.branches.Branch.{Branch as BranchValue};
 ghost use Rattle.mx_hier.specs.Branches.{branch_of, entries_of, uid_in};
-ghost use Rattle.mx_hier.specs.Changing.{without, changed, with_node, acl_changed, bracketed, dir_bracketed};
+ghost use Rattle.mx_hier.specs.Changing.{changed, with_node, acl_changed};
+ghost use Rattle.mx_hier.specs.Delete.{without};
+ghost use Rattle.mx_hier.specs.SetBrackets.{bracketed};
+ghost use Rattle.mx_hier.specs.SetDirectoryBrackets.{dir_bracketed};
 ghost use Rattle.mx_hier.specs.Listed.{present, slot_of, changed_at, acl_of, AclAnswers, kept_for, with_name, renamed, AreKept};
 
 use crate::branches::{Branch, Node};
@@ -113,7 +116,7 @@ impl Tables {
         let branch = Branch {
             uid: self.slots.len() as u32 + 1,
             parent: dir,
-            name: name.copy()?,
+            name: *name,
             node,
         };
         add_branch(alloc, &mut self.slots, &mut self.names, branch)?;
@@ -213,7 +216,7 @@ fn add_branch(
     ensures ok { OnOk result (slots.new.items ≡ slots.old.items ++ Some branch ∷ []) }
     ensures err { OnErr result (slots.new.items ≡ slots.old.items) }
 {
-    let name = branch.name.copy()?;
+    let name = branch.name;
     widen(alloc, names, slots.len() + 2)?;
     slots.reserve(1)?;
     add_name(names, branch.parent, name, branch.uid)?;
@@ -283,9 +286,8 @@ fn rename_branch(
     let Some(branch) = branch_at(slots, uid) else {
         return Ok(());
     };
-    let own = name.copy()?;
     rename_in(names, branch.parent, &branch.name, name)?;
-    put_name(slots, uid, own);
+    put_name(slots, uid, *name);
     Ok(())
 }
 
@@ -301,7 +303,6 @@ fn rename_in(
     ensures err { OnErr result (names.new.items ≡ names.old.items) }
     ensures unique { OnOk result (IsDistinct (pointwise ◌==◌) (keys_of (kept_for names.old.items dir))) }
 {
-    let new = new.copy()?;
-    names[dir as usize].rename(old, new)?;
+    names[dir as usize].rename(old, *new)?;
     Ok(())
 }

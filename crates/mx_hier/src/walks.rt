@@ -1,125 +1,143 @@
 //! The walk of a path.
 
-ghost use Rattle.std.specs.Prelude.{◌≡◌, ◌++◌, IfOk, Ok, Err, None};
-ghost use Rattle.std.specs.Option.{option_map};
+ghost use Rattle.std.specs.Prelude.{◌≡◌, ◌++◌, [], IfOk};
+ghost use Rattle.mx_hier.specs.Rules.{Tells, TellsFirst};
 ghost use Rattle.mx_hier.specs.Stops.{stop};
-ghost use Rattle.mx_hier.specs.Walks.{along, walk, followed_to, resolved, entry};
-ghost use Rattle.mx_hier.specs.Who.{caller};
+ghost use Rattle.mx_hier.specs.Walks.{Reached, along, ended, walk, told, reached, resolved, entry};
+ghost use Rattle.mx_hier.specs.Who.{subject, caller};
 
+use crate::branches::Directory;
 use crate::callers::Who;
 use crate::hier::Hier;
-use crate::refusals::Refusal;
+use crate::refusals::{HierError, Refusal};
 use mx_name::{EntryName, Path, PathError, Pathname};
 use std::alloc::{AllocError, Global};
 
-/// Where names lead: an entry's uid; a link's target met in a directory, with the names after it; or a refusal to be said at
-/// a directory.
+/// Where names have led: to an entry's uid; to a link, met in a directory, with the names after it; or to a refusal that is to
+/// be said at a directory.
 #[derive(Debug, Drop)]
 pub(crate) enum Along<'a> {
     Reached(u32),
     Linked {
-        dir: u32,
+        dir: Option<&'a Directory>,
         target: &'a [EntryName],
         rest: &'a [EntryName],
     },
-    Refused(Refusal, u32),
+    Refused(Refusal, Option<&'a Directory>),
 }
 
 impl Hier {
-    /// The names one after the other, from what has been reached, to the first link that is to be followed.
-    pub(crate) fn along<'a>(&'a self, follow: bool, at: u32, names: &'a [EntryName]) -> Along<'a>
-        ensures { stop result ≡ along self.now follow at names.now }
-    {
-        let mut at = at;
-        let mut rest = names;
-        while let [name, after @ ..] = rest {
-            if self.directory_at(at).is_none() {
-                return Along::Refused(Refusal::NotADir, self.holder(at));
-            }
-            let Some(uid) = self.tables.uid_in(at, name) else {
-                return Along::Refused(Refusal::NoEntry, at);
-            };
-            if let Some(target) = self.followed_to(follow, uid, after) {
-                return Along::Linked {
-                    dir: at,
-                    target: target.names(),
-                    rest: after,
-                };
-            }
-            at = uid;
-            rest = after;
-        }
-        Along::Reached(at)
-    }
-
-    /// The target of a link that is to be followed, where these names are left.
-    fn followed_to(&self, follow: bool, uid: u32, names: &[EntryName]) -> Option<&Path>
-        ensures { option_map (λ target. target.now) result ≡ followed_to self.now follow uid names.now }
-    {
-        if names.is_empty() && !follow {
-            return None;
-        }
-        self.target_at(uid)
-    }
-
-    /// The walk of a path from the root, where so many links may be followed.
-    #[tactic(auto, using(crate::proofs::WalkLaws::walk_refused))]
-    pub(crate) fn walk(
-        &self,
-        alloc: Global,
-        left: u32,
-        who: &Who,
-        follow: bool,
-        names: &[EntryName],
-    ) -> Result<Result<u32, Refusal>, AllocError>
-        ensures { IfOk result (λ reached. reached ≡ walk left self.now (caller who.now) follow names.now) }
-    {
-        match self.along(follow, 0, names) {
-            Along::Reached(uid) => Ok(Ok(uid)),
-            Along::Refused(why, dir) => Ok(Err(self.say(who, why, dir))),
-            Along::Linked { dir, target, rest } => {
-                if left == 0 {
-                    return Ok(Err(self.say(who, Refusal::LinkLoop, dir)));
-                }
-                let path = joined(alloc, target, rest)?;
-                let reached = self.walk(alloc, left - 1, who, follow, path.as_slice())?;
-                Ok(reached)
-            }
-        }
-    }
-
-    /// The uid of the entry of a pathname.
-    pub(crate) fn entry(
+    /// The uid of what a pathname leads to. `follow` is whether a link at the last name is followed. `BadPath` where the
+    /// pathname has no path; what the walk says (`NoEntry`, `NotADir`, `LinkLoop`) is said at a directory: a caller without s
+    /// on it is told `NoInfo` instead.
+    pub fn entry(
         &self,
         alloc: Global,
         who: &Who,
         pathname: &Pathname,
         follow: bool,
-    ) -> Result<Result<u32, Refusal>, AllocError>
-        ensures { IfOk result (λ reached. reached ≡ entry self.now (caller who.now) pathname.now follow) }
+    ) -> Result<u32, HierError>
+        ensures answer { Tells (entry self.now (caller who.now) pathname.now follow) result }
+        ensures told { TellsFirst (resolved (caller who.now) pathname.now) result }
     {
-        let path = match resolved(alloc, who, pathname)? {
-            Ok(path) => path,
-            Err(why) => return Ok(Err(why)),
-        };
-        let reached = self.walk(alloc, 10, who, follow, path.names())?;
-        Ok(reached)
+        let path = resolved(alloc, who, pathname)?;
+        let uid = self.reached(alloc, who, follow, path.names())??;
+        Ok(uid)
+    }
+
+    /// What a path from the root leads to: ten links may be followed.
+    pub(crate) fn reached(
+        &self,
+        alloc: Global,
+        who: &Who,
+        follow: bool,
+        path: &[EntryName],
+    ) -> Result<Result<u32, Refusal>, AllocError>
+        ensures { IfOk result (λ uid. uid ≡ reached self.now (subject who.now) follow path.now) }
+    {
+        let uid = self.walk(alloc, 10, who, follow, 0, path)?;
+        Ok(uid)
+    }
+
+    /// The walk of names from a directory, where so many links may be followed.
+    fn walk(
+        &self,
+        alloc: Global,
+        left: u32,
+        who: &Who,
+        follow: bool,
+        from: u32,
+        names: &[EntryName],
+    ) -> Result<Result<u32, Refusal>, AllocError>
+        ensures { IfOk result (λ uid. uid ≡ told (subject who.now) (walk left self.now follow from names.now)) }
+    {
+        match self.along(follow, from, names) {
+            Along::Reached(uid) => Ok(Ok(uid)),
+            Along::Refused(why, dir) => Ok(Err(who.told(why, dir))),
+            Along::Linked { dir, target, rest } => {
+                if left == 0 {
+                    return Ok(Err(who.told(Refusal::LinkLoop, dir)));
+                }
+                let path = joined(alloc, target, rest)?;
+                let uid = self.walk(alloc, left - 1, who, follow, 0, path.as_slice())?;
+                Ok(uid)
+            }
+        }
+    }
+
+    /// The names one after the other, from a directory to the first link that is to be followed.
+    #[tactic(auto, using(crate::proofs::WalkLaws::linked, crate::proofs::WalkLaws::refused))]
+    fn along<'a>(&'a self, follow: bool, from: u32, names: &'a [EntryName]) -> Along<'a>
+        ensures { stop result ≡ along self.now follow from names.now }
+    {
+        let mut at = from;
+        let mut rest = names;
+        while let [name, after @ ..] = rest {
+            if let Some(target) = self.target_at(at) {
+                return Along::Linked {
+                    dir: self.holding(at),
+                    target: target.names(),
+                    rest,
+                };
+            }
+            let Some(directory) = self.directory_at(at) else {
+                return Along::Refused(Refusal::NotADir, self.holding(at));
+            };
+            let Some(uid) = self.tables.uid_in(at, name) else {
+                return Along::Refused(Refusal::NoEntry, Some(directory));
+            };
+            at = uid;
+            rest = after;
+        }
+        self.ended(follow, at, rest)
+    }
+
+    /// What is reached after the last name: a link there is followed only if it is asked for.
+    fn ended<'a>(&'a self, follow: bool, at: u32, rest: &'a [EntryName]) -> Along<'a>
+        requires { rest.now ≡ [] }
+        ensures { stop result ≡ ended self.now follow (Reached at) }
+    {
+        match self.target_at(at) {
+            Some(target) if follow => Along::Linked {
+                dir: self.holding(at),
+                target: target.names(),
+                rest,
+            },
+            Some(_) | None => Along::Reached(at),
+        }
     }
 }
 
-/// The path of a pathname, from the caller's working directory.
-pub(crate) fn resolved(
-    alloc: Global,
-    who: &Who,
-    pathname: &Pathname,
-) -> Result<Result<Path, Refusal>, AllocError>
-    ensures { IfOk result (λ path. path ≡ resolved (caller who.now) pathname.now) }
+/// The path of a pathname, from the caller's working directory. `BadPath` where it has none.
+pub(crate) fn resolved(alloc: Global, who: &Who, pathname: &Pathname) -> Result<Path, HierError>
+    ensures answer { Tells (resolved (caller who.now) pathname.now) result }
+    ensures told { TellsFirst (resolved (caller who.now) pathname.now) result }
 {
     match Path::resolve(alloc, who.base, pathname) {
-        Ok(path) => Ok(Ok(path)),
-        Err(PathError::AboveRoot) => Ok(Err(Refusal::BadPath)),
-        Err(PathError::TooLong) => Ok(Err(Refusal::BadPath)),
-        Err(PathError::Memory) => Err(AllocError),
+        Ok(path) => Ok(path),
+        Err(PathError::AboveRoot) => Err(HierError::Refused(Refusal::BadPath)),
+        Err(PathError::TooLong) => Err(HierError::Refused(Refusal::BadPath)),
+        Err(PathError::Memory) => Err(HierError::Memory),
     }
 }
 

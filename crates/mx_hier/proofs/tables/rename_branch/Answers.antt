@@ -27,6 +27,6 @@ returns-clause-kept c =
     (c.branch_at.ensures ∙ ap (λ (slots : List (Option Branch)). slot_of slots c.args.uid) c.deref.ensures.value) c.in-Some.is in
     kept_as c.put_name.new.slots.items (changed_at c.args.slots.now.items c.args.uid (with_name c.args.name.now))
     c.rename_in.new.names.items (set c.args.names.now.items branch.parent (renamed branch.name c.args.name.now (kept_for c.args.names.now.items branch.parent)))
-    (c.put_name.ensures ∙ ap (λ (name : List ℕ). changed_at c.args.slots.now.items c.args.uid (with_name name)) c.in_ok-own.ensures)
+    c.put_name.ensures
     c.in_ok-rename_in.ensures.ok
     (renamed_kept c.args.slots.now.items c.args.names.now.items c.args.uid branch c.args.name.now c.requires.kept is c.in_ok-rename_in.ensures.unique)

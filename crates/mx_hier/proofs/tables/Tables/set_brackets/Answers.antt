@@ -1,4 +1,5 @@
-use Rattle.mx_hier.specs.Changing.{bracketed, with_node}
+use Rattle.mx_hier.specs.Changing.{with_node}
+use Rattle.mx_hier.specs.SetBrackets.{bracketed}
 use Rattle.mx_hier.proofs.KeptLaws.{node_kept, listed_changed}
 use Rattle.mx_hier.proofs.tables.Tables.set_brackets.Goals as goal
 

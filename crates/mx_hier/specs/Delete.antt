@@ -1,0 +1,30 @@
+-- `delete PATH`: a link itself is deleted
+use Rattle.std.specs.Prelude.{ℕ, ◌==◌, Bool, true, false, not, List, [], ◌∷◌, ◌++◌, filter, Result}
+use Rattle.mx_hier.specs.declared.branches.Branch.{Branch}
+use Rattle.mx_hier.specs.declared.refusals.Refusal.{Refusal}
+use Rattle.mx_hier.specs.declared.refusals.Refusal.TheVariants.{IncorrectAccess, DirNotEmpty}
+use Rattle.mx_hier.specs.Branches.{Hierarchy, entries_of}
+use Rattle.mx_hier.specs.Callers.{Subject, Caller}
+use Rattle.mx_hier.specs.Changing.{changing_refusals}
+use Rattle.mx_hier.specs.Rules.{first_of, onward, unless}
+use Rattle.mx_hier.specs.Walks.{entry}
+
+abbrev pub is_empty : List Branch → Bool
+is_empty [] = true
+is_empty (branch ∷ branches) = false
+
+-- the root stays, and a directory that has entries
+abbrev pub delete_refusals : Hierarchy → Subject → ℕ → List (Bool × Refusal)
+delete_refusals h who uid = changing_refusals h who uid ++
+    (uid == 0, IncorrectAccess)
+    ∷ (not (is_empty (entries_of h.branches uid)), DirNotEmpty) ∷ []
+
+abbrev pub without : ℕ → List Branch → List Branch
+without uid branches = filter (λ branch. not (branch.uid == uid)) branches
+
+-- the pages of a segment are not used again
+abbrev pub delete_at : Hierarchy → Subject → ℕ → Result Hierarchy Refusal
+delete_at h who uid = unless (first_of (delete_refusals h who uid)) (record h { branches = without uid h.branches })
+
+abbrev pub delete : Hierarchy → Caller → List ℕ → Result Hierarchy Refusal
+delete h who path = onward (entry h who path false) (λ uid. delete_at h who.subject uid)

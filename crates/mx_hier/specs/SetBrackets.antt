@@ -1,0 +1,35 @@
+-- `set_brackets PATH R1 R2 R3`
+use Rattle.std.specs.Prelude.{ℕ, nat_lt, Bool, true, ◌||◌, List, [], ◌∷◌, ◌++◌, Result, Ok, is_none}
+use Rattle.mx_sdw.specs.Rings.{Bracketing}
+use Rattle.mx_hier.specs.declared.branches.Node.{Node}
+use Rattle.mx_hier.specs.declared.branches.Node.TheVariants.{Directory as IsDirectory, Segment as IsSegment, Link as IsLink}
+use Rattle.mx_hier.specs.declared.refusals.Refusal.{Refusal}
+use Rattle.mx_hier.specs.declared.refusals.Refusal.TheVariants.{NotASeg, BadBrackets}
+use Rattle.mx_hier.specs.Branches.{Hierarchy, segment_at}
+use Rattle.mx_hier.specs.Brackets.{settable}
+use Rattle.mx_hier.specs.Callers.{Subject, Caller, on}
+use Rattle.mx_hier.specs.Changing.{changing_refusals, with_branch, with_node}
+use Rattle.mx_hier.specs.Rules.{first_of, required, onward, unless}
+use Rattle.mx_hier.specs.Walks.{entry}
+
+-- neither the new nor the old first bracket may be below the caller's ring
+abbrev pub set_brackets_refusals : Hierarchy → Subject → ℕ → List ℕ → List (Bool × Refusal)
+set_brackets_refusals h who uid rings = changing_refusals h who uid ++
+    (is_none (segment_at h uid), NotASeg)
+    ∷ (is_none (settable who.ring rings) || on (λ segment. nat_lt segment.brackets.r1 who.ring) (segment_at h uid), BadBrackets) ∷ []
+
+abbrev pub bracketed : Bracketing → Node → Node
+bracketed brackets (IsSegment segment) = IsSegment (record segment { brackets = brackets })
+bracketed brackets (IsDirectory directory) = IsDirectory directory
+bracketed brackets (IsLink target) = IsLink target
+
+abbrev pub with_brackets : Hierarchy → ℕ → Bracketing → Hierarchy
+with_brackets h uid brackets = with_branch h uid (λ branch. with_node (bracketed brackets branch.node) branch)
+
+abbrev pub set_brackets_at : Hierarchy → Subject → ℕ → List ℕ → Result Hierarchy Refusal
+set_brackets_at h who uid rings =
+    onward (unless (first_of (set_brackets_refusals h who uid rings)) uid) (λ uid.
+    onward (required BadBrackets (settable who.ring rings)) (λ brackets. Ok (with_brackets h uid brackets)))
+
+abbrev pub set_brackets : Hierarchy → Caller → List ℕ → List ℕ → Result Hierarchy Refusal
+set_brackets h who path rings = onward (entry h who path true) (λ uid. set_brackets_at h who.subject uid rings)

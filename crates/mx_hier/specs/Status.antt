@@ -1,0 +1,35 @@
+-- `status PATH`: what is said of an entry, of a link itself
+use Rattle.std.specs.Prelude.{ℕ, ◌==◌, Bool, false, not, List, [], ◌∷◌, Option, Some, Result, Ok, if◌then◌else◌}
+use Rattle.std.specs.Option.{option_map}
+use Rattle.mx_acl.specs.Access.{modes_for}
+use Rattle.mx_hier.specs.declared.branches.Node.{Node}
+use Rattle.mx_hier.specs.declared.branches.Node.TheVariants.{Directory as IsDirectory, Segment as IsSegment, Link as IsLink}
+use Rattle.mx_hier.specs.declared.asking.Status.{Status}
+use Rattle.mx_hier.specs.declared.asking.Status.TheVariants.{Segment as SegmentStatus, Directory as DirectoryStatus, Link as LinkStatus}
+use Rattle.mx_hier.specs.declared.refusals.Refusal.{Refusal}
+use Rattle.mx_hier.specs.declared.refusals.Refusal.TheVariants.{NoInfo}
+use Rattle.mx_hier.specs.Branches.{Hierarchy, branch_of, holding}
+use Rattle.mx_hier.specs.Callers.{Subject, Caller, has_status, on}
+use Rattle.mx_hier.specs.Rules.{first_of, required, onward, unless}
+use Rattle.mx_hier.specs.Walks.{entry}
+
+-- the modes are those that its access list gives the caller, in any ring
+abbrev pub status_of : Subject → Node → Status
+status_of who (IsDirectory directory) = DirectoryStatus directory.d1 directory.d2 (modes_for directory.acl who.principal)
+status_of who (IsSegment segment) = SegmentStatus segment.words segment.brackets (modes_for segment.acl who.principal)
+status_of who (IsLink target) = LinkStatus target
+
+-- what stands at a uid
+abbrev pub node_at : Hierarchy → ℕ → Option Node
+node_at h uid = if uid == 0 then Some (IsDirectory h.root) else option_map (λ branch. branch.node) (branch_of h.branches uid)
+
+abbrev pub status_refusals : Hierarchy → Subject → ℕ → List (Bool × Refusal)
+status_refusals h who uid = (not (on (has_status who) (holding h uid)), NoInfo) ∷ []
+
+abbrev pub status_at : Hierarchy → Subject → ℕ → Result Status Refusal
+status_at h who uid =
+    onward (unless (first_of (status_refusals h who uid)) uid) (λ uid.
+    onward (required NoInfo (node_at h uid)) (λ node. Ok (status_of who node)))
+
+abbrev pub status : Hierarchy → Caller → List ℕ → Result Status Refusal
+status h who path = onward (entry h who path false) (λ uid. status_at h who.subject uid)
