@@ -5,5 +5,7 @@ pub mod KeptLaws
 pub mod WalkLaws
 pub mod StrangerLaws
 pub mod SoundLaws
+pub mod MakingLaws
 pub mod ChangeLaws
 pub mod SortLaws
+pub mod DescriptorLaws

@@ -116,11 +116,14 @@ sorted_names names sorted moved up =
 rises_is_sorted : (names : List (List ℕ)) → Rises names → IsSorted (slice_cmp nat_cmp) names
 rises_is_sorted [] up = λ k d p q. absurd (omega (arith, q))
 rises_is_sorted (name ∷ []) up = λ k d p q. absurd (omega (arith, q))
-rises_is_sorted (name ∷ next ∷ names) up = λ k d p q. at k d q
+rises_is_sorted (name ∷ next ∷ names) up = λ k d p q. at k d q (rises_is_sorted (next ∷ names) up.1)
   where
-    at : (k : ℕ) (d : List ℕ) → k + 1 < length (name ∷ next ∷ names) → before (get_or (name ∷ next ∷ names) (k + 1) d) (get_or (name ∷ next ∷ names) k d) ≡ false
-    at zero d q = up.0
-    at (suc k) d q = rw (Rattle.std.proofs.Common.add-one, sym Rattle.std.proofs.Common.add-one) (rises_is_sorted (next ∷ names) up.1 k d (omega arith) (omega (arith, q)))
+    at : (k : ℕ) (d : List ℕ) → k + 1 < length (name ∷ next ∷ names) → IsSorted (slice_cmp nat_cmp) (next ∷ names)
+        → before (get_or (name ∷ next ∷ names) (k + 1) d) (get_or (name ∷ next ∷ names) k d) ≡ false
+    at zero d q rest = up.0
+    at (suc k) d q rest =
+        let more : suc k + 1 ≡ suc (k + 1) = omega arith in
+        rw more (rest k d (omega arith) (omega (arith, q)))
 
 pub ascending : (names : List (List ℕ)) → IsSorted (slice_cmp nat_cmp) (in_byte_order names)
 ascending names = rises_is_sorted (in_byte_order names) (rises_in_byte_order names)

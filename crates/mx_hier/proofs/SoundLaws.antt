@@ -184,9 +184,9 @@ added_was (x ∷ xs) branch uid segment is = by (eqb x.uid uid) is (added_was xs
     by false is rest = rest is
 
 -- a directory or a link
-pub sound_added : (pages : PageMap) (old new : Listed) {branch : Branch} → new ≡ record { branches = old.branches ++ branch ∷ []; next = 1 + old.next }
+pub sound_added : (pages : PageMap) (old new : Listed) (branch : Branch) → new ≡ record { branches = old.branches ++ branch ∷ []; next = 1 + old.next }
     → as_segment branch.node ≡ None → old.next < 4294967295 → IsSound old.branches old.next pages → IsSound new.branches new.next pages
-sound_added pages old new {branch} e none left sound =
+sound_added pages old new branch e none left sound =
     subst (λ (t : Listed). IsSound t.branches t.next pages) (sym e) (record {
       first = omega arith;
       last = omega arith;
@@ -196,7 +196,7 @@ sound_added pages old new {branch} e none left sound =
     })
   where
     was : (uid : ℕ) (segment : Segment) → segment_in (old.branches ++ branch ∷ []) uid ≡ Some segment → segment_in old.branches uid ≡ Some segment
-    was uid segment is = elim (added_was old.branches branch uid segment is) [ | inl before ↦ before | inr new ↦ absurd (cc) ]
+    was uid segment is = elim (added_was old.branches branch uid segment is) [ inl before ↦ before | inr new ↦ absurd (cc) ]
 
 -- a segment, on pages that were free and are so no longer
 in_free_run : (pages : PageMap) (segment : Segment) (page : ℕ) → IsFreeRun pages (pages_for segment.words) segment.page → HasPage segment page → IsFree pages page
@@ -204,11 +204,11 @@ in_free_run pages segment page run has =
     let there : segment.page + (page - segment.page) ≡ page = omega (arith, has.0) in
     subst (IsFree pages) there (run (page - segment.page) (omega (arith, has.0, has.1)))
 
-pub sound_made : (pages after : PageMap) (old new : Listed) {branch : Branch} {made : Segment} → new ≡ record { branches = old.branches ++ branch ∷ []; next = 1 + old.next }
+pub sound_made : (pages after : PageMap) (old new : Listed) (branch : Branch) (made : Segment) → new ≡ record { branches = old.branches ++ branch ∷ []; next = 1 + old.next }
     → as_segment branch.node ≡ Some made → 1 ≤ made.words → made.words ≤ 1024 → old.next < 4294967295
     → IsFreeRun pages (pages_for made.words) made.page → after ≡ after_run pages (pages_for made.words) (Some made.page)
     → IsSound old.branches old.next pages → IsSound new.branches new.next after
-sound_made pages after old new {branch} {made} e node some most left run given sound =
+sound_made pages after old new branch made e node some most left run given sound =
     subst (λ (t : Listed). IsSound t.branches t.next after) (sym e) (subst (λ (map : PageMap). IsSound (old.branches ++ branch ∷ []) (1 + old.next) map) (sym given) (record {
       first = omega arith;
       last = omega arith;
@@ -240,6 +240,7 @@ sound_made pages after old new {branch} {made} e node some most left run given s
 
     was_free : (page : ℕ) → IsFree (after_run pages (pages_for made.words) (Some made.page)) page → IsFree pages page
     was_free page free = let start = in_free_run pages made made.page run (omega arith, omega (arith, count)) in (omega (arith, start.0, free.0), free.1)
+
     still_free : (page : ℕ) → HasPage made page → IsFree (after_run pages (pages_for made.words) (Some made.page)) page → ⊥
     still_free page has free = omega (arith, has.1, free.0)
 

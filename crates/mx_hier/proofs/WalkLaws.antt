@@ -1,27 +1,76 @@
 -- Where names lead from a link and from a refusal, and where walks end.
-use Rattle.std.proofs.Common.{◌≡◌, ℕ, zero, suc, Bool, true, false, List, [], ◌∷◌, ◌++◌, fold, Option, Some, None, Result, Ok, Err, is_ok, refl, sym, ap, ◌∙◌}
+use Rattle.std.proofs.Common.{◌≡◌, ◌≤◌, ℕ, zero, suc, length, get_or, Bool, true, false, List, [], ◌∷◌, ◌++◌, fold, Option, Some, None, Result, Ok, Err, is_ok, refl, sym, ap, ◌∙◌, arith}
 use Rattle.std.proofs.lemmas.List.{append-nil, append_assoc}
 use Rattle.mx_hier.specs.declared.branches.Directory.{Directory}
 use Rattle.mx_hier.specs.declared.refusals.Refusal.{Refusal}
-use Rattle.mx_hier.specs.declared.refusals.Refusal.TheVariants.{LinkLoop}
-use Rattle.mx_hier.specs.Branches.{Hierarchy, target_at}
+use Rattle.mx_hier.specs.declared.refusals.Refusal.TheVariants.{NoEntry, NotADir, LinkLoop}
+use Rattle.mx_hier.specs.Branches.{Hierarchy, uid_in, directory_at, target_at, holding}
 use Rattle.mx_hier.specs.Callers.{Subject, Caller}
 use Rattle.mx_hier.specs.Rules.{say, onward}
-use Rattle.mx_hier.specs.Walks.{Stop, Reached, Linked, Refused, step, ended, followed, along, outcome, walk, told, resolved, reached, entry}
+use Rattle.mx_hier.specs.Walks.{Stop, Reached, Linked, Refused, step, ended, followed, found, entered, along, outcome, walk, told, resolved, reached, entry}
 
 -- the names after a link come after its target
-pub linked : (h : Hierarchy) (follow : Bool) (dir : Option Directory) (path names : List (List ℕ))
+linked : (h : Hierarchy) (follow : Bool) (dir : Option Directory) (path names : List (List ℕ))
     → ended h follow (fold (step h) (Linked dir path) names) ≡ Linked dir (path ++ names)
 linked h true dir path [] = ap (Linked dir) (sym (append-nil path))
 linked h false dir path [] = ap (Linked dir) (sym (append-nil path))
 linked h follow dir path (name ∷ names) = linked h follow dir (path ++ name ∷ []) names ∙ ap (Linked dir) (append_assoc path (name ∷ []) names)
 
 -- a refusal stays, whatever names are left
-pub refused : (h : Hierarchy) (follow : Bool) (why : Refusal) (dir : Option Directory) (names : List (List ℕ))
+refused : (h : Hierarchy) (follow : Bool) (why : Refusal) (dir : Option Directory) (names : List (List ℕ))
     → ended h follow (fold (step h) (Refused why dir) names) ≡ Refused why dir
 refused h true why dir [] = refl
 refused h false why dir [] = refl
 refused h follow why dir (name ∷ names) = refused h follow why dir names
+
+-- one name more, from a link, from what is no directory, and from a directory that has no such entry
+module _ (h : Hierarchy) (follow : Bool) (at : ℕ) (name : List ℕ) (names : List (List ℕ)) where
+  after_target : (target : Option (List (List ℕ))) → target_at h at ≡ target
+      → along h follow at (name ∷ names) ≡ ended h follow (fold (step h) (followed h at (name ∷ []) target (entered h at (directory_at h at) name)) names)
+  after_target target is =
+      ap (λ (found : Option (List (List ℕ))). ended h follow (fold (step h) (followed h at (name ∷ []) found (entered h at (directory_at h at) name)) names)) is
+
+  from_link : (target : List (List ℕ)) → target_at h at ≡ Some target → along h follow at (name ∷ names) ≡ Linked (holding h at) (target ++ name ∷ names)
+  from_link target is =
+      after_target (Some target) is ∙ linked h follow (holding h at) (target ++ name ∷ []) names
+      ∙ ap (Linked (holding h at)) (append_assoc target (name ∷ []) names)
+
+  from_no_directory : target_at h at ≡ None → directory_at h at ≡ None → along h follow at (name ∷ names) ≡ Refused NotADir (holding h at)
+  from_no_directory is none =
+      after_target None is ∙ ap (λ (dir : Option Directory). ended h follow (fold (step h) (entered h at dir name) names)) none
+      ∙ refused h follow NotADir (holding h at) names
+
+  from_directory : (directory : Directory) (uid : Option ℕ) → target_at h at ≡ None → directory_at h at ≡ Some directory → uid_in h.branches at name ≡ uid
+      → along h follow at (name ∷ names) ≡ ended h follow (fold (step h) (found (Some directory) uid) names)
+  from_directory directory uid is at_dir there =
+      after_target None is ∙ ap (λ (dir : Option Directory). ended h follow (fold (step h) (entered h at dir name) names)) at_dir
+      ∙ ap (λ (entry : Option ℕ). ended h follow (fold (step h) (found (Some directory) entry) names)) there
+
+  from_no_entry : (directory : Directory) → target_at h at ≡ None → directory_at h at ≡ Some directory → uid_in h.branches at name ≡ None
+      → along h follow at (name ∷ names) ≡ Refused NoEntry (Some directory)
+  from_no_entry directory is at_dir none = from_directory directory None is at_dir none ∙ refused h follow NoEntry (Some directory) names
+
+-- the same where the names that are left are not none
+module _ (h : Hierarchy) (follow : Bool) (at : ℕ) where
+  pub stops_at_link : (names target : List (List ℕ)) → 1 ≤ length names → target_at h at ≡ Some target → along h follow at names ≡ Linked (holding h at) (target ++ names)
+  stops_at_link [] target some is = absurd (omega (arith, some))
+  stops_at_link (name ∷ names) target some is = from_link h follow at name names target is
+
+  pub stops_outside : (names : List (List ℕ)) → 1 ≤ length names → target_at h at ≡ None → directory_at h at ≡ None → along h follow at names ≡ Refused NotADir (holding h at)
+  stops_outside [] some is none = absurd (omega (arith, some))
+  stops_outside (name ∷ names) some is none = from_no_directory h follow at name names is none
+
+  pub stops_unfound : (names : List (List ℕ)) (name : List ℕ) (directory : Directory) → 1 ≤ length names → name ≡ get_or names 0 name → target_at h at ≡ None
+      → directory_at h at ≡ Some directory → uid_in h.branches at name ≡ None → along h follow at names ≡ Refused NoEntry (Some directory)
+  stops_unfound [] name directory some first is at_dir none = absurd (omega (arith, some))
+  stops_unfound (other ∷ names) name directory some first is at_dir none =
+      from_no_entry h follow at other names directory is at_dir (ap (uid_in h.branches at) (sym first) ∙ none)
+
+-- a walk that ends at a refusal is told so
+pub walk_refused : (left : ℕ) (h : Hierarchy) (who : Subject) (follow : Bool) (from : ℕ) (names : List (List ℕ)) (why : Refusal) (dir : Option Directory)
+    → Refused why dir ≡ along h follow from names → Err (say who why dir) ≡ told who (walk left h follow from names)
+walk_refused zero h who follow from names why dir e = ap (λ stop. told who (outcome stop (λ dir path. Err (LinkLoop, dir)))) e
+walk_refused (suc left) h who follow from names why dir e = ap (λ stop. told who (outcome stop (λ dir path. walk left h follow 0 path))) e
 
 -- whether a walk ends well is asked of nobody
 told_alike : (who other : Subject) (end : Result ℕ (Refusal × Option Directory)) → is_ok (told who end) ≡ is_ok (told other end)

@@ -16,8 +16,9 @@ use Rattle.mx_hier.specs.Walks.{resolved}
 abbrev pub create_dir_refusals : Hierarchy → Subject → Place → ℕ → ℕ → List (Bool × Refusal)
 create_dir_refusals h who at d1 d2 = making_refusals h who at ++ (nat_lt d2 d1 || nat_lt d1 who.ring, BadBrackets) ∷ []
 
+-- the parent gives it nothing: this model has no initial access lists
 abbrev pub new_directory : Directory → Subject → ℕ → ℕ → Directory
-new_directory parent who d1 d2 = record { acl = first_acl parent OfDirectory who Sma; d1 = d1; d2 = d2 }
+new_directory parent who d1 d2 = record { acl = first_acl OfDirectory who Sma; d1 = d1; d2 = d2 }
 
 abbrev pub create_dir_at : Hierarchy → Subject → Place → ℕ → ℕ → Result Hierarchy Refusal
 create_dir_at h who at d1 d2 =

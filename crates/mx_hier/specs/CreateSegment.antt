@@ -23,9 +23,10 @@ create_seg_refusals h who at words rings = making_refusals h who at ++
     ∷ (is_none (settable who.ring rings), BadBrackets)
     ∷ (is_none (run_given h.pages (pages_for words)), NoPages) ∷ []
 
+-- the parent gives it nothing: this model has no initial access lists
 abbrev pub new_segment : Directory → Subject → ℕ → Bracketing → ℕ → Segment
 new_segment parent who words brackets page =
-    record { acl = first_acl parent OfSegment who Rw; brackets = brackets; words = words; page = page }
+    record { acl = first_acl OfSegment who Rw; brackets = brackets; words = words; page = page }
 
 -- the segment is made on the pages that are given next
 abbrev pub segment_added : Hierarchy → Place → Segment → Hierarchy

@@ -46,6 +46,6 @@ added h at node = record h {
   next = 1 + h.next;
 }
 
--- its access list in a parent directory: the one entry `Person.Project.*` of its maker, whatever the parent is
-abbrev pub first_acl : Directory → AclKind → Subject → Modes → Access
-first_acl parent kind who modes = record { kind = kind; entries = (maker_id who.principal, modes) ∷ [] }
+-- its access list: the one entry `Person.Project.*` of its maker
+abbrev pub first_acl : AclKind → Subject → Modes → Access
+first_acl kind who modes = record { kind = kind; entries = (maker_id who.principal, modes) ∷ [] }

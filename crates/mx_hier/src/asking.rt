@@ -1,11 +1,13 @@
 //! Asking.
 
-ghost use Rattle.std.specs.Prelude.{◌≡◌, ◌+◌, ◌*◌, ◌≤◌, ◌<◌, Some, IfOk, IfNone};
+ghost use Rattle.std.specs.Prelude.{◌≡◌, ◌<◌, Some, IfOk, IfNone};
+ghost use Rattle.mx_sdw.specs.Admissible.{IsAdmissible};
 ghost use Rattle.mx_hier.specs.ChangeWorkingDirectory.{directory_refusals, directory};
 ghost use Rattle.mx_hier.specs.Connected.{desc_of, desc_for};
 ghost use Rattle.mx_hier.specs.Initiate.{segment_refusals, segment};
 ghost use Rattle.mx_hier.specs.List.{in_byte_order, list_at, list};
 ghost use Rattle.mx_hier.specs.Rules.{first_of, Tells, TellsFirst};
+ghost use Rattle.mx_hier.specs.Sound.{IsStored};
 ghost use Rattle.mx_hier.specs.Status.{status_of, status_at, status};
 ghost use Rattle.mx_hier.specs.Walks.{resolved};
 ghost use Rattle.mx_hier.specs.Who.{subject, caller};
@@ -150,11 +152,12 @@ impl Hier {
         }
     }
 
-    /// The descriptor that a principal has of the segment of a uid: its flags are what the access list gives, and its words
-    /// lie on the pages that there are. Gone where the segment was deleted. Takes no memory.
+    /// The descriptor that a principal has of the segment of a uid: its flags are what the access list gives. Gone where the
+    /// segment was deleted. Takes no memory.
+    #[tactic(auto, using(crate::proofs::DescriptorLaws::gone_admissible))]
     pub fn desc_of(&self, uid: u32, who: &Principal) -> Desc
         ensures value { result ≡ desc_of self.now uid who.now }
-        ensures within { 64 * result.page + result.bound ≤ 65536 }
+        ensures admissible { IsAdmissible result }
     {
         match self.segment_at(uid) {
             None => Desc::gone(),
@@ -190,9 +193,14 @@ fn status_of(who: &Who, node: &Node) -> Result<Status, AllocError>
     }
 }
 
+#[tactic(auto, using(crate::proofs::DescriptorLaws::segment_admissible))]
 fn segment_desc(segment: &Segment, who: &Principal) -> Desc
-    ensures { result ≡ desc_for who.now (Some segment.now) }
+    requires { IsStored segment.now }
+    ensures value { result ≡ desc_for who.now (Some segment.now) }
+    ensures admissible { IsAdmissible result }
 {
+    // These are called for their clauses: the brackets are in order, and the last is at most 7.
+    let (_order, _last) = (segment.brackets.r2(), segment.brackets.r3().number());
     let modes = segment.acl.modes_of(who);
     Desc::segment(
         segment.brackets,

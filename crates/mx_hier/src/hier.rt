@@ -64,7 +64,6 @@ impl Hier {
     }
 
     /// The segment of a uid.
-    #[tactic(auto, using(crate::proofs::SoundLaws::stored_at))]
     pub(crate) fn segment_at(&self, uid: u32) -> Option<&Segment>
         ensures value { option_map (λ segment. segment.now) result ≡ segment_at self.now uid }
         ensures stored { IfSome result (λ segment. IsStored segment.now) }

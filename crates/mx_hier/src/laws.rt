@@ -19,7 +19,6 @@ use mx_name::Pathname;
 
 /// A caller without s on any directory is refused by no walk and by no request that only asks, but that his pathname is bad or
 /// that he gets no information.
-#[tactic(auto, using(crate::proofs::StrangerLaws::entry_reticent, crate::proofs::StrangerLaws::status_reticent, crate::proofs::StrangerLaws::list_reticent, crate::proofs::StrangerLaws::directory_reticent, crate::proofs::StrangerLaws::segment_reticent))]
 pub fn a_stranger_learns_nothing(hier: &Hier, who: &Who, path: &Pathname, follow: bool)
     requires { IsStranger hier.now (subject who.now) }
     ensures entry { IsReticent (entry hier.now (caller who.now) path.now follow) }
@@ -27,31 +26,25 @@ pub fn a_stranger_learns_nothing(hier: &Hier, who: &Who, path: &Pathname, follow
     ensures list { IsReticent (list hier.now (caller who.now) path.now) }
     ensures directory { IsReticent (directory hier.now (caller who.now) path.now) }
     ensures segment { IsReticent (segment hier.now (caller who.now) path.now) }
-{
-}
+{}
 
 /// Whether a walk ends well does not depend on who walks, but on the working directory.
-#[tactic(auto, using(crate::proofs::WalkLaws::ends_alike))]
 pub fn a_walk_ends_alike_for_all(hier: &Hier, who: &Who, other: &Who, path: &Pathname, follow: bool)
     requires { (caller who.now).base ≡ (caller other.now).base }
     ensures { is_ok (entry hier.now (caller who.now) path.now follow) ≡ is_ok (entry hier.now (caller other.now) path.now follow) }
-{
-}
+{}
 
 /// A walk that follows a link at the last name ends at no link.
-#[tactic(auto, using(crate::proofs::WalkLaws::ends_at_no_link))]
 pub fn a_followed_walk_ends_at_no_link(hier: &Hier, who: &Who, path: &Pathname)
     ensures { (uid : ℕ) → entry hier.now (caller who.now) path.now true ≡ Ok uid → target_at hier.now uid ≡ None }
-{
-}
+{}
 
 /// The names that `list` gives ascend, and are those of the entries.
 #[tactic(auto, using(crate::proofs::SortLaws::ascending, crate::proofs::SortLaws::reordered))]
 pub fn listed_names_ascend(hier: &Hier, dir: u32)
     ensures ascend { IsSorted (slice_cmp nat_cmp) (in_byte_order (names_in hier.now dir)) }
     ensures entries { IsPermutation (names_in hier.now dir) (in_byte_order (names_in hier.now dir)) }
-{
-}
+{}
 
 /// Every segment has pages of its own, none of which is free, and no uid after the last is given.
 pub fn segments_have_pages_of_their_own(hier: &Hier)

@@ -26,7 +26,7 @@ pub use branches::{Branch, Directory, Node, Segment};
 pub use callers::Who;
 pub use hier::Hier;
 pub use laws::{
-    a_followed_walk_ends_at_no_link, a_stranger_learns_nothing, a_walk_ends_alike_for_all, listed_names_ascend,
-    segments_have_pages_of_their_own,
+    a_followed_walk_ends_at_no_link, a_stranger_learns_nothing, a_walk_ends_alike_for_all,
+    listed_names_ascend, segments_have_pages_of_their_own,
 };
 pub use refusals::{HierError, Refusal};

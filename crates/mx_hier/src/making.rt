@@ -33,9 +33,9 @@ use std::alloc::{AllocError, Global};
 
 /// Where an entry is to be made: a directory, and the name in it.
 #[derive(Debug, Drop)]
-pub(crate) struct Place {
-    pub(crate) dir: u32,
-    pub(crate) name: EntryName,
+pub struct Place {
+    pub dir: u32,
+    pub name: EntryName,
 }
 
 impl Hier {
@@ -69,12 +69,17 @@ impl Hier {
         ensures answer { Answers (create_dir_at self.old (subject who.now) at.now d1 d2) self.old result self.new }
         ensures told { TellsFirst (create_dir_at self.old (subject who.now) at.now d1 d2) result }
     {
-        let parent = self.parent(who, at)?;
+        self.parent(who, at)?;
         if d1.number() > d2.number() || d1.number() < who.ring.number() {
             return Err(HierError::Refused(Refusal::BadBrackets));
         }
-        let acl = first_acl(alloc, parent, AclKind::Directory, who, Modes::Sma)?;
-        add(&mut self.tables, alloc, at, Node::Directory(Directory { acl, d1, d2 }))?;
+        let acl = first_acl(alloc, AclKind::Directory, who, Modes::Sma)?;
+        add(
+            &mut self.tables,
+            alloc,
+            at,
+            Node::Directory(Directory { acl, d1, d2 }),
+        )?;
         Ok(())
     }
 
@@ -98,6 +103,7 @@ impl Hier {
         Ok(())
     }
 
+    #[tactic(auto, using(crate::proofs::MakingLaws::segment_refused))]
     fn create_seg_at(
         &mut self,
         alloc: Global,
@@ -109,7 +115,7 @@ impl Hier {
         ensures answer { Answers (create_seg_at self.old (subject who.now) at.now words rings.now) self.old result self.new }
         ensures told { TellsFirst (create_seg_at self.old (subject who.now) at.now words rings.now) result }
     {
-        let parent = self.parent(who, at)?;
+        self.parent(who, at)?;
         if words == 0 || words > 1024 {
             return Err(HierError::Refused(Refusal::BadLength));
         }
@@ -119,7 +125,7 @@ impl Hier {
         let Some(page) = self.pages.next(pages_for(words)) else {
             return Err(HierError::Refused(Refusal::NoPages));
         };
-        let acl = first_acl(alloc, parent, AclKind::Segment, who, Modes::Rw)?;
+        let acl = first_acl(alloc, AclKind::Segment, who, Modes::Rw)?;
         let segment = Segment {
             acl,
             brackets,
@@ -258,15 +264,9 @@ pub(crate) fn settable(ring: Ring, rings: &[Ring; 3]) -> Option<Brackets>
     }
 }
 
-/// The access list of a new branch in a directory.
-fn first_acl(
-    alloc: Global,
-    _parent: &Directory,
-    kind: AclKind,
-    who: &Who,
-    modes: Modes,
-) -> Result<Acl, AllocError>
-    ensures { IfOk result (λ acl. acl ≡ first_acl _parent.now kind (subject who.now) modes) }
+/// The access list of a new branch.
+fn first_acl(alloc: Global, kind: AclKind, who: &Who, modes: Modes) -> Result<Acl, AllocError>
+    ensures { IfOk result (λ acl. acl ≡ first_acl kind (subject who.now) modes) }
 {
     let id = AclId::of_maker(who.principal);
     let acl = acl_of_one(alloc, kind, id, modes)?;

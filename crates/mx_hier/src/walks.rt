@@ -60,6 +60,7 @@ impl Hier {
     }
 
     /// The walk of names from a directory, where so many links may be followed.
+    #[tactic(auto, using(crate::proofs::WalkLaws::walk_refused))]
     fn walk(
         &self,
         alloc: Global,
@@ -86,7 +87,6 @@ impl Hier {
     }
 
     /// The names one after the other, from a directory to the first link that is to be followed.
-    #[tactic(auto, using(crate::proofs::WalkLaws::linked, crate::proofs::WalkLaws::refused))]
     fn along<'a>(&'a self, follow: bool, from: u32, names: &'a [EntryName]) -> Along<'a>
         ensures { stop result ≡ along self.now follow from names.now }
     {

@@ -1,0 +1,39 @@
+-- The descriptors of segments are admissible.
+use Rattle.std.proofs.Common.{◌≡◌, ◌≤◌, ◌+◌, ◌*◌, ◌/◌, ℕ, Bool, refl, arith}
+use Rattle.mx_pages.specs.Runs.{pages_for}
+use Rattle.mx_sdw.specs.Admissible.{IsInRange, IsSegment, IsAdmissible}
+use Rattle.mx_sdw.specs.Descriptors.{segment_desc, gone_desc}
+use Rattle.mx_sdw.specs.Rings.{Bracketing}
+use Rattle.mx_hier.specs.declared.branches.Segment.{Segment}
+use Rattle.mx_hier.specs.Sound.{IsStored}
+
+on_pages : (words page : ℕ) → page + pages_for words ≤ 1024 → 64 * page + words ≤ 65536
+on_pages words page pages =
+    let whole : words ≤ 64 * pages_for words = grind arith in
+    omega (arith, whole, pages)
+
+some_page : (words page : ℕ) → 1 ≤ words → page + pages_for words ≤ 1024 → page ≤ 1023
+some_page words page some pages =
+    let one : 1 ≤ pages_for words = grind arith in
+    omega (arith, one, pages)
+
+pub segment_admissible : (segment : Segment) (r e w : Bool) → segment.brackets.r1 ≤ segment.brackets.r2 → segment.brackets.r2 ≤ segment.brackets.r3
+    → segment.brackets.r3 ≤ 7 → IsStored segment → IsAdmissible (segment_desc segment.brackets r e w 0 segment.page segment.words)
+segment_admissible segment r e w first second ring stored = record {
+  unknown = λ kind. cc;
+  gone = λ kind. cc;
+  segment = λ kind. record {
+    range = record {
+      order = record { write_first = first; gate_last = second };
+      ring = ring;
+      gate = omega arith;
+      page = some_page segment.words segment.page stored.some stored.pages;
+      some = stored.some;
+      most = stored.most;
+    };
+    cells = on_pages segment.words segment.page stored.pages;
+  };
+}
+
+pub gone_admissible : IsAdmissible gone_desc
+gone_admissible = record { unknown = λ kind. cc; gone = λ kind. refl; segment = λ kind. cc }
