@@ -1,9 +1,8 @@
 -- The descriptors of segments are admissible.
-use Rattle.std.proofs.Common.{◌≡◌, ◌≤◌, ◌+◌, ◌*◌, ◌/◌, ℕ, Bool, refl, arith}
+use Rattle.std.proofs.Common.{◌≤◌, ◌+◌, ◌*◌, ℕ, Bool, refl, arith}
 use Rattle.mx_pages.specs.Runs.{pages_for}
-use Rattle.mx_sdw.specs.Admissible.{IsInRange, IsSegment, IsAdmissible}
+use Rattle.mx_sdw.specs.Admissible.{IsAdmissible}
 use Rattle.mx_sdw.specs.Descriptors.{segment_desc, gone_desc}
-use Rattle.mx_sdw.specs.Rings.{Bracketing}
 use Rattle.mx_hier.specs.declared.branches.Segment.{Segment}
 use Rattle.mx_hier.specs.Sound.{IsStored}
 

@@ -1,5 +1,5 @@
 -- A refusal of every request that makes an entry is that of each.
-use Rattle.std.proofs.Common.{◌≡◌, ◌==◌, ◌||◌, ltb, is_none, ℕ, Bool, true, false, cond, List, [], ◌∷◌, ◌++◌, Option, Some, Result, Ok, Err, ap}
+use Rattle.std.proofs.Common.{◌≡◌, ◌==◌, ◌||◌, ltb, is_none, ℕ, Bool, true, false, cond, List, [], ◌∷◌, ◌++◌, Some, Result, Ok, Err, ap}
 use Rattle.mx_hier.specs.declared.branches.Directory.{Directory}
 use Rattle.mx_hier.specs.declared.making.Place.{Place}
 use Rattle.mx_hier.specs.declared.refusals.Refusal.{Refusal}

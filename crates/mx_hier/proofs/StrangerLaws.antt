@@ -1,12 +1,12 @@
 -- A caller without s on any directory is told nothing.
-use Rattle.std.proofs.Common.{◌≡◌, ◌⊎◌, inl, inr, ℕ, zero, suc, Bool, true, false, cond, not, List, [], ◌∷◌, fold, Option, Some, None, is_none, Result, Ok, Err, refl, ap}
+use Rattle.std.proofs.Common.{◌≡◌, inl, inr, ℕ, zero, suc, Bool, true, false, cond, not, List, [], ◌∷◌, fold, Option, Some, None, is_none, Result, Ok, Err, refl, ap}
 use Rattle.std.specs.Option.{option_and_then}
 use Rattle.mx_name.specs.Paths.{resolution}
 use Rattle.mx_name.specs.declared.paths.PathError.{PathError}
 use Rattle.mx_hier.specs.declared.branches.Directory.{Directory}
 use Rattle.mx_hier.specs.declared.branches.Node.{Node}
 use Rattle.mx_hier.specs.declared.refusals.Refusal.{Refusal}
-use Rattle.mx_hier.specs.declared.refusals.Refusal.TheVariants.{BadPath, NoInfo, NotADir, NotASeg, IncorrectAccess, LinkLoop}
+use Rattle.mx_hier.specs.declared.refusals.Refusal.TheVariants.{NoInfo, NotADir, NotASeg, IncorrectAccess, LinkLoop}
 use Rattle.mx_hier.specs.Branches.{Hierarchy, uid_in, directory_at, segment_at, target_at, holder, holding}
 use Rattle.mx_hier.specs.Callers.{Subject, Caller, has_status, has_any, has_access, on}
 use Rattle.mx_hier.specs.ChangeWorkingDirectory.{directory, directory_refusals}

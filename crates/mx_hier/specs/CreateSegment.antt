@@ -1,5 +1,5 @@
 -- `create_seg PATH WORDS R1 R2 R3`
-use Rattle.std.specs.Prelude.{ℕ, ◌==◌, nat_lt, Bool, ◌||◌, List, [], ◌∷◌, ◌++◌, Option, Some, Result, Ok, is_none}
+use Rattle.std.specs.Prelude.{ℕ, ◌==◌, nat_lt, Bool, ◌||◌, List, [], ◌∷◌, ◌++◌, Some, Result, Ok, is_none}
 use Rattle.mx_acl.specs.declared.modes.Modes.TheVariants.{Rw}
 use Rattle.mx_acl.specs.declared.modes.AclKind.TheVariants.{Segment as OfSegment}
 use Rattle.mx_pages.specs.Runs.{pages_for, run_given, after_run}

@@ -10,9 +10,9 @@ use Rattle.mx_hier.specs.declared.making.Place.{Place}
 use Rattle.mx_hier.specs.declared.refusals.Refusal.{Refusal}
 use Rattle.mx_hier.specs.declared.refusals.Refusal.TheVariants.{NotADir, IncorrectAccess, NameDup, DirFull}
 use Rattle.mx_hier.specs.Branches.{Hierarchy, entries_of, uid_in, directory_at, holding}
-use Rattle.mx_hier.specs.Callers.{Subject, Caller, has_append, on}
+use Rattle.mx_hier.specs.Callers.{Subject, has_append, on}
 use Rattle.mx_hier.specs.Rules.{first_of, say, required, onward, unless}
-use Rattle.mx_hier.specs.Walks.{resolved, reached}
+use Rattle.mx_hier.specs.Walks.{reached}
 
 -- The names of a path but its last, which lead to the parent directory, and the last: the root's path has none.
 abbrev pub parent_path : List (List ℕ) → List (List ℕ)

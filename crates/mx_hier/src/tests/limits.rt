@@ -1,8 +1,8 @@
 //! What is full: pages, a directory, an access list, a chain of links.
 
 use super::asks::{
-    Ask, Caller, INITIALIZER, JONES, Row, create_link, create_seg, first_wrong, first_wrong_of,
-    granted, set_up,
+    Ask, Caller, INITIALIZER, JONES, Row, SMITH, create_link, create_seg, first_wrong,
+    first_wrong_of, granted, set_acl, set_up,
 };
 use crate::Hier;
 use std::alloc::Global;

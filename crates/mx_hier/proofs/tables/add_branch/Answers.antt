@@ -1,4 +1,4 @@
-use Rattle.std.proofs.Common.{ℕ, List, [], ◌∷◌, ◌++◌, set, Option, Some, refl, ap, ◌∙◌, arith}
+use Rattle.std.proofs.Common.{List, [], ◌∷◌, ◌++◌, set, Option, Some, refl, ap, ◌∙◌, arith}
 use Rattle.mx_hier.specs.declared.branches.Branch.{Branch}
 use Rattle.mx_hier.specs.Listed.{named, kept_for}
 use Rattle.mx_hier.proofs.KeptLaws.{still_free, added, kept_as}

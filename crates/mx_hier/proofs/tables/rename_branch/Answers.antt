@@ -1,4 +1,4 @@
-use Rattle.std.proofs.Common.{ℕ, List, ◌≡◌, Option, Some, set, refl, ap, ◌∙◌}
+use Rattle.std.proofs.Common.{List, ◌≡◌, Option, Some, set, refl, ap, ◌∙◌}
 use Rattle.mx_hier.specs.declared.branches.Branch.{Branch}
 use Rattle.mx_hier.specs.Listed.{slot_of, changed_at, with_name, renamed, kept_for}
 use Rattle.mx_hier.proofs.KeptLaws.{still_free, parent_within, kept_as, renamed_kept, shown}

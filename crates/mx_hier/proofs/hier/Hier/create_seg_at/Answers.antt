@@ -1,4 +1,4 @@
-use Rattle.std.proofs.Common.{rules, ◌≡◌, ◌∙◌, ℕ, Option, Some, refl, sym, ap, subst, arith}
+use Rattle.std.proofs.Common.{rules, ◌∙◌, refl, sym, ap, subst, arith}
 use Rattle.mx_pages.specs.Runs.{IsFreeRun, run_given, after_run, pages_for}
 use Rattle.mx_hier.specs.Who.{subject}
 use Rattle.mx_hier.proofs.MakingLaws.{segment_refused}
