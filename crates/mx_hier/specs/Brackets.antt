@@ -10,4 +10,5 @@ bracketing other = None
 
 -- brackets that a caller in this ring may set: in order, and the first not below the ring
 abbrev pub settable : ℕ → List ℕ → Option Bracketing
-settable ring rings = option_and_then (λ brackets. if nat_le ring brackets.r1 then Some brackets else None) (bracketing rings)
+settable ring rings =
+    option_and_then (λ brackets. if nat_le ring brackets.r1 then Some brackets else None) (bracketing rings)

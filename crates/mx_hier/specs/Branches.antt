@@ -9,8 +9,8 @@ use Rattle.mx_hier.specs.declared.branches.Segment.{Segment}
 use Rattle.mx_hier.specs.declared.branches.Node.{Node}
 use Rattle.mx_hier.specs.declared.branches.Node.TheVariants.{Directory as IsDirectory, Segment as IsSegment, Link as IsLink}
 
--- The root directory has uid 0 and is no branch. The uids of branches count from 1 in the order of their making, and none is
--- used again: a segment that is not among the branches any more was deleted.
+-- The root directory has uid 0 and is no branch. The uids of branches count from 1 in the order of their making, and
+-- none is used again: a segment that is not among the branches any more was deleted.
 pub record Hierarchy : Type 0 where
   pub root : Directory
   pub branches : List Branch
@@ -47,7 +47,8 @@ as_link _ = None
 
 -- the directory, the segment and the link's target that a uid stands for
 abbrev pub directory_at : Hierarchy → ℕ → Option Directory
-directory_at h uid = if uid == 0 then Some h.root else option_and_then (λ branch. as_directory branch.node) (branch_of h.branches uid)
+directory_at h uid =
+    if uid == 0 then Some h.root else option_and_then (λ branch. as_directory branch.node) (branch_of h.branches uid)
 
 abbrev pub segment_in : List Branch → ℕ → Option Segment
 segment_in branches uid = option_and_then (λ branch. as_segment branch.node) (branch_of branches uid)

@@ -1,4 +1,5 @@
--- Changing an entry: what `set_acl`, `del_acl`, `set_brackets`, `set_dir_brackets`, `rename` and `delete` have in common.
+-- Changing an entry: what `set_acl`, `del_acl`, `set_brackets`, `set_dir_brackets`, `rename` and `delete` have in
+-- common.
 use Rattle.std.specs.Prelude.{ℕ, ◌==◌, Bool, not, List, [], ◌∷◌, map, Option, Some, None, if◌then◌else◌}
 use Rattle.std.specs.Option.{option_and_then}
 use Rattle.mx_acl.specs.Access.{Access}
@@ -32,7 +33,8 @@ acl_in (IsSegment segment) = Some segment.acl
 acl_in (IsLink target) = None
 
 abbrev pub acl_at : Hierarchy → ℕ → Option Access
-acl_at h uid = if uid == 0 then Some h.root.acl else option_and_then (λ branch. acl_in branch.node) (branch_of h.branches uid)
+acl_at h uid =
+    if uid == 0 then Some h.root.acl else option_and_then (λ branch. acl_in branch.node) (branch_of h.branches uid)
 
 -- and the hierarchy with that list changed
 abbrev pub acl_changed : (Access → Access) → Node → Node
@@ -40,7 +42,9 @@ acl_changed f (IsDirectory directory) = IsDirectory (record directory { acl = f 
 acl_changed f (IsSegment segment) = IsSegment (record segment { acl = f segment.acl })
 acl_changed f (IsLink target) = IsLink target
 
+abbrev pub branch_with_acl : (Access → Access) → Branch → Branch
+branch_with_acl f branch = with_node (acl_changed f branch.node) branch
+
 abbrev pub with_acl : Hierarchy → ℕ → (Access → Access) → Hierarchy
 with_acl h uid f =
-    if uid == 0 then record h { root = record h.root { acl = f h.root.acl } }
-    else with_branch h uid (λ branch. with_node (acl_changed f branch.node) branch)
+    if uid == 0 then record h { root = record h.root { acl = f h.root.acl } } else with_branch h uid (branch_with_acl f)

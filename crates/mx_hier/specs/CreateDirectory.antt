@@ -22,8 +22,10 @@ new_directory parent who d1 d2 = record { acl = first_acl OfDirectory who Sma; d
 
 abbrev pub create_dir_at : Hierarchy → Subject → Place → ℕ → ℕ → Result Hierarchy Refusal
 create_dir_at h who at d1 d2 =
-    made h at (create_dir_refusals h who at d1 d2) (λ parent. Ok (added h at (IsDirectory (new_directory parent who d1 d2))))
+    made h at (create_dir_refusals h who at d1 d2) (λ parent.
+    Ok (added h at (IsDirectory (new_directory parent who d1 d2))))
 
 abbrev pub create_dir : Hierarchy → Caller → List ℕ → ℕ → ℕ → Result Hierarchy Refusal
 create_dir h who pathname d1 d2 =
-    onward (resolved who pathname) (λ path. onward (place h who.subject path) (λ at. create_dir_at h who.subject at d1 d2))
+    onward (resolved who pathname) (λ path.
+    onward (place h who.subject path) (λ at. create_dir_at h who.subject at d1 d2))

@@ -42,4 +42,5 @@ create_seg_at h who at words rings =
 
 abbrev pub create_seg : Hierarchy → Caller → List ℕ → ℕ → List ℕ → Result Hierarchy Refusal
 create_seg h who pathname words rings =
-    onward (resolved who pathname) (λ path. onward (place h who.subject path) (λ at. create_seg_at h who.subject at words rings))
+    onward (resolved who pathname) (λ path.
+    onward (place h who.subject path) (λ at. create_seg_at h who.subject at words rings))

@@ -11,7 +11,8 @@ use Rattle.mx_hier.specs.Walks.{entry}
 
 abbrev pub placed : List ℕ → List (List ℕ) → List (List ℕ)
 placed name [] = name ∷ []
-placed name (next ∷ names) = if is_lt (slice_cmp nat_cmp next name) then next ∷ placed name names else name ∷ next ∷ names
+placed name (next ∷ names) =
+    if is_lt (slice_cmp nat_cmp next name) then next ∷ placed name names else name ∷ next ∷ names
 
 abbrev pub in_byte_order : List (List ℕ) → List (List ℕ)
 in_byte_order [] = []

@@ -1,5 +1,5 @@
 -- Helpers: the branches with the next uid, as what finds them keeps them.
-use Rattle.std.specs.Prelude.{◌≡◌, ℕ, ◌==◌, ◌+◌, ◌-◌, ◌<◌, Bool, not, List, [], ◌∷◌, length, map, Option, Some, None, Result, Ok, Err, if◌then◌else◌}
+use Rattle.std.specs.Prelude.{◌≡◌, ℕ, ◌==◌, ◌+◌, ◌-◌, ◌<◌, Bool, not, List, [], ◌∷◌, ◌++◌, length, map, Option, Some, None, Result, Ok, Err, if◌then◌else◌}
 use Rattle.std.specs.Cmp.Lexicographic.{pointwise}
 use Rattle.std.specs.List.{slice_index_or, slice_set}
 use Rattle.std.specs.Option.{option_map, option_and_then}
@@ -10,16 +10,27 @@ use Rattle.mx_acl.specs.declared.modes.Modes.{Modes}
 use Rattle.mx_acl.specs.declared.lists.AclError.{AclError}
 use Rattle.mx_acl.specs.declared.lists.AclError.TheVariants.{InvalidMode, Full, Memory}
 use Rattle.mx_hier.specs.declared.branches.Branch.{Branch}
+use Rattle.mx_hier.specs.declared.branches.Node.{Node}
 use Rattle.mx_hier.specs.declared.refusals.Refusal.{Refusal}
 use Rattle.mx_hier.specs.declared.refusals.Refusal.TheVariants as refusal
 use Rattle.mx_hier.specs.Branches.{branch_of, entries_of}
 use Rattle.mx_hier.specs.Callers.{on}
-use Rattle.mx_hier.specs.Changing.{acl_in}
+use Rattle.mx_hier.specs.Changing.{acl_in, changed}
 use Rattle.mx_hier.specs.SetAcl.{is_full}
 
 pub record Listed : Type 0 where
   pub branches : List Branch
   pub next : ℕ
+
+-- with one branch more, which gets the next uid; with one of them changed
+abbrev pub listed_added : Listed → ℕ → List ℕ → Node → Listed
+listed_added list dir name node = record {
+  branches = list.branches ++ record { uid = list.next; parent = dir; name = name; node = node } ∷ [];
+  next = 1 + list.next;
+}
+
+abbrev pub listed_changed : Listed → ℕ → (Branch → Branch) → Listed
+listed_changed list uid f = record list { branches = changed uid f list.branches }
 
 -- The slots of all uids from 1 on: a branch that was removed leaves an empty one.
 abbrev pub present : List (Option Branch) → List Branch
@@ -37,7 +48,8 @@ emptied slots uid = if uid == 0 then slots else slice_set slots (uid - 1) None
 
 -- the slots with the branch of a uid changed
 abbrev pub changed_at : List (Option Branch) → ℕ → (Branch → Branch) → List (Option Branch)
-changed_at slots uid f = if uid == 0 then slots else slice_set slots (uid - 1) (option_map f (slice_index_or slots (uid - 1) None))
+changed_at slots uid f =
+    if uid == 0 then slots else slice_set slots (uid - 1) (option_map f (slice_index_or slots (uid - 1) None))
 
 -- the access list of what a slot holds
 abbrev pub acl_in_slot : Option Branch → Option Access
@@ -47,7 +59,8 @@ acl_in_slot slot = option_and_then (λ branch. acl_in branch.node) slot
 abbrev pub acl_of : List Branch → ℕ → Option Access
 acl_of branches uid = acl_in_slot (branch_of branches uid)
 
--- An entry is set only where there is no fault, and refused only for its fault; memory may be wanting where there is none.
+-- An entry is set only where there is no fault, and refused only for its fault; memory may be wanting where there is
+-- none.
 abbrev pub AclAnswers : Option AclError → Result (Unit {0}) AclError → Type 0
 AclAnswers fault (Ok done) = fault ≡ None
 AclAnswers fault (Err InvalidMode) = fault ≡ Some InvalidMode
@@ -56,7 +69,9 @@ AclAnswers fault (Err Memory) = fault ≡ None
 
 -- The same of the refusals of `set_acl` itself.
 abbrev pub acl_refusals : PlainAclId → Modes → Option Access → List (Bool × Refusal)
-acl_refusals id modes acl = (on (λ acl. not (suits acl.kind modes)) acl, refusal.InvalidMode) ∷ (on (is_full most_entries id) acl, refusal.AclFull) ∷ []
+acl_refusals id modes acl =
+    (on (λ acl. not (suits acl.kind modes)) acl, refusal.InvalidMode)
+    ∷ (on (is_full most_entries id) acl, refusal.AclFull) ∷ []
 
 abbrev pub AclTells : Option Refusal → Result (Unit {0}) AclError → Type 0
 AclTells why (Ok done) = why ≡ None
@@ -88,7 +103,8 @@ with_name name branch = record branch { name = name }
 -- the names with another in the place of one
 abbrev pub renamed : List ℕ → List ℕ → List (List ℕ × ℕ) → List (List ℕ × ℕ)
 renamed old new [] = []
-renamed old new (pair ∷ pairs) = if pointwise ◌==◌ old pair.0 then (new, pair.1) ∷ pairs else pair ∷ renamed old new pairs
+renamed old new (pair ∷ pairs) =
+    if pointwise ◌==◌ old pair.0 then (new, pair.1) ∷ pairs else pair ∷ renamed old new pairs
 
 -- For every directory its names are kept, and there is room for those of the next one.
 pub record AreKept (slots : List (Option Branch)) (names : List (List (List ℕ × ℕ))) : Type 0 where

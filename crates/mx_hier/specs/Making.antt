@@ -36,8 +36,10 @@ making_refusals h who at =
     ∷ (nat_le 256 (length (entries_of h.branches at.dir)), DirFull) ∷ []
 
 -- what is made at a place in its directory, unless one of these refusals applies
-abbrev pub made : Hierarchy → Place → List (Bool × Refusal) → (Directory → Result Hierarchy Refusal) → Result Hierarchy Refusal
-made h at refusals make = onward (unless (first_of refusals) at) (λ at. onward (required NotADir (directory_at h at.dir)) make)
+abbrev pub made : Hierarchy → Place → List (Bool × Refusal) → (Directory → Result Hierarchy Refusal)
+    → Result Hierarchy Refusal
+made h at refusals make =
+    onward (unless (first_of refusals) at) (λ at. onward (required NotADir (directory_at h at.dir)) make)
 
 -- a new branch gets the next uid
 abbrev pub added : Hierarchy → Place → Node → Hierarchy

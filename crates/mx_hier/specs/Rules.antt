@@ -29,8 +29,8 @@ abbrev pub onward : {A B : Type 0} → Result A Refusal → (A → Result B Refu
 onward (Ok value) rest = rest value
 onward (Err why) rest = Err why
 
--- A call leaves the hierarchy that is meant, or is refused as is meant and changes nothing. Where memory was wanting, nothing
--- has changed either.
+-- A call leaves the hierarchy that is meant, or is refused as is meant and changes nothing. Where memory was wanting,
+-- nothing has changed either.
 abbrev pub Answers : Result Hierarchy Refusal → Hierarchy → Result (Unit {0}) HierError → Hierarchy → Type 0
 Answers meant old (Ok done) new = meant ≡ Ok new
 Answers meant old (Err (Refused why)) new = (meant ≡ Err why) × (new ≡ old)

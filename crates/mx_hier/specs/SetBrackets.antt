@@ -1,6 +1,7 @@
 -- `set_brackets PATH R1 R2 R3`
 use Rattle.std.specs.Prelude.{ℕ, nat_lt, Bool, true, ◌||◌, List, [], ◌∷◌, ◌++◌, Result, Ok, is_none}
 use Rattle.mx_sdw.specs.Rings.{Bracketing}
+use Rattle.mx_hier.specs.declared.branches.Branch.{Branch}
 use Rattle.mx_hier.specs.declared.branches.Node.{Node}
 use Rattle.mx_hier.specs.declared.branches.Node.TheVariants.{Directory as IsDirectory, Segment as IsSegment, Link as IsLink}
 use Rattle.mx_hier.specs.declared.refusals.Refusal.{Refusal}
@@ -16,15 +17,22 @@ use Rattle.mx_hier.specs.Walks.{entry}
 abbrev pub set_brackets_refusals : Hierarchy → Subject → ℕ → List ℕ → List (Bool × Refusal)
 set_brackets_refusals h who uid rings = changing_refusals h who uid ++
     (is_none (segment_at h uid), NotASeg)
-    ∷ (is_none (settable who.ring rings) || on (λ segment. nat_lt segment.brackets.r1 who.ring) (segment_at h uid), BadBrackets) ∷ []
+    ∷ (
+      is_none (settable who.ring rings)
+          || on (λ segment. nat_lt segment.brackets.r1 who.ring) (segment_at h uid),
+      BadBrackets,
+    ) ∷ []
 
 abbrev pub bracketed : Bracketing → Node → Node
 bracketed brackets (IsSegment segment) = IsSegment (record segment { brackets = brackets })
 bracketed brackets (IsDirectory directory) = IsDirectory directory
 bracketed brackets (IsLink target) = IsLink target
 
+abbrev pub branch_bracketed : Bracketing → Branch → Branch
+branch_bracketed brackets branch = with_node (bracketed brackets branch.node) branch
+
 abbrev pub with_brackets : Hierarchy → ℕ → Bracketing → Hierarchy
-with_brackets h uid brackets = with_branch h uid (λ branch. with_node (bracketed brackets branch.node) branch)
+with_brackets h uid brackets = with_branch h uid (branch_bracketed brackets)
 
 abbrev pub set_brackets_at : Hierarchy → Subject → ℕ → List ℕ → Result Hierarchy Refusal
 set_brackets_at h who uid rings =

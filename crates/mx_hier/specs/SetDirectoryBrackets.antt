@@ -1,5 +1,6 @@
 -- `set_dir_brackets PATH D1 D2`
 use Rattle.std.specs.Prelude.{ℕ, ◌==◌, nat_lt, Bool, true, ◌||◌, List, [], ◌∷◌, ◌++◌, Result, is_none, if◌then◌else◌}
+use Rattle.mx_hier.specs.declared.branches.Branch.{Branch}
 use Rattle.mx_hier.specs.declared.branches.Node.{Node}
 use Rattle.mx_hier.specs.declared.branches.Node.TheVariants.{Directory as IsDirectory, Segment as IsSegment, Link as IsLink}
 use Rattle.mx_hier.specs.declared.refusals.Refusal.{Refusal}
@@ -14,20 +15,28 @@ use Rattle.mx_hier.specs.Walks.{entry}
 abbrev pub set_dir_brackets_refusals : Hierarchy → Subject → ℕ → ℕ → ℕ → List (Bool × Refusal)
 set_dir_brackets_refusals h who uid d1 d2 = changing_refusals h who uid ++
     (is_none (directory_at h uid), NotADir)
-    ∷ (nat_lt d2 d1 || nat_lt d1 who.ring || on (λ directory. nat_lt directory.d1 who.ring) (directory_at h uid), BadBrackets) ∷ []
+    ∷ (
+      nat_lt d2 d1 || nat_lt d1 who.ring
+          || on (λ directory. nat_lt directory.d1 who.ring) (directory_at h uid),
+      BadBrackets,
+    ) ∷ []
 
 abbrev pub dir_bracketed : ℕ → ℕ → Node → Node
 dir_bracketed d1 d2 (IsDirectory directory) = IsDirectory (record directory { d1 = d1; d2 = d2 })
 dir_bracketed d1 d2 (IsSegment segment) = IsSegment segment
 dir_bracketed d1 d2 (IsLink target) = IsLink target
 
+abbrev pub branch_dir_bracketed : ℕ → ℕ → Branch → Branch
+branch_dir_bracketed d1 d2 branch = with_node (dir_bracketed d1 d2 branch.node) branch
+
 abbrev pub with_dir_brackets : Hierarchy → ℕ → ℕ → ℕ → Hierarchy
 with_dir_brackets h uid d1 d2 =
     if uid == 0 then record h { root = record h.root { d1 = d1; d2 = d2 } }
-    else with_branch h uid (λ branch. with_node (dir_bracketed d1 d2 branch.node) branch)
+    else with_branch h uid (branch_dir_bracketed d1 d2)
 
 abbrev pub set_dir_brackets_at : Hierarchy → Subject → ℕ → ℕ → ℕ → Result Hierarchy Refusal
-set_dir_brackets_at h who uid d1 d2 = unless (first_of (set_dir_brackets_refusals h who uid d1 d2)) (with_dir_brackets h uid d1 d2)
+set_dir_brackets_at h who uid d1 d2 =
+    unless (first_of (set_dir_brackets_refusals h who uid d1 d2)) (with_dir_brackets h uid d1 d2)
 
 abbrev pub set_dir_brackets : Hierarchy → Caller → List ℕ → ℕ → ℕ → Result Hierarchy Refusal
 set_dir_brackets h who path d1 d2 = onward (entry h who path true) (λ uid. set_dir_brackets_at h who.subject uid d1 d2)

@@ -14,11 +14,13 @@ pub record IsStored (segment : Segment) : Type 0 where
 abbrev pub HasPage : Segment → ℕ → Type 0
 HasPage segment page = IsInRun (pages_for segment.words) segment.page page
 
--- Uids count from 1, and the last that is given is 4,294,967,294. No page of a segment is free, and none is that of another.
+-- Uids count from 1, and the last that is given is 4,294,967,294. No page of a segment is free, and none is that of
+-- another.
 pub record IsSound (branches : List Branch) (next : ℕ) (pages : PageMap) : Type 0 where
   pub first : 1 ≤ next
   pub last : next ≤ 4294967295
   pub stored : (uid : ℕ) (segment : Segment) → segment_in branches uid ≡ Some segment → IsStored segment
-  pub taken : (uid page : ℕ) (segment : Segment) → segment_in branches uid ≡ Some segment → HasPage segment page → IsFree pages page → ⊥
-  pub apart : (uid other : ℕ) (a b : Segment) → segment_in branches uid ≡ Some a → segment_in branches other ≡ Some b → uid ≢ other
-      → AreApart (pages_for a.words) a.page (pages_for b.words) b.page
+  pub taken : (uid page : ℕ) (segment : Segment) → segment_in branches uid ≡ Some segment → HasPage segment page
+      → IsFree pages page → ⊥
+  pub apart : (uid other : ℕ) (a b : Segment) → segment_in branches uid ≡ Some a → segment_in branches other ≡ Some b
+      → uid ≢ other → AreApart (pages_for a.words) a.page (pages_for b.words) b.page

@@ -15,13 +15,16 @@ use Rattle.mx_hier.specs.Walks.{entry}
 
 -- the modes are those that its access list gives the caller, in any ring
 abbrev pub status_of : Subject → Node → Status
-status_of who (IsDirectory directory) = DirectoryStatus directory.d1 directory.d2 (modes_for directory.acl who.principal)
-status_of who (IsSegment segment) = SegmentStatus segment.words segment.brackets (modes_for segment.acl who.principal)
+status_of who (IsDirectory directory) =
+    DirectoryStatus directory.d1 directory.d2 (modes_for directory.acl who.principal)
+status_of who (IsSegment segment) =
+    SegmentStatus segment.words segment.brackets (modes_for segment.acl who.principal)
 status_of who (IsLink target) = LinkStatus target
 
 -- what stands at a uid
 abbrev pub node_at : Hierarchy → ℕ → Option Node
-node_at h uid = if uid == 0 then Some (IsDirectory h.root) else option_map (λ branch. branch.node) (branch_of h.branches uid)
+node_at h uid =
+    if uid == 0 then Some (IsDirectory h.root) else option_map (λ branch. branch.node) (branch_of h.branches uid)
 
 abbrev pub status_refusals : Hierarchy → Subject → ℕ → List (Bool × Refusal)
 status_refusals h who uid = (not (on (has_status who) (holding h uid)), NoInfo) ∷ []

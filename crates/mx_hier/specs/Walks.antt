@@ -9,8 +9,8 @@ use Rattle.mx_hier.specs.Branches.{Hierarchy, uid_in, directory_at, target_at, h
 use Rattle.mx_hier.specs.Callers.{Subject, Caller}
 use Rattle.mx_hier.specs.Rules.{say, onward}
 
--- Where names have led: to an entry; to a link that is followed, met in a directory, with the path that takes its place; or to
--- a refusal, which is to be said at a directory.
+-- Where names have led: to an entry; to a link that is followed, met in a directory, with the path that takes its
+-- place; or to a refusal, which is to be said at a directory.
 pub data Stop : Type 0 where
   Reached : ℕ → Stop
   Linked : Option Directory → List (List ℕ) → Stop
@@ -47,9 +47,10 @@ ended h false stop = stop
 abbrev pub along : Hierarchy → Bool → ℕ → List (List ℕ) → Stop
 along h follow dir names = ended h follow (fold (step h) (Reached dir) names)
 
--- The walk from a directory, where so many links may be followed: it begins at the root again with each, and one more is a
--- link_loop. It ends at an entry, or at a refusal and the directory where that is to be said.
-abbrev pub outcome : Stop → (Option Directory → List (List ℕ) → Result ℕ (Refusal × Option Directory)) → Result ℕ (Refusal × Option Directory)
+-- The walk from a directory, where so many links may be followed: it begins at the root again with each, and one more
+-- is a link_loop. It ends at an entry, or at a refusal and the directory where that is to be said.
+abbrev pub outcome : Stop → (Option Directory → List (List ℕ) → Result ℕ (Refusal × Option Directory))
+    → Result ℕ (Refusal × Option Directory)
 outcome (Reached uid) linked = Ok uid
 outcome (Linked dir path) linked = linked dir path
 outcome (Refused why dir) linked = Err (why, dir)

@@ -46,8 +46,8 @@ pub enum Status {
 pub type Names = Sequence<EntryName>;
 
 impl Hier {
-    /// What is said of an entry; of a link itself, and not of what it leads to. `NoInfo` where the caller has no s on the
-    /// directory that holds it.
+    /// What is said of an entry; of a link itself, and not of what it leads to. `NoInfo` where the caller has no s on
+    /// the directory that holds it.
     pub fn status(&self, alloc: Global, who: &Who, path: &Pathname) -> Result<Status, HierError>
         ensures answer { Tells (status self.now (caller who.now) path.now) result }
         ensures told { TellsFirst (resolved (caller who.now) path.now) result }
@@ -75,8 +75,8 @@ impl Hier {
         Ok(status)
     }
 
-    /// The names of a directory's entries in byte order. `NotADir` and `IncorrectAccess`, where the caller has no s on it,
-    /// are said at its holder.
+    /// The names of a directory's entries in byte order. `NotADir` and `IncorrectAccess`, where the caller has no s
+    /// on it, are said at its holder.
     pub fn list(&self, alloc: Global, who: &Who, path: &Pathname) -> Result<Names, HierError>
         ensures answer { Tells (list self.now (caller who.now) path.now) result }
         ensures told { TellsFirst (resolved (caller who.now) path.now) result }
@@ -152,8 +152,8 @@ impl Hier {
         }
     }
 
-    /// The descriptor that a principal has of the segment of a uid: its flags are what the access list gives. Gone where the
-    /// segment was deleted. Takes no memory.
+    /// The descriptor that a principal has of the segment of a uid: its flags are what the access list gives. Gone
+    /// where the segment was deleted. Takes no memory.
     #[tactic(auto, using(crate::proofs::DescriptorLaws::gone_admissible))]
     pub fn desc_of(&self, uid: u32, who: &Principal) -> Desc
         ensures value { result ≡ desc_of self.now uid who.now }

@@ -4,8 +4,8 @@ use mx_acl::Acl;
 use mx_name::{EntryName, Path};
 use mx_sdw::{Brackets, Ring};
 
-/// What is said of a directory: its access list and its brackets `d1 <= d2`. A caller in ring v has m or a on it only where
-/// v is at most `d1`, and s only where v is at most `d2` (Multics Programmers' Manual).
+/// What is said of a directory: its access list and its brackets `d1 <= d2`. A caller in ring v has m or a on it only
+/// where v is at most `d1`, and s only where v is at most `d2` (Multics Programmers' Manual).
 #[derive(Debug, Drop)]
 pub struct Directory {
     pub acl: Acl,
@@ -13,7 +13,8 @@ pub struct Directory {
     pub d2: Ring,
 }
 
-/// What is said of a segment: its access list, its brackets, its length of 1 to 1,024 words, and its first page of 64 words.
+/// What is said of a segment: its access list, its brackets, its length of 1 to 1,024 words, and its first page of 64
+/// words.
 #[derive(Debug, Drop)]
 pub struct Segment {
     pub acl: Acl,
@@ -30,7 +31,8 @@ pub enum Node {
     Link(Path),
 }
 
-/// An entry of a directory. Its uid is never used again; `parent` is the uid of the directory that holds it, 0 for the root.
+/// An entry of a directory. Its uid is never used again; `parent` is the uid of the directory that holds it, 0 for
+/// the root.
 #[derive(Debug, Drop)]
 pub struct Branch {
     pub uid: u32,

@@ -1,8 +1,8 @@
 //! Changing an entry, which is found first: `Hier::entry` gives its uid.
 //!
-//! The first refusal of every change is `IncorrectAccess` without m on the directory that holds the entry, as the root holds
-//! itself; it is said at that directory: a caller without s on it is told `NoInfo` instead. A refusal is told whatever memory
-//! there is. An error leaves the hierarchy as it was.
+//! The first refusal of every change is `IncorrectAccess` without m on the directory that holds the entry, as the
+//! root holds itself; it is said at that directory: a caller without s on it is told `NoInfo` instead. A refusal is
+//! told whatever memory there is. An error leaves the hierarchy as it was.
 
 ghost use Rattle.std.specs.Prelude.{◌≡◌, ◌==◌, ◌∷◌, [], Some, None, IfOk, OnOk, OnErr, is_ok, not, is_none, is_some, false};
 ghost use Rattle.mx_acl.specs.Access.{with_entry, without_entry, entry_of};
@@ -69,8 +69,8 @@ impl Hier {
     }
 
     /// Sets the brackets of a segment. After the refusal of every change (above): `NotASeg` on a directory, then
-    /// `BadBrackets` where they are not in order, or the new or the old first bracket is below the caller's ring. Takes no
-    /// memory.
+    /// `BadBrackets` where they are not in order, or the new or the old first bracket is below the caller's ring.
+    /// Takes no memory.
     pub fn set_brackets(
         &mut self,
         who: &Who,
@@ -91,8 +91,8 @@ impl Hier {
     }
 
     /// Sets the brackets of a directory. After the refusal of every change (above): `NotADir` on a segment, then
-    /// `BadBrackets` where they are not in order, or the new or the old first bracket is below the caller's ring. Takes no
-    /// memory.
+    /// `BadBrackets` where they are not in order, or the new or the old first bracket is below the caller's ring.
+    /// Takes no memory.
     pub fn set_dir_brackets(
         &mut self,
         who: &Who,
@@ -110,8 +110,8 @@ impl Hier {
         Ok(())
     }
 
-    /// Gives an entry another name. After the refusal of every change (above): `IncorrectAccess` on the root, then `NameDup`
-    /// where its directory has the name, as its own it has.
+    /// Gives an entry another name. After the refusal of every change (above): `IncorrectAccess` on the root, then
+    /// `NameDup` where its directory has the name, as its own it has.
     pub fn rename(&mut self, who: &Who, uid: u32, name: &EntryName) -> Result<(), HierError>
         ensures answer { Answers (rename_at self.old (subject who.now) uid name.now) self.old result self.new }
         ensures told { TellsFirst (rename_at self.old (subject who.now) uid name.now) result }
@@ -123,8 +123,8 @@ impl Hier {
         Ok(())
     }
 
-    /// Deletes an entry. After the refusal of every change (above): `IncorrectAccess` on the root, then `DirNotEmpty` where it
-    /// has entries. The pages of a segment are not used again. Takes no memory.
+    /// Deletes an entry. After the refusal of every change (above): `IncorrectAccess` on the root, then `DirNotEmpty`
+    /// where it has entries. The pages of a segment are not used again. Takes no memory.
     pub fn delete(&mut self, who: &Who, uid: u32) -> Result<(), HierError>
         ensures answer { Answers (delete_at self.old (subject who.now) uid) self.old result self.new }
         ensures told { TellsFirst (delete_at self.old (subject who.now) uid) result }

@@ -79,7 +79,8 @@ impl Children {
         self.uids.shift_remove(name);
     }
 
-    /// Gives the entry of a name another name that is not there; it keeps its place. Where memory is wanting, nothing changes.
+    /// Gives the entry of a name another name that is not there; it keeps its place. Where memory is wanting, nothing
+    /// changes.
     pub(crate) fn rename(&mut self, old: &EntryName, new: EntryName) -> Result<(), AllocError>
         requires { lookup (pointwise ◌==◌ new) self.old ≡ None }
         ensures ok { OnOk result (self.new ≡ renamed old.now new self.old) }

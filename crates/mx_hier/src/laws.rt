@@ -17,8 +17,8 @@ use crate::callers::Who;
 use crate::hier::Hier;
 use mx_name::Pathname;
 
-/// A caller without s on any directory is refused by no walk and by no request that only asks, but that his pathname is bad or
-/// that he gets no information.
+/// A caller without s on any directory is refused by no walk and by no request that only asks, but that his pathname
+/// is bad or that he gets no information.
 pub fn a_stranger_learns_nothing(hier: &Hier, who: &Who, path: &Pathname, follow: bool)
     requires { IsStranger hier.now (subject who.now) }
     ensures entry { IsReticent (entry hier.now (caller who.now) path.now follow) }
@@ -31,7 +31,8 @@ pub fn a_stranger_learns_nothing(hier: &Hier, who: &Who, path: &Pathname, follow
 /// Whether a walk ends well does not depend on who walks, but on the working directory.
 pub fn a_walk_ends_alike_for_all(hier: &Hier, who: &Who, other: &Who, path: &Pathname, follow: bool)
     requires { (caller who.now).base ≡ (caller other.now).base }
-    ensures { is_ok (entry hier.now (caller who.now) path.now follow) ≡ is_ok (entry hier.now (caller other.now) path.now follow) }
+    ensures { is_ok (entry hier.now (caller who.now) path.now follow)
+        ≡ is_ok (entry hier.now (caller other.now) path.now follow) }
 {}
 
 /// A walk that follows a link at the last name ends at no link.

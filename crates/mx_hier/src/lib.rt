@@ -1,9 +1,10 @@
 //! The hierarchy: directories, segments and links, and every request that reaches them by a pathname.
 //!
-//! A contract sees a hierarchy as the root directory, a plain list of branches, the next uid and the pages. Each request is
-//! a definition over that list, with its refusals in the order of the table, and each call has the exact answer and the
-//! exact hierarchy that its definition gives; a refusal, and the want of memory, change nothing. Behind it stand a table of
-//! branches by uid and a map of names for each directory. Stands on names, access lists, brackets and pages.
+//! A contract sees a hierarchy as the root directory, a plain list of branches, the next uid and the pages. Each
+//! request is a definition over that list, with its refusals in the order of the table, and each call has the exact
+//! answer and the exact hierarchy that its definition gives; a refusal, and the want of memory, change nothing.
+//! Behind it stand a table of branches by uid and a map of names for each directory. Stands on names, access lists,
+//! brackets and pages.
 #![tactic(auto)]
 
 mod asking;

@@ -1,11 +1,11 @@
 //! Making an entry.
 //!
-//! The refusals of every making come first, in this order: `BadPath` where the pathname has no path; `NameDup` for the
-//! root; what the walk to the directory says (`NoEntry`, `NotADir`, `LinkLoop`); `NotADir` where it leads to no directory;
-//! `IncorrectAccess` without a on that; `NameDup` where it has the name; `DirFull` at 256 entries. What the walk says, this
-//! `NotADir` and this `IncorrectAccess` are said at a directory: a caller without s on it is told `NoInfo` instead. An
-//! error, the want of memory too, leaves the hierarchy as it was. A request at a place that is found takes memory only once
-//! it is not refused.
+//! The refusals of every making come first, in this order: `BadPath` where the pathname has no path; `NameDup` for
+//! the root; what the walk to the directory says (`NoEntry`, `NotADir`, `LinkLoop`); `NotADir` where it leads to no
+//! directory; `IncorrectAccess` without a on that; `NameDup` where it has the name; `DirFull` at 256 entries. What
+//! the walk says, this `NotADir` and this `IncorrectAccess` are said at a directory: a caller without s on it is told
+//! `NoInfo` instead. An error, the want of memory too, leaves the hierarchy as it was. A request at a place that is
+//! found takes memory only once it is not refused.
 
 ghost use Rattle.std.specs.Prelude.{◌≡◌, ◌+◌, ◌<◌, [], ◌∷◌, ◌++◌, Some, None, IfOk, IfErr, OnOk, OnErr};
 ghost use Rattle.std.specs.Option.{option_map};
@@ -14,6 +14,7 @@ ghost use Rattle.mx_hier.specs.Brackets.{bracketing, settable};
 ghost use Rattle.mx_hier.specs.CreateDirectory.{create_dir_at, create_dir};
 ghost use Rattle.mx_hier.specs.CreateSegment.{create_seg_at, create_seg};
 ghost use Rattle.mx_hier.specs.CreateLink.{create_link_at, create_link};
+ghost use Rattle.mx_hier.specs.Listed.{listed_added};
 ghost use Rattle.mx_hier.specs.Making.{last_name, parent_path, place, making_refusals, first_acl};
 ghost use Rattle.mx_hier.specs.Rules.{first_of, Answers, TellsFirst};
 ghost use Rattle.mx_hier.specs.Walks.{resolved};
@@ -39,8 +40,8 @@ pub struct Place {
 }
 
 impl Hier {
-    /// Makes a directory with brackets `d1 <= d2`, to which its maker has sma. After the refusals of every making (above):
-    /// `BadBrackets` where they are not in order or `d1` is below his ring.
+    /// Makes a directory with brackets `d1 <= d2`, to which its maker has sma. After the refusals of every making
+    /// (above): `BadBrackets` where they are not in order or `d1` is below his ring.
     pub fn create_dir(
         &mut self,
         alloc: Global,
@@ -83,9 +84,9 @@ impl Hier {
         Ok(())
     }
 
-    /// Makes a segment of 1 to 1,024 words on whole pages, to which its maker has rw. After the refusals of every making
-    /// (above): `BadLength`, then `BadBrackets` where the brackets are not in order or the first is below his ring, then
-    /// `NoPages`.
+    /// Makes a segment of 1 to 1,024 words on whole pages, to which its maker has rw. After the refusals of every
+    /// making (above): `BadLength`, then `BadBrackets` where the brackets are not in order or the first is below his
+    /// ring, then `NoPages`.
     pub fn create_seg(
         &mut self,
         alloc: Global,
@@ -94,7 +95,8 @@ impl Hier {
         words: u32,
         brackets: [Ring; 3],
     ) -> Result<(), HierError>
-        ensures answer { Answers (create_seg self.old (caller who.now) path.now words brackets) self.old result self.new }
+        ensures answer { Answers (create_seg self.old (caller who.now) path.now words brackets)
+            self.old result self.new }
         ensures told { TellsFirst (resolved (caller who.now) path.now) result }
     {
         let path = resolved(alloc, who, path)?;
@@ -112,7 +114,8 @@ impl Hier {
         words: u32,
         rings: &[Ring; 3],
     ) -> Result<(), HierError>
-        ensures answer { Answers (create_seg_at self.old (subject who.now) at.now words rings.now) self.old result self.new }
+        ensures answer { Answers (create_seg_at self.old (subject who.now) at.now words rings.now)
+            self.old result self.new }
         ensures told { TellsFirst (create_seg_at self.old (subject who.now) at.now words rings.now) result }
     {
         self.parent(who, at)?;
@@ -137,8 +140,8 @@ impl Hier {
         Ok(())
     }
 
-    /// Makes a link; nothing need be at the target. `BadPath` where the pathname or the target has no path, then the other
-    /// refusals of every making (above).
+    /// Makes a link; nothing need be at the target. `BadPath` where the pathname or the target has no path, then the
+    /// other refusals of every making (above).
     pub fn create_link(
         &mut self,
         alloc: Global,
@@ -191,7 +194,8 @@ impl Hier {
 
     /// The directory of a place where an entry can be made, whatever it is to be.
     fn parent(&self, who: &Who, at: &Place) -> Result<&Directory, Refusal>
-        ensures refused { IfErr result (λ why. first_of (making_refusals self.now (subject who.now) at.now) ≡ Some why) }
+        ensures refused { IfErr result
+            (λ why. first_of (making_refusals self.now (subject who.now) at.now) ≡ Some why) }
         ensures none { OnOk result (first_of (making_refusals self.now (subject who.now) at.now) ≡ None) }
         ensures parent { IfOk result (λ parent. directory_at self.now at.now.dir ≡ Some parent.now) }
         ensures free { OnOk result (uid_in self.now.branches at.now.dir at.now.name ≡ None) }
@@ -217,7 +221,7 @@ impl Hier {
 fn add(tables: &mut Tables, alloc: Global, at: &Place, node: Node) -> Result<(), AllocError>
     requires free { uid_in tables.old.branches at.now.dir at.now.name ≡ None }
     requires below { at.now.dir < tables.old.next }
-    ensures ok { OnOk result (tables.new ≡ record { branches = tables.old.branches ++ record { uid = tables.old.next; parent = at.now.dir; name = at.now.name; node = node } ∷ []; next = 1 + tables.old.next }) }
+    ensures ok { OnOk result (tables.new ≡ listed_added tables.old at.now.dir at.now.name node) }
     ensures left { OnOk result (tables.old.next < 4294967295) }
     ensures err { OnErr result (tables.new ≡ tables.old) }
 {

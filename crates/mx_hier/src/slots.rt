@@ -3,9 +3,9 @@ ghost use Rattle.std.specs.Prelude.{◌≡◌, OnOk, OnErr, not, is_ok};
 ghost use Rattle.std.specs.Option.{is_none, option_map, option_and_then};
 ghost use Rattle.mx_acl.specs.Access.{entry_of, with_entry, without_entry, set_fault};
 ghost use Rattle.mx_hier.specs.Callers.{on};
-ghost use Rattle.mx_hier.specs.Changing.{with_node, acl_in, acl_changed};
-ghost use Rattle.mx_hier.specs.SetBrackets.{bracketed};
-ghost use Rattle.mx_hier.specs.SetDirectoryBrackets.{dir_bracketed};
+ghost use Rattle.mx_hier.specs.Changing.{acl_in, acl_changed, branch_with_acl};
+ghost use Rattle.mx_hier.specs.SetBrackets.{bracketed, branch_bracketed};
+ghost use Rattle.mx_hier.specs.SetDirectoryBrackets.{dir_bracketed, branch_dir_bracketed};
 ghost use Rattle.mx_hier.specs.Listed.{slot_of, emptied, changed_at, acl_in_slot, AclAnswers, with_name};
 
 use crate::branches::{Branch, Node};
@@ -39,7 +39,7 @@ pub(crate) fn take_branch(slots: &mut Vec<Option<Branch>>, uid: u32) -> Option<B
 }
 
 pub(crate) fn set_brackets_at(slots: &mut Vec<Option<Branch>>, uid: u32, brackets: Brackets)
-    ensures { slots.new.items ≡ changed_at slots.old.items uid (λ branch. with_node (bracketed brackets branch.node) branch) }
+    ensures { slots.new.items ≡ changed_at slots.old.items uid (branch_bracketed brackets) }
 {
     if uid == 0 {
         return;
@@ -50,7 +50,7 @@ pub(crate) fn set_brackets_at(slots: &mut Vec<Option<Branch>>, uid: u32, bracket
 }
 
 fn set_brackets_in(slot: &mut Option<Branch>, brackets: Brackets)
-    ensures { slot.new ≡ option_map (λ branch. with_node (bracketed brackets branch.node) branch) slot.old }
+    ensures { slot.new ≡ option_map (branch_bracketed brackets) slot.old }
 {
     if let Some(branch) = slot {
         set_node_brackets(&mut branch.node, brackets);
@@ -68,7 +68,7 @@ fn set_node_brackets(node: &mut Node, brackets: Brackets)
 }
 
 pub(crate) fn set_dir_brackets_at(slots: &mut Vec<Option<Branch>>, uid: u32, d1: Ring, d2: Ring)
-    ensures { slots.new.items ≡ changed_at slots.old.items uid (λ branch. with_node (dir_bracketed d1 d2 branch.node) branch) }
+    ensures { slots.new.items ≡ changed_at slots.old.items uid (branch_dir_bracketed d1 d2) }
 {
     if uid == 0 {
         return;
@@ -79,7 +79,7 @@ pub(crate) fn set_dir_brackets_at(slots: &mut Vec<Option<Branch>>, uid: u32, d1:
 }
 
 fn set_dir_brackets_in(slot: &mut Option<Branch>, d1: Ring, d2: Ring)
-    ensures { slot.new ≡ option_map (λ branch. with_node (dir_bracketed d1 d2 branch.node) branch) slot.old }
+    ensures { slot.new ≡ option_map (branch_dir_bracketed d1 d2) slot.old }
 {
     if let Some(branch) = slot {
         set_node_dir_brackets(&mut branch.node, d1, d2);
@@ -105,8 +105,10 @@ pub(crate) fn set_acl_at(
     id: &AclId,
     modes: Modes,
 ) -> Result<(), AclError>
-    ensures answer { AclAnswers (option_and_then (λ acl. set_fault acl id.now modes) (acl_in_slot (slot_of slots.old.items uid))) result }
-    ensures ok { OnOk result (slots.new.items ≡ changed_at slots.old.items uid (λ branch. with_node (acl_changed (λ acl. with_entry acl id.now modes) branch.node) branch)) }
+    ensures answer { AclAnswers
+        (option_and_then (λ acl. set_fault acl id.now modes) (acl_in_slot (slot_of slots.old.items uid))) result }
+    ensures ok { OnOk result (slots.new.items
+        ≡ changed_at slots.old.items uid (branch_with_acl (λ acl. with_entry acl id.now modes))) }
     ensures err { OnErr result (slots.new.items ≡ slots.old.items) }
 {
     if uid == 0 {
@@ -120,7 +122,7 @@ pub(crate) fn set_acl_at(
 
 fn set_acl_in(slot: &mut Option<Branch>, id: &AclId, modes: Modes) -> Result<(), AclError>
     ensures answer { AclAnswers (option_and_then (λ acl. set_fault acl id.now modes) (acl_in_slot slot.old)) result }
-    ensures ok { OnOk result (slot.new ≡ option_map (λ branch. with_node (acl_changed (λ acl. with_entry acl id.now modes) branch.node) branch) slot.old) }
+    ensures ok { OnOk result (slot.new ≡ option_map (branch_with_acl (λ acl. with_entry acl id.now modes)) slot.old) }
     ensures err { OnErr result (slot.new ≡ slot.old) }
 {
     if let Some(branch) = slot {
@@ -156,8 +158,10 @@ pub(crate) fn remove_acl_at(
     uid: u32,
     id: &AclId,
 ) -> Result<(), NoEntry>
-    ensures found { is_ok result ≡ not (on (λ acl. is_none (entry_of acl id.now)) (acl_in_slot (slot_of slots.old.items uid))) }
-    ensures ok { OnOk result (slots.new.items ≡ changed_at slots.old.items uid (λ branch. with_node (acl_changed (λ acl. without_entry acl id.now) branch.node) branch)) }
+    ensures found { is_ok result
+        ≡ not (on (λ acl. is_none (entry_of acl id.now)) (acl_in_slot (slot_of slots.old.items uid))) }
+    ensures ok { OnOk result (slots.new.items
+        ≡ changed_at slots.old.items uid (branch_with_acl (λ acl. without_entry acl id.now))) }
     ensures err { OnErr result (slots.new.items ≡ slots.old.items) }
 {
     if uid == 0 {
@@ -171,7 +175,7 @@ pub(crate) fn remove_acl_at(
 
 fn remove_acl_in(slot: &mut Option<Branch>, id: &AclId) -> Result<(), NoEntry>
     ensures found { is_ok result ≡ not (on (λ acl. is_none (entry_of acl id.now)) (acl_in_slot slot.old)) }
-    ensures ok { OnOk result (slot.new ≡ option_map (λ branch. with_node (acl_changed (λ acl. without_entry acl id.now) branch.node) branch) slot.old) }
+    ensures ok { OnOk result (slot.new ≡ option_map (branch_with_acl (λ acl. without_entry acl id.now)) slot.old) }
     ensures err { OnErr result (slot.new ≡ slot.old) }
 {
     if let Some(branch) = slot {

@@ -8,11 +8,11 @@ ghost use Rattle.mx_acl.specs.Access.{entry_of, with_entry, without_entry, set_f
 ghost use Rattle.mx_hier.specs.Callers.{on};
 ghost use Rattle.mx_hier.specs.declared.branches.Branch.{Branch as BranchValue};
 ghost use Rattle.mx_hier.specs.Branches.{branch_of, entries_of, uid_in};
-ghost use Rattle.mx_hier.specs.Changing.{changed, with_node, acl_changed};
+ghost use Rattle.mx_hier.specs.Changing.{branch_with_acl};
 ghost use Rattle.mx_hier.specs.Delete.{without};
-ghost use Rattle.mx_hier.specs.SetBrackets.{bracketed};
-ghost use Rattle.mx_hier.specs.SetDirectoryBrackets.{dir_bracketed};
-ghost use Rattle.mx_hier.specs.Listed.{present, slot_of, changed_at, acl_of, AclAnswers, kept_for, with_name, renamed, AreKept};
+ghost use Rattle.mx_hier.specs.SetBrackets.{branch_bracketed};
+ghost use Rattle.mx_hier.specs.SetDirectoryBrackets.{branch_dir_bracketed};
+ghost use Rattle.mx_hier.specs.Listed.{listed_added, listed_changed, present, slot_of, changed_at, acl_of, AclAnswers, kept_for, with_name, renamed, AreKept};
 
 use crate::branches::{Branch, Node};
 use crate::children::Children;
@@ -67,7 +67,8 @@ impl Tables {
     /// The branch of a uid.
     pub(crate) fn get(&self, uid: u32) -> Option<&Branch>
         ensures value { option_map (λ branch. branch.now) result ≡ branch_of self.now.branches uid }
-        ensures below { IfSome result (λ branch. (branch.now.uid ≡ uid) × (branch.now.parent < uid) × (uid < self.now.next)) }
+        ensures below { IfSome result
+            (λ branch. (branch.now.uid ≡ uid) × (branch.now.parent < uid) × (uid < self.now.next)) }
     {
         branch_at(&self.slots, uid)
     }
@@ -110,7 +111,7 @@ impl Tables {
         requires free { uid_in self.old.branches dir name.now ≡ None }
         requires below { dir < self.old.next }
         requires left { self.old.next < 4294967295 }
-        ensures ok { OnOk result (self.new ≡ record { branches = self.old.branches ++ record { uid = self.old.next; parent = dir; name = name.now; node = node } ∷ []; next = 1 + self.old.next }) }
+        ensures ok { OnOk result (self.new ≡ listed_added self.old dir name.now node) }
         ensures err { OnErr result (self.new ≡ self.old) }
     {
         let branch = Branch {
@@ -130,21 +131,24 @@ impl Tables {
         remove_branch(&mut self.slots, &mut self.names, uid);
     }
 
-    /// Sets the modes of an identifier in the access list of what stands at a uid, as `Acl::set` does; `Memory` may come in
-    /// place of a refusal. Nothing changes on an error, nor where there is no access list.
+    /// Sets the modes of an identifier in the access list of what stands at a uid, as `Acl::set` does; `Memory` may
+    /// come in place of a refusal. Nothing changes on an error, nor where there is no access list.
     pub(crate) fn set_acl(&mut self, uid: u32, id: &AclId, modes: Modes) -> Result<(), AclError>
-        ensures answer { AclAnswers (option_and_then (λ acl. set_fault acl id.now modes) (acl_of self.old.branches uid)) result }
-        ensures ok { OnOk result (self.new ≡ record self.old { branches = changed uid (λ branch. with_node (acl_changed (λ acl. with_entry acl id.now modes) branch.node) branch) self.old.branches }) }
+        ensures answer { AclAnswers
+            (option_and_then (λ acl. set_fault acl id.now modes) (acl_of self.old.branches uid)) result }
+        ensures ok { OnOk result
+            (self.new ≡ listed_changed self.old uid (branch_with_acl (λ acl. with_entry acl id.now modes))) }
         ensures err { OnErr result (self.new ≡ self.old) }
     {
         set_acl_at(&mut self.slots, uid, id, modes)
     }
 
-    /// Removes the entry of an identifier from the access list of what stands at a uid. `NoEntry` exactly where the list has
-    /// none; nothing changes then, nor where there is no access list. Takes no memory.
+    /// Removes the entry of an identifier from the access list of what stands at a uid. `NoEntry` exactly where the
+    /// list has none; nothing changes then, nor where there is no access list. Takes no memory.
     pub(crate) fn remove_acl(&mut self, uid: u32, id: &AclId) -> Result<(), NoEntry>
         ensures found { is_ok result ≡ not (on (λ acl. is_none (entry_of acl id.now)) (acl_of self.old.branches uid)) }
-        ensures ok { OnOk result (self.new ≡ record self.old { branches = changed uid (λ branch. with_node (acl_changed (λ acl. without_entry acl id.now) branch.node) branch) self.old.branches }) }
+        ensures ok { OnOk result
+            (self.new ≡ listed_changed self.old uid (branch_with_acl (λ acl. without_entry acl id.now))) }
         ensures err { OnErr result (self.new ≡ self.old) }
     {
         remove_acl_at(&mut self.slots, uid, id)
@@ -152,23 +156,25 @@ impl Tables {
 
     /// Sets the brackets of a segment; nothing changes where none stands at the uid.
     pub(crate) fn set_brackets(&mut self, uid: u32, brackets: Brackets)
-        ensures { self.new ≡ record self.old { branches = changed uid (λ branch. with_node (bracketed brackets branch.node) branch) self.old.branches } }
+        ensures { self.new ≡ listed_changed self.old uid (branch_bracketed brackets) }
     {
         set_brackets_at(&mut self.slots, uid, brackets);
     }
 
     /// Sets the brackets of a directory; nothing changes where none stands at the uid.
     pub(crate) fn set_dir_brackets(&mut self, uid: u32, d1: Ring, d2: Ring)
-        ensures { self.new ≡ record self.old { branches = changed uid (λ branch. with_node (dir_bracketed d1 d2 branch.node) branch) self.old.branches } }
+        ensures { self.new ≡ listed_changed self.old uid (branch_dir_bracketed d1 d2) }
     {
         set_dir_brackets_at(&mut self.slots, uid, d1, d2);
     }
 
-    /// Gives the branch of a uid another name, which no entry of its directory has; it keeps its place. Nothing changes where
-    /// there is no branch, nor where memory is wanting.
+    /// Gives the branch of a uid another name, which no entry of its directory has; it keeps its place. Nothing
+    /// changes where there is no branch, nor where memory is wanting.
     pub(crate) fn rename(&mut self, uid: u32, name: &EntryName) -> Result<(), AllocError>
-        requires free { (branch : BranchValue) → branch_of self.old.branches uid ≡ Some branch → uid_in self.old.branches branch.parent name.now ≡ None }
-        ensures ok { OnOk result (self.new ≡ record self.old { branches = changed uid (λ branch. record branch { name = name.now }) self.old.branches }) }
+        requires free { (branch : BranchValue)
+            → branch_of self.old.branches uid ≡ Some branch → uid_in self.old.branches branch.parent name.now ≡ None }
+        ensures ok { OnOk result (self.new
+            ≡ listed_changed self.old uid (with_name name.now)) }
         ensures err { OnErr result (self.new ≡ self.old) }
     {
         rename_branch(&mut self.slots, &mut self.names, uid, name)
@@ -245,7 +251,8 @@ fn add_name(
 ) -> Result<(), AllocError>
     requires within { dir < length names.old.items }
     requires free { lookup (pointwise ◌==◌ name) (kept_for names.old.items dir) ≡ None }
-    ensures ok { OnOk result (names.new.items ≡ slice_set names.old.items dir (kept_for names.old.items dir ++ (name, uid) ∷ [])) }
+    ensures ok { OnOk result (names.new.items
+        ≡ slice_set names.old.items dir (kept_for names.old.items dir ++ (name, uid) ∷ [])) }
     ensures err { OnErr result (names.new.items ≡ names.old.items) }
 {
     names[dir as usize].add(name, uid)?;
@@ -265,7 +272,8 @@ fn remove_branch(slots: &mut Vec<Option<Branch>>, names: &mut Vec<Children>, uid
 
 fn remove_name(names: &mut Vec<Children>, dir: u32, name: &EntryName)
     requires { dir < length names.old.items }
-    ensures after { names.new.items ≡ slice_set names.old.items dir (remove_entry (pointwise ◌==◌ name.now) (kept_for names.old.items dir)) }
+    ensures after { names.new.items
+        ≡ slice_set names.old.items dir (remove_entry (pointwise ◌==◌ name.now) (kept_for names.old.items dir)) }
     ensures unique { IsDistinct (pointwise ◌==◌) (keys_of (kept_for names.old.items dir)) }
 {
     names[dir as usize].remove(name);
@@ -278,7 +286,8 @@ fn rename_branch(
     name: &EntryName,
 ) -> Result<(), AllocError>
     requires kept { AreKept slots.old.items names.old.items }
-    requires free { (branch : BranchValue) → slot_of slots.old.items uid ≡ Some branch → uid_in (present slots.old.items) branch.parent name.now ≡ None }
+    requires free { (branch : BranchValue)
+        → slot_of slots.old.items uid ≡ Some branch → uid_in (present slots.old.items) branch.parent name.now ≡ None }
     ensures kept { AreKept slots.new.items names.new.items }
     ensures ok { OnOk result (slots.new.items ≡ changed_at slots.old.items uid (with_name name.now)) }
     ensures err { OnErr result (slots.new.items ≡ slots.old.items) }
@@ -299,7 +308,8 @@ fn rename_in(
 ) -> Result<(), AllocError>
     requires within { dir < length names.old.items }
     requires free { lookup (pointwise ◌==◌ new.now) (kept_for names.old.items dir) ≡ None }
-    ensures ok { OnOk result (names.new.items ≡ slice_set names.old.items dir (renamed old.now new.now (kept_for names.old.items dir))) }
+    ensures ok { OnOk result (names.new.items
+        ≡ slice_set names.old.items dir (renamed old.now new.now (kept_for names.old.items dir))) }
     ensures err { OnErr result (names.new.items ≡ names.old.items) }
     ensures unique { OnOk result (IsDistinct (pointwise ◌==◌) (keys_of (kept_for names.old.items dir))) }
 {

@@ -13,8 +13,8 @@ use crate::refusals::{HierError, Refusal};
 use mx_name::{EntryName, Path, PathError, Pathname};
 use std::alloc::{AllocError, Global};
 
-/// Where names have led: to an entry's uid; to a link, met in a directory, with the names after it; or to a refusal that is to
-/// be said at a directory.
+/// Where names have led: to an entry's uid; to a link, met in a directory, with the names after it; or to a refusal
+/// that is to be said at a directory.
 #[derive(Debug, Drop)]
 pub(crate) enum Along<'a> {
     Reached(u32),
@@ -27,9 +27,9 @@ pub(crate) enum Along<'a> {
 }
 
 impl Hier {
-    /// The uid of what a pathname leads to. `follow` is whether a link at the last name is followed. `BadPath` where the
-    /// pathname has no path; what the walk says (`NoEntry`, `NotADir`, `LinkLoop`) is said at a directory: a caller without s
-    /// on it is told `NoInfo` instead.
+    /// The uid of what a pathname leads to. `follow` is whether a link at the last name is followed. `BadPath` where
+    /// the pathname has no path; what the walk says (`NoEntry`, `NotADir`, `LinkLoop`) is said at a directory: a
+    /// caller without s on it is told `NoInfo` instead.
     pub fn entry(
         &self,
         alloc: Global,

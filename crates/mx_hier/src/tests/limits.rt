@@ -8,7 +8,8 @@ use crate::Hier;
 use std::alloc::Global;
 use std::test::Fail;
 
-/// The first row of words, times and answer that is answered otherwise, where segments of so many words are made so often.
+/// The first row of words, times and answer that is answered otherwise, where segments of so many words are made so
+/// often.
 fn first_wrong_size(alloc: Global, rows: &[(u32, u8, u8)]) -> Result<Option<usize>, Fail> {
     let mut hier = Hier::new(alloc, 8)?;
     let mut count = 0;
