@@ -1,4 +1,4 @@
-//! What an entry of the journal changes of the table of descriptors.
+//! What an entry of the journal changes of the table of descriptors, and which pages it gives out.
 
 use mx_list::Sequence;
 use mx_sdw::Desc;
@@ -16,3 +16,15 @@ pub struct Change {
 
 /// The changes of one entry, in the order in which they come.
 pub type Changes = Sequence<Change>;
+
+/// Pages in a row, of 64 words each.
+#[derive(Clone, Copy, Debug, PartialEq, Eq)]
+pub struct Run {
+    /// The first of them.
+    pub page: u16,
+    /// How many.
+    pub pages: u16,
+}
+
+/// The pages that one entry gives out.
+pub type Runs = Sequence<Run>;

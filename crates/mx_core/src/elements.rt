@@ -1,6 +1,6 @@
 //! References to words, as transcripts print them and traces keep them.
 
-use mx_sdw::{Denial, Ring, Word};
+use mx_sdw::{Denial, Desc, Op, Ring, Word};
 
 /// Which kind of reference an element is.
 #[derive(Clone, Copy, Debug, PartialEq, Eq)]
@@ -57,4 +57,20 @@ pub enum Event {
     Seen(Element),
     /// Its access to a number was changed by this entry of the journal, so it asks again.
     Missing { segno: u16, by: u32 },
+}
+
+/// An event with what the machine keeps beside it.
+#[derive(Clone, Copy, Debug, PartialEq, Eq)]
+pub enum Kept {
+    /// A reference, with the operation that was asked for and the descriptor that it was judged on.
+    Judged {
+        element: Element,
+        op: Op,
+        desc: Desc,
+    },
+    /// A miss, as in [`Event::Missing`].
+    Missed {
+        segno: u16,
+        by: u32,
+    },
 }

@@ -176,6 +176,9 @@ pub store_no_load : (cell : CellUse) (value writer stamp q : ℕ) (c : CellUse) 
     → Stores c v s ≡ Loads cell value writer stamp q → ⊥
 store_no_load cell value writer stamp q c v s h = cc
 
+same_point : (c : CellUse) (v s : ℕ) (c' : CellUse) (v' s' : ℕ) → Stores c v s ≡ Stores c' v' s' → s ≡ s'
+same_point c v s c' v' s' h = cc
+
 module _ (count bound p : ℕ) (cell : CellUse) (value q : ℕ) (old new : Deeds) (front : Fronts)
     (present present' : CellUse → Bool) (memory memory' : CellUse → Held) (some : 1 ≤ p) (counted : p < count)
     (under : q ≤ bound)
@@ -200,9 +203,11 @@ module _ (count bound p : ℕ) (cell : CellUse) (value q : ℕ) (old new : Deeds
     last = λ n later v point h.
         let l = slice_get_within (new p) later (Stores cell v point) h in
         let one = g.length_own in omega arith;
-    unseen = λ n u at v point apart h known. elim (g.found u at (Stores cell v point) h) [
+    unseen = λ n u at v point h known. elim (g.found u at (Stores cell v point) h) [
       | inl a ↦ let most = are.low p point (are.within u at (Stores cell v point) a) in absurd (omega arith)
-      | inr b ↦ apart b.0
+      | inr b ↦
+          let most = are.low p q under in
+          let e = ap (front p) (same_point cell v point cell value q b.2) in absurd (omega arith)
     ];
     onward = λ n u none h j s. elim (cases_eq u p) [
       | inl e ↦ absurd (mine (subst (λ (v : ℕ). (h j : ℕ) → IsLatest new are.source v (length (new v)) cell h p j → ⊥)

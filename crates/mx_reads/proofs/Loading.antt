@@ -90,7 +90,7 @@ module _ (count bound p : ℕ) (cell : CellUse) (q : ℕ) (old new : Deeds) (fro
     stored = is.stored some;
     current = λ s. elim s [
       | inl r ↦ let most = is.last some r.later r.value r.point r.stored in let after = r.after in absurd (omega arith)
-      | inr o ↦ is.unseen some o.other o.at o.value o.point o.another o.stored o.knew
+      | inr o ↦ is.unseen some o.other o.at o.value o.point o.stored o.knew
     ];
   }
 
@@ -189,7 +189,7 @@ module _ (count bound p : ℕ) (cell : CellUse) (q : ℕ) (old new : Deeds) (fro
     place = is.place;
     stored = λ some. g.kept writer is.place (Stores cell value stamp) (is.stored some);
     last = λ some later v point h. is.last some later v point (old_store writer later cell v point h);
-    unseen = λ some u at v point n h known. is.unseen some u at v point n (old_store u at cell v point h) known;
+    unseen = λ some u at v point h known. is.unseen some u at v point (old_store u at cell v point h) known;
     onward = λ some u none h j s. elim (cases_eq u p) [
       | inl e ↦ absurd (mine some (subst
           (λ (v : ℕ). (h j : ℕ) → IsLatest new source v (length (new v)) cell h writer j → ⊥) e none))

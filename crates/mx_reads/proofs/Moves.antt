@@ -213,10 +213,10 @@ module _ (bound : ℕ) (old : Deeds) (front : Fronts) (new : Deeds) (front' : Fr
       place = is.place;
       stored = λ some. g.kept held.writer is.place (Stores cell held.value held.stamp) (is.stored some);
       last = λ some later value point h. is.last some later value point (old_store held.writer later value point h);
-      unseen = λ some u at value point n h known.
+      unseen = λ some u at value point h known.
           let o = old_store u at value point h in
           let e = g.same held.writer point (within u at (Stores cell value point) o) in
-          is.unseen some u at value point n o (omega arith);
+          is.unseen some u at value point o (omega arith);
       onward = λ some u none h j s. is.onward some u (λ h' j' l. none h' j' (still_latest u h' held.writer j' l)) h j
           (old_sighting u h held.writer j s);
     }

@@ -11,8 +11,8 @@ pub record Held : Type 0 where
   pub writer : ℕ
   pub stamp : ℕ
 
--- A cell is zero and nobody has stored there; or it has its writer's last store there, which was known at the point of
--- no other process's store there. A process whose last sighting of the cell was of another has sighted only earlier
+-- A cell is zero and nobody has stored there; or it has its writer's last store there, which is known at the point of
+-- no store there. A process whose last sighting of the cell was of another has sighted only earlier
 -- stores of the writer.
 pub record IsHeld (done : Deeds) (front : Fronts) (source : Source) (cell : CellUse) (held : Held) : Type 0 where
   pub zero_value : held.writer ≡ 0 → held.value ≡ 0
@@ -22,7 +22,7 @@ pub record IsHeld (done : Deeds) (front : Fronts) (source : Source) (cell : Cell
   pub stored : held.writer ≢ 0 → HasStored done held.writer place cell held.value held.stamp
   pub last : held.writer ≢ 0 → (later value point : ℕ) → HasStored done held.writer later cell value point
       → later ≤ place
-  pub unseen : held.writer ≢ 0 → (u at value point : ℕ) → u ≢ held.writer → HasStored done u at cell value point
+  pub unseen : held.writer ≢ 0 → (u at value point : ℕ) → HasStored done u at cell value point
       → place < front held.writer point → ⊥
   pub onward : held.writer ≢ 0 → (p : ℕ)
       → ((h j : ℕ) → IsLatest done source p (length (done p)) cell h held.writer j → ⊥)
