@@ -1,0 +1,45 @@
+//! The shared words, and what a process keeps of them.
+
+use mx_sdw::{Desc, Op, Ring};
+
+/// What a descriptor word says: a process's descriptor of a number, or that it is being changed.
+#[derive(Clone, Copy, Debug, PartialEq, Eq)]
+pub enum DescriptorWord {
+    /// The descriptor stands since this entry.
+    Valid { number: u32, desc: Desc },
+    /// The pair was changed by this entry.
+    Fault { number: u32 },
+}
+
+/// What a valid word showed of a segment number: what a process judges on, and what its associative memory has.
+#[derive(Clone, Copy, Debug, PartialEq, Eq)]
+pub struct Triple {
+    /// The segment number.
+    pub segno: u16,
+    /// The entry since which the descriptor stands.
+    pub number: u32,
+    /// The descriptor.
+    pub desc: Desc,
+}
+
+/// What is asked of a segment.
+#[derive(Clone, Copy, Debug, PartialEq, Eq)]
+pub struct Asked {
+    /// The operation.
+    pub op: Op,
+    /// The effective ring.
+    pub ring: Ring,
+    /// The word of the segment.
+    pub word: u16,
+}
+
+/// Where a process stands: it may judge only when it is ready.
+#[derive(Clone, Copy, Debug, PartialEq, Eq)]
+pub enum Stage {
+    /// Its flag is lowered.
+    Outside,
+    /// Its flag is raised, and its connect word not read since.
+    Entering,
+    /// It may judge.
+    Ready,
+}
