@@ -9,7 +9,7 @@ use Rattle.mx_reads.specs.Held.{Held, AreRight}
 use Rattle.mx_reads.specs.KeepLaws.{IsNew}
 use Rattle.mx_core.specs.Append.{CanAppend, with_changes, after_append}
 use Rattle.mx_core.specs.Deeds.{deeds, front, present, holding}
-use Rattle.mx_core.specs.Descriptors.{IsAdmissible}
+use Rattle.mx_sdw.specs.Admissible.{IsAdmissible}
 use Rattle.mx_core.specs.Invariant.{Good}
 use Rattle.mx_core.specs.Laws.{AppendLaw}
 use Rattle.mx_core.specs.Memory.{IsBare, IsMemory}

@@ -7,8 +7,8 @@ use Rattle.std.proofs.lemmas.Option.{slice_get_within}
 use Rattle.mx_sdw.specs.Descriptors.{Descriptor, unknown_desc, gone_desc}
 use Rattle.mx_sdw.specs.declared.descriptors.DescKind.{DescKind}
 use Rattle.mx_sdw.specs.declared.descriptors.DescKind.TheVariants.{Unknown, Gone, Segment}
-use Rattle.mx_core.specs.Append.{IsGoodChange, IsInRange, IsClearAt, IsCoveredAt}
-use Rattle.mx_core.specs.Descriptors.{IsSegment, IsAdmissible}
+use Rattle.mx_core.specs.Append.{IsGoodChange, IsEntryInRange, IsClearAt, IsCoveredAt}
+use Rattle.mx_sdw.specs.Admissible.{IsInRange, IsSegment, IsAdmissible}
 use Rattle.mx_core.specs.Pages.{page_of, covers, gives, covered_anew}
 use Rattle.mx_core.specs.World.{World}
 use Rattle.mx_core.specs.declared.changes.Change.{Change}
@@ -17,21 +17,46 @@ use Rattle.mx_core.proofs.Decide.{Dec, FirstFailing, all_or_first, all_dec, proc
 use Rattle.mx_core.proofs.Descriptors.{same_descriptor}
 use Rattle.mx_core.proofs.OpeningLaw.{unknown_bare}
 
-segment_dec : (d : Descriptor) → Dec (IsSegment d)
-segment_dec d = elim (cases_lt 1024 d.gate) [
-  | inl l ↦ inr (λ is. let a = is.gate in absurd (omega arith))
-  | inr gate ↦ elim (cases_lt 1023 d.page) [
-    | inl l ↦ inr (λ is. let a = is.page in absurd (omega arith))
-    | inr page ↦ elim (cases_lt 0 d.bound) [
-      | inr l ↦ inr (λ is. let a = is.some in absurd (omega arith))
-      | inl some ↦ elim (cases_lt 1024 d.bound) [
-        | inl l ↦ inr (λ is. let a = is.most in absurd (omega arith))
-        | inr most ↦ elim (cases_lt 65536 (64 * d.page + d.bound)) [
-          | inl l ↦ inr (λ is. let a = is.cells in absurd (omega arith))
-          | inr cells ↦ inl (record { gate = gate; page = page; some = some; most = most; cells = cells })
+order_dec : (a b : ℕ) → Dec (a ≤ b)
+order_dec a b = elim (cases_lt b a) [ inl l ↦ inr (λ m. absurd (omega arith)) | inr m ↦ inl m ]
+
+range_of_dec : (d : Descriptor) → Dec (IsInRange d)
+range_of_dec d = elim (order_dec d.brackets.r1 d.brackets.r2) [
+  | inr x ↦ inr (λ is. x is.order.write_first)
+  | inl first ↦ elim (order_dec d.brackets.r2 d.brackets.r3) [
+    | inr x ↦ inr (λ is. x is.order.gate_last)
+    | inl last ↦ elim (order_dec d.brackets.r3 7) [
+      | inr x ↦ inr (λ is. x is.ring)
+      | inl ring ↦ elim (order_dec d.gate 1024) [
+        | inr x ↦ inr (λ is. x is.gate)
+        | inl gate ↦ elim (order_dec d.page 1023) [
+          | inr x ↦ inr (λ is. x is.page)
+          | inl page ↦ elim (order_dec 1 d.bound) [
+            | inr x ↦ inr (λ is. x is.some)
+            | inl some ↦ elim (order_dec d.bound 1024) [
+              | inr x ↦ inr (λ is. x is.most)
+              | inl most ↦ inl (record {
+                order = record { write_first = first; gate_last = last };
+                ring = ring;
+                gate = gate;
+                page = page;
+                some = some;
+                most = most;
+              })
+            ]
+          ]
         ]
       ]
     ]
+  ]
+]
+
+segment_dec : (d : Descriptor) → Dec (IsSegment d)
+segment_dec d = elim (range_of_dec d) [
+  | inr x ↦ inr (λ is. x is.range)
+  | inl range ↦ elim (order_dec (64 * d.page + d.bound) 65536) [
+    | inr x ↦ inr (λ is. x is.cells)
+    | inl cells ↦ inl (record { range = range; cells = cells })
   ]
 ]
 
@@ -221,7 +246,7 @@ page_once_dec given pages = elim
           ]) (λ page l m f g. absurd (omega arith))
     ]
 
-pub range_dec : (w : World) (p : ℕ) (changes : List Change) (given : List Run) → Dec (IsInRange w p changes given)
+pub range_dec : (w : World) (p : ℕ) (changes : List Change) (given : List Run) → Dec (IsEntryInRange w p changes given)
 range_dec w p changes given = elim (process_dec w p) [
   | inr x ↦ inr (λ is. x is.process)
   | inl process ↦ elim (each_dec (IsGoodChange w) changes (good_change_dec w)) [
@@ -248,7 +273,7 @@ range_dec w p changes given = elim (process_dec w p) [
     within : (a : Run) → Dec (a.page + a.pages ≤ 1024)
     within a = elim (cases_lt 1024 (a.page + a.pages)) [ inl l ↦ inr (λ m. absurd (omega arith)) | inr l ↦ inl l ]
 
-pub clear_all : (w : World) (p : ℕ) (changes : List Change) (given : List Run) → IsInRange w p changes given
+pub clear_all : (w : World) (p : ℕ) (changes : List Change) (given : List Run) → IsEntryInRange w p changes given
     → ((page : ℕ) → IsClearAt w given page) ⊎ FirstFailing (IsClearAt w given)
 clear_all w p changes given range = all_or_first (IsClearAt w given) 1024 one
     (λ page l h. let m = page_under given page range.pages h in absurd (omega arith))
@@ -269,7 +294,7 @@ clear_all w p changes given range = all_or_first (IsClearAt w given) 1024 one
           ]
     ]
 
-pub covered_all : (w : World) (p : ℕ) (changes : List Change) (given : List Run) → IsInRange w p changes given
+pub covered_all : (w : World) (p : ℕ) (changes : List Change) (given : List Run) → IsEntryInRange w p changes given
     → ((page : ℕ) → IsCoveredAt w changes given page) ⊎ FirstFailing (IsCoveredAt w changes given)
 covered_all w p changes given range = all_or_first (IsCoveredAt w changes given) 1024 one
     (λ page l h. let m = anew_under changes page (λ i c at. (range.each i c at).desc) h in absurd (omega arith))

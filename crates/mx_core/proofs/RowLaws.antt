@@ -9,7 +9,7 @@ use Rattle.mx_sdw.specs.Descriptors.{Descriptor, unknown_desc}
 use Rattle.mx_sdw.specs.Judging.{judgement}
 use Rattle.mx_core.specs.Append.{IsGoodChange, CanAppend}
 use Rattle.mx_core.specs.Causes.{IsCause}
-use Rattle.mx_core.specs.Descriptors.{IsAdmissible}
+use Rattle.mx_sdw.specs.Admissible.{IsAdmissible}
 use Rattle.mx_core.specs.Row.{data_desc, row_table, row_opening, row_entry, row_steps, RowLaw}
 use Rattle.mx_core.specs.Steps.{CanAll, after}
 use Rattle.mx_core.specs.Words.{DescriptorWord, Valid, Fault}
@@ -52,12 +52,15 @@ data_admissible writable page low = record {
   unknown = λ e. absurd (unlike_kind e);
   gone = λ e. absurd (unlike_gone e);
   segment = λ e. record {
-    gate = omega arith;
-    page = omega arith;
-    some = omega arith;
-    most = omega arith;
-    cells = omega
-        arith;
+    range = record {
+      order = record { write_first = omega arith; gate_last = omega arith };
+      ring = omega arith;
+      gate = omega arith;
+      page = omega arith;
+      some = omega arith;
+      most = omega arith;
+    };
+    cells = omega arith;
   };
 }
 

@@ -1,7 +1,7 @@
 -- Append: an entry of the journal comes.
 use Rattle.std.specs.Prelude.{◌≡◌, ℕ, ◌+◌, ◌<◌, ◌≤◌, IsTrue, ◌&&◌, ◌||◌, not, List, [], ◌∷◌, Some, slice_get}
 use Rattle.mx_sdw.specs.Descriptors.{Descriptor}
-use Rattle.mx_core.specs.Descriptors.{IsAdmissible}
+use Rattle.mx_sdw.specs.Admissible.{IsAdmissible}
 use Rattle.mx_core.specs.Notions.{IsProcess, IsPair, NothingPending}
 use Rattle.mx_core.specs.Pages.{page_of, gives, covered_anew}
 use Rattle.mx_core.specs.Put.{put}
@@ -15,7 +15,7 @@ pub record IsGoodChange (w : World) (change : Change) : Type 0 where
   pub desc : IsAdmissible change.desc
 
 -- the process, the numbers and the pages are in range, and no pair and no page is listed twice
-pub record IsInRange (w : World) (p : ℕ) (changes : List Change) (given : List Run) : Type 0 where
+pub record IsEntryInRange (w : World) (p : ℕ) (changes : List Change) (given : List Run) : Type 0 where
   pub process : IsProcess w p
   pub each : (i : ℕ) (a : Change) → slice_get changes i ≡ Some a → IsGoodChange w a
   pub pair_once : (i j : ℕ) (a b : Change) → slice_get changes i ≡ Some a → slice_get changes j ≡ Some b
@@ -33,7 +33,7 @@ abbrev pub IsCoveredAt : World → List Change → List Run → ℕ → Type 0
 IsCoveredAt w changes given page = IsTrue (covered_anew changes page) → IsTrue (gives given page || w.ready page)
 
 pub record CanAppend (w : World) (p : ℕ) (changes : List Change) (given : List Run) : Type 0 where
-  pub range : IsInRange w p changes given
+  pub range : IsEntryInRange w p changes given
   pub limit : w.length < 262143
   pub rest : NothingPending w
   pub clear : (page : ℕ) → IsClearAt w given page

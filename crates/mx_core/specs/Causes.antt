@@ -4,7 +4,7 @@ use Rattle.std.specs.Prelude.{◌≡◌, ◌≢◌, ℕ, ◌^◌, ◌<◌, ◌�
 use Rattle.mx_sdw.specs.Operations.{writes}
 use Rattle.mx_core.specs.AssociativeMemory.{HasRecall}
 use Rattle.mx_core.specs.Acknowledging.{HasChanged, HasLeft}
-use Rattle.mx_core.specs.Append.{IsInRange, IsClearAt, IsCoveredAt}
+use Rattle.mx_core.specs.Append.{IsEntryInRange, IsClearAt, IsCoveredAt}
 use Rattle.mx_core.specs.Cells.{IsHolding}
 use Rattle.mx_core.specs.FirstFailing.{First, NamesFirst, NamesFirstPair}
 use Rattle.mx_core.specs.Judging.{loads}
@@ -27,7 +27,7 @@ AcknowledgedAt w p = (n : ℕ) → IsChanged w p n → IsTrue (w.process p).ackn
 
 abbrev pub IsCause : World → Step → Cause → Type 0
 IsCause w (Append p changes given) why =
-    First (IsInRange w p changes given) (why ≡ cause.Range)
+    First (IsEntryInRange w p changes given) (why ≡ cause.Range)
     (First (w.length < 262143) (why ≡ cause.Limit)
     (First (NothingPending w) (why ≡ cause.Pending)
     (First ((page : ℕ) → IsClearAt w given page) (NamesFirst (IsClearAt w given) cause.NotClear why)

@@ -5,7 +5,6 @@ pub mod Notions
 pub mod Pages
 pub mod Judging
 pub mod Deeds
-pub mod Descriptors
 pub mod Append
 pub mod Striking
 pub mod Acknowledging

@@ -1,7 +1,7 @@
 -- The opening world: nothing is pending, all words are set, all cells are zero, and every process is outside.
 use Rattle.std.specs.Prelude.{◌≡◌, ℕ, suc, zero, ◌<◌, ◌≤◌, Bool, true, false, not, ◌||◌, [], None}
 use Rattle.mx_sdw.specs.Descriptors.{Descriptor, unknown_desc}
-use Rattle.mx_core.specs.Descriptors.{IsAdmissible}
+use Rattle.mx_sdw.specs.Admissible.{IsAdmissible}
 use Rattle.mx_core.specs.Pages.{page_of, covers}
 use Rattle.mx_core.specs.Words.{Valid, zero_cell}
 use Rattle.mx_core.specs.World.{Process, Outside, World}
