@@ -1,6 +1,7 @@
 pub mod CutLaws
 pub mod FieldLaws
 pub mod KindLaws
+pub mod ClassLaws
 pub mod TakenLaws
 pub mod AgainLaws
 pub mod ForeignLaws

@@ -1,7 +1,7 @@
 pub mod Fields
 pub mod RequestTexts
 pub mod ReplyTexts
-pub mod PathRequests
+pub mod Classes
 pub mod Kinds
 pub mod Cuts
 pub mod Reading

@@ -5,13 +5,15 @@
 //! access lists and the hierarchy's replies.
 #![tactic(auto)]
 
+mod classes;
 mod laws;
 mod reading;
 mod replies;
 mod requests;
 mod writing;
 
-pub use laws::each_request_has_its_own_line;
+pub use classes::RequestClass;
+pub use laws::{each_request_has_its_own_line, the_first_word_tells_who_asks};
 pub use replies::{Known, Reply};
 pub use requests::{Request, Requests};
 
@@ -38,9 +40,9 @@ mod tests {
         Ok(out)
     }
 
-    fn is_path_request(alloc: Global, line: &[u8]) -> Result<bool, Fail> {
+    fn class(alloc: Global, line: &[u8]) -> Result<RequestClass, Fail> {
         let request = Request::read(alloc, line)?.ok_or("a request")?;
-        Ok(request.is_path_request())
+        Ok(request.class())
     }
 
     const PATH_REQUESTS: &[u8] = b"create_dir < 4 4
@@ -64,10 +66,13 @@ logout";
     #[test]
     fn a_line_is_read_and_written_again(rt: HostRuntime) -> Result<(), Fail> {
         let alloc = rt.alloc();
-        for (lines, by_path) in [(PATH_REQUESTS, true), (PROCESS_REQUESTS, false)] {
+        for (lines, own) in [
+            (PATH_REQUESTS, RequestClass::OfPath),
+            (PROCESS_REQUESTS, RequestClass::OfProcess),
+        ] {
             for line in lines.split(|byte| *byte == b'\n') {
                 assert_eq!(rt; written(alloc, line)?.as_slice(), line);
-                assert_eq!(rt; is_path_request(alloc, line)?, by_path);
+                assert_eq!(rt; class(alloc, line)?, own);
             }
         }
         Ok(())

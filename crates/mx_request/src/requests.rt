@@ -2,7 +2,6 @@
 
 ghost use Rattle.std.specs.Prelude.{◌≡◌, ◌++◌, true, Ok, Some, None, IfOk, OnOk, OnErr};
 ghost use Rattle.mx_request.specs.declared.requests.Request.{Request as RequestValue};
-ghost use Rattle.mx_request.specs.PathRequests.{is_path_request};
 ghost use Rattle.mx_request.specs.RequestTexts.{request_text, fits_request};
 
 use crate::reading::read_line;
@@ -13,8 +12,7 @@ use mx_name::{AclId, EntryName, Pathname};
 use mx_sdw::Ring;
 use std::alloc::{AllocError, Global};
 
-/// A supervisor call. Those from `create_dir` to `list` are path requests, which the setup makes too. Brackets need not be in
-/// order, nor a length in its bounds: the supervisor refuses.
+/// A supervisor call. Brackets need not be in order, nor a length in its bounds: the supervisor refuses.
 #[derive(Debug, Drop)]
 pub enum Request {
     /// `create_dir PATH D1 D2`: make a directory.
@@ -111,16 +109,6 @@ impl Request {
                 Err(error)
             }
         }
-    }
-
-    /// Whether the request reaches the hierarchy alone, so that the setup may make it too.
-    pub fn is_path_request(&self) -> bool
-        ensures { result ≡ is_path_request self.now }
-    {
-        !matches!(
-            self,
-            Request::ChangeWdir { .. } | Request::Initiate { .. } | Request::Logout
-        )
     }
 
     /// Another such request.

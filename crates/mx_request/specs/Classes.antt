@@ -1,0 +1,30 @@
+-- Who may make a request: the setup and every process, a process alone, or the supervisor for a process.
+use Rattle.std.specs.Prelude.{ℕ, List, [], ◌∷◌, codes}
+use Rattle.mx_request.specs.declared.classes.RequestClass.{RequestClass}
+use Rattle.mx_request.specs.declared.classes.RequestClass.TheVariants.{OfPath, OfProcess, OfSupervisor}
+use Rattle.mx_request.specs.declared.requests.Request.{Request}
+use Rattle.mx_request.specs.declared.requests.Request.TheVariants.{CreateDir, CreateSeg, CreateLink, Rename, Delete, SetAcl, DelAcl, SetBrackets, SetDirBrackets, Status, List as ListNames, ChangeWdir, Initiate, Logout}
+
+abbrev pub class_of : Request → RequestClass
+class_of (CreateDir path d1 d2) = OfPath
+class_of (CreateSeg path words brackets) = OfPath
+class_of (CreateLink path target) = OfPath
+class_of (Rename path name) = OfPath
+class_of (Delete path) = OfPath
+class_of (SetAcl path id modes) = OfPath
+class_of (DelAcl path id) = OfPath
+class_of (SetBrackets path brackets) = OfPath
+class_of (SetDirBrackets path d1 d2) = OfPath
+class_of (Status path) = OfPath
+class_of (ListNames path) = OfPath
+class_of (ChangeWdir path) = OfProcess
+class_of (Initiate path) = OfProcess
+class_of Logout = OfProcess
+
+-- the same by the first words of their lines
+abbrev pub words_of : RequestClass → List (List ℕ)
+words_of OfPath =
+    codes "create_dir" ∷ codes "create_seg" ∷ codes "create_link" ∷ codes "rename" ∷ codes "delete" ∷ codes "set_acl"
+    ∷ codes "del_acl" ∷ codes "set_brackets" ∷ codes "set_dir_brackets" ∷ codes "status" ∷ codes "list" ∷ []
+words_of OfProcess = codes "change_wdir" ∷ codes "initiate" ∷ codes "logout" ∷ []
+words_of OfSupervisor = []

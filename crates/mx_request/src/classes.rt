@@ -1,0 +1,42 @@
+//! Who may make a request.
+
+ghost use Rattle.std.specs.Prelude.{◌≡◌};
+ghost use Rattle.mx_request.specs.Classes.{class_of};
+
+use crate::requests::Request;
+
+/// Who may make a request. A session's setup has requests on paths alone, a process's script those of the first two classes,
+/// and the journal all three.
+#[derive(Clone, Copy, Debug, PartialEq, Eq)]
+pub enum RequestClass {
+    /// On a path of the hierarchy: the setup makes it, and every process.
+    OfPath,
+    /// On the state of a process: the process alone makes it.
+    OfProcess,
+    /// Entered by the supervisor for a process; no line of a session asks for it. No request yet.
+    OfSupervisor,
+}
+
+impl Request {
+    /// Who may make the request.
+    pub fn class(&self) -> RequestClass
+        ensures { result ≡ class_of self.now }
+    {
+        match self {
+            Request::CreateDir { .. } => RequestClass::OfPath,
+            Request::CreateSeg { .. } => RequestClass::OfPath,
+            Request::CreateLink { .. } => RequestClass::OfPath,
+            Request::Rename { .. } => RequestClass::OfPath,
+            Request::Delete { .. } => RequestClass::OfPath,
+            Request::SetAcl { .. } => RequestClass::OfPath,
+            Request::DelAcl { .. } => RequestClass::OfPath,
+            Request::SetBrackets { .. } => RequestClass::OfPath,
+            Request::SetDirBrackets { .. } => RequestClass::OfPath,
+            Request::Status { .. } => RequestClass::OfPath,
+            Request::List { .. } => RequestClass::OfPath,
+            Request::ChangeWdir { .. } => RequestClass::OfProcess,
+            Request::Initiate { .. } => RequestClass::OfProcess,
+            Request::Logout => RequestClass::OfProcess,
+        }
+    }
+}
