@@ -15,7 +15,8 @@ use Rattle.mx_request.specs.Fields.{line_of, ring_text}
 use Rattle.mx_request.specs.Kinds.{kind_word}
 use Rattle.mx_request.specs.Reading.{create_dir_at, create_seg_at, create_link_at, rename_at, set_acl_at, del_acl_at, set_brackets_at, set_dir_brackets_at, fields_at, request_at}
 use Rattle.mx_request.specs.RequestTexts.{request_text, is_pathname, is_name, is_identifier, is_ring, are_brackets, fits_request}
-use Rattle.mx_request.proofs.CutLaws.{both, some_is, cut_again}
+use Rattle.mx_request.proofs.StepLaws.{both, some_is}
+use Rattle.mx_name.proofs.CutLaws.{cut_again}
 use Rattle.mx_request.proofs.FieldLaws.{words_again, words_free, ring_again, ring_free, brackets_again, brackets_behind}
 use Rattle.mx_request.proofs.KindLaws.{kind_again, kind_bytes, kind_not_logout}
 use Rattle.mx_request.proofs.TakenLaws.{faultless, path_again, path_free, id_again, id_free, request_takes}
@@ -64,7 +65,7 @@ create_link_again path target e =
 rename_again : (path name : List ℕ) → fits_request (Rename path name) ≡ true → rename_at (path ++ 32 ∷ name) ≡ Some (Rename path name)
 rename_again path name e =
     let f = both (is_pathname path) (is_name name) e in
-    rw (cut_again 32 path name (path_free path f.0), path_again path f.0, name_again name (faultless (name_fault name) f.1)) refl
+    rw (cut_again 32 path name (path_free path f.0), name_again name (faultless (name_fault name) f.1), path_again path f.0) refl
 
 set_acl_again : (path : List ℕ) (id : PlainAclId) (modes : Modes) → fits_request (SetAcl path id modes) ≡ true
     → set_acl_at (path ++ 32 ∷ (acl_id_text id ++ 32 ∷ modes_text modes)) ≡ Some (SetAcl path id modes)
@@ -74,15 +75,15 @@ set_acl_again path id modes e =
       cut_again 32 path (acl_id_text id ++ 32 ∷ modes_text modes) (path_free path f.0),
       cut_again 32 (acl_id_text id) (modes_text modes) (id_free id f.1),
       modes_again modes,
-      path_again path f.0,
       id_again id f.1,
+      path_again path f.0,
     ) refl
 
 del_acl_again : (path : List ℕ) (id : PlainAclId) → fits_request (DelAcl path id) ≡ true
     → del_acl_at (path ++ 32 ∷ acl_id_text id) ≡ Some (DelAcl path id)
 del_acl_again path id e =
     let f = both (is_pathname path) (is_identifier id) e in
-    rw (cut_again 32 path (acl_id_text id) (path_free path f.0), path_again path f.0, id_again id f.1) refl
+    rw (cut_again 32 path (acl_id_text id) (path_free path f.0), id_again id f.1, path_again path f.0) refl
 
 set_brackets_again : (path brackets : List ℕ) → fits_request (SetBrackets path brackets) ≡ true
     → set_brackets_at (line_of (path ∷ map ring_text brackets)) ≡ Some (SetBrackets path brackets)

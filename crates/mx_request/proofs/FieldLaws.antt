@@ -8,8 +8,9 @@ use Rattle.std.specs.List.{list_all}
 use Rattle.mx_name.proofs.TextLaws.{all_free}
 use Rattle.mx_name.specs.Names.{is_free}
 use Rattle.mx_sdw.specs.Octal.{begins_number, is_octal_digit}
-use Rattle.mx_request.proofs.CutLaws.{both, some_is, bind_some, when_some, cut_takes, cut_again}
-use Rattle.mx_request.specs.Cuts.{cut_at}
+use Rattle.mx_request.proofs.StepLaws.{both, some_is, bind_some, when_some}
+use Rattle.mx_name.proofs.CutLaws.{cut_takes, cut_again}
+use Rattle.mx_name.specs.Cuts.{cut_at}
 use Rattle.mx_request.specs.Fields.{line_of, ring_text}
 use Rattle.mx_request.specs.Reading.{is_digit, decimal_after, decimal_number, ring_at, brackets_at}
 use Rattle.mx_request.specs.RequestTexts.{is_ring, are_brackets}

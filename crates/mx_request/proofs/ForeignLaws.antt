@@ -16,7 +16,7 @@ use Rattle.mx_request.specs.Fields.{line_of, ring_text}
 use Rattle.mx_request.specs.Kinds.{kind_word}
 use Rattle.mx_request.specs.Reading.{is_digit}
 use Rattle.mx_request.specs.RequestTexts.{request_text, request_fields, is_pathname, is_name, is_identifier, is_ring, are_brackets, fits_request}
-use Rattle.mx_request.proofs.CutLaws.{both, both_hold}
+use Rattle.mx_request.proofs.StepLaws.{both, both_hold}
 use Rattle.mx_request.proofs.FieldLaws.{words_free, ring_free}
 use Rattle.mx_request.proofs.KindLaws.{kind_bytes}
 use Rattle.mx_request.proofs.TakenLaws.{faultless}

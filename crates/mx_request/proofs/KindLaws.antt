@@ -6,7 +6,7 @@ use Rattle.mx_name.specs.Names.{is_name_byte}
 use Rattle.mx_request.specs.declared.reading.kinds.Kind.{Kind}
 use Rattle.mx_request.specs.declared.reading.kinds.Kind.TheVariants.{CreateDir, CreateSeg, CreateLink, Rename, Delete, SetAcl, DelAcl, SetBrackets, SetDirBrackets, Status, List as ListNames, ChangeWdir, Initiate}
 use Rattle.mx_request.specs.Kinds.{kind_of, kind_word, all_kinds}
-use Rattle.mx_request.proofs.CutLaws.{some_is}
+use Rattle.mx_request.proofs.StepLaws.{some_is}
 
 found_passes : (p : Kind → Bool) (all : List Kind) (kind : Kind) → find p all ≡ Some kind → p kind ≡ true
 found_passes p [] kind e = cc

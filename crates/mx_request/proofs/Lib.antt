@@ -1,4 +1,4 @@
-pub mod CutLaws
+pub mod StepLaws
 pub mod FieldLaws
 pub mod KindLaws
 pub mod ClassLaws

@@ -12,12 +12,13 @@ use Rattle.mx_request.specs.declared.requests.Request.{Request}
 use Rattle.mx_request.specs.declared.requests.Request.TheVariants.{Delete, Status, List as ListNames, ChangeWdir, Initiate, Logout}
 use Rattle.mx_request.specs.declared.reading.kinds.Kind.{Kind}
 use Rattle.mx_request.specs.declared.reading.kinds.Kind.TheVariants.{CreateDir as OfCreateDir, CreateSeg as OfCreateSeg, CreateLink as OfCreateLink, Rename as OfRename, Delete as OfDelete, SetAcl as OfSetAcl, DelAcl as OfDelAcl, SetBrackets as OfSetBrackets, SetDirBrackets as OfSetDirBrackets, Status as OfStatus, List as OfList, ChangeWdir as OfChangeWdir, Initiate as OfInitiate}
-use Rattle.mx_request.specs.Cuts.{cut_at}
+use Rattle.mx_name.specs.Cuts.{cut_at}
 use Rattle.mx_request.specs.Fields.{line_of, ring_text}
 use Rattle.mx_request.specs.Kinds.{kind_of, kind_word}
 use Rattle.mx_request.specs.Reading.{decimal_number, ring_at, brackets_at, create_dir_at, create_seg_at, create_link_at, rename_at, delete_at, set_acl_at, del_acl_at, set_brackets_at, set_dir_brackets_at, status_at, list_at, change_wdir_at, initiate_at, fields_at, worded_at, request_at}
 use Rattle.mx_request.specs.RequestTexts.{request_text, is_pathname, is_identifier, fits_request}
-use Rattle.mx_request.proofs.CutLaws.{both_hold, some_is, bind_some, cut_takes}
+use Rattle.mx_request.proofs.StepLaws.{both_hold, some_is, bind_some}
+use Rattle.mx_name.proofs.CutLaws.{cut_takes}
 use Rattle.mx_request.proofs.FieldLaws.{words_takes, ring_takes, brackets_takes}
 use Rattle.mx_request.proofs.KindLaws.{kind_takes}
 
@@ -112,11 +113,11 @@ create_link_takes text request e =
 rename_takes : (text : List ℕ) (request : Request) → rename_at text ≡ Some request → IsLine (codes "rename" ++ 32 ∷ text) request
 rename_takes text request e =
     let p = bind_some (cut_at 32 text) _ request e in
-    let path = bind_some (pathname_of p.0.0) _ request p.2 in
-    let name = bind_some (name_of p.0.1) _ request path.2 in
+    let name = bind_some (name_of p.0.1) _ request p.2 in
+    let path = bind_some (pathname_of p.0.0) _ request name.2 in
     let a = path_takes p.0.0 path.0 path.1 in
     let b = name_takes p.0.1 name.0 name.1 in
-    subst (IsLine (codes "rename" ++ 32 ∷ text)) (some_is _ _ name.2)
+    subst (IsLine (codes "rename" ++ 32 ∷ text)) (some_is _ _ path.2)
     (record {
       spelled = two_parts (codes "rename") path.0 name.0 text p.0.0 p.0.1 (cut_takes 32 text p.0 p.1).0 a.0 b.0;
       fits = both_hold _ _ a.1 (no_fault (name_fault name.0) b.1);
@@ -127,11 +128,11 @@ set_acl_takes text request e =
     let p = bind_some (cut_at 32 text) _ request e in
     let q = bind_some (cut_at 32 p.0.1) _ request p.2 in
     let modes = bind_some (modes_of_text q.0.1) _ request q.2 in
-    let path = bind_some (pathname_of p.0.0) _ request modes.2 in
-    let id = bind_some (acl_id_of q.0.0) _ request path.2 in
+    let id = bind_some (acl_id_of q.0.0) _ request modes.2 in
+    let path = bind_some (pathname_of p.0.0) _ request id.2 in
     let a = path_takes p.0.0 path.0 path.1 in
     let b = id_takes q.0.0 id.0 id.1 in
-    subst (IsLine (codes "set_acl" ++ 32 ∷ text)) (some_is _ _ id.2)
+    subst (IsLine (codes "set_acl" ++ 32 ∷ text)) (some_is _ _ path.2)
     (record {
       spelled = three_parts (codes "set_acl") path.0 (acl_id_text id.0) (modes_text modes.0) text p.0.0 p.0.1 q.0.0 q.0.1
           (cut_takes 32 text p.0 p.1).0 (cut_takes 32 p.0.1 q.0 q.1).0 a.0 b.0 (modes_takes q.0.1 modes.0 modes.1);
@@ -141,11 +142,11 @@ set_acl_takes text request e =
 del_acl_takes : (text : List ℕ) (request : Request) → del_acl_at text ≡ Some request → IsLine (codes "del_acl" ++ 32 ∷ text) request
 del_acl_takes text request e =
     let p = bind_some (cut_at 32 text) _ request e in
-    let path = bind_some (pathname_of p.0.0) _ request p.2 in
-    let id = bind_some (acl_id_of p.0.1) _ request path.2 in
+    let id = bind_some (acl_id_of p.0.1) _ request p.2 in
+    let path = bind_some (pathname_of p.0.0) _ request id.2 in
     let a = path_takes p.0.0 path.0 path.1 in
     let b = id_takes p.0.1 id.0 id.1 in
-    subst (IsLine (codes "del_acl" ++ 32 ∷ text)) (some_is _ _ id.2)
+    subst (IsLine (codes "del_acl" ++ 32 ∷ text)) (some_is _ _ path.2)
     (record {
       spelled = two_parts (codes "del_acl") path.0 (acl_id_text id.0) text p.0.0 p.0.1 (cut_takes 32 text p.0 p.1).0 a.0 b.0;
       fits = both_hold _ _ a.1 b.1;

@@ -22,8 +22,8 @@ kind_word Initiate = codes "initiate"
 
 abbrev pub all_kinds : List Kind
 all_kinds =
-    CreateDir ∷ CreateSeg ∷ CreateLink ∷ Rename ∷ Delete ∷ SetAcl ∷ DelAcl ∷ SetBrackets ∷ SetDirBrackets ∷ Status ∷ ListNames
-    ∷ ChangeWdir ∷ Initiate ∷ []
+    CreateDir ∷ CreateSeg ∷ CreateLink ∷ Rename ∷ Delete ∷ SetAcl ∷ DelAcl ∷ SetBrackets ∷ SetDirBrackets ∷ Status
+    ∷ ListNames ∷ ChangeWdir ∷ Initiate ∷ []
 
 -- the kind that a word names
 abbrev pub kind_of : List ℕ → Option Kind

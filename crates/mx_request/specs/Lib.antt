@@ -3,6 +3,6 @@ pub mod RequestTexts
 pub mod ReplyTexts
 pub mod Classes
 pub mod Kinds
-pub mod Cuts
+pub mod Steps
 pub mod Reading
 pub mod Growth

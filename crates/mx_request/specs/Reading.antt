@@ -1,7 +1,8 @@
--- Helpers that only private contracts cite: what a line is read as, by its first word, and the fields of each kind of line.
+-- Helpers that only private contracts cite: what a line is read as, by its first word, and the fields of each kind.
 use Rattle.std.specs.Prelude.{ℕ, ◌+◌, ◌-◌, ◌*◌, ◌==◌, nat_le, nat_lt, Bool, ◌&&◌, List, [], ◌∷◌, length, Option, None, Some, codes, if◌then◌else◌}
 use Rattle.std.specs.List.{list_all}
 use Rattle.std.specs.Cmp.Lexicographic.{pointwise}
+use Rattle.mx_name.specs.Cuts.{cut_at}
 use Rattle.mx_name.specs.Names.{name_of}
 use Rattle.mx_name.specs.Pathnames.{pathname_of}
 use Rattle.mx_name.specs.Identifiers.{acl_id_of}
@@ -12,7 +13,7 @@ use Rattle.mx_request.specs.declared.requests.Request.TheVariants.{CreateDir, Cr
 use Rattle.mx_request.specs.declared.reading.kinds.Kind.{Kind}
 use Rattle.mx_request.specs.declared.reading.kinds.Kind.TheVariants.{CreateDir as OfCreateDir, CreateSeg as OfCreateSeg, CreateLink as OfCreateLink, Rename as OfRename, Delete as OfDelete, SetAcl as OfSetAcl, DelAcl as OfDelAcl, SetBrackets as OfSetBrackets, SetDirBrackets as OfSetDirBrackets, Status as OfStatus, List as OfList, ChangeWdir as OfChangeWdir, Initiate as OfInitiate}
 use Rattle.mx_request.specs.Kinds.{kind_of}
-use Rattle.mx_request.specs.Cuts.{◌>>=◌, when, cut_at}
+use Rattle.mx_request.specs.Steps.{◌>>=◌, when}
 
 -- a byte from '0' to '9'
 abbrev pub is_digit : ℕ → Bool
@@ -70,8 +71,8 @@ create_link_at text =
 abbrev pub rename_at : List ℕ → Option Request
 rename_at text =
     cut_at 32 text >>= λ p.
-    pathname_of p.0 >>= λ path.
     name_of p.1 >>= λ name.
+    pathname_of p.0 >>= λ path.
     Some (Rename path name)
 
 abbrev pub delete_at : List ℕ → Option Request
@@ -82,15 +83,15 @@ set_acl_at text =
     cut_at 32 text >>= λ p.
     cut_at 32 p.1 >>= λ q.
     modes_of_text q.1 >>= λ modes.
-    pathname_of p.0 >>= λ path.
     acl_id_of q.0 >>= λ id.
+    pathname_of p.0 >>= λ path.
     Some (SetAcl path id modes)
 
 abbrev pub del_acl_at : List ℕ → Option Request
 del_acl_at text =
     cut_at 32 text >>= λ p.
-    pathname_of p.0 >>= λ path.
     acl_id_of p.1 >>= λ id.
+    pathname_of p.0 >>= λ path.
     Some (DelAcl path id)
 
 abbrev pub set_brackets_at : List ℕ → Option Request

@@ -30,8 +30,8 @@ request_fields Logout = codes "logout" ∷ []
 abbrev pub request_text : Request → List ℕ
 request_text request = line_of (request_fields request)
 
--- What a line may say: pathnames, names and identifiers of their grammar, rings to 7, three brackets (in any order), and
--- WORDS of at most five digits.
+-- What a line may say: pathnames, names and identifiers of their grammar, rings to 7, three brackets (in any order),
+-- and WORDS of at most five digits.
 abbrev pub is_pathname : List ℕ → Bool
 is_pathname path = is_none (pathname_fault path)
 

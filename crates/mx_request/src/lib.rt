@@ -1,8 +1,8 @@
 //! Requests and replies: what a process can ask of the supervisor, what it can be answered, and how both are written.
 //!
 //! A request is written as its line in a session's script, and so it stands in the journal. [`Request::read`] gives the
-//! request that a line spells, and `append_to` the line; each is the other's inverse. A reply has one text. Stands on names,
-//! access lists and the hierarchy's replies.
+//! request that a line spells, and `append_to` the line; each is the other's inverse. A reply has one text. Stands on
+//! names, access lists and the hierarchy's replies.
 #![tactic(auto)]
 
 mod classes;
@@ -119,7 +119,7 @@ end";
     // Whether this is the reply's text.
     fn is_text(alloc: Global, reply: &Reply, text: &[u8]) -> Result<bool, Fail> {
         let mut out = Vec::new(alloc);
-        reply.copy()?.append_to(&mut out)?;
+        reply.append_to(&mut out)?;
         Ok(out.as_slice() == text)
     }
 
@@ -190,7 +190,7 @@ end";
     fn names(alloc: Global, texts: &[&[u8]]) -> Result<Reply, Fail> {
         let mut names = Names::new(alloc);
         for text in texts {
-            names.push(EntryName::read(alloc, text)?)?;
+            names.push(EntryName::read(text)?)?;
         }
         Ok(Reply::Names(names))
     }

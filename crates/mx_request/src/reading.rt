@@ -3,15 +3,14 @@
 ghost use Rattle.std.specs.Prelude.{◌≡◌, IfOk};
 ghost use Rattle.mx_request.specs.Reading.{create_dir_at, create_seg_at, create_link_at, rename_at, delete_at, set_acl_at, del_acl_at, set_brackets_at, set_dir_brackets_at, status_at, list_at, change_wdir_at, initiate_at, fields_at, request_at};
 
-mod cutting;
 mod fields;
 mod kinds;
 
 use crate::requests::Request;
-use cutting::cut;
 use fields::{read_brackets, read_id, read_name, read_path, read_ring, read_words};
 use kinds::Kind;
 use mx_acl::Modes;
+use mx_name::cut;
 use std::alloc::{AllocError, Global};
 
 #[tactic(auto, unfolding(crate::specs::Reading::request_at))]
@@ -122,10 +121,10 @@ fn read_rename(alloc: Global, fields: &[u8]) -> Result<Option<Request>, AllocErr
     let Some((path, name)) = cut(b' ', fields) else {
         return Ok(None);
     };
-    let Some(path) = read_path(alloc, path)? else {
+    let Some(name) = read_name(name) else {
         return Ok(None);
     };
-    let Some(name) = read_name(alloc, name)? else {
+    let Some(path) = read_path(alloc, path)? else {
         return Ok(None);
     };
     Ok(Some(Request::Rename { path, name }))
@@ -153,10 +152,10 @@ fn read_set_acl(alloc: Global, fields: &[u8]) -> Result<Option<Request>, AllocEr
     let Some(modes) = Modes::read(modes) else {
         return Ok(None);
     };
-    let Some(path) = read_path(alloc, path)? else {
+    let Some(id) = read_id(id) else {
         return Ok(None);
     };
-    let Some(id) = read_id(alloc, id)? else {
+    let Some(path) = read_path(alloc, path)? else {
         return Ok(None);
     };
     Ok(Some(Request::SetAcl { path, id, modes }))
@@ -169,10 +168,10 @@ fn read_del_acl(alloc: Global, fields: &[u8]) -> Result<Option<Request>, AllocEr
     let Some((path, id)) = cut(b' ', fields) else {
         return Ok(None);
     };
-    let Some(path) = read_path(alloc, path)? else {
+    let Some(id) = read_id(id) else {
         return Ok(None);
     };
-    let Some(id) = read_id(alloc, id)? else {
+    let Some(path) = read_path(alloc, path)? else {
         return Ok(None);
     };
     Ok(Some(Request::DelAcl { path, id }))

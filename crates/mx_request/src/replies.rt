@@ -1,6 +1,6 @@
 //! What the supervisor answers.
 
-ghost use Rattle.std.specs.Prelude.{◌≡◌, ◌++◌, IfOk, OnOk, OnErr};
+ghost use Rattle.std.specs.Prelude.{◌≡◌, ◌++◌, OnOk, OnErr};
 ghost use Rattle.mx_request.specs.ReplyTexts.{reply_text};
 
 use crate::writing::push_reply;
@@ -39,48 +39,4 @@ impl Reply {
             }
         }
     }
-
-    /// Another such reply.
-    pub fn copy(&self) -> Result<Reply, AllocError>
-        ensures { IfOk result (λ reply. reply ≡ self.now) }
-    {
-        match self {
-            Reply::Done => Ok(Reply::Done),
-            Reply::Refused(why) => Ok(Reply::Refused(*why)),
-            Reply::Status(status) => Ok(Reply::Status(copy_status(status)?)),
-            Reply::Names(names) => Ok(Reply::Names(copy_names(names)?)),
-            Reply::Segno(known) => Ok(Reply::Segno(*known)),
-        }
-    }
-}
-
-fn copy_status(status: &Status) -> Result<Status, AllocError>
-    ensures { IfOk result (λ copy. copy ≡ status.now) }
-{
-    match status {
-        Status::Segment {
-            words,
-            brackets,
-            modes,
-        } => Ok(Status::Segment {
-            words: *words,
-            brackets: *brackets,
-            modes: *modes,
-        }),
-        Status::Directory { d1, d2, modes } => Ok(Status::Directory {
-            d1: *d1,
-            d2: *d2,
-            modes: *modes,
-        }),
-        Status::Link { target } => Ok(Status::Link {
-            target: target.copy()?,
-        }),
-    }
-}
-
-fn copy_names(names: &Names) -> Result<Names, AllocError>
-    ensures { IfOk result (λ copy. copy ≡ names.now) }
-{
-    let copy = names.clone()?;
-    Ok(copy)
 }

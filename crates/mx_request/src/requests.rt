@@ -87,11 +87,13 @@ pub enum Request {
 pub type Requests = Sequence<Request>;
 
 impl Request {
-    /// The request whose line this is, without its newline; `None` exactly where no request has this line. WORDS is decimal with
-    /// at most five digits, a ring one digit; the fields have exactly one blank between each two.
+    /// The request whose line this is, without its newline; `None` exactly where no request has this line. WORDS is
+    /// decimal with at most five digits, a ring one digit; the fields have exactly one blank between each two.
     pub fn read(alloc: Global, line: &[u8]) -> Result<Option<Request>, AllocError>
-        ensures found { (request : RequestValue) → result ≡ Ok (Some request) → (request_text request ≡ line.now) × (fits_request request ≡ true) }
-        ensures none { result ≡ Ok None → (request : RequestValue) → fits_request request ≡ true → request_text request ≡ line.now → ⊥ }
+        ensures found { (request : RequestValue) → result ≡ Ok (Some request)
+            → (request_text request ≡ line.now) × (fits_request request ≡ true) }
+        ensures none { result ≡ Ok None
+            → (request : RequestValue) → fits_request request ≡ true → request_text request ≡ line.now → ⊥ }
     {
         read_line(alloc, line)
     }
@@ -111,7 +113,7 @@ impl Request {
         }
     }
 
-    /// Another such request.
+    /// Another such request, which takes memory for its pathnames alone.
     pub fn copy(&self) -> Result<Request, AllocError>
         ensures { IfOk result (λ request. request ≡ self.now) }
     {
@@ -137,23 +139,20 @@ impl Request {
             }
             Request::Rename { path, name } => {
                 let path = path.copy()?;
-                let name = name.copy()?;
-                Ok(Request::Rename { path, name })
+                Ok(Request::Rename { path, name: *name })
             }
             Request::Delete { path } => Ok(Request::Delete { path: path.copy()? }),
             Request::SetAcl { path, id, modes } => {
                 let path = path.copy()?;
-                let id = id.copy()?;
                 Ok(Request::SetAcl {
                     path,
-                    id,
+                    id: *id,
                     modes: *modes,
                 })
             }
             Request::DelAcl { path, id } => {
                 let path = path.copy()?;
-                let id = id.copy()?;
-                Ok(Request::DelAcl { path, id })
+                Ok(Request::DelAcl { path, id: *id })
             }
             Request::SetBrackets { path, brackets } => Ok(Request::SetBrackets {
                 path: path.copy()?,

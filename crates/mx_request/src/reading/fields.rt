@@ -8,8 +8,7 @@ ghost use Rattle.mx_name.specs.Pathnames.{pathname_of};
 ghost use Rattle.mx_sdw.specs.Octal.{begins_number};
 ghost use Rattle.mx_request.specs.Reading.{is_digit, decimal_after, decimal_number, ring_at, brackets_at};
 
-use super::cutting::cut;
-use mx_name::{AclId, EntryName, NameError, Pathname};
+use mx_name::{AclId, EntryName, NameError, Pathname, cut};
 use mx_sdw::Ring;
 use std::alloc::{AllocError, Global};
 
@@ -23,24 +22,16 @@ pub(super) fn read_path(alloc: Global, text: &[u8]) -> Result<Option<Pathname>, 
     }
 }
 
-pub(super) fn read_name(alloc: Global, text: &[u8]) -> Result<Option<EntryName>, AllocError>
-    ensures { IfOk result (λ name. name ≡ name_of text.now) }
+pub(super) fn read_name(text: &[u8]) -> Option<EntryName>
+    ensures { result ≡ name_of text.now }
 {
-    match EntryName::read(alloc, text) {
-        Ok(name) => Ok(Some(name)),
-        Err(NameError::Memory) => Err(AllocError),
-        Err(_) => Ok(None),
-    }
+    EntryName::read(text).ok()
 }
 
-pub(super) fn read_id(alloc: Global, text: &[u8]) -> Result<Option<AclId>, AllocError>
-    ensures { IfOk result (λ id. id ≡ acl_id_of text.now) }
+pub(super) fn read_id(text: &[u8]) -> Option<AclId>
+    ensures { result ≡ acl_id_of text.now }
 {
-    match AclId::read(alloc, text) {
-        Ok(id) => Ok(Some(id)),
-        Err(NameError::Memory) => Err(AllocError),
-        Err(_) => Ok(None),
-    }
+    AclId::read(text).ok()
 }
 
 /// R1, R2 and R3.

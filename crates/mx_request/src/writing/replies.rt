@@ -61,7 +61,8 @@ fn push_segment(
     brackets: &Brackets,
     modes: &Modes,
 ) -> Result<(), AllocError>
-    ensures ok { OnOk result (out.new.items ≡ out.old.items ++ line_of (status_fields (Segment words brackets.now modes.now))) }
+    ensures ok { OnOk result (out.new.items
+        ≡ out.old.items ++ line_of (status_fields (Segment words brackets.now modes.now))) }
     ensures err { OnErr result (IsGrown out.old.items out.new.items) }
 {
     push_words(out, b"segment words", words)?;
@@ -95,7 +96,8 @@ fn push_brackets(out: &mut Vec<u8>, label: &[u8], brackets: &Brackets) -> Result
 }
 
 fn push_pair(out: &mut Vec<u8>, label: &[u8], d1: Ring, d2: Ring) -> Result<(), AllocError>
-    ensures ok { OnOk result (out.new.items ≡ out.old.items ++ (label.now ++ blank_before (ring_text d1 ∷ ring_text d2 ∷ []))) }
+    ensures ok { OnOk result (out.new.items
+        ≡ out.old.items ++ (label.now ++ blank_before (ring_text d1 ∷ ring_text d2 ∷ []))) }
     ensures err { OnErr result (IsGrown out.old.items out.new.items) }
 {
     out.extend_from_slice(label)?;

@@ -91,7 +91,8 @@ fn push_dir(
     d1: Ring,
     d2: Ring,
 ) -> Result<(), AllocError>
-    ensures ok { OnOk result (out.new.items ≡ out.old.items ++ line_of (word.now ∷ path.now ∷ ring_text d1 ∷ ring_text d2 ∷ [])) }
+    ensures ok { OnOk result (out.new.items
+        ≡ out.old.items ++ line_of (word.now ∷ path.now ∷ ring_text d1 ∷ ring_text d2 ∷ [])) }
     ensures err { OnErr result (IsGrown out.old.items out.new.items) }
 {
     push_path(out, word, path)?;
@@ -107,7 +108,8 @@ fn push_brackets(
     path: &Pathname,
     brackets: &[Ring; 3],
 ) -> Result<(), AllocError>
-    ensures ok { OnOk result (out.new.items ≡ out.old.items ++ line_of (word.now ∷ path.now ∷ map ring_text brackets.now)) }
+    ensures ok { OnOk result (out.new.items
+        ≡ out.old.items ++ line_of (word.now ∷ path.now ∷ map ring_text brackets.now)) }
     ensures err { OnErr result (IsGrown out.old.items out.new.items) }
 {
     push_path(out, word, path)?;
@@ -123,7 +125,8 @@ fn push_seg(
     words: u32,
     brackets: &[Ring; 3],
 ) -> Result<(), AllocError>
-    ensures ok { OnOk result (out.new.items ≡ out.old.items ++ line_of (word.now ∷ path.now ∷ decimal words ∷ map ring_text brackets.now)) }
+    ensures ok { OnOk result (out.new.items
+        ≡ out.old.items ++ line_of (word.now ∷ path.now ∷ decimal words ∷ map ring_text brackets.now)) }
     ensures err { OnErr result (IsGrown out.old.items out.new.items) }
 {
     push_path(out, word, path)?;
@@ -139,7 +142,8 @@ fn push_entry(
     id: &AclId,
     modes: &Modes,
 ) -> Result<(), AllocError>
-    ensures ok { OnOk result (out.new.items ≡ out.old.items ++ line_of (word.now ∷ path.now ∷ acl_id_text id.now ∷ modes_text modes.now ∷ [])) }
+    ensures ok { OnOk result (out.new.items
+        ≡ out.old.items ++ line_of (word.now ∷ path.now ∷ acl_id_text id.now ∷ modes_text modes.now ∷ [])) }
     ensures err { OnErr result (IsGrown out.old.items out.new.items) }
 {
     push_id(out, word, path, id)?;
@@ -148,7 +152,8 @@ fn push_entry(
 
 /// `WORD PATH ID`
 fn push_id(out: &mut Vec<u8>, word: &[u8], path: &Pathname, id: &AclId) -> Result<(), AllocError>
-    ensures ok { OnOk result (out.new.items ≡ out.old.items ++ line_of (word.now ∷ path.now ∷ acl_id_text id.now ∷ [])) }
+    ensures ok { OnOk result (out.new.items
+        ≡ out.old.items ++ line_of (word.now ∷ path.now ∷ acl_id_text id.now ∷ [])) }
     ensures err { OnErr result (IsGrown out.old.items out.new.items) }
 {
     push_path(out, word, path)?;
