@@ -1,41 +1,113 @@
--- What a request on the hierarchy gives the plain supervisor.
-use Rattle.std.proofs.Common.{◌≡◌, ℕ, List, Result, Ok, Err, refl, sym, subst, [], arith}
+-- What a request on the hierarchy comes to.
+use Rattle.std.proofs.Common.{◌≡◌, ℕ, zero, suc, ◌∷◌, List, Result, Ok, Err, refl, sym, subst, ap, ◌∙◌, [], arith}
+use Rattle.std.specs.List.{All}
+use Rattle.mx_core.specs.declared.changes.Change.{Change}
+use Rattle.mx_sdw.specs.Admissible.{IsAdmissible}
 use Rattle.mx_name.specs.Principals.{PlainPrincipal}
 use Rattle.mx_hier.specs.Branches.{Hierarchy}
-use Rattle.mx_hier.specs.Rules.{Answer, Answers}
+use Rattle.mx_hier.specs.Callers.{Caller}
+use Rattle.mx_hier.specs.Rules.{Answers, onward}
 use Rattle.mx_hier.specs.declared.refusals.HierError.{HierError}
-use Rattle.mx_hier.specs.declared.refusals.HierError.TheVariants as given
-use Rattle.mx_state.specs.declared.changes.Change.{Change}
+use Rattle.mx_hier.specs.declared.refusals.HierError.TheVariants as fault
+use Rattle.mx_hier.specs.declared.refusals.Refusal.{Refusal}
+use Rattle.mx_request.specs.declared.requests.Request.{Request}
+use Rattle.mx_request.specs.declared.replies.Reply.{Reply}
+use Rattle.mx_request.specs.declared.replies.Reply.TheVariants.{Done, Refused}
+use Rattle.mx_state.specs.declared.applied.Applied.{Applied}
 use Rattle.mx_state.specs.declared.states.ProcessState.{ProcessState}
-use Rattle.mx_state.specs.Changes.{AreChanges}
-use Rattle.mx_state.specs.Plain.{Plain}
+use Rattle.mx_state.specs.Askers.{Asker, Initializer, Process, Nobody, asker, answered_caller, on_path}
+use Rattle.mx_state.specs.Calling.{IsCallerOf}
+use Rattle.mx_state.specs.Changes.{AreChanges, IsBounded}
+use Rattle.mx_state.specs.Plain.{Plain, Answer, answer}
+use Rattle.mx_state.specs.Replies.{Says}
+use Rattle.mx_state.specs.Requests.{changed, plain}
+use Rattle.mx_state.specs.Serving.{Serves}
 use Rattle.mx_state.specs.Sound.{IsSound, HoldsSound}
-use Rattle.mx_state.proofs.Descriptors.{quiet, grown_is_sound, changes_at}
-use Rattle.mx_state.proofs.SegmentLaws.{IsAsBefore, Nothing}
+use Rattle.mx_state.proofs.Descriptors.{quiet, grown_is_sound, changes_are_bounded}
+use Rattle.mx_state.proofs.SegmentLaws.{IsAsBefore, Nothing, Leaves, as_it_was}
 
 -- the state as its parts
 abbrev pub plain_state : Hierarchy → List ProcessState → Plain
 plain_state h processes = record { hierarchy = h; processes = processes }
 
--- whatever the call came to, the hierarchy is as before
-pub after_call : {A : Type 0} (but : ℕ → Type 0) (meant : Answer A) (h k : Hierarchy) (call : Result A HierError)
-    → Answers meant h call k → IsAsBefore but h meant.after → IsAsBefore but h k
-after_call but meant h k (Ok value) says before = subst (IsAsBefore but h) says.1 before
-after_call but meant h k (Err (given.Refused why)) says before = subst (IsAsBefore but h) says.1 before
-after_call but meant h k (Err given.Memory) says before = subst (IsAsBefore but h) (sym says) (record { same = λ uid below apart. refl; next = omega arith })
+-- the answer to a request on a path is that to its caller
+pub to_caller : (s : Plain) (a : Asker) (ring : ℕ) (who : Caller) (given : Caller → Answer) → IsCallerOf a ring who
+    → answered_caller s a ring given ≡ given who
+to_caller s Initializer ring who given is = ap given (sym is)
+to_caller s (Process process) ring who given is = ap given (sym is)
+to_caller s Nobody ring who given is = absurd is
 
-pub call_is_sound : {A : Type 0} (but : ℕ → Type 0) (meant : Answer A) (h k : Hierarchy) (processes : List ProcessState) (principal : PlainPrincipal)
-    (root : List (List ℕ)) (call : Result A HierError) → Answers meant h call k → IsAsBefore but h meant.after
+-- what follows where an entry was found
+pub found : {A : Type 0} (given : Result ℕ Refusal) (rest : ℕ → Result A Refusal) (uid : ℕ) → given ≡ Ok uid → onward given rest ≡ rest uid
+found given rest uid e = ap (λ given. onward given rest) e
+
+-- whatever the call came to, the segments stand as it is meant
+pub after_call : (but : ℕ → Type 0) (meant : Result Hierarchy Refusal) (h k : Hierarchy) (call : Result (Unit {0}) HierError)
+    → Answers meant h call k → Leaves but h meant → IsAsBefore but h k
+after_call but meant h k (Ok done) says leaves = leaves k says
+after_call but meant h k (Err (fault.Refused why)) says leaves = subst (IsAsBefore but h) (sym says.1) (as_it_was but h)
+after_call but meant h k (Err fault.Memory) says leaves = subst (IsAsBefore but h) (sym says) (as_it_was but h)
+
+pub call_is_sound : (but : ℕ → Type 0) (meant : Result Hierarchy Refusal) (h k : Hierarchy) (processes : List ProcessState)
+    (principal : PlainPrincipal) (root : List (List ℕ)) (call : Result (Unit {0}) HierError) → Answers meant h call k → Leaves but h meant
     → HoldsSound principal root (plain_state h processes) → HoldsSound principal root (plain_state k processes)
-call_is_sound but meant h k processes principal root call says before holds = record {
+call_is_sound but meant h k processes principal root call says leaves holds = record {
   initializer_is = holds.initializer_is;
   root_is = holds.root_is;
-  sound = grown_is_sound but (plain_state h processes) k holds.sound (after_call but meant h k call says before);
+  sound = grown_is_sound but (plain_state h processes) k holds.sound (after_call but meant h k call says leaves);
 }
 
-pub call_is_quiet : {A : Type 0} (meant : Answer A) (h k : Hierarchy) (processes : List ProcessState) (s : Plain) (changes : List Change)
-    (call : Result A HierError) → Answers meant h call k → IsAsBefore Nothing h meant.after → IsSound (plain_state h processes)
-    → plain_state h processes ≡ s → changes ≡ [] → AreChanges s (plain_state k processes) changes
-call_is_quiet meant h k processes s changes call says before sound seen none =
-    changes_at (plain_state h processes) (plain_state k processes) s (plain_state k processes) [] changes seen refl none
-    (quiet (plain_state h processes) k sound (after_call Nothing meant h k call says before))
+changed_as : (h k : Hierarchy) (processes : List ProcessState) (meant : Result Hierarchy Refusal) (call : Result (Unit {0}) HierError) (reply : Reply)
+    → Answers meant h call k → Says call (Ok reply) → changed (plain_state h processes) meant ≡ answer reply (plain_state k processes)
+changed_as h k processes meant (Ok done) reply answers says =
+    let same : reply ≡ Done = cc in rw (answers, same) refl
+changed_as h k processes meant (Err (fault.Refused why)) reply answers says =
+    let same : reply ≡ Refused why = cc in rw (answers.0, same, answers.1) refl
+changed_as h k processes meant (Err fault.Memory) reply answers says = cc
+
+-- the same of the state that the program's stands for
+pub of_old : (h : Hierarchy) (processes : List ProcessState) (old new : Plain) (p ring : ℕ) (request : Request) (applied : Applied)
+    → plain_state h processes ≡ old → Serves (plain_state h processes) new (plain (plain_state h processes) p ring request) applied
+    → Serves old new (plain old p ring request) applied
+of_old h processes old new p ring request applied e serves = subst (λ s. Serves s new (plain s p ring request) applied) e serves
+
+-- no changes at all
+pub nothing_is_bounded : All IsBounded []
+nothing_is_bounded k d within = absurd (omega arith)
+
+-- a request that changes the hierarchy, and no segment that stood
+pub quiet_serves : (f : Caller → Result Hierarchy Refusal) (meant : Result Hierarchy Refusal) (h k : Hierarchy) (processes : List ProcessState)
+    (p ring : ℕ) (who : Caller) (call : Result (Unit {0}) HierError) (reply : Reply) (applied : Applied)
+    → IsCallerOf (asker processes p) ring who → f who ≡ meant → Answers meant h call k → Says call (Ok reply) → Leaves Nothing h meant
+    → IsSound (plain_state h processes) → applied ≡ record { reply = reply; changes = [] }
+    → Serves (plain_state h processes) (plain_state k processes)
+    (on_path (plain_state h processes) p ring (λ who. changed (plain_state h processes) (f who))) applied
+quiet_serves f meant h k processes p ring who call reply applied is same answers says leaves sound e = rw e (record {
+  as_meant = to_caller (plain_state h processes) (asker processes p) ring who (λ who. changed (plain_state h processes) (f who)) is
+      ∙ ap (changed (plain_state h processes)) same ∙ changed_as h k processes meant call reply answers says;
+  changes = quiet (plain_state h processes) k sound (after_call Nothing meant h k call answers leaves);
+  bounded = nothing_is_bounded;
+  count = refl;
+})
+
+-- one that changes one segment
+pub loud_serves : (f : Caller → Result Hierarchy Refusal) (meant : Result Hierarchy Refusal) (h k : Hierarchy) (processes : List ProcessState)
+    (p ring : ℕ) (who : Caller) (call : Result (Unit {0}) HierError) (reply : Reply) (changes : List Change)
+    → IsCallerOf (asker processes p) ring who → f who ≡ meant → Answers meant h call k → Says call (Ok reply)
+    → IsSound (plain_state h processes) → AreChanges (plain_state h processes) (plain_state k processes) changes
+    → All (λ c. IsAdmissible c.desc) changes
+    → Serves (plain_state h processes) (plain_state k processes)
+    (on_path (plain_state h processes) p ring (λ who. changed (plain_state h processes) (f who)))
+    (record { reply = reply; changes = changes })
+loud_serves f meant h k processes p ring who call reply changes is same answers says sound are admissible = record {
+  as_meant = to_caller (plain_state h processes) (asker processes p) ring who (λ who. changed (plain_state h processes) (f who)) is
+      ∙ ap (changed (plain_state h processes)) same ∙ changed_as h k processes meant call reply answers says;
+  changes = are;
+  bounded = changes_are_bounded (plain_state h processes) (plain_state k processes) changes sound refl are admissible;
+  count = refl;
+}
+
+-- one change to an admissible descriptor
+pub one_is_admissible : (c : Change) → IsAdmissible c.desc → All (λ c. IsAdmissible c.desc) (c ∷ [])
+one_is_admissible c fits zero d within = fits
+one_is_admissible c fits (suc k) d within = absurd (omega arith)

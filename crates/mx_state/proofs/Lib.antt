@@ -1,9 +1,10 @@
 pub mod Lists
 pub mod UidLaws
+pub mod NumberLaws
 pub mod OpeningLaws
 pub mod SegmentLaws
-pub mod EqualLaws
 pub mod Descriptors
 pub mod AnswerLaws
 pub mod ProcessLaws
 pub mod RenewingLaws
+pub mod LeavingLaws

@@ -1,27 +1,27 @@
 -- A request that changes one segment changes the descriptors of it that are renewed, and no other.
-use Rattle.std.proofs.Common.{◌≡◌, ◌≢◌, ◌⊎◌, ◌≤◌, ◌<◌, ◌+◌, ◌-◌, ℕ, zero, suc, List, [], ◌∷◌, length, get_or, Option, Some, None, Bool, true, false, cond, inl, inr, refl, ap, sym, ◌∙◌, subst, slice_get, Result, arith}
+use Rattle.std.proofs.Common.{◌≡◌, ◌≢◌, ◌⊎◌, ◌+◌, ◌-◌, ℕ, zero, suc, List, [], ◌∷◌, ◌++◌, get_or, Option, Some, None, Bool, true, false, cond, inl, inr, refl, ap, sym, ◌∙◌, subst, slice_get, arith}
 use Rattle.std.proofs.lemmas.Bool.{cases_eq}
-use Rattle.std.proofs.lemmas.List.Elements.{Contains-get_or, Contains-append_right}
+use Rattle.std.proofs.lemmas.List.Elements.{All-append, Contains-get_or, Contains-append_right}
 use Rattle.std.proofs.lemmas.List.Kept.{AllPairs-cons}
-use Rattle.std.proofs.lemmas.Option.{slice_get_within}
-use Rattle.std.specs.List.{Contains, AllPairs}
+use Rattle.std.specs.List.{All, Contains, AllPairs}
+use Rattle.mx_core.specs.declared.changes.Change.{Change}
+use Rattle.mx_sdw.specs.Admissible.{IsAdmissible}
+use Rattle.mx_sdw.proofs.SameLaws.{descs_are, descs_apart}
 use Rattle.mx_sdw.specs.Descriptors.{Descriptor}
+use Rattle.mx_sdw.specs.Same.{same_desc}
 use Rattle.mx_hier.specs.Branches.{Hierarchy}
-use Rattle.mx_hier.specs.Rules.{Answer, Answers}
-use Rattle.mx_hier.specs.declared.refusals.HierError.{HierError}
-use Rattle.mx_state.specs.declared.changes.Change.{Change}
 use Rattle.mx_state.specs.declared.states.ProcessState.{ProcessState}
 use Rattle.mx_state.specs.Changes.{change, AreChanges, IsBefore}
-use Rattle.mx_state.specs.Knowing.{segno_of}
-use Rattle.mx_state.specs.Plain.{Plain}
-use Rattle.mx_state.specs.Renewing.{held_by, held_from, same_desc, renewed_as, renewed}
+use Rattle.mx_state.specs.Numbers.{Stands, Nothing, Stack, Branch, segno_of, stands_for}
+use Rattle.mx_state.specs.Plain.{Plain, process_at}
+use Rattle.mx_state.specs.Renewing.{held_by, held_from, renewed_as, renewed}
 use Rattle.mx_state.specs.Sound.{IsSound}
 use Rattle.mx_state.specs.Table.{descriptor}
-use Rattle.mx_state.proofs.AnswerLaws.{plain_state, after_call}
-use Rattle.mx_state.proofs.Descriptors.{same_unless, changes_at}
-use Rattle.mx_state.proofs.EqualLaws.{descs_are, descs_apart}
-use Rattle.mx_state.proofs.Lists.{Contains-first, Contains-cases, nothing_contained, AllPairs-none, some_in}
-use Rattle.mx_state.proofs.SegmentLaws.{IsAsBefore}
+use Rattle.mx_state.proofs.AnswerLaws.{plain_state, one_is_admissible}
+use Rattle.mx_state.proofs.Descriptors.{is_there, same_unless}
+use Rattle.mx_state.proofs.Lists.{Contains-first, Contains-cases, nothing_contained, AllPairs-none}
+use Rattle.mx_state.proofs.NumberLaws.{place_of}
+use Rattle.mx_state.proofs.SegmentLaws.{IsAsBefore, Only}
 
 -- where a held descriptor comes from
 record IsHeld (s : Plain) (first : ℕ) (processes : List ProcessState) (uid : ℕ) (c : Change) : Type 0 where
@@ -136,14 +136,47 @@ in_order s t first (x ∷ xs) uid = by_number (segno_of x.known uid) (in_order s
     by_number None later = later
     by_number (Some n) later = by_test (same_desc (descriptor s first n) (descriptor t first n)) n later
 
-renewing_changes : (s : Plain) (h : Hierarchy) (uid : ℕ) → IsSound s → IsAsBefore (λ u. u ≡ uid) s.hierarchy h
+-- a number stands for the segment in a process that is there, or it does not
+record KnowsAs (s : Plain) (p n uid : ℕ) : Type 0 where
+  process : ProcessState
+  there : process_at s.processes p ≡ Some process
+  stands : stands_for process.known n ≡ Branch uid
+
+abbrev IsApart : Plain → ℕ → ℕ → ℕ → Type 0
+IsApart s p n uid = (process : ProcessState) (other : ℕ) → process_at s.processes p ≡ Some process → stands_for process.known n ≡ Branch other
+    → Only uid other → ⊥
+
+known_or_apart : (s : Plain) (p n uid : ℕ) → KnowsAs s p n uid ⊎ IsApart s p n uid
+known_or_apart s p n uid = by_process (process_at s.processes p) refl
+  where
+    again : (process other : ProcessState) (x : Stands) (own : ℕ) → process_at s.processes p ≡ Some process → process_at s.processes p ≡ Some other
+        → stands_for process.known n ≡ x → stands_for other.known n ≡ Branch own → x ≡ Branch own
+    again process other x own e f g k =
+        let same : process ≡ other = cc in
+        sym g ∙ rw same k
+
+    by_standing : (process : ProcessState) → process_at s.processes p ≡ Some process → (x : Stands) → stands_for process.known n ≡ x
+        → KnowsAs s p n uid ⊎ IsApart s p n uid
+    by_standing process e Nothing g = inr (λ other own f k same. let z = again process other Nothing own e f g k in cc)
+    by_standing process e (Stack ring) g = inr (λ other own f k same. let z = again process other (Stack ring) own e f g k in cc)
+    by_standing process e (Branch v) g =
+        elim (cases_eq v uid) [
+          | inl same ↦ inl (record { process = process; there = e; stands = g ∙ ap (λ u. Branch u) same })
+          | inr apart ↦ inr (λ other own f k same.
+              let z = again process other (Branch v) own e f g k in
+              let here : v ≡ own = cc in
+              apart (here ∙ same))
+        ]
+
+    by_process : (o : Option ProcessState) → process_at s.processes p ≡ o → KnowsAs s p n uid ⊎ IsApart s p n uid
+    by_process None e = inr (λ other own f k same. let z = sym e ∙ f in cc)
+    by_process (Some process) e = by_standing process e (stands_for process.known n) refl
+
+renewing_changes : (s : Plain) (h : Hierarchy) (uid : ℕ) → IsSound s → IsAsBefore (Only uid) s.hierarchy h
     → AreChanges s (record s { hierarchy = h }) (renewed (record s { hierarchy = h }) (held_from s 1 s.processes uid))
 renewing_changes s h uid sound before = record {
   each = λ p n d c. each_one p n d (is_renewed t held (change p n d) c);
-  all = λ p n low high differ.
-      let l : p - 1 < length s.processes = omega arith in
-      let w = some_in s.processes (p - 1) l in
-      by_test p n low w.0 w.1 differ (same_desc (descriptor s p n) (descriptor t p n)) refl;
+  all = λ p n differ. by_test p n differ (same_desc (descriptor s p n) (descriptor t p n)) refl;
   ordered = in_order s t 1 s.processes uid;
 }
   where
@@ -153,57 +186,49 @@ renewing_changes s h uid sound before = record {
     held : List Change
     held = held_from s 1 s.processes uid
 
-    each_one : (p n : ℕ) (d : Descriptor) → IsRenewed t held (change p n d)
-        → (descriptor t p n ≡ d) × (descriptor s p n ≢ d) × (1 ≤ p) × (p ≤ length t.processes)
+    each_one : (p n : ℕ) (d : Descriptor) → IsRenewed t held (change p n d) → (descriptor t p n ≡ d) × (descriptor s p n ≢ d)
     each_one p n d r =
         let own = is_held s 1 s.processes uid r.old r.there in
-        let within = slice_get_within s.processes own.place own.process own.there in
-        let P : Change → Type 0 = λ c. (descriptor t c.process c.segno ≡ c.desc) × (descriptor s c.process c.segno ≢ c.desc) × (1 ≤ c.process) × (c.process ≤ length t.processes) in
+        let P : Change → Type 0 = λ c. (descriptor t c.process c.segno ≡ c.desc) × (descriptor s c.process c.segno ≢ c.desc) in
         subst P r.is (
           refl,
           (λ same. descs_apart r.old.desc (descriptor t r.old.process r.old.segno) r.differs (own.desc ∙ same)),
-          omega (arith, own.number),
-          omega (arith, own.number, within),
         )
 
-    other_uid : (p n : ℕ) (process : ProcessState) → 1 ≤ p → slice_get s.processes (p - 1) ≡ Some process → descriptor s p n ≢ descriptor t p n
-        → ((u : ℕ) → 8 ≤ n → slice_get process.known (n - 8) ≡ Some u → u ≡ uid → ⊥) → ⊥
-    other_uid p n process low there differ apart =
-        differ (same_unless (λ u. u ≡ uid) s h p n process sound before low there apart)
+    -- the segment's number in a process that knows it
+    own_number : (p n : ℕ) (process : ProcessState) → process_at s.processes p ≡ Some process → stands_for process.known n ≡ Branch uid
+        → segno_of process.known uid ≡ Some n
+    own_number p n process e stands =
+        let there = is_there s.processes p process e in
+        let place = place_of process.known n uid stands in
+        let number : 8 + (n - 8) ≡ n = omega (arith, place.low) in
+        (sound.processes (p - 1) process there.place).once (n - 8) uid place.there ∙ ap (λ k. Some k) number
 
-    by_uid : (p n : ℕ) (process : ProcessState) → 1 ≤ p → slice_get s.processes (p - 1) ≡ Some process
-        → descriptor s p n ≢ descriptor t p n → (o : Option ℕ) → segno_of process.known uid ≡ o → segno_of process.known uid ≡ Some n
-    by_uid p n process low there differ None e =
-        absurd (other_uid p n process low there differ (λ u above at same.
-        let once : segno_of process.known u ≡ Some (n - 8 + 8) = (sound.processes (p - 1) process there).once (n - 8) u at in
-        let own : segno_of process.known uid ≡ Some (n - 8 + 8) = subst (λ v. segno_of process.known v ≡ Some (n - 8 + 8)) same once in
-        cc))
-    by_uid p n process low there differ (Some m) e = by_number (cases_eq m n)
-      where
-        by_number : (m ≡ n) ⊎ (m ≡ n → ⊥) → segno_of process.known uid ≡ Some n
-        by_number (inl same) = e ∙ ap (λ k. Some k) same
-        by_number (inr apart) =
-            absurd (other_uid p n process low there differ (λ u above at same.
-            let once : segno_of process.known u ≡ Some (n - 8 + 8) = (sound.processes (p - 1) process there).once (n - 8) u at in
-            let own : segno_of process.known uid ≡ Some (n - 8 + 8) = subst (λ v. segno_of process.known v ≡ Some (n - 8 + 8)) same once in
-            let both : m ≡ n - 8 + 8 = let f = sym e ∙ own in cc in
-            apart (omega arith)))
+    was_held : (p n : ℕ) (process : ProcessState) → process_at s.processes p ≡ Some process → stands_for process.known n ≡ Branch uid
+        → Contains held (change p n (descriptor s p n))
+    was_held p n process e stands =
+        let there = is_there s.processes p process e in
+        all_held s 1 s.processes uid (p - 1) p n process (omega (arith, there.low)) there.place (own_number p n process e stands)
 
-    by_test : (p n : ℕ) → 1 ≤ p → (process : ProcessState) → slice_get s.processes (p - 1) ≡ Some process → descriptor s p n ≢ descriptor t p n
-        → (same : Bool) → same_desc (descriptor s p n) (descriptor t p n) ≡ same
+    by_known : (p n : ℕ) → descriptor s p n ≢ descriptor t p n → same_desc (descriptor s p n) (descriptor t p n) ≡ false
+        → KnowsAs s p n uid ⊎ IsApart s p n uid → Contains (renewed t held) (change p n (descriptor t p n))
+    by_known p n differ e (inl knows) =
+        all_renewed t held p n (descriptor s p n) (was_held p n knows.process knows.there knows.stands) e
+    by_known p n differ e (inr apart) = absurd (differ (same_unless (Only uid) s h p n sound before apart))
+
+    by_test : (p n : ℕ) → descriptor s p n ≢ descriptor t p n → (same : Bool) → same_desc (descriptor s p n) (descriptor t p n) ≡ same
         → Contains (renewed t held) (change p n (descriptor t p n))
-    by_test p n low process there differ true e = absurd (differ (descs_are (descriptor s p n) (descriptor t p n) e))
-    by_test p n low process there differ false e =
-        all_renewed t held p n (descriptor s p n)
-        (all_held s 1 s.processes uid (p - 1) p n process (omega arith) there (by_uid p n process low there differ (segno_of process.known uid) refl)) e
+    by_test p n differ true e = absurd (differ (descs_are (descriptor s p n) (descriptor t p n) e))
+    by_test p n differ false e = by_known p n differ e (known_or_apart s p n uid)
 
 -- the same as the program's steps
-pub call_renews : {A : Type 0} (meant : Answer A) (h k : Hierarchy) (processes : List ProcessState) (uid : ℕ) (s : Plain) (changes held : List Change)
-    (call : Result A HierError) → Answers meant h call k → IsAsBefore (λ u. u ≡ uid) h meant.after → IsSound (plain_state h processes)
-    → plain_state h processes ≡ s → held ≡ held_from (plain_state h processes) 1 processes uid → changes ≡ renewed (plain_state k processes) held
-    → AreChanges s (plain_state k processes) changes
-call_renews meant h k processes uid s changes held call says before sound seen first then =
-    changes_at (plain_state h processes) (plain_state k processes) s (plain_state k processes)
-    (renewed (plain_state k processes) (held_from (plain_state h processes) 1 processes uid)) changes seen refl
-    (then ∙ ap (renewed (plain_state k processes)) first)
-    (renewing_changes (plain_state h processes) k uid sound (after_call (λ u. u ≡ uid) meant h k call says before))
+pub renewed_are : (h k : Hierarchy) (processes : List ProcessState) (uid : ℕ) (held changes : List Change) → IsSound (plain_state h processes)
+    → IsAsBefore (Only uid) h k → held ≡ held_from (plain_state h processes) 1 processes uid → changes ≡ renewed (plain_state k processes) held
+    → AreChanges (plain_state h processes) (plain_state k processes) changes
+renewed_are h k processes uid held changes sound before first then =
+    rw (then, first) (renewing_changes (plain_state h processes) k uid sound before)
+
+-- a list of changes to admissible descriptors, with one more
+pub push_admissible : (changes : List Change) (c : Change) → All (λ c. IsAdmissible c.desc) changes → IsAdmissible c.desc
+    → All (λ c. IsAdmissible c.desc) (changes ++ c ∷ [])
+push_admissible changes c all fits = All-append (λ c. IsAdmissible c.desc) changes (c ∷ []) all (one_is_admissible c fits)

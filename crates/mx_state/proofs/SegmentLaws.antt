@@ -1,24 +1,34 @@
 -- Which segments stand at their uids after a request on the hierarchy as before it.
-use Rattle.std.proofs.Common.{◌≡◌, ◌≢◌, ℕ, ◌<◌, ◌≤◌, eqb, Bool, true, false, cond, not, List, [], ◌∷◌, ◌++◌, Option, Some, None, is_none, Result, Ok, Err, refl, sym, ap, subst, ◌∙◌, arith}
+use Rattle.std.proofs.Common.{◌≡◌, ◌≢◌, ℕ, ◌<◌, ◌≤◌, eqb, Bool, true, false, cond, not, List, [], ◌∷◌, ◌++◌, Option, Some, None, Result, Ok, Err, refl, sym, ap, subst, ◌∙◌, arith}
 use Rattle.std.proofs.lemmas.Bool.{eqb-true, ne_eqb}
-use Rattle.std.specs.Option.{option_map, option_and_then}
+use Rattle.std.specs.Option.{option_and_then}
 use Rattle.mx_name.specs.Identifiers.{PlainAclId}
-use Rattle.mx_acl.specs.Access.{Access, entry_of, with_entry, without_entry}
+use Rattle.mx_acl.specs.Access.{Access, with_entry, without_entry}
 use Rattle.mx_acl.specs.declared.modes.Modes.{Modes}
-use Rattle.mx_pages.specs.Runs.{run_given, after_run}
-use Rattle.mx_sdw.specs.Rings.{Bracketing}
 use Rattle.mx_hier.specs.declared.branches.Branch.{Branch}
+use Rattle.mx_hier.specs.declared.branches.Directory.{Directory}
 use Rattle.mx_hier.specs.declared.branches.Segment.{Segment}
 use Rattle.mx_hier.specs.declared.branches.Node.{Node}
 use Rattle.mx_hier.specs.declared.branches.Node.TheVariants.{Directory as IsDirectory, Segment as IsSegment, Link as IsLink}
 use Rattle.mx_hier.specs.declared.making.Place.{Place}
 use Rattle.mx_hier.specs.declared.refusals.Refusal.{Refusal}
-use Rattle.mx_hier.specs.declared.refusals.Refusal.TheVariants.{NoAclEntry}
-use Rattle.mx_hier.specs.Branches.{Hierarchy, branch_of, as_segment, segment_at}
-use Rattle.mx_hier.specs.Callers.{Caller, on}
-use Rattle.mx_hier.specs.Making.{added, directory_rules, creation, new_directory, pages_of, bracketing, segment_place, link_place, create_dir, create_seg, create_link}
-use Rattle.mx_hier.specs.Changing.{change, changeable, changed, with_node, with_branch, with_acl, acl_changed, acl_rules, acl_at, with_brackets, bracketed, with_dir_brackets, dir_bracketed, without, rename, set_dir_brackets, set_acl, del_acl, set_brackets, delete, bracket_rules, dir_bracket_rules, rename_rules, delete_rules}
-use Rattle.mx_hier.specs.Rules.{answered, first_of, unless, onward}
+use Rattle.mx_hier.specs.declared.refusals.Refusal.TheVariants.{NotADir, BadBrackets, NoPages}
+use Rattle.mx_pages.specs.Runs.{pages_for, run_given}
+use Rattle.mx_hier.specs.Branches.{Hierarchy, branch_of, as_segment, directory_at, segment_at}
+use Rattle.mx_hier.specs.Brackets.{settable}
+use Rattle.mx_hier.specs.Callers.{Subject, Caller}
+use Rattle.mx_hier.specs.Changing.{changed, with_node, with_branch, with_acl, acl_changed}
+use Rattle.mx_hier.specs.CreateDirectory.{create_dir, create_dir_at, create_dir_refusals, new_directory}
+use Rattle.mx_hier.specs.CreateLink.{create_link, create_link_at}
+use Rattle.mx_hier.specs.CreateSegment.{create_seg, create_seg_at, create_seg_refusals, new_segment, segment_added}
+use Rattle.mx_hier.specs.Delete.{delete_at, delete_refusals, without}
+use Rattle.mx_hier.specs.DeleteAclEntry.{del_acl_at, del_acl_refusals}
+use Rattle.mx_hier.specs.Making.{place, making_refusals, made, added}
+use Rattle.mx_hier.specs.Rename.{rename_at, rename_refusals}
+use Rattle.mx_hier.specs.Rules.{first_of, required, onward, unless}
+use Rattle.mx_hier.specs.SetAcl.{set_acl_at, set_acl_refusals}
+use Rattle.mx_hier.specs.SetBrackets.{set_brackets_at, set_brackets_refusals, with_brackets, bracketed}
+use Rattle.mx_hier.specs.SetDirectoryBrackets.{set_dir_brackets_at, set_dir_brackets_refusals, with_dir_brackets, dir_bracketed}
 use Rattle.mx_hier.specs.Walks.{resolved}
 
 -- the segment of a uid among branches
@@ -34,13 +44,28 @@ pub record IsAsBefore (but : ℕ → Type 0) (old new : Hierarchy) : Type 0 wher
 abbrev pub Nothing : ℕ → Type 0
 Nothing uid = ⊥
 
-as_it_was : (but : ℕ → Type 0) (h : Hierarchy) → IsAsBefore but h h
+-- all but one
+abbrev pub Only : ℕ → ℕ → Type 0
+Only uid u = u ≡ uid
+
+pub as_it_was : (but : ℕ → Type 0) (h : Hierarchy) → IsAsBefore but h h
 as_it_was but h = record { same = λ uid below apart. refl; next = omega arith }
 
-answered_as_before : {A B : Type 0} (but : ℕ → Type 0) (h : Hierarchy) (given : Result A Refusal) (reply : A → B) (after : A → Hierarchy)
-    → ((value : A) → given ≡ Ok value → IsAsBefore but h (after value)) → IsAsBefore but h (answered h given reply after).after
-answered_as_before but h (Ok value) reply after as_before = as_before value refl
-answered_as_before but h (Err why) reply after as_before = as_it_was but h
+-- what a request leaves, where it is not refused
+abbrev pub Leaves : (ℕ → Type 0) → Hierarchy → Result Hierarchy Refusal → Type 0
+Leaves but h meant = (k : Hierarchy) → meant ≡ Ok k → IsAsBefore but h k
+
+leaves_ok : (but : ℕ → Type 0) (h k : Hierarchy) → IsAsBefore but h k → Leaves but h (Ok k)
+leaves_ok but h k before = λ l e. let same : k ≡ l = cc in subst (IsAsBefore but h) same before
+
+leaves_onward : {A : Type 0} (but : ℕ → Type 0) (h : Hierarchy) (given : Result A Refusal) (rest : A → Result Hierarchy Refusal)
+    → ((value : A) → Leaves but h (rest value)) → Leaves but h (onward given rest)
+leaves_onward but h (Ok value) rest leaves = leaves value
+leaves_onward but h (Err why) rest leaves = λ k e. cc
+
+leaves_unless : (but : ℕ → Type 0) (h k : Hierarchy) (why : Option Refusal) → IsAsBefore but h k → Leaves but h (unless why k)
+leaves_unless but h k None before = leaves_ok but h k before
+leaves_unless but h k (Some why) before = λ l e. cc
 
 -- a new branch has a uid that no other had
 found_before : (branches : List Branch) (branch : Branch) (uid : ℕ) → branch.uid ≢ uid → branch_of (branches ++ branch ∷ []) uid ≡ branch_of branches uid
@@ -93,98 +118,112 @@ changed_as_before h at f keeps same = record {
 
 -- one branch changed
 changed_but : (h : Hierarchy) (at : ℕ) (f : Branch → Branch) → ((x : Branch) → (f x).uid ≡ x.uid)
-    → IsAsBefore (λ uid. uid ≡ at) h (with_branch h at f)
+    → IsAsBefore (Only at) h (with_branch h at f)
 changed_but h at f keeps = record {
   same = λ uid below apart. changed_standing at f h.branches uid keeps (λ x here there. absurd (apart (sym there ∙ here)));
   next = omega arith;
 }
 
 -- the requests that leave all segments
-pub create_dir_as_before : (h : Hierarchy) (who : Caller) (path : List ℕ) (d1 d2 : ℕ) → IsAsBefore Nothing h (create_dir h who path d1 d2).after
-create_dir_as_before h who path d1 d2 =
-    answered_as_before Nothing h (onward (creation h who path) (λ at. unless (first_of (directory_rules who d1 d2)) at)) (λ at. tt)
-    (λ at. added h at (IsDirectory (new_directory who d1 d2))) (λ at e. added_as_before h at (IsDirectory (new_directory who d1 d2)))
+made_leaves : (h : Hierarchy) (at : Place) (refusals : List (Bool × Refusal)) (make : Directory → Result Hierarchy Refusal)
+    → ((parent : Directory) → Leaves Nothing h (make parent)) → Leaves Nothing h (made h at refusals make)
+made_leaves h at refusals make leaves =
+    leaves_onward Nothing h (unless (first_of refusals) at) (λ at. onward (required NotADir (directory_at h at.dir)) make)
+    (λ at. leaves_onward Nothing h (required NotADir (directory_at h at.dir)) make leaves)
 
-pub create_seg_as_before : (h : Hierarchy) (who : Caller) (path : List ℕ) (words : ℕ) (brackets : List ℕ)
-    → IsAsBefore Nothing h (create_seg h who path words brackets).after
-create_seg_as_before h who path words brackets =
-    answered_as_before Nothing h (segment_place h who path words (bracketing brackets)) (λ made. tt)
-    (λ made. record (added h made.0 (IsSegment made.1)) { pages = after_run h.pages (pages_of words) (run_given h.pages (pages_of words)) })
-    (λ made e. let before = added_as_before h made.0 (IsSegment made.1) in record { same = before.same; next = before.next })
+placed_leaves : (h : Hierarchy) (who : Subject) (path : List (List ℕ)) (make : Place → Result Hierarchy Refusal)
+    → ((at : Place) → Leaves Nothing h (make at)) → Leaves Nothing h (onward (place h who path) make)
+placed_leaves h who path make leaves = leaves_onward Nothing h (place h who path) make leaves
 
-pub create_link_as_before : (h : Hierarchy) (who : Caller) (path target : List ℕ) → IsAsBefore Nothing h (create_link h who path target).after
-create_link_as_before h who path target =
-    answered_as_before Nothing h (onward (resolved who path) (λ path. onward (resolved who target) (λ target. link_place h who path target)))
-    (λ link. tt) (λ link. added h link.0 (IsLink link.1)) (λ link e. added_as_before h link.0 (IsLink link.1))
+pub create_dir_leaves : (h : Hierarchy) (who : Caller) (path : List ℕ) (d1 d2 : ℕ) → Leaves Nothing h (create_dir h who path d1 d2)
+create_dir_leaves h who path d1 d2 =
+    leaves_onward Nothing h (resolved who path) (λ path. onward (place h who.subject path) (λ at. create_dir_at h who.subject at d1 d2))
+    (λ path. placed_leaves h who.subject path (λ at. create_dir_at h who.subject at d1 d2)
+    (λ at. made_leaves h at (create_dir_refusals h who.subject at d1 d2)
+    (λ parent. Ok (added h at (IsDirectory (new_directory parent who.subject d1 d2))))
+    (λ parent. leaves_ok Nothing h (added h at (IsDirectory (new_directory parent who.subject d1 d2)))
+    (added_as_before h at (IsDirectory (new_directory parent who.subject d1 d2))))))
 
-pub rename_as_before : (h : Hierarchy) (who : Caller) (path name : List ℕ) → IsAsBefore Nothing h (rename h who path name).after
-rename_as_before h who path name =
-    answered_as_before Nothing h (change h who path false (rename_rules h name)) (λ uid. tt) (λ uid. with_branch h uid (λ branch. record branch { name = name }))
-    (λ uid e. changed_as_before h uid (λ branch. record branch { name = name }) (λ x. refl) (λ x. refl))
+segment_as_before : (h : Hierarchy) (at : Place) (segment : Segment) → IsAsBefore Nothing h (segment_added h at segment)
+segment_as_before h at segment =
+    let before = added_as_before h at (IsSegment segment) in record { same = before.same; next = before.next }
+
+pub create_seg_leaves : (h : Hierarchy) (who : Caller) (path : List ℕ) (words : ℕ) (rings : List ℕ)
+    → Leaves Nothing h (create_seg h who path words rings)
+create_seg_leaves h who path words rings =
+    leaves_onward Nothing h (resolved who path) (λ path. onward (place h who.subject path) (λ at. create_seg_at h who.subject at words rings))
+    (λ path. placed_leaves h who.subject path (λ at. create_seg_at h who.subject at words rings)
+    (λ at. made_leaves h at (create_seg_refusals h who.subject at words rings)
+    (λ parent. onward (required BadBrackets (settable who.subject.ring rings)) (λ brackets.
+    onward (required NoPages (run_given h.pages (pages_for words))) (λ page.
+    Ok (segment_added h at (new_segment parent who.subject words brackets page)))))
+    (λ parent. leaves_onward Nothing h (required BadBrackets (settable who.subject.ring rings))
+    (λ brackets. onward (required NoPages (run_given h.pages (pages_for words))) (λ page.
+    Ok (segment_added h at (new_segment parent who.subject words brackets page))))
+    (λ brackets. leaves_onward Nothing h (required NoPages (run_given h.pages (pages_for words)))
+    (λ page. Ok (segment_added h at (new_segment parent who.subject words brackets page)))
+    (λ page. leaves_ok Nothing h (segment_added h at (new_segment parent who.subject words brackets page))
+    (segment_as_before h at (new_segment parent who.subject words brackets page)))))))
+
+pub create_link_leaves : (h : Hierarchy) (who : Caller) (path target : List ℕ) → Leaves Nothing h (create_link h who path target)
+create_link_leaves h who path target =
+    leaves_onward Nothing h (resolved who path)
+    (λ path. onward (resolved who target) (λ target. onward (place h who.subject path) (λ at. create_link_at h who.subject at target)))
+    (λ path. leaves_onward Nothing h (resolved who target)
+    (λ target. onward (place h who.subject path) (λ at. create_link_at h who.subject at target))
+    (λ target. placed_leaves h who.subject path (λ at. create_link_at h who.subject at target)
+    (λ at. made_leaves h at (making_refusals h who.subject at) (λ parent. Ok (added h at (IsLink target)))
+    (λ parent. leaves_ok Nothing h (added h at (IsLink target)) (added_as_before h at (IsLink target))))))
+
+pub rename_leaves : (h : Hierarchy) (who : Subject) (uid : ℕ) (name : List ℕ) → Leaves Nothing h (rename_at h who uid name)
+rename_leaves h who uid name =
+    leaves_unless Nothing h (with_branch h uid (λ branch. record branch { name = name })) (first_of (rename_refusals h who uid name))
+    (changed_as_before h uid (λ branch. record branch { name = name }) (λ x. refl) (λ x. refl))
 
 dir_bracketed_stays : (d1 d2 : ℕ) (node : Node) → as_segment (dir_bracketed d1 d2 node) ≡ as_segment node
 dir_bracketed_stays d1 d2 (IsDirectory directory) = refl
 dir_bracketed_stays d1 d2 (IsSegment segment) = refl
 dir_bracketed_stays d1 d2 (IsLink target) = refl
 
-pub set_dir_brackets_as_before : (h : Hierarchy) (who : Caller) (path : List ℕ) (d1 d2 : ℕ)
-    → IsAsBefore Nothing h (set_dir_brackets h who path d1 d2).after
-set_dir_brackets_as_before h who path d1 d2 =
-    answered_as_before Nothing h (change h who path true (dir_bracket_rules h who d1 d2)) (λ uid. tt) (λ uid. with_dir_brackets h uid d1 d2) (λ uid e. by_root (eqb uid 0) uid)
+pub set_dir_brackets_leaves : (h : Hierarchy) (who : Subject) (uid d1 d2 : ℕ) → Leaves Nothing h (set_dir_brackets_at h who uid d1 d2)
+set_dir_brackets_leaves h who uid d1 d2 =
+    leaves_unless Nothing h (with_dir_brackets h uid d1 d2) (first_of (set_dir_brackets_refusals h who uid d1 d2)) (by_root (eqb uid 0))
   where
-    by_root : (root : Bool) (uid : ℕ) → IsAsBefore Nothing h (cond root (record h { root = record h.root { d1 = d1; d2 = d2 } })
+    by_root : (root : Bool) → IsAsBefore Nothing h (cond root (record h { root = record h.root { d1 = d1; d2 = d2 } })
         (with_branch h uid (λ branch. with_node (dir_bracketed d1 d2 branch.node) branch)))
-    by_root true uid = record { same = λ u below apart. refl; next = omega arith }
-    by_root false uid =
+    by_root true = record { same = λ u below apart. refl; next = omega arith }
+    by_root false =
         changed_as_before h uid (λ branch. with_node (dir_bracketed d1 d2 branch.node) branch) (λ x. refl) (λ x. dir_bracketed_stays d1 d2 x.node)
 
--- an entry is changed only where it is the one that can be changed
-changed_uid : (h : Hierarchy) (who : Caller) (path : List ℕ) (follow : Bool) (own : ℕ → List (Bool × Refusal)) (uid value : ℕ)
-    → changeable h who path follow ≡ Ok uid → change h who path follow own ≡ Ok value → value ≡ uid
-changed_uid h who path follow own uid value e f =
-    by_rules (first_of (own uid)) (ap (λ (given : Result ℕ Refusal). onward given (λ uid. unless (first_of (own uid)) uid)) (sym e) ∙ f)
-  where
-    by_rules : (o : Option Refusal) → unless o uid ≡ Ok value → value ≡ uid
-    by_rules None g = cc
-    by_rules (Some why) g = cc
-
-change_as_before : {B : Type 0} (h : Hierarchy) (who : Caller) (path : List ℕ) (follow : Bool) (own : ℕ → List (Bool × Refusal))
-    (reply : ℕ → B) (after : ℕ → Hierarchy) (uid : ℕ) → changeable h who path follow ≡ Ok uid → IsAsBefore (λ u. u ≡ uid) h (after uid)
-    → IsAsBefore (λ u. u ≡ uid) h (answered h (change h who path follow own) reply after).after
-change_as_before h who path follow own reply after uid e as_before =
-    answered_as_before (λ u. u ≡ uid) h (change h who path follow own) reply after
-    (λ value f. subst (λ v. IsAsBefore (λ u. u ≡ uid) h (after v)) (sym (changed_uid h who path follow own uid value e f)) as_before)
-
-acl_as_before : (h : Hierarchy) (uid : ℕ) (f : Access → Access) → IsAsBefore (λ u. u ≡ uid) h (with_acl h uid f)
+acl_as_before : (h : Hierarchy) (uid : ℕ) (f : Access → Access) → IsAsBefore (Only uid) h (with_acl h uid f)
 acl_as_before h uid f = by_root (eqb uid 0)
   where
-    by_root : (root : Bool) → IsAsBefore (λ u. u ≡ uid) h (cond root (record h { root = record h.root { acl = f h.root.acl } })
+    by_root : (root : Bool) → IsAsBefore (Only uid) h (cond root (record h { root = record h.root { acl = f h.root.acl } })
         (with_branch h uid (λ branch. with_node (acl_changed f branch.node) branch)))
     by_root true = record { same = λ u below apart. refl; next = omega arith }
     by_root false = changed_but h uid (λ branch. with_node (acl_changed f branch.node) branch) (λ x. refl)
 
 -- the requests that change one segment alone
-pub set_acl_as_before : (h : Hierarchy) (who : Caller) (path : List ℕ) (id : PlainAclId) (modes : Modes) (uid : ℕ)
-    → changeable h who path true ≡ Ok uid → IsAsBefore (λ u. u ≡ uid) h (set_acl h who path id modes).after
-set_acl_as_before h who path id modes uid e =
-    change_as_before h who path true (λ uid. acl_rules id modes (acl_at h uid)) (λ uid. uid) (λ uid. with_acl h uid (λ acl. with_entry acl id modes)) uid e
+pub set_acl_leaves : (h : Hierarchy) (who : Subject) (uid : ℕ) (id : PlainAclId) (modes : Modes) → Leaves (Only uid) h (set_acl_at h who uid id modes)
+set_acl_leaves h who uid id modes =
+    leaves_unless (Only uid) h (with_acl h uid (λ acl. with_entry acl id modes)) (first_of (set_acl_refusals h who uid id modes))
     (acl_as_before h uid (λ acl. with_entry acl id modes))
 
-pub del_acl_as_before : (h : Hierarchy) (who : Caller) (path : List ℕ) (id : PlainAclId) (uid : ℕ)
-    → changeable h who path true ≡ Ok uid → IsAsBefore (λ u. u ≡ uid) h (del_acl h who path id).after
-del_acl_as_before h who path id uid e =
-    change_as_before h who path true (λ uid. (on (λ acl. is_none (entry_of acl id)) (acl_at h uid), NoAclEntry) ∷ []) (λ uid. uid)
-    (λ uid. with_acl h uid (λ acl. without_entry acl id)) uid e
+pub del_acl_leaves : (h : Hierarchy) (who : Subject) (uid : ℕ) (id : PlainAclId) → Leaves (Only uid) h (del_acl_at h who uid id)
+del_acl_leaves h who uid id =
+    leaves_unless (Only uid) h (with_acl h uid (λ acl. without_entry acl id)) (first_of (del_acl_refusals h who uid id))
     (acl_as_before h uid (λ acl. without_entry acl id))
 
-pub set_brackets_as_before : (h : Hierarchy) (who : Caller) (path brackets : List ℕ) (uid : ℕ)
-    → changeable h who path true ≡ Ok uid → IsAsBefore (λ u. u ≡ uid) h (set_brackets h who path brackets).after
-set_brackets_as_before h who path brackets uid e =
-    change_as_before h who path true (bracket_rules h who (bracketing brackets)) (λ uid. uid) (λ uid. with_brackets h uid (bracketing brackets)) uid e (by_brackets (bracketing brackets))
+pub set_brackets_leaves : (h : Hierarchy) (who : Subject) (uid : ℕ) (rings : List ℕ) → Leaves (Only uid) h (set_brackets_at h who uid rings)
+set_brackets_leaves h who uid rings = by_rules (first_of (set_brackets_refusals h who uid rings))
   where
-    by_brackets : (o : Option Bracketing) → IsAsBefore (λ u. u ≡ uid) h (with_brackets h uid o)
-    by_brackets None = as_it_was (λ u. u ≡ uid) h
-    by_brackets (Some own) = changed_but h uid (λ branch. with_node (bracketed own branch.node) branch) (λ x. refl)
+    by_rules : (why : Option Refusal) → Leaves (Only uid) h (onward (unless why uid) (λ uid.
+        onward (required BadBrackets (settable who.ring rings)) (λ brackets. Ok (with_brackets h uid brackets))))
+    by_rules (Some why) = λ k e. cc
+    by_rules None =
+        leaves_onward (Only uid) h (required BadBrackets (settable who.ring rings)) (λ brackets. Ok (with_brackets h uid brackets))
+        (λ brackets. leaves_ok (Only uid) h (with_brackets h uid brackets)
+        (changed_but h uid (λ branch. with_node (bracketed brackets branch.node) branch) (λ x. refl)))
 
 -- one that is deleted
 found_without : (at : ℕ) (branches : List Branch) (uid : ℕ) → uid ≢ at → branch_of (without at branches) uid ≡ branch_of branches uid
@@ -198,10 +237,9 @@ found_without at (x ∷ xs) uid apart = by_test (eqb x.uid at) refl (found_witho
         rw (ne_eqb x.uid uid (λ same. apart (sym same ∙ here))) later
     by_test false t later = ap (cond (eqb x.uid uid) (Some x)) later
 
-pub delete_as_before : (h : Hierarchy) (who : Caller) (path : List ℕ) (uid : ℕ)
-    → changeable h who path false ≡ Ok uid → IsAsBefore (λ u. u ≡ uid) h (delete h who path).after
-delete_as_before h who path uid e =
-    change_as_before h who path false (delete_rules h) (λ uid. option_map (λ segment. uid) (segment_at h uid)) (λ uid. record h { branches = without uid h.branches }) uid e (record {
+pub delete_leaves : (h : Hierarchy) (who : Subject) (uid : ℕ) → Leaves (Only uid) h (delete_at h who uid)
+delete_leaves h who uid =
+    leaves_unless (Only uid) h (record h { branches = without uid h.branches }) (first_of (delete_refusals h who uid)) (record {
       same = λ u below apart. ap (option_and_then (λ (branch : Branch). as_segment branch.node)) (found_without uid h.branches u apart);
       next = omega arith;
     })

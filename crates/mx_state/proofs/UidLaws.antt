@@ -3,7 +3,7 @@ use Rattle.std.proofs.Common.{◌≡◌, ℕ, suc, ◌+◌, ◌==◌, Bool, true
 use Rattle.std.specs.List.{list_any, position_or_len}
 use Rattle.std.specs.Option.{option_map}
 use Rattle.indexmap.specs.IndexSet.{insert_key}
-use Rattle.mx_state.specs.Knowing.{segno_from, segno_of}
+use Rattle.mx_state.specs.Numbers.{segno_from, segno_of}
 
 turned : (x y : ℕ) → (x == y) ≡ (y == x)
 turned x y = grind arith

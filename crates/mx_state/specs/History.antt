@@ -1,12 +1,14 @@
 -- A history of the plain supervisor: what its state is after a journal, and when a journal is right.
-use Rattle.std.specs.Prelude.{◌≡◌, ℕ, ◌*◌, ◌≤◌, false, IsTrue, List, [], ◌∷◌, length, map}
+use Rattle.std.specs.Prelude.{◌≡◌, ℕ, ◌*◌, ◌≤◌, false, List, [], ◌∷◌, length, map}
 use Rattle.mx_name.specs.Principals.{PlainPrincipal}
 use Rattle.mx_hier.specs.Opening as hierarchy
+use Rattle.mx_request.specs.Classes.{class_of}
+use Rattle.mx_request.specs.declared.classes.RequestClass.TheVariants.{OfPath}
 use Rattle.mx_request.specs.declared.requests.Request.{Request}
 use Rattle.mx_state.specs.declared.journal.Entry.{Entry}
 use Rattle.mx_state.specs.declared.states.ProcessState.{ProcessState}
 use Rattle.mx_state.specs.Plain.{Plain}
-use Rattle.mx_state.specs.Requests.{plain, is_path_request}
+use Rattle.mx_state.specs.Requests.{plain}
 
 -- a process at the start knows its stacks alone, and works in the root
 abbrev pub fresh : PlainPrincipal → ProcessState
@@ -21,9 +23,9 @@ abbrev pub replay : Plain → List Entry → Plain
 replay s [] = s
 replay s (entry ∷ entries) = replay (plain s entry.process entry.ring entry.request).state entries
 
--- who may make the request: the initializer a path request, a process every request
+-- who may make the request: the initializer one on a path, a process every request
 abbrev pub MayAsk : Plain → ℕ → Request → Type 0
-MayAsk s p request = (p ≤ length s.processes) × (p ≡ 0 → IsTrue (is_path_request request))
+MayAsk s p request = (p ≤ length s.processes) × (p ≡ 0 → class_of request ≡ OfPath)
 
 -- an entry in its place: its process may make it, and its reply is what the plain supervisor gives
 pub record IsRightEntry (s : Plain) (entry : Entry) : Type 0 where
@@ -33,4 +35,5 @@ pub record IsRightEntry (s : Plain) (entry : Entry) : Type 0 where
 -- each entry is right in its place
 abbrev pub IsRight : Plain → List Entry → Type 0
 IsRight s [] = Unit {0}
-IsRight s (entry ∷ entries) = IsRightEntry s entry × IsRight (plain s entry.process entry.ring entry.request).state entries
+IsRight s (entry ∷ entries) =
+    IsRightEntry s entry × IsRight (plain s entry.process entry.ring entry.request).state entries

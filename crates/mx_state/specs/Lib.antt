@@ -1,9 +1,14 @@
 pub mod Plain
+pub mod Askers
+pub mod Numbers
 pub mod Knowing
 pub mod Requests
 pub mod Table
 pub mod Changes
 pub mod History
+pub mod Laws
 pub mod Sound
+pub mod Serving
+pub mod Calling
 pub mod Replies
 pub mod Renewing

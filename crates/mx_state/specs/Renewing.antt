@@ -1,13 +1,11 @@
 -- Helpers that only private contracts cite: the descriptors of one segment, held before a request and renewed after it.
-use Rattle.std.specs.Prelude.{ℕ, ◌+◌, ◌==◌, Bool, true, false, not, ◌&&◌, List, [], ◌∷◌, Option, Some, None, if◌then◌else◌}
+use Rattle.std.specs.Prelude.{ℕ, ◌+◌, List, [], ◌∷◌, Option, Some, None, if◌then◌else◌}
+use Rattle.mx_core.specs.declared.changes.Change.{Change}
 use Rattle.mx_sdw.specs.Descriptors.{Descriptor}
-use Rattle.mx_sdw.specs.Rings.{Bracketing}
-use Rattle.mx_sdw.specs.declared.descriptors.DescKind.{DescKind}
-use Rattle.mx_sdw.specs.declared.descriptors.DescKind.TheVariants.{Unknown, Gone, Segment}
-use Rattle.mx_state.specs.declared.changes.Change.{Change}
+use Rattle.mx_sdw.specs.Same.{same_desc}
 use Rattle.mx_state.specs.declared.states.ProcessState.{ProcessState}
 use Rattle.mx_state.specs.Changes.{change}
-use Rattle.mx_state.specs.Knowing.{segno_of}
+use Rattle.mx_state.specs.Numbers.{segno_of}
 use Rattle.mx_state.specs.Plain.{Plain}
 use Rattle.mx_state.specs.Table.{descriptor}
 
@@ -20,27 +18,6 @@ held_by s p (Some segno) later = change p segno (descriptor s p segno) ∷ later
 abbrev pub held_from : Plain → ℕ → List ProcessState → ℕ → List Change
 held_from s p [] uid = []
 held_from s p (process ∷ processes) uid = held_by s p (segno_of process.known uid) (held_from s (p + 1) processes uid)
-
-abbrev pub same_kind : DescKind → DescKind → Bool
-same_kind Unknown Unknown = true
-same_kind Gone Gone = true
-same_kind Segment Segment = true
-same_kind _ _ = false
-
-abbrev pub same_flag : Bool → Bool → Bool
-same_flag true flag = flag
-same_flag false flag = not flag
-
-abbrev pub same_brackets : Bracketing → Bracketing → Bool
-same_brackets a b = (a.r1 == b.r1) && ((a.r2 == b.r2) && (a.r3 == b.r3))
-
-abbrev pub same_flags : Descriptor → Descriptor → Bool → Bool
-same_flags a b rest = same_flag a.r b.r && (same_flag a.e b.e && (same_flag a.w b.w && rest))
-
-abbrev pub same_desc : Descriptor → Descriptor → Bool
-same_desc a b =
-    same_kind a.kind b.kind
-    && (same_brackets a.brackets b.brackets && same_flags a b ((a.gate == b.gate) && ((a.page == b.page) && (a.bound == b.bound))))
 
 -- those that are no longer what was held, as they are now
 abbrev pub renewed_as : Change → Descriptor → List Change → List Change

@@ -1,36 +1,63 @@
 -- The plain supervisor: what the request of a process in a ring is answered, and the state that it leaves.
-use Rattle.std.specs.Prelude.{ℕ, Bool, true, false}
-use Rattle.mx_hier.specs.Making.{create_dir, create_seg, create_link}
-use Rattle.mx_hier.specs.Changing.{rename, delete, set_acl, del_acl, set_brackets, set_dir_brackets}
-use Rattle.mx_hier.specs.Asking.{status, list}
+use Rattle.std.specs.Prelude.{ℕ, Result, Ok, Err}
+use Rattle.mx_hier.specs.Branches.{Hierarchy}
+use Rattle.mx_hier.specs.ChangeWorkingDirectory.{directory}
+use Rattle.mx_hier.specs.CreateDirectory.{create_dir}
+use Rattle.mx_hier.specs.CreateLink.{create_link}
+use Rattle.mx_hier.specs.CreateSegment.{create_seg}
+use Rattle.mx_hier.specs.Delete.{delete}
+use Rattle.mx_hier.specs.DeleteAclEntry.{del_acl}
+use Rattle.mx_hier.specs.Initiate.{segment}
+use Rattle.mx_hier.specs.List.{list}
+use Rattle.mx_hier.specs.Rename.{rename}
+use Rattle.mx_hier.specs.SetAcl.{set_acl}
+use Rattle.mx_hier.specs.SetBrackets.{set_brackets}
+use Rattle.mx_hier.specs.SetDirectoryBrackets.{set_dir_brackets}
+use Rattle.mx_hier.specs.Status.{status}
+use Rattle.mx_hier.specs.declared.refusals.Refusal.{Refusal}
 use Rattle.mx_request.specs.declared.requests.Request.{Request}
 use Rattle.mx_request.specs.declared.requests.Request.TheVariants as ask
+use Rattle.mx_request.specs.declared.replies.Reply.{Reply}
 use Rattle.mx_request.specs.declared.replies.Reply.TheVariants as reply
-use Rattle.mx_state.specs.Plain.{Plain, Answer, caller, process_at, by_hierarchy, told}
+use Rattle.mx_state.specs.Askers.{caller, on_path, on_process}
 use Rattle.mx_state.specs.Knowing.{initiate, change_wdir, logout}
+use Rattle.mx_state.specs.Plain.{Plain, Answer, answer}
+
+-- a request that changes the hierarchy is answered `ok`, or refused
+abbrev pub changed : Plain → Result Hierarchy Refusal → Answer
+changed s (Ok hierarchy) = answer reply.Done (record s { hierarchy = hierarchy })
+changed s (Err why) = answer (reply.Refused why) s
+
+-- one that asks of it is answered what it asks for, or refused
+abbrev pub told : {A : Type 0} → Plain → (A → Reply) → Result A Refusal → Answer
+told s as_reply (Ok value) = answer (as_reply value) s
+told s as_reply (Err why) = answer (reply.Refused why) s
 
 abbrev pub plain : Plain → ℕ → ℕ → Request → Answer
-plain s p ring (ask.CreateDir path d1 d2) = by_hierarchy s (create_dir s.hierarchy (caller s p ring) path d1 d2) (λ made. reply.Done)
+plain s p ring (ask.CreateDir path d1 d2) =
+    on_path s p ring (λ who. changed s (create_dir s.hierarchy who path d1 d2))
 plain s p ring (ask.CreateSeg path words brackets) =
-    by_hierarchy s (create_seg s.hierarchy (caller s p ring) path words brackets) (λ made. reply.Done)
-plain s p ring (ask.CreateLink path target) = by_hierarchy s (create_link s.hierarchy (caller s p ring) path target) (λ made. reply.Done)
-plain s p ring (ask.Rename path name) = by_hierarchy s (rename s.hierarchy (caller s p ring) path name) (λ renamed. reply.Done)
-plain s p ring (ask.Delete path) = by_hierarchy s (delete s.hierarchy (caller s p ring) path) (λ deleted. reply.Done)
-plain s p ring (ask.SetAcl path id modes) = by_hierarchy s (set_acl s.hierarchy (caller s p ring) path id modes) (λ uid. reply.Done)
-plain s p ring (ask.DelAcl path id) = by_hierarchy s (del_acl s.hierarchy (caller s p ring) path id) (λ uid. reply.Done)
+    on_path s p ring (λ who. changed s (create_seg s.hierarchy who path words brackets))
+plain s p ring (ask.CreateLink path target) =
+    on_path s p ring (λ who. changed s (create_link s.hierarchy who path target))
+plain s p ring (ask.Rename path name) =
+    on_path s p ring (λ who. changed s (rename s.hierarchy who path name))
+plain s p ring (ask.Delete path) =
+    on_path s p ring (λ who. changed s (delete s.hierarchy who path))
+plain s p ring (ask.SetAcl path id modes) =
+    on_path s p ring (λ who. changed s (set_acl s.hierarchy who path id modes))
+plain s p ring (ask.DelAcl path id) =
+    on_path s p ring (λ who. changed s (del_acl s.hierarchy who path id))
 plain s p ring (ask.SetBrackets path brackets) =
-    by_hierarchy s (set_brackets s.hierarchy (caller s p ring) path brackets) (λ uid. reply.Done)
+    on_path s p ring (λ who. changed s (set_brackets s.hierarchy who path brackets))
 plain s p ring (ask.SetDirBrackets path d1 d2) =
-    by_hierarchy s (set_dir_brackets s.hierarchy (caller s p ring) path d1 d2) (λ set. reply.Done)
-plain s p ring (ask.Status path) = told s (status s.hierarchy (caller s p ring) path) reply.Status
-plain s p ring (ask.List path) = told s (list s.hierarchy (caller s p ring) path) reply.Names
-plain s p ring (ask.ChangeWdir path) = change_wdir s p ring path (process_at s.processes p)
-plain s p ring (ask.Initiate path) = initiate s p ring path (process_at s.processes p)
-plain s p ring ask.Logout = logout s p (process_at s.processes p)
-
--- a request on a pathname, which the initializer may make too
-abbrev pub is_path_request : Request → Bool
-is_path_request (ask.ChangeWdir path) = false
-is_path_request (ask.Initiate path) = false
-is_path_request ask.Logout = false
-is_path_request _ = true
+    on_path s p ring (λ who. changed s (set_dir_brackets s.hierarchy who path d1 d2))
+plain s p ring (ask.Status path) =
+    on_path s p ring (λ who. told s reply.Status (status s.hierarchy who path))
+plain s p ring (ask.List path) =
+    on_path s p ring (λ who. told s reply.Names (list s.hierarchy who path))
+plain s p ring (ask.ChangeWdir path) =
+    on_process s p (λ process. change_wdir s p process (directory s.hierarchy (caller process ring) path))
+plain s p ring (ask.Initiate path) =
+    on_process s p (λ process. initiate s p process (segment s.hierarchy (caller process ring) path))
+plain s p ring ask.Logout = on_process s p (λ process. logout s p process)

@@ -1,9 +1,11 @@
 //! Whose call it is.
 
-ghost use Rattle.std.specs.Prelude.{◌≡◌, ◌<◌, [], length, slice_get, Some};
+ghost use Rattle.std.specs.Prelude.{◌≡◌, ◌≤◌, ◌<◌, [], length, slice_get, Some};
 ghost use Rattle.std.specs.Option.{option_map};
-ghost use Rattle.mx_hier.specs.Who.{caller as asker};
-ghost use Rattle.mx_state.specs.Plain.{initializer as the_initializer, process_at, caller_of};
+ghost use Rattle.mx_hier.specs.Who.{caller as caller_of};
+ghost use Rattle.mx_state.specs.Askers.{initializer as the_initializer, asker, caller};
+ghost use Rattle.mx_state.specs.Calling.{IsCallerOf};
+ghost use Rattle.mx_state.specs.Plain.{process_at};
 
 use crate::states::ProcessState;
 use mx_hier::Who;
@@ -21,7 +23,7 @@ pub(crate) fn process_at(processes: &[ProcessState], p: u8) -> Option<&ProcessSt
     }
 }
 
-/// Who asks: process `p` in its working directory, or the initializer in the root.
+/// Who asks: the initializer in the root as process 0, or process `p` in its working directory.
 pub(crate) fn caller<'a>(
     initializer: &'a Principal,
     root: &'a Path,
@@ -31,21 +33,23 @@ pub(crate) fn caller<'a>(
 ) -> Who<'a>
     requires initializer { initializer.now ≡ the_initializer }
     requires root { root.now ≡ [] }
-    ensures { asker result ≡ caller_of (process_at processes.now p) ring }
+    requires asker { p ≤ length processes.now }
+    ensures { IsCallerOf (asker processes.now p) ring (caller_of result) }
 {
-    match process_at(processes, p) {
-        None => Who {
+    if p == 0 {
+        Who {
             principal: initializer,
             ring,
             base: root,
-        },
-        Some(process) => own_caller(process, ring),
+        }
+    } else {
+        own_caller(process_in(processes, usize::from(p) - 1), ring)
     }
 }
 
 /// A process as the one who asks.
 pub(crate) fn own_caller(process: &ProcessState, ring: Ring) -> Who<'_>
-    ensures { asker result ≡ caller_of (Some process.now) ring }
+    ensures { caller_of result ≡ caller process.now ring }
 {
     Who {
         principal: &process.principal,

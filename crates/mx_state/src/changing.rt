@@ -1,22 +1,21 @@
 //! Requests that change one entry, and with it the descriptors of those who know its segment.
 //!
-//! All memory is taken before the hierarchy changes: the descriptors that are held of the segment, and room for those that
-//! become others. They are found by one look-up in each process, not by going over what it knows.
+//! The entry is found by one walk, and what a process knows of it by one look-up. All memory but that of the hierarchy
+//! itself is taken before the hierarchy changes: the descriptors that are held of the segment, and room for those that
+//! become others.
 
-ghost use Rattle.std.specs.Prelude.{◌≡◌, length, IfOk, OnErr};
-ghost use Rattle.mx_hier.specs.Changing as changing;
-ghost use Rattle.mx_request.specs.declared.replies.Reply.TheVariants as reply;
-ghost use Rattle.mx_state.specs.Changes.{AreChanges};
-ghost use Rattle.mx_state.specs.Plain.{answer, by_hierarchy, caller};
+ghost use Rattle.std.specs.Prelude.{◌≡◌, ◌≤◌, length, IfOk, OnErr};
+ghost use Rattle.mx_request.specs.declared.requests.Request.TheVariants as ask;
+ghost use Rattle.mx_state.specs.Requests.{plain};
+ghost use Rattle.mx_state.specs.Serving.{Serves};
 
+use crate::applied::Applied;
 use crate::callers::caller;
-use crate::changes::Applied;
 use crate::renewing::{held, renewed};
-use crate::replies::done;
+use crate::replies::{done, refused};
 use crate::states::State;
 use mx_acl::Modes;
 use mx_name::{AclId, Pathname};
-use mx_request::Reply;
 use mx_sdw::Ring;
 use std::alloc::{AllocError, Global};
 
@@ -30,22 +29,22 @@ impl State {
         id: &AclId,
         modes: Modes,
     ) -> Result<Applied, AllocError>
-        ensures answer { IfOk result (λ applied. by_hierarchy self.old (changing.set_acl self.old.hierarchy (caller self.old p ring) path.now id.now modes) (λ value. reply.Done) ≡ answer applied.reply self.new) }
-        ensures changes { IfOk result (λ applied. AreChanges self.old self.new applied.changes) }
-        ensures processes { length self.new.processes ≡ length self.old.processes }
+        requires asker { p ≤ length self.old.processes }
+        ensures served { IfOk result
+            (Serves self.old self.new (plain self.old p ring (ask.SetAcl path.now id.now modes))) }
         ensures err { OnErr result (self.new ≡ self.old) }
     {
         let processes = self.processes.as_slice();
         let who = caller(&self.initializer, &self.root, processes, p, ring);
-        let uid = match self.hier.changeable(alloc, &who, path, true)? {
+        let uid = match self.hier.entry(alloc, &who, path, true) {
             Ok(uid) => uid,
-            Err(why) => return Ok(Applied::unchanged(alloc, Reply::Refused(why))),
+            Err(error) => return refused(alloc, error),
         };
         let held = held(alloc, &self.hier, processes, uid)?;
-        let room = Vec::with_capacity(alloc, held.items().len())?;
-        let given = self.hier.set_acl(alloc, &who, path, id, modes);
+        let room = Vec::with_capacity(alloc, held.len())?;
+        let given = self.hier.set_acl(&who, uid, id, modes);
         let reply = done(given)?;
-        let changes = renewed(&self.hier, processes, held.items(), room);
+        let changes = renewed(&self.hier, processes, &held, room);
         Ok(Applied { reply, changes })
     }
 
@@ -57,22 +56,21 @@ impl State {
         path: &Pathname,
         id: &AclId,
     ) -> Result<Applied, AllocError>
-        ensures answer { IfOk result (λ applied. by_hierarchy self.old (changing.del_acl self.old.hierarchy (caller self.old p ring) path.now id.now) (λ value. reply.Done) ≡ answer applied.reply self.new) }
-        ensures changes { IfOk result (λ applied. AreChanges self.old self.new applied.changes) }
-        ensures processes { length self.new.processes ≡ length self.old.processes }
+        requires asker { p ≤ length self.old.processes }
+        ensures served { IfOk result (Serves self.old self.new (plain self.old p ring (ask.DelAcl path.now id.now))) }
         ensures err { OnErr result (self.new ≡ self.old) }
     {
         let processes = self.processes.as_slice();
         let who = caller(&self.initializer, &self.root, processes, p, ring);
-        let uid = match self.hier.changeable(alloc, &who, path, true)? {
+        let uid = match self.hier.entry(alloc, &who, path, true) {
             Ok(uid) => uid,
-            Err(why) => return Ok(Applied::unchanged(alloc, Reply::Refused(why))),
+            Err(error) => return refused(alloc, error),
         };
         let held = held(alloc, &self.hier, processes, uid)?;
-        let room = Vec::with_capacity(alloc, held.items().len())?;
-        let given = self.hier.del_acl(alloc, &who, path, id);
+        let room = Vec::with_capacity(alloc, held.len())?;
+        let given = self.hier.del_acl(&who, uid, id);
         let reply = done(given)?;
-        let changes = renewed(&self.hier, processes, held.items(), room);
+        let changes = renewed(&self.hier, processes, &held, room);
         Ok(Applied { reply, changes })
     }
 
@@ -84,22 +82,22 @@ impl State {
         path: &Pathname,
         brackets: &[Ring; 3],
     ) -> Result<Applied, AllocError>
-        ensures answer { IfOk result (λ applied. by_hierarchy self.old (changing.set_brackets self.old.hierarchy (caller self.old p ring) path.now brackets.now) (λ value. reply.Done) ≡ answer applied.reply self.new) }
-        ensures changes { IfOk result (λ applied. AreChanges self.old self.new applied.changes) }
-        ensures processes { length self.new.processes ≡ length self.old.processes }
+        requires asker { p ≤ length self.old.processes }
+        ensures served { IfOk result
+            (Serves self.old self.new (plain self.old p ring (ask.SetBrackets path.now brackets.now))) }
         ensures err { OnErr result (self.new ≡ self.old) }
     {
         let processes = self.processes.as_slice();
         let who = caller(&self.initializer, &self.root, processes, p, ring);
-        let uid = match self.hier.changeable(alloc, &who, path, true)? {
+        let uid = match self.hier.entry(alloc, &who, path, true) {
             Ok(uid) => uid,
-            Err(why) => return Ok(Applied::unchanged(alloc, Reply::Refused(why))),
+            Err(error) => return refused(alloc, error),
         };
         let held = held(alloc, &self.hier, processes, uid)?;
-        let room = Vec::with_capacity(alloc, held.items().len())?;
-        let given = self.hier.set_brackets(alloc, &who, path, *brackets);
+        let room = Vec::with_capacity(alloc, held.len())?;
+        let given = self.hier.set_brackets(&who, uid, *brackets);
         let reply = done(given)?;
-        let changes = renewed(&self.hier, processes, held.items(), room);
+        let changes = renewed(&self.hier, processes, &held, room);
         Ok(Applied { reply, changes })
     }
 
@@ -110,22 +108,21 @@ impl State {
         ring: Ring,
         path: &Pathname,
     ) -> Result<Applied, AllocError>
-        ensures answer { IfOk result (λ applied. by_hierarchy self.old (changing.delete self.old.hierarchy (caller self.old p ring) path.now) (λ value. reply.Done) ≡ answer applied.reply self.new) }
-        ensures changes { IfOk result (λ applied. AreChanges self.old self.new applied.changes) }
-        ensures processes { length self.new.processes ≡ length self.old.processes }
+        requires asker { p ≤ length self.old.processes }
+        ensures served { IfOk result (Serves self.old self.new (plain self.old p ring (ask.Delete path.now))) }
         ensures err { OnErr result (self.new ≡ self.old) }
     {
         let processes = self.processes.as_slice();
         let who = caller(&self.initializer, &self.root, processes, p, ring);
-        let uid = match self.hier.changeable(alloc, &who, path, false)? {
+        let uid = match self.hier.entry(alloc, &who, path, false) {
             Ok(uid) => uid,
-            Err(why) => return Ok(Applied::unchanged(alloc, Reply::Refused(why))),
+            Err(error) => return refused(alloc, error),
         };
         let held = held(alloc, &self.hier, processes, uid)?;
-        let room = Vec::with_capacity(alloc, held.items().len())?;
-        let given = self.hier.delete(alloc, &who, path);
+        let room = Vec::with_capacity(alloc, held.len())?;
+        let given = self.hier.delete(&who, uid);
         let reply = done(given)?;
-        let changes = renewed(&self.hier, processes, held.items(), room);
+        let changes = renewed(&self.hier, processes, &held, room);
         Ok(Applied { reply, changes })
     }
 }

@@ -1,15 +1,19 @@
-//! Requests on a process's own state: `change_wdir`, `initiate` and `logout`.
+//! Requests on a process's own state.
 
-ghost use Rattle.std.specs.Prelude.{◌≡◌, ◌+◌, ◌-◌, ◌≤◌, ◌<◌, List, [], ◌∷◌, ◌++◌, length, vec_len, true, None, Some, IfOk, OnOk, OnErr, IfSome, slice_get, slice_set};
+ghost use Rattle.std.specs.Prelude.{◌≡◌, ◌≤◌, ◌<◌, [], ◌∷◌, ◌++◌, Some, None, true, length, slice_get, slice_set, vec_len, IfOk, IfSome, OnOk, OnErr};
+ghost use Rattle.mx_request.specs.declared.requests.Request.TheVariants as ask;
+ghost use Rattle.mx_state.specs.Numbers.{last_segno, segno_of, next_segno};
+ghost use Rattle.mx_state.specs.Requests.{plain};
+ghost use Rattle.mx_state.specs.Serving.{Serves};
 ghost use Rattle.mx_state.specs.declared.states.ProcessState.{ProcessState as ProcessValue};
-ghost use Rattle.mx_state.specs.Changes.{AreChanges};
-ghost use Rattle.mx_state.specs.Knowing.{segno_of, change_wdir, initiate, logout};
-ghost use Rattle.mx_state.specs.Plain.{answer, process_at};
 
+use crate::applied::Applied;
 use crate::callers::{own_caller, process_in};
-use crate::changes::{Applied, Change, Changes};
+use crate::replies::refused;
 use crate::states::{ProcessState, State};
-use mx_hier::{HierError, Refusal};
+use crate::uids::LAST_SEGNO;
+use mx_core::{Change, Changes};
+use mx_hier::Refusal;
 use mx_name::{Path, Pathname};
 use mx_request::{Known, Reply};
 use mx_sdw::Ring;
@@ -26,26 +30,21 @@ impl State {
     ) -> Result<Applied, AllocError>
         requires some { 1 ≤ p }
         requires process { p ≤ length self.old.processes }
-        ensures answer { IfOk result (λ applied. change_wdir self.old p ring path.now (process_at self.old.processes p) ≡ answer applied.reply self.new) }
-        ensures changes { IfOk result (λ applied. AreChanges self.old self.new applied.changes) }
-        ensures processes { length self.new.processes ≡ length self.old.processes }
+        ensures served { IfOk result (Serves self.old self.new (plain self.old p ring (ask.ChangeWdir path.now))) }
         ensures err { OnErr result (self.new ≡ self.old) }
     {
         let i = usize::from(p) - 1;
         let who = own_caller(process_in(self.processes.as_slice(), i), ring);
         let directory = match self.hier.directory(alloc, &who, path) {
             Ok(directory) => directory,
-            Err(HierError::Refused(why)) => {
-                return Ok(Applied::unchanged(alloc, Reply::Refused(why)));
-            }
-            Err(HierError::Memory) => return Err(AllocError),
+            Err(error) => return refused(alloc, error),
         };
         move_to(&mut self.processes, i, directory);
         Ok(Applied::unchanged(alloc, Reply::Done))
     }
 
-    /// Makes a segment known: one that is known keeps its number, and another gets the next one. The only descriptor that
-    /// changes is that of a number that is given now.
+    /// Makes a segment known: one that is known keeps its number, and another gets the next one. The only descriptor
+    /// that changes is that of a number that is given now.
     pub(crate) fn initiate(
         &mut self,
         alloc: Global,
@@ -55,9 +54,7 @@ impl State {
     ) -> Result<Applied, AllocError>
         requires some { 1 ≤ p }
         requires process { p ≤ length self.old.processes }
-        ensures answer { IfOk result (λ applied. initiate self.old p ring path.now (process_at self.old.processes p) ≡ answer applied.reply self.new) }
-        ensures changes { IfOk result (λ applied. AreChanges self.old self.new applied.changes) }
-        ensures processes { length self.new.processes ≡ length self.old.processes }
+        ensures served { IfOk result (Serves self.old self.new (plain self.old p ring (ask.Initiate path.now))) }
         ensures err { OnErr result (self.new ≡ self.old) }
     {
         let i = usize::from(p) - 1;
@@ -65,10 +62,7 @@ impl State {
         let who = own_caller(process, ring);
         let uid = match self.hier.segment(alloc, &who, path) {
             Ok(uid) => uid,
-            Err(HierError::Refused(why)) => {
-                return Ok(Applied::unchanged(alloc, Reply::Refused(why)));
-            }
-            Err(HierError::Memory) => return Err(AllocError),
+            Err(error) => return refused(alloc, error),
         };
         if let Some(segno) = process.known.segno_of(uid) {
             let known = Known {
@@ -77,11 +71,10 @@ impl State {
             };
             return Ok(Applied::unchanged(alloc, Reply::Segno(known)));
         }
-        let count = process.known.count();
-        if count >= 120 {
+        let segno = process.known.next_segno();
+        if segno > LAST_SEGNO {
             return Ok(Applied::unchanged(alloc, Reply::Refused(Refusal::KstFull)));
         }
-        let segno = 8 + count as u16;
         let desc = self.hier.desc_of(uid, &process.principal);
         let mut changes = Changes::new(alloc);
         changes.push(Change {
@@ -98,12 +91,10 @@ impl State {
     }
 
     /// Ends the process; its known segments stay as they were.
-    pub(crate) fn logout(&mut self, alloc: Global, p: u8) -> Applied
+    pub(crate) fn logout(&mut self, alloc: Global, p: u8, ring: Ring) -> Applied
         requires some { 1 ≤ p }
         requires process { p ≤ length self.old.processes }
-        ensures answer { logout self.old p (process_at self.old.processes p) ≡ answer result.reply self.new }
-        ensures changes { AreChanges self.old self.new result.changes }
-        ensures processes { length self.new.processes ≡ length self.old.processes }
+        ensures { Serves self.old self.new (plain self.old p ring ask.Logout) result }
     {
         end(&mut self.processes, usize::from(p) - 1);
         Applied::unchanged(alloc, Reply::Done)
@@ -123,10 +114,11 @@ fn move_to(processes: &mut Vec<ProcessState>, i: usize, directory: Path)
 // Makes a uid known to the process in a place.
 fn know(processes: &mut Vec<ProcessState>, i: usize, uid: u32) -> Result<(), AllocError>
     requires within { i < vec_len processes.old }
-    requires room { IfSome (slice_get processes.old.items i) (λ process. length process.known < 120) }
+    requires room { IfSome (slice_get processes.old.items i) (λ process. next_segno process.known ≤ last_segno) }
     requires new { IfSome (slice_get processes.old.items i) (λ process. segno_of process.known uid ≡ None) }
     ensures ok { OnOk result ((process : ProcessValue) → slice_get processes.old.items i ≡ Some process
-        → processes.new.items ≡ slice_set processes.old.items i (record process { known = process.known ++ uid ∷ [] })) }
+        → processes.new.items
+        ≡ slice_set processes.old.items i (record process { known = process.known ++ uid ∷ [] })) }
     ensures err { OnErr result (processes.new.items ≡ processes.old.items) }
     ensures count { vec_len processes.new ≡ vec_len processes.old }
 {

@@ -1,7 +1,7 @@
 //! What the state before any entry is made of.
 
 ghost use Rattle.std.specs.Prelude.{◌≡◌, map, IfOk};
-ghost use Rattle.mx_state.specs.Plain.{initializer};
+ghost use Rattle.mx_state.specs.Askers.{initializer};
 ghost use Rattle.mx_state.specs.History.{fresh};
 
 use crate::states::ProcessState;
@@ -10,13 +10,13 @@ use mx_name::{Path, Principal};
 use std::alloc::{AllocError, Global};
 
 /// The principal of the initializer.
-pub(crate) fn make_initializer(alloc: Global) -> Result<Principal, AllocError>
-    ensures { IfOk result (λ who. who ≡ initializer) }
+pub(crate) fn make_initializer() -> Principal
+    ensures { result ≡ initializer }
 {
-    match Principal::read(alloc, b"Initializer.SysDaemon.z") {
-        Ok(who) => Ok(who),
-        Err(_) => Err(AllocError),
-    }
+    let Ok(who) = Principal::read(b"Initializer.SysDaemon.z") else {
+        unreachable!()
+    };
+    who
 }
 
 /// The processes of these principals, which know their stacks alone and work in the root.
@@ -28,9 +28,8 @@ pub(crate) fn fresh_processes(
 {
     let mut processes = Vec::new(alloc);
     for principal in principals {
-        let principal = principal.copy()?;
         processes.push(ProcessState {
-            principal,
+            principal: *principal,
             working_directory: Path::root(alloc),
             known: Uids::new(alloc),
             ended: false,

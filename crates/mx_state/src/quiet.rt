@@ -1,18 +1,14 @@
 //! Requests that change no descriptor.
 
-ghost use Rattle.std.specs.Prelude.{◌≡◌, length, IfOk, OnErr};
-ghost use Rattle.mx_hier.specs.Asking as asking;
-ghost use Rattle.mx_hier.specs.Changing as changing;
-ghost use Rattle.mx_hier.specs.Making as making;
-ghost use Rattle.mx_request.specs.declared.replies.Reply.TheVariants as reply;
-ghost use Rattle.mx_state.specs.Changes.{AreChanges};
-ghost use Rattle.mx_state.specs.Plain.{answer, by_hierarchy, caller, told};
+ghost use Rattle.std.specs.Prelude.{◌≡◌, ◌≤◌, length, IfOk, OnErr};
+ghost use Rattle.mx_request.specs.declared.requests.Request.TheVariants as ask;
+ghost use Rattle.mx_state.specs.Requests.{plain};
+ghost use Rattle.mx_state.specs.Serving.{Serves};
 
+use crate::applied::Applied;
 use crate::callers::caller;
-use crate::changes::Applied;
-use crate::replies::done;
+use crate::replies::{done, refused};
 use crate::states::State;
-use mx_hier::HierError;
 use mx_name::{EntryName, Pathname};
 use mx_request::Reply;
 use mx_sdw::Ring;
@@ -28,9 +24,8 @@ impl State {
         d1: Ring,
         d2: Ring,
     ) -> Result<Applied, AllocError>
-        ensures answer { IfOk result (λ applied. by_hierarchy self.old (making.create_dir self.old.hierarchy (caller self.old p ring) path.now d1 d2) (λ value. reply.Done) ≡ answer applied.reply self.new) }
-        ensures changes { IfOk result (λ applied. AreChanges self.old self.new applied.changes) }
-        ensures processes { length self.new.processes ≡ length self.old.processes }
+        requires asker { p ≤ length self.old.processes }
+        ensures served { IfOk result (Serves self.old self.new (plain self.old p ring (ask.CreateDir path.now d1 d2))) }
         ensures err { OnErr result (self.new ≡ self.old) }
     {
         let processes = self.processes.as_slice();
@@ -49,9 +44,9 @@ impl State {
         words: u32,
         brackets: &[Ring; 3],
     ) -> Result<Applied, AllocError>
-        ensures answer { IfOk result (λ applied. by_hierarchy self.old (making.create_seg self.old.hierarchy (caller self.old p ring) path.now words brackets.now) (λ value. reply.Done) ≡ answer applied.reply self.new) }
-        ensures changes { IfOk result (λ applied. AreChanges self.old self.new applied.changes) }
-        ensures processes { length self.new.processes ≡ length self.old.processes }
+        requires asker { p ≤ length self.old.processes }
+        ensures served { IfOk result
+            (Serves self.old self.new (plain self.old p ring (ask.CreateSeg path.now words brackets.now))) }
         ensures err { OnErr result (self.new ≡ self.old) }
     {
         let processes = self.processes.as_slice();
@@ -69,9 +64,9 @@ impl State {
         path: &Pathname,
         target: &Pathname,
     ) -> Result<Applied, AllocError>
-        ensures answer { IfOk result (λ applied. by_hierarchy self.old (making.create_link self.old.hierarchy (caller self.old p ring) path.now target.now) (λ value. reply.Done) ≡ answer applied.reply self.new) }
-        ensures changes { IfOk result (λ applied. AreChanges self.old self.new applied.changes) }
-        ensures processes { length self.new.processes ≡ length self.old.processes }
+        requires asker { p ≤ length self.old.processes }
+        ensures served { IfOk result
+            (Serves self.old self.new (plain self.old p ring (ask.CreateLink path.now target.now))) }
         ensures err { OnErr result (self.new ≡ self.old) }
     {
         let processes = self.processes.as_slice();
@@ -89,14 +84,17 @@ impl State {
         path: &Pathname,
         name: &EntryName,
     ) -> Result<Applied, AllocError>
-        ensures answer { IfOk result (λ applied. by_hierarchy self.old (changing.rename self.old.hierarchy (caller self.old p ring) path.now name.now) (λ value. reply.Done) ≡ answer applied.reply self.new) }
-        ensures changes { IfOk result (λ applied. AreChanges self.old self.new applied.changes) }
-        ensures processes { length self.new.processes ≡ length self.old.processes }
+        requires asker { p ≤ length self.old.processes }
+        ensures served { IfOk result (Serves self.old self.new (plain self.old p ring (ask.Rename path.now name.now))) }
         ensures err { OnErr result (self.new ≡ self.old) }
     {
         let processes = self.processes.as_slice();
         let who = caller(&self.initializer, &self.root, processes, p, ring);
-        let given = self.hier.rename(alloc, &who, path, name);
+        let uid = match self.hier.entry(alloc, &who, path, false) {
+            Ok(uid) => uid,
+            Err(error) => return refused(alloc, error),
+        };
+        let given = self.hier.rename(&who, uid, name);
         let reply = done(given)?;
         Ok(Applied::unchanged(alloc, reply))
     }
@@ -110,14 +108,18 @@ impl State {
         d1: Ring,
         d2: Ring,
     ) -> Result<Applied, AllocError>
-        ensures answer { IfOk result (λ applied. by_hierarchy self.old (changing.set_dir_brackets self.old.hierarchy (caller self.old p ring) path.now d1 d2) (λ value. reply.Done) ≡ answer applied.reply self.new) }
-        ensures changes { IfOk result (λ applied. AreChanges self.old self.new applied.changes) }
-        ensures processes { length self.new.processes ≡ length self.old.processes }
+        requires asker { p ≤ length self.old.processes }
+        ensures served { IfOk result
+            (Serves self.old self.new (plain self.old p ring (ask.SetDirBrackets path.now d1 d2))) }
         ensures err { OnErr result (self.new ≡ self.old) }
     {
         let processes = self.processes.as_slice();
         let who = caller(&self.initializer, &self.root, processes, p, ring);
-        let given = self.hier.set_dir_brackets(alloc, &who, path, d1, d2);
+        let uid = match self.hier.entry(alloc, &who, path, true) {
+            Ok(uid) => uid,
+            Err(error) => return refused(alloc, error),
+        };
+        let given = self.hier.set_dir_brackets(&who, uid, d1, d2);
         let reply = done(given)?;
         Ok(Applied::unchanged(alloc, reply))
     }
@@ -128,15 +130,15 @@ impl State {
         p: u8,
         ring: Ring,
         path: &Pathname,
-    ) -> Result<Reply, AllocError>
-        ensures { IfOk result (λ given. told self.now (asking.status self.now.hierarchy (caller self.now p ring) path.now) reply.Status ≡ answer given self.now) }
+    ) -> Result<Applied, AllocError>
+        requires asker { p ≤ length self.now.processes }
+        ensures { IfOk result (Serves self.now self.now (plain self.now p ring (ask.Status path.now))) }
     {
         let processes = self.processes.as_slice();
         let who = caller(&self.initializer, &self.root, processes, p, ring);
         match self.hier.status(alloc, &who, path) {
-            Ok(status) => Ok(Reply::Status(status)),
-            Err(HierError::Refused(why)) => Ok(Reply::Refused(why)),
-            Err(HierError::Memory) => Err(AllocError),
+            Ok(value) => Ok(Applied::unchanged(alloc, Reply::Status(value))),
+            Err(error) => refused(alloc, error),
         }
     }
 
@@ -146,15 +148,15 @@ impl State {
         p: u8,
         ring: Ring,
         path: &Pathname,
-    ) -> Result<Reply, AllocError>
-        ensures { IfOk result (λ given. told self.now (asking.list self.now.hierarchy (caller self.now p ring) path.now) reply.Names ≡ answer given self.now) }
+    ) -> Result<Applied, AllocError>
+        requires asker { p ≤ length self.now.processes }
+        ensures { IfOk result (Serves self.now self.now (plain self.now p ring (ask.List path.now))) }
     {
         let processes = self.processes.as_slice();
         let who = caller(&self.initializer, &self.root, processes, p, ring);
         match self.hier.list(alloc, &who, path) {
-            Ok(names) => Ok(Reply::Names(names)),
-            Err(HierError::Refused(why)) => Ok(Reply::Refused(why)),
-            Err(HierError::Memory) => Err(AllocError),
+            Ok(value) => Ok(Applied::unchanged(alloc, Reply::Names(value))),
+            Err(error) => refused(alloc, error),
         }
     }
 }

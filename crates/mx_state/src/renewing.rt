@@ -1,14 +1,14 @@
 //! The descriptors of one segment, held before a request and renewed after it.
 
 ghost use Rattle.std.specs.Prelude.{◌≡◌, ◌≤◌, [], length, vec_capacity, IfOk};
-ghost use Rattle.mx_state.specs.Renewing.{held_from, same_desc, renewed};
+ghost use Rattle.std.specs.List.{All};
+ghost use Rattle.mx_sdw.specs.Admissible.{IsAdmissible};
+ghost use Rattle.mx_state.specs.Renewing.{held_from, renewed};
 
-use crate::changes::{Change, Changes};
 use crate::states::ProcessState;
 use crate::tables::descriptor;
+use mx_core::{Change, Changes};
 use mx_hier::Hier;
-use mx_list::Sequence;
-use mx_sdw::Desc;
 use std::alloc::{AllocError, Global};
 
 /// The descriptor of a segment in each process that knows it, in order of process.
@@ -17,20 +17,21 @@ pub(crate) fn held(
     hier: &Hier,
     processes: &[ProcessState],
     uid: u32,
-) -> Result<Changes, AllocError>
+) -> Result<Vec<Change>, AllocError>
     requires { length processes.now ≤ 15 }
-    ensures { IfOk result (λ held. held ≡ held_from (record { hierarchy = hier.now; processes = processes.now }) 1 processes.now uid) }
+    ensures { IfOk result (λ held. held.items
+        ≡ held_from (record { hierarchy = hier.now; processes = processes.now }) 1 processes.now uid) }
 {
-    let mut held = Changes::new(alloc);
+    let mut held = Vec::new(alloc);
     let mut p: u8 = 1;
     for process in processes {
         if let Some(segno) = process.known.segno_of(uid) {
             let desc = descriptor(hier, processes, p, segno);
-            held.push(Change {
+            held.extend_from_slice(&[Change {
                 process: p,
                 segno,
                 desc,
-            })?;
+            }])?;
         }
         p += 1;
     }
@@ -44,15 +45,16 @@ pub(crate) fn renewed(
     held: &[Change],
     room: Vec<Change>,
 ) -> Changes
-    requires few { length held.now ≤ 15 }
+    requires few { length processes.now ≤ 15 }
     requires empty { room.items ≡ [] }
     requires room { length held.now ≤ vec_capacity room }
-    ensures { result ≡ renewed (record { hierarchy = hier.now; processes = processes.now }) held.now }
+    ensures value { result ≡ renewed (record { hierarchy = hier.now; processes = processes.now }) held.now }
+    ensures admissible { All (λ change. IsAdmissible change.desc) result }
 {
     let mut changes = room;
     for change in held {
         let desc = descriptor(hier, processes, change.process, change.segno);
-        if !is_same(&change.desc, &desc) {
+        if !change.desc.is_same(&desc) {
             changes.push_reserved(Change {
                 process: change.process,
                 segno: change.segno,
@@ -61,10 +63,4 @@ pub(crate) fn renewed(
         }
     }
     Changes::of(changes)
-}
-
-fn is_same(held: &Desc, desc: &Desc) -> bool
-    ensures { result ≡ same_desc held.now desc.now }
-{
-    held == desc
 }

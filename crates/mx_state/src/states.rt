@@ -1,13 +1,16 @@
 //! The plain supervisor as a program.
 
-ghost use Rattle.std.specs.Prelude.{◌≡◌, ◌+◌, ◌*◌, ◌≤◌, length, IfOk, OnErr};
-ghost use Rattle.mx_state.specs.Changes.{AreChanges};
+ghost use Rattle.std.specs.Prelude.{◌≡◌, ◌≤◌, length, IfOk, OnErr};
+ghost use Rattle.std.specs.List.{All};
+ghost use Rattle.mx_sdw.specs.Admissible.{IsAdmissible};
+ghost use Rattle.mx_state.specs.Changes.{AreChanges, IsBounded};
 ghost use Rattle.mx_state.specs.History.{opening, MayAsk};
 ghost use Rattle.mx_state.specs.Plain.{answer};
 ghost use Rattle.mx_state.specs.Requests.{plain};
+ghost use Rattle.mx_state.specs.Serving.{Serves, RefusesQuietly};
 ghost use Rattle.mx_state.specs.Table.{descriptor};
 
-use crate::changes::Applied;
+use crate::applied::Applied;
 use crate::openings::{fresh_processes, make_initializer};
 use crate::tables::descriptor;
 use crate::uids::Uids;
@@ -45,7 +48,8 @@ impl Model for State {
 
     ghost view = { λ a. record { hierarchy = a.hier; processes = a.processes.items } };
 
-    ghost invariant = { λ a. HoldsSound a.initializer a.root (record { hierarchy = a.hier; processes = a.processes.items }) };
+    ghost invariant = { λ a.
+        HoldsSound a.initializer a.root (record { hierarchy = a.hier; processes = a.processes.items }) };
 }
 
 impl State {
@@ -55,21 +59,20 @@ impl State {
         requires most { length principals.now ≤ 15 }
         ensures { IfOk result (λ state. state ≡ opening principals.now) }
     {
-        let initializer = make_initializer(alloc)?;
         let processes = fresh_processes(alloc, principals)?;
         // Each process has eight stacks, of one page each.
         let hier = Hier::new(alloc, 8 * principals.len() as u32)?;
         Ok(State {
             hier,
-            initializer,
+            initializer: make_initializer(),
             root: Path::root(alloc),
             processes,
         })
     }
 
-    /// Answers the request of process `p` in a ring as the plain supervisor does; process 0 is the initializer, which makes
-    /// path requests alone. The changes are exactly the descriptors that differ afterwards. A refusal changes nothing, and nor
-    /// does want of memory, the only error.
+    /// Answers the request of process `p` in a ring as the plain supervisor does; process 0 is the initializer, which
+    /// makes requests on paths alone. The changes are exactly the descriptors that differ afterwards. A refusal changes
+    /// nothing, and nor does want of memory, the only error.
     pub fn apply(
         &mut self,
         alloc: Global,
@@ -80,77 +83,59 @@ impl State {
         requires { MayAsk self.old p request.now }
         ensures answer { IfOk result (λ applied. plain self.old p ring request.now ≡ answer applied.reply self.new) }
         ensures changes { IfOk result (λ applied. AreChanges self.old self.new applied.changes) }
+        ensures bounded { IfOk result (λ applied. All IsBounded applied.changes) }
+        ensures refused { IfOk result (RefusesQuietly self.old self.new) }
         ensures processes { length self.new.processes ≡ length self.old.processes }
         ensures err { OnErr result (self.new ≡ self.old) }
     {
+        let applied = self.serve(alloc, p, ring, request)?;
+        Ok(applied)
+    }
+
+    fn serve(
+        &mut self,
+        alloc: Global,
+        p: u8,
+        ring: Ring,
+        request: &Request,
+    ) -> Result<Applied, AllocError>
+        requires { MayAsk self.old p request.now }
+        ensures served { IfOk result (Serves self.old self.new (plain self.old p ring request.now)) }
+        ensures err { OnErr result (self.new ≡ self.old) }
+    {
         match request {
-            Request::CreateDir { path, d1, d2 } => {
-                let applied = self.create_dir(alloc, p, ring, path, *d1, *d2)?;
-                Ok(applied)
-            }
+            Request::CreateDir { path, d1, d2 } => self.create_dir(alloc, p, ring, path, *d1, *d2),
             Request::CreateSeg {
                 path,
                 words,
                 brackets,
-            } => {
-                let applied = self.create_seg(alloc, p, ring, path, *words, brackets)?;
-                Ok(applied)
-            }
-            Request::CreateLink { path, target } => {
-                let applied = self.create_link(alloc, p, ring, path, target)?;
-                Ok(applied)
-            }
-            Request::Rename { path, name } => {
-                let applied = self.rename(alloc, p, ring, path, name)?;
-                Ok(applied)
-            }
-            Request::Delete { path } => {
-                let applied = self.delete(alloc, p, ring, path)?;
-                Ok(applied)
-            }
-            Request::SetAcl { path, id, modes } => {
-                let applied = self.set_acl(alloc, p, ring, path, id, *modes)?;
-                Ok(applied)
-            }
-            Request::DelAcl { path, id } => {
-                let applied = self.del_acl(alloc, p, ring, path, id)?;
-                Ok(applied)
-            }
+            } => self.create_seg(alloc, p, ring, path, *words, brackets),
+            Request::CreateLink { path, target } => self.create_link(alloc, p, ring, path, target),
+            Request::Rename { path, name } => self.rename(alloc, p, ring, path, name),
+            Request::Delete { path } => self.delete(alloc, p, ring, path),
+            Request::SetAcl { path, id, modes } => self.set_acl(alloc, p, ring, path, id, *modes),
+            Request::DelAcl { path, id } => self.del_acl(alloc, p, ring, path, id),
             Request::SetBrackets { path, brackets } => {
-                let applied = self.set_brackets(alloc, p, ring, path, brackets)?;
-                Ok(applied)
+                self.set_brackets(alloc, p, ring, path, brackets)
             }
             Request::SetDirBrackets { path, d1, d2 } => {
-                let applied = self.set_dir_brackets(alloc, p, ring, path, *d1, *d2)?;
-                Ok(applied)
+                self.set_dir_brackets(alloc, p, ring, path, *d1, *d2)
             }
-            Request::Status { path } => {
-                let reply = self.status(alloc, p, ring, path)?;
-                Ok(Applied::unchanged(alloc, reply))
-            }
-            Request::List { path } => {
-                let reply = self.list(alloc, p, ring, path)?;
-                Ok(Applied::unchanged(alloc, reply))
-            }
-            Request::ChangeWdir { path } => {
-                let applied = self.change_wdir(alloc, p, ring, path)?;
-                Ok(applied)
-            }
-            Request::Initiate { path } => {
-                let applied = self.initiate(alloc, p, ring, path)?;
-                Ok(applied)
-            }
-            Request::Logout => Ok(self.logout(alloc, p)),
+            Request::Status { path } => self.status(alloc, p, ring, path),
+            Request::List { path } => self.list(alloc, p, ring, path),
+            Request::ChangeWdir { path } => self.change_wdir(alloc, p, ring, path),
+            Request::Initiate { path } => self.initiate(alloc, p, ring, path),
+            Request::Logout => Ok(self.logout(alloc, p, ring)),
         }
     }
 
-    /// The descriptor that process `p` has of a segment number: unknown where the number stands for nothing, gone where its
-    /// segment was deleted. Its words lie in the 65,536 cells of the memory. Takes no memory.
+    /// The descriptor that process `p` has of a segment number: unknown where the number stands for nothing, as it does
+    /// from 128 on; gone where its segment was deleted. Takes no memory.
     pub fn descriptor(&self, p: u8, segno: u16) -> Desc
         requires some { 1 ≤ p }
         requires process { p ≤ length self.now.processes }
         ensures value { result ≡ descriptor self.now p segno }
-        ensures within { 64 * result.page + result.bound ≤ 65536 }
+        ensures admissible { IsAdmissible result }
     {
         descriptor(&self.hier, self.processes.as_slice(), p, segno)
     }

@@ -1,4 +1,4 @@
-use Rattle.std.proofs.Common.{◌≡◌, ◌+◌, ◌≤◌, ◌++◌, drop, length}
+use Rattle.std.proofs.Common.{◌≡◌, ◌+◌, ◌++◌, drop}
 use Rattle.mx_state.specs.Renewing.{held_from}
 use Rattle.mx_state.proofs.renewing.held.Given as goal
 
@@ -6,7 +6,6 @@ use Rattle.mx_state.proofs.renewing.held.Given as goal
 abbrev pub invariant-loop-process : goal.invariant-loop-process
 invariant-loop-process l = record {
   number : l.p ≡ l.process-index + 1;
-  few : length l.held ≤ l.process-index;
   held : held_from (record { hierarchy = l.hier; processes = l.processes }) 1 l.processes l.uid
-      ≡ l.held ++ held_from (record { hierarchy = l.hier; processes = l.processes }) (l.process-index + 1) (drop l.process-index l.processes) l.uid;
+      ≡ l.held.items ++ held_from (record { hierarchy = l.hier; processes = l.processes }) (l.process-index + 1) (drop l.process-index l.processes) l.uid;
 }

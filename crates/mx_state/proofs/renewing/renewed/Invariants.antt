@@ -1,5 +1,7 @@
 use Rattle.std.proofs.Common.{◌≡◌, ◌≤◌, ◌++◌, drop, length}
+use Rattle.std.specs.List.{All}
 use Rattle.std.specs.Vec.{vec_capacity}
+use Rattle.mx_sdw.specs.Admissible.{IsAdmissible}
 use Rattle.mx_state.specs.Renewing.{renewed}
 use Rattle.mx_state.proofs.renewing.renewed.Given as goal
 
@@ -10,4 +12,5 @@ invariant-loop-change l = record {
   room : length l.held ≤ vec_capacity l.changes;
   changes : renewed (record { hierarchy = l.hier; processes = l.processes }) l.held
       ≡ l.changes.items ++ renewed (record { hierarchy = l.hier; processes = l.processes }) (drop l.change-index l.held);
+  admissible : All (λ change. IsAdmissible change.desc) l.changes.items;
 }

@@ -1,8 +1,9 @@
 use Rattle.std.proofs.Common.{refl}
-use Rattle.mx_hier.specs.Making.{create_dir}
+use Rattle.mx_hier.specs.CreateDirectory.{create_dir}
 use Rattle.mx_hier.specs.Who.{caller}
-use Rattle.mx_state.proofs.AnswerLaws.{call_is_sound, call_is_quiet}
-use Rattle.mx_state.proofs.SegmentLaws.{Nothing, create_dir_as_before}
+use Rattle.mx_request.specs.declared.requests.Request.TheVariants as ask
+use Rattle.mx_state.proofs.AnswerLaws.{call_is_sound, of_old, quiet_serves}
+use Rattle.mx_state.proofs.SegmentLaws.{Nothing, create_dir_leaves}
 use Rattle.mx_state.proofs.states.State.create_dir.Goals as goal
 
 pub invariant_of-self-2 : goal.invariant_of-self-2
@@ -10,12 +11,13 @@ invariant_of-self-2 c =
     let s = c.self.inside in
     let who = caller c.caller-who.result in
     call_is_sound Nothing (create_dir s.hier who c.args.path.now c.args.d1 c.args.d2) s.hier c.create_dir-given.new.self s.processes.items s.initializer s.root
-    c.create_dir-given.result c.create_dir-given.ensures (create_dir_as_before s.hier who c.args.path.now c.args.d1 c.args.d2) c.self.invariant
+    c.create_dir-given.result c.create_dir-given.ensures.answer (create_dir_leaves s.hier who c.args.path.now c.args.d1 c.args.d2) c.self.invariant
 
-pub returns-clause-changes : goal.returns-clause-changes
-returns-clause-changes c =
+pub returns-clause-served : goal.returns-clause-served
+returns-clause-served c =
     let s = c.self.inside in
     let who = caller c.caller-who.result in
-    call_is_quiet (create_dir s.hier who c.args.path.now c.args.d1 c.args.d2) s.hier c.create_dir-given.new.self s.processes.items c.args.self.now c.unchanged.result.changes
-    c.create_dir-given.result c.create_dir-given.ensures (create_dir_as_before s.hier who c.args.path.now c.args.d1 c.args.d2) c.self.invariant.sound c.self.view_is
-    (rw c.unchanged.ensures refl)
+    of_old s.hier s.processes.items _ _ c.args.p c.args.ring (ask.CreateDir c.args.path.now c.args.d1 c.args.d2) c.unchanged.result c.self.view_is
+    (quiet_serves (λ who. create_dir s.hier who c.args.path.now c.args.d1 c.args.d2) (create_dir s.hier who c.args.path.now c.args.d1 c.args.d2) s.hier c.create_dir-given.new.self s.processes.items c.args.p c.args.ring who
+    c.create_dir-given.result c.in_ok-reply.reply c.unchanged.result (rw c.as_slice-processes.ensures.value at c.caller-who.ensures) refl
+    c.create_dir-given.ensures.answer c.in_ok-reply.ensures (create_dir_leaves s.hier who c.args.path.now c.args.d1 c.args.d2) c.self.invariant.sound c.unchanged.ensures)

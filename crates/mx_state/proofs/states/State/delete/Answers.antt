@@ -1,24 +1,34 @@
-use Rattle.std.proofs.Common.{◌≡◌, ◌∙◌, sym}
-use Rattle.mx_hier.specs.Changing.{delete}
-use Rattle.mx_hier.specs.Who.{caller}
-use Rattle.mx_state.proofs.AnswerLaws.{call_is_sound}
-use Rattle.mx_state.proofs.RenewingLaws.{call_renews}
-use Rattle.mx_state.proofs.SegmentLaws.{delete_as_before}
+use Rattle.std.proofs.Common.{false}
+use Rattle.mx_hier.specs.Delete.{delete, delete_at}
+use Rattle.mx_hier.specs.Walks.{entry}
+use Rattle.mx_hier.specs.Who.{caller, subject}
+use Rattle.mx_request.specs.declared.requests.Request.TheVariants as ask
+use Rattle.mx_state.proofs.AnswerLaws.{after_call, call_is_sound, of_old, found, loud_serves}
+use Rattle.mx_state.proofs.RenewingLaws.{renewed_are}
+use Rattle.mx_state.proofs.SegmentLaws.{Only, delete_leaves}
 use Rattle.mx_state.proofs.states.State.delete.Goals as goal
 
 pub invariant_of-self-2 : goal.invariant_of-self-2
 invariant_of-self-2 c =
     let s = c.self.inside in
-    let who = caller c.caller-who.result in
-    call_is_sound (λ uid. uid ≡ c.in-Ok.uid) (delete s.hier who c.args.path.now) s.hier c.delete-given.new.self s.processes.items s.initializer s.root
-    c.delete-given.result c.delete-given.ensures (delete_as_before s.hier who c.args.path.now c.in-Ok.uid (sym c.in_ok-uid.ensures ∙ c.in-Ok.is)) c.self.invariant
+    let who = subject c.caller-who.result in
+    call_is_sound (Only c.in-Ok.uid) (delete_at s.hier who c.in-Ok.uid) s.hier c.delete-given.new.self s.processes.items s.initializer s.root
+    c.delete-given.result c.delete-given.ensures.answer (delete_leaves s.hier who c.in-Ok.uid) c.self.invariant
 
-pub returns-clause-changes : goal.returns-clause-changes
-returns-clause-changes c =
+pub returns-clause-served : goal.returns-clause-served
+returns-clause-served c =
     let s = c.self.inside in
     let who = caller c.caller-who.result in
-    call_renews (delete s.hier who c.args.path.now) s.hier c.delete-given.new.self s.processes.items c.in-Ok.uid c.args.self.now
-    c.renewed-changes.result c.items-2.result.now c.delete-given.result c.delete-given.ensures
-    (delete_as_before s.hier who c.args.path.now c.in-Ok.uid (sym c.in_ok-uid.ensures ∙ c.in-Ok.is)) c.self.invariant.sound c.self.view_is
-    (c.items-2.ensures.value ∙ (rw c.as_slice-processes.ensures.value at c.in_ok-held.ensures))
-    (rw c.as_slice-processes.ensures.value at c.renewed-changes.ensures)
+    let uid = c.in-Ok.uid in
+    let meant = delete_at s.hier who.subject uid in
+    let before = after_call (Only uid) meant s.hier c.delete-given.new.self c.delete-given.result c.delete-given.ensures.answer
+    (delete_leaves s.hier who.subject uid) in
+    of_old s.hier s.processes.items _ _ c.args.p c.args.ring (ask.Delete c.args.path.now) _ c.self.view_is
+    (loud_serves (λ who. delete s.hier who c.args.path.now) meant s.hier c.delete-given.new.self s.processes.items c.args.p c.args.ring who
+    c.delete-given.result c.in_ok-reply.reply c.renewed-changes.result (rw c.as_slice-processes.ensures.value at c.caller-who.ensures)
+    (found (entry s.hier who c.args.path.now false) (λ uid. delete_at s.hier who.subject uid) uid c.in-Ok.ensures.answer)
+    c.delete-given.ensures.answer c.in_ok-reply.ensures c.self.invariant.sound
+    (renewed_are s.hier c.delete-given.new.self s.processes.items uid c.in_ok-held.held.items c.renewed-changes.result c.self.invariant.sound before
+    (rw c.as_slice-processes.ensures.value at c.in_ok-held.ensures)
+    (rw (c.as_slice-processes.ensures.value, c.deref.ensures.value) at c.renewed-changes.ensures.value))
+    c.renewed-changes.ensures.admissible)

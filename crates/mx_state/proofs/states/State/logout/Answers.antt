@@ -1,5 +1,9 @@
 use Rattle.std.proofs.Common.{◌-◌, ◌<◌, length, true, refl, arith}
-use Rattle.mx_state.proofs.ProcessLaws.{kept_holds, kept_quietly, logout_answer}
+use Rattle.mx_request.specs.declared.requests.Request.TheVariants as ask
+use Rattle.mx_request.specs.declared.replies.Reply.TheVariants.{Done}
+use Rattle.mx_state.specs.Knowing.{logout}
+use Rattle.mx_state.proofs.AnswerLaws.{plain_state, of_old}
+use Rattle.mx_state.proofs.ProcessLaws.{kept_holds, kept_serves}
 use Rattle.mx_state.proofs.states.State.logout.Goals as goal
 
 within : (c : goal.After-unchanged) → c.from.result - 1 < length c.self.inside.processes.items
@@ -13,15 +17,10 @@ invariant_of-self c =
     kept_holds (λ process. record process { ended = true }) s.hier s.processes.items c.end.new.processes.items (c.from.result - 1)
     s.initializer s.root (λ process. refl) (within c) c.end.ensures.ended c.self.invariant
 
-pub returns-clause-answer : goal.returns-clause-answer
-returns-clause-answer c =
+pub returns : goal.returns
+returns c =
     let s = c.self.inside in
-    rw c.unchanged.ensures (logout_answer s.hier s.processes.items c.end.new.processes.items c.args.p (c.from.result - 1) c.args.self.now
-    c.self.view_is c.requires.some (omega (arith, c.from.ensures)) (within c) c.end.ensures.ended)
-
-pub returns-clause-changes : goal.returns-clause-changes
-returns-clause-changes c =
-    let s = c.self.inside in
-    kept_quietly (λ process. record process { ended = true }) s.hier s.processes.items c.end.new.processes.items (c.from.result - 1)
-    c.args.self.now c.unchanged.result.changes (λ process. refl) (λ process. refl) (within c) c.end.ensures.ended c.self.view_is
-    (rw c.unchanged.ensures refl)
+    of_old s.hier s.processes.items _ _ c.args.p c.args.ring ask.Logout c.unchanged.result c.self.view_is
+    (kept_serves (λ process. record process { ended = true }) s.hier s.processes.items c.end.new.processes.items c.args.p (c.from.result - 1)
+    (logout (plain_state s.hier s.processes.items) c.args.p) Done c.unchanged.result (λ process. refl) (λ process. refl) c.requires.some
+    (omega (arith, c.from.ensures)) (within c) c.end.ensures.ended (λ process e. refl) c.unchanged.ensures)

@@ -3,7 +3,7 @@ use Rattle.mx_state.proofs.states.State.new.Goals as goal
 
 pub invariant_of-result : goal.invariant_of-result
 invariant_of-result c = record {
-  initializer_is = c.in_ok-initializer.ensures;
+  initializer_is = c.make_initializer.ensures;
   root_is = c.root.ensures;
   sound = opened_is_sound c.in_ok-hier.hier c.args.principals.now c.in_ok-processes.processes.items c.requires.most c.in_ok-processes.ensures;
 }

@@ -1,5 +1,5 @@
 use Rattle.std.proofs.Common.{ℕ, List, [], ◌∷◌, ◌++◌, ap, ◌∙◌}
-use Rattle.mx_state.specs.Knowing.{segno_of}
+use Rattle.mx_state.specs.Numbers.{segno_of}
 use Rattle.mx_state.proofs.UidLaws.{pushed}
 use Rattle.mx_state.proofs.uids.Uids.push.Goals as goal
 

@@ -1,6 +1,6 @@
 use Rattle.std.proofs.Common.{ℕ, ◌+◌, List, ap, sym, ◌∙◌}
 use Rattle.std.specs.Option.{option_map}
-use Rattle.mx_state.specs.Knowing.{segno_of}
+use Rattle.mx_state.specs.Numbers.{segno_of}
 use Rattle.mx_state.proofs.UidLaws.{segno_is}
 use Rattle.mx_state.proofs.uids.Uids.segno_of.Goals as goal
 

@@ -1,0 +1,159 @@
+-- What a request leaves, by the definitions alone.
+use Rattle.std.proofs.Common.{◌≡◌, ℕ, Bool, true, false, cond, ltb, List, [], ◌∷◌, ◌++◌, Option, Some, None, Result, Ok, Err, refl, ap, sym, ◌∙◌, subst}
+use Rattle.mx_hier.specs.Branches.{Hierarchy}
+use Rattle.mx_hier.specs.Callers.{Caller}
+use Rattle.mx_hier.specs.ChangeWorkingDirectory.{directory}
+use Rattle.mx_hier.specs.CreateDirectory.{create_dir}
+use Rattle.mx_hier.specs.CreateLink.{create_link}
+use Rattle.mx_hier.specs.CreateSegment.{create_seg}
+use Rattle.mx_hier.specs.Delete.{delete}
+use Rattle.mx_hier.specs.DeleteAclEntry.{del_acl}
+use Rattle.mx_hier.specs.Initiate.{segment}
+use Rattle.mx_hier.specs.List.{list}
+use Rattle.mx_hier.specs.Rename.{rename}
+use Rattle.mx_hier.specs.SetAcl.{set_acl}
+use Rattle.mx_hier.specs.SetBrackets.{set_brackets}
+use Rattle.mx_hier.specs.SetDirectoryBrackets.{set_dir_brackets}
+use Rattle.mx_hier.specs.Status.{status}
+use Rattle.mx_hier.specs.declared.refusals.Refusal.{Refusal}
+use Rattle.mx_hier.specs.declared.refusals.Refusal.TheVariants.{KstFull}
+use Rattle.mx_request.specs.declared.requests.Request.{Request}
+use Rattle.mx_request.specs.declared.requests.Request.TheVariants as ask
+use Rattle.mx_request.specs.declared.replies.Reply.{Reply}
+use Rattle.mx_request.specs.declared.replies.Reply.TheVariants as reply
+use Rattle.mx_state.specs.declared.applied.Applied.{Applied}
+use Rattle.mx_state.specs.declared.states.ProcessState.{ProcessState}
+use Rattle.mx_state.specs.Askers.{Asker, Initializer, Process, Nobody, asker, initial_caller, caller, answered_caller, answered_process}
+use Rattle.mx_state.specs.Changes.{AreChanges}
+use Rattle.mx_state.specs.Knowing.{known_as, initiate, change_wdir, logout}
+use Rattle.mx_state.specs.Laws.{RefusalLaw, PathLaw}
+use Rattle.mx_state.specs.Numbers.{last_segno, next_segno, segno_of}
+use Rattle.mx_state.specs.Plain.{Plain, Answer, answer, with_process}
+use Rattle.mx_state.specs.Requests.{changed, told, plain}
+use Rattle.mx_state.specs.Serving.{Serves}
+use Rattle.mx_state.proofs.Descriptors.{nothing_told}
+
+-- a refusal leaves the state
+abbrev IsStill : Plain → Answer → Type 0
+IsStill s given = (why : Refusal) → given.reply ≡ reply.Refused why → given.state ≡ s
+
+-- and so for any caller and any process
+path_still : (s : Plain) (a : Asker) (ring : ℕ) (given : Caller → Answer) → ((who : Caller) → IsStill s (given who))
+    → IsStill s (answered_caller s a ring given)
+path_still s Initializer ring given still = still (initial_caller ring)
+path_still s (Process process) ring given still = still (caller process ring)
+path_still s Nobody ring given still = λ why e. refl
+
+process_still : (s : Plain) (a : Asker) (given : ProcessState → Answer) → ((process : ProcessState) → IsStill s (given process))
+    → IsStill s (answered_process s a given)
+process_still s Initializer given still = λ why e. refl
+process_still s (Process process) given still = still process
+process_still s Nobody given still = λ why e. refl
+
+changed_still : (s : Plain) (meant : Result Hierarchy Refusal) → IsStill s (changed s meant)
+changed_still s (Ok h) = λ why e. cc
+changed_still s (Err other) = λ why e. refl
+
+told_still : {A : Type 0} (s : Plain) (as_reply : A → Reply) (meant : Result A Refusal) → IsStill s (told s as_reply meant)
+told_still s as_reply (Ok value) = λ why e. refl
+told_still s as_reply (Err other) = λ why e. refl
+
+initiate_still : (s : Plain) (p : ℕ) (process : ProcessState) (meant : Result ℕ Refusal) → IsStill s (initiate s p process meant)
+initiate_still s p process (Err other) = λ why e. refl
+initiate_still s p process (Ok uid) = by_number (segno_of process.known uid)
+  where
+    by_room : (full : Bool) (known : Answer) → ((why : Refusal) → known.reply ≡ reply.Refused why → ⊥)
+        → IsStill s (cond full (answer (reply.Refused KstFull) s) known)
+    by_room true known granted = λ why e. refl
+    by_room false known granted = λ why e. absurd (granted why e)
+
+    by_number : (o : Option ℕ) → IsStill s (known_as s p process uid o)
+    by_number (Some segno) = λ why e. refl
+    by_number None =
+        by_room (ltb last_segno (next_segno process.known))
+        (answer (reply.Segno (record { segno = next_segno process.known; fresh = true }))
+        (with_process s p (record process { known = process.known ++ uid ∷ [] })))
+        (λ why e. cc)
+
+change_wdir_still : (s : Plain) (p : ℕ) (process : ProcessState) (meant : Result (List (List ℕ)) Refusal) → IsStill s (change_wdir s p process meant)
+change_wdir_still s p process (Err other) = λ why e. refl
+change_wdir_still s p process (Ok path) = λ why e. cc
+
+path_answer_still : (s : Plain) (p ring : ℕ) (meant : Caller → Result Hierarchy Refusal)
+    → IsStill s (answered_caller s (asker s.processes p) ring (λ who. changed s (meant who)))
+path_answer_still s p ring meant =
+    path_still s (asker s.processes p) ring (λ who. changed s (meant who)) (λ who. changed_still s (meant who))
+
+told_answer_still : {A : Type 0} (s : Plain) (p ring : ℕ) (as_reply : A → Reply) (meant : Caller → Result A Refusal)
+    → IsStill s (answered_caller s (asker s.processes p) ring (λ who. told s as_reply (meant who)))
+told_answer_still s p ring as_reply meant =
+    path_still s (asker s.processes p) ring (λ who. told s as_reply (meant who)) (λ who. told_still s as_reply (meant who))
+
+pub refusal_leaves : RefusalLaw
+refusal_leaves s p ring (ask.CreateDir path d1 d2) = path_answer_still s p ring (λ who. create_dir s.hierarchy who path d1 d2)
+refusal_leaves s p ring (ask.CreateSeg path words brackets) = path_answer_still s p ring (λ who. create_seg s.hierarchy who path words brackets)
+refusal_leaves s p ring (ask.CreateLink path target) = path_answer_still s p ring (λ who. create_link s.hierarchy who path target)
+refusal_leaves s p ring (ask.Rename path name) = path_answer_still s p ring (λ who. rename s.hierarchy who path name)
+refusal_leaves s p ring (ask.Delete path) = path_answer_still s p ring (λ who. delete s.hierarchy who path)
+refusal_leaves s p ring (ask.SetAcl path id modes) = path_answer_still s p ring (λ who. set_acl s.hierarchy who path id modes)
+refusal_leaves s p ring (ask.DelAcl path id) = path_answer_still s p ring (λ who. del_acl s.hierarchy who path id)
+refusal_leaves s p ring (ask.SetBrackets path brackets) = path_answer_still s p ring (λ who. set_brackets s.hierarchy who path brackets)
+refusal_leaves s p ring (ask.SetDirBrackets path d1 d2) = path_answer_still s p ring (λ who. set_dir_brackets s.hierarchy who path d1 d2)
+refusal_leaves s p ring (ask.Status path) = told_answer_still s p ring reply.Status (λ who. status s.hierarchy who path)
+refusal_leaves s p ring (ask.List path) = told_answer_still s p ring reply.Names (λ who. list s.hierarchy who path)
+refusal_leaves s p ring (ask.ChangeWdir path) =
+    process_still s (asker s.processes p) (λ process. change_wdir s p process (directory s.hierarchy (caller process ring) path))
+    (λ process. change_wdir_still s p process (directory s.hierarchy (caller process ring) path))
+refusal_leaves s p ring (ask.Initiate path) =
+    process_still s (asker s.processes p) (λ process. initiate s p process (segment s.hierarchy (caller process ring) path))
+    (λ process. initiate_still s p process (segment s.hierarchy (caller process ring) path))
+refusal_leaves s p ring ask.Logout = process_still s (asker s.processes p) (logout s p) (λ process why e. cc)
+
+-- a request on a path leaves the processes
+path_leaves : (s : Plain) (a : Asker) (ring : ℕ) (given : Caller → Answer) → ((who : Caller) → (given who).state.processes ≡ s.processes)
+    → (answered_caller s a ring given).state.processes ≡ s.processes
+path_leaves s Initializer ring given leaves = leaves (initial_caller ring)
+path_leaves s (Process process) ring given leaves = leaves (caller process ring)
+path_leaves s Nobody ring given leaves = refl
+
+changed_leaves : (s : Plain) (meant : Result Hierarchy Refusal) → (changed s meant).state.processes ≡ s.processes
+changed_leaves s (Ok h) = refl
+changed_leaves s (Err why) = refl
+
+told_leaves : {A : Type 0} (s : Plain) (as_reply : A → Reply) (meant : Result A Refusal) → (told s as_reply meant).state.processes ≡ s.processes
+told_leaves s as_reply (Ok value) = refl
+told_leaves s as_reply (Err why) = refl
+
+change_leaves : (s : Plain) (p ring : ℕ) (meant : Caller → Result Hierarchy Refusal)
+    → (answered_caller s (asker s.processes p) ring (λ who. changed s (meant who))).state.processes ≡ s.processes
+change_leaves s p ring meant =
+    path_leaves s (asker s.processes p) ring (λ who. changed s (meant who)) (λ who. changed_leaves s (meant who))
+
+asking_leaves : {A : Type 0} (s : Plain) (p ring : ℕ) (as_reply : A → Reply) (meant : Caller → Result A Refusal)
+    → (answered_caller s (asker s.processes p) ring (λ who. told s as_reply (meant who))).state.processes ≡ s.processes
+asking_leaves s p ring as_reply meant =
+    path_leaves s (asker s.processes p) ring (λ who. told s as_reply (meant who)) (λ who. told_leaves s as_reply (meant who))
+
+pub path_request_leaves : PathLaw
+path_request_leaves s p ring (ask.CreateDir path d1 d2) e = change_leaves s p ring (λ who. create_dir s.hierarchy who path d1 d2)
+path_request_leaves s p ring (ask.CreateSeg path words brackets) e = change_leaves s p ring (λ who. create_seg s.hierarchy who path words brackets)
+path_request_leaves s p ring (ask.CreateLink path target) e = change_leaves s p ring (λ who. create_link s.hierarchy who path target)
+path_request_leaves s p ring (ask.Rename path name) e = change_leaves s p ring (λ who. rename s.hierarchy who path name)
+path_request_leaves s p ring (ask.Delete path) e = change_leaves s p ring (λ who. delete s.hierarchy who path)
+path_request_leaves s p ring (ask.SetAcl path id modes) e = change_leaves s p ring (λ who. set_acl s.hierarchy who path id modes)
+path_request_leaves s p ring (ask.DelAcl path id) e = change_leaves s p ring (λ who. del_acl s.hierarchy who path id)
+path_request_leaves s p ring (ask.SetBrackets path brackets) e = change_leaves s p ring (λ who. set_brackets s.hierarchy who path brackets)
+path_request_leaves s p ring (ask.SetDirBrackets path d1 d2) e = change_leaves s p ring (λ who. set_dir_brackets s.hierarchy who path d1 d2)
+path_request_leaves s p ring (ask.Status path) e = asking_leaves s p ring reply.Status (λ who. status s.hierarchy who path)
+path_request_leaves s p ring (ask.List path) e = asking_leaves s p ring reply.Names (λ who. list s.hierarchy who path)
+path_request_leaves s p ring (ask.ChangeWdir path) e = cc
+path_request_leaves s p ring (ask.Initiate path) e = cc
+path_request_leaves s p ring ask.Logout e = cc
+
+-- so a request that was refused has left the state, and changed no descriptor
+pub refused_serves_still : (old new : Plain) (p ring : ℕ) (request : Request) (applied : Applied) → Serves old new (plain old p ring request) applied
+    → (why : Refusal) → applied.reply ≡ reply.Refused why → (new ≡ old) × (applied.changes ≡ [])
+refused_serves_still old new p ring request applied serves why e =
+    let told : (plain old p ring request).reply ≡ reply.Refused why = ap (λ (a : Answer). a.reply) serves.as_meant ∙ e in
+    let still : new ≡ old = sym (ap (λ (a : Answer). a.state) serves.as_meant) ∙ refusal_leaves old p ring request why told in
+    (still, nothing_told old applied.changes (subst (λ s. AreChanges old s applied.changes) still serves.changes))

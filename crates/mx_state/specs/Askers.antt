@@ -1,0 +1,54 @@
+-- Who asks: the initializer as process 0, or a process in its working directory.
+use Rattle.std.specs.Prelude.{ℕ, ◌==◌, List, [], Option, Some, None, codes, if◌then◌else◌}
+use Rattle.mx_name.specs.Principals.{PlainPrincipal}
+use Rattle.mx_hier.specs.Callers.{Caller}
+use Rattle.mx_request.specs.declared.replies.Reply.TheVariants.{Done}
+use Rattle.mx_state.specs.declared.states.ProcessState.{ProcessState}
+use Rattle.mx_state.specs.Plain.{Plain, Answer, answer, process_at}
+
+-- nobody, where the number is that of no process
+pub data Asker : Type 0 where
+  Initializer : Asker
+  Process : ProcessState → Asker
+  Nobody : Asker
+
+abbrev pub process_or_nobody : Option ProcessState → Asker
+process_or_nobody (Some process) = Process process
+process_or_nobody None = Nobody
+
+abbrev pub asker : List ProcessState → ℕ → Asker
+asker processes p = if p == 0 then Initializer else process_or_nobody (process_at processes p)
+
+-- the principal that runs the setup, with the root as its working directory
+abbrev pub initializer : PlainPrincipal
+initializer = record { person = codes "Initializer"; project = codes "SysDaemon"; tag = codes "z" }
+
+abbrev pub initial_caller : ℕ → Caller
+initial_caller ring = record { subject = record { principal = initializer; ring = ring }; base = [] }
+
+abbrev pub caller : ProcessState → ℕ → Caller
+caller process ring =
+    record { subject = record { principal = process.principal; ring = ring }; base = process.working_directory }
+
+-- No right journal has a request that nobody may make: of a process that is not there, or of the initializer on a
+-- process's own state. So that every journal can be replayed, it is answered `ok` and leaves the state.
+abbrev pub unmade : Plain → Answer
+unmade s = answer Done s
+
+-- what a request on a path is answered, by its caller
+abbrev pub answered_caller : Plain → Asker → ℕ → (Caller → Answer) → Answer
+answered_caller s Initializer ring given = given (initial_caller ring)
+answered_caller s (Process process) ring given = given (caller process ring)
+answered_caller s Nobody ring given = unmade s
+
+abbrev pub on_path : Plain → ℕ → ℕ → (Caller → Answer) → Answer
+on_path s p ring given = answered_caller s (asker s.processes p) ring given
+
+-- what a request on a process's own state is answered, by that
+abbrev pub answered_process : Plain → Asker → (ProcessState → Answer) → Answer
+answered_process s Initializer given = unmade s
+answered_process s (Process process) given = given process
+answered_process s Nobody given = unmade s
+
+abbrev pub on_process : Plain → ℕ → (ProcessState → Answer) → Answer
+on_process s p given = answered_process s (asker s.processes p) given

@@ -1,0 +1,19 @@
+-- What serving a request comes to.
+use Rattle.std.specs.Prelude.{◌≡◌, [], length}
+use Rattle.std.specs.List.{All}
+use Rattle.mx_hier.specs.declared.refusals.Refusal.{Refusal}
+use Rattle.mx_request.specs.declared.replies.Reply.TheVariants.{Refused}
+use Rattle.mx_state.specs.declared.applied.Applied.{Applied}
+use Rattle.mx_state.specs.Changes.{AreChanges, IsBounded}
+use Rattle.mx_state.specs.Plain.{Plain, Answer, answer}
+
+-- the reply and the state that are meant, and exactly the descriptors that changed
+pub record Serves (old new : Plain) (meant : Answer) (applied : Applied) : Type 0 where
+  pub as_meant : meant ≡ answer applied.reply new
+  pub changes : AreChanges old new applied.changes
+  pub bounded : All IsBounded applied.changes
+  pub count : length new.processes ≡ length old.processes
+
+-- a refusal leaves the state, and no change is told
+abbrev pub RefusesQuietly : Plain → Plain → Applied → Type 0
+RefusesQuietly old new applied = (why : Refusal) → applied.reply ≡ Refused why → (new ≡ old) × (applied.changes ≡ [])
