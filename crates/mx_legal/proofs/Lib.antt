@@ -1,11 +1,13 @@
-pub mod Places
+pub mod GoingOn
+pub mod Extending
+pub mod Outcomes
+mod Ends
+pub mod RingLaws
+pub mod LegalLaws
+pub mod TraceLaws
 pub mod Growing
-pub mod ReadLaws
-pub mod PointLaws
-pub mod StabilityLaws
-pub mod LineLaws
-pub mod DeedLaws
-pub mod TranscriptLaws
-pub mod ContinuingLaws
-pub mod HistoryLaws
-pub mod SetupLaws
+pub mod Named
+mod AskLines
+mod SetupLaws
+mod WrongLineLaws
+mod WrongRuleLaws

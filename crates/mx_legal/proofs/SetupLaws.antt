@@ -4,46 +4,43 @@ use Rattle.std.specs.Prelude.{◌==◌, if◌then◌else◌, min, take, map}
 use Rattle.std.specs.List.{slice_get}
 use Rattle.std.proofs.lemmas.Bool.{cases_eq}
 use Rattle.std.proofs.lemmas.Option.{slice_get_within}
+use Rattle.mx_call.specs.Registers.{Registers}
 use Rattle.mx_request.specs.declared.requests.Request.{Request}
 use Rattle.mx_state.specs.declared.journal.Entry as journaled
 use Rattle.mx_script.specs.Sessions.{limit_of}
 use Rattle.mx_script.specs.declared.lines.Line.TheVariants.{Ask}
-use Rattle.mx_legal.specs.declared.registers.Registers.{Registers}
 use Rattle.mx_legal.specs.declared.transcripts.Event2.{Event2}
 use Rattle.mx_legal.specs.declared.transcripts.Event2.TheVariants.{Entry}
-use Rattle.mx_legal.specs.declared.transcripts.Result2.TheVariants as result
-use Rattle.mx_legal.specs.Legal.{Call, call_of, setup_call, setup_entries}
-use Rattle.mx_legal.specs.Lines.{opening_registers, AreLines}
+use Rattle.mx_legal.specs.Legal.{Call, call_of, setup_call, setup_entries, setting_of}
+use Rattle.mx_legal.specs.Openings.{opening_registers}
+use Rattle.mx_legal.specs.Parts.{AreLines}
+use Rattle.mx_legal.specs.Scripts.{numbered, first_line}
+use Rattle.mx_legal.specs.Settings.{Setting}
 use Rattle.mx_legal.specs.SetupLines.{SetupLinesLaw}
 use Rattle.mx_legal.specs.Transcripts.{Step, part, events_of, entries_named, numbers_from}
-use Rattle.mx_legal.proofs.TranscriptLaws.{named_append}
+use Rattle.mx_legal.proofs.AskLines.{HasEntry, IsFullLine, ask_line}
+use Rattle.mx_legal.proofs.Named.{named_append}
 
--- a line with one entry, and a line that found the journal full
-record Enters (step : Step) : Type 0 where
-  number : ℕ
-  event : step.1 ≡ Entry number ∷ []
+abbrev Enters : Step → Type 0
+Enters step = HasEntry step.1
 
-record IsFullStep (step : Step) : Type 0 where
-  event : step.1 ≡ []
-  ended : step.2 ≡ result.HistoryFull
+abbrev IsFullStep : Step → Type 0
+IsFullStep step = IsFullLine step.1 step.2
 
 -- each line of a setup is one of these
-asked : (limit : ℕ) (journal : List journaled.Entry) (start after : Registers) (requests : List Request) (steps : List Step)
-    → AreLines limit journal 0 start (map Ask requests) steps after → (place : ℕ) (step : Step)
+asked : (s : Setting) (start after : Registers) (first : ℕ) (requests : List Request) (steps : List Step)
+    → AreLines s start (numbered first (map Ask requests)) steps after → (place : ℕ) (step : Step)
     → slice_get steps place ≡ Some step → Enters step ⊎ IsFullStep step
-asked limit journal start after [] [] are place step at = cc
-asked limit journal start after [] (s ∷ steps) are place step at = absurd are
-asked limit journal start after (request ∷ requests) [] are place step at = absurd are
-asked limit journal start after (request ∷ requests) (s ∷ steps) are zero step at =
-    subst (λ (t : Step). Enters t ⊎ IsFullStep t) (same at) (elim are.1.0 [
-      | inl is ↦ inl (record { number = is.number; event = is.event })
-      | inr full ↦ inr (record { event = full.event; ended = full.ended })
-    ])
+asked s start after first [] [] are place step at = cc
+asked s start after first [] (made ∷ steps) are place step at = absurd are
+asked s start after first (request ∷ requests) [] are place step at = cc
+asked s start after first (request ∷ requests) (made ∷ steps) are zero step at =
+    subst (λ (t : Step). Enters t ⊎ IsFullStep t) (same at) (ask_line s start request made.1 made.2 are.1 are.2)
   where
-    same : Some s ≡ Some step → s ≡ step
+    same : Some made ≡ Some step → made ≡ step
     same h = cc
-asked limit journal start after (request ∷ requests) (s ∷ steps) are (suc place) step at =
-    asked limit journal are.0 after requests steps are.2 place step at
+asked s start after first (request ∷ requests) (made ∷ steps) are (suc place) step at =
+    asked s are.1 after (suc first) requests steps are.3 place step at
 
 -- where the lines up to this place have an entry each, it names the entry of its place
 named_at : (steps : List Step) (place number : ℕ) (step : Step)
@@ -52,7 +49,8 @@ named_at : (steps : List Step) (place number : ℕ) (step : Step)
     → slice_get (entries_named (events_of steps)) place ≡ Some number
 named_at [] place number step before at event = cc
 named_at (s ∷ steps) zero number step before at event =
-    ap (λ (l : List Event2). slice_get (entries_named (l ++ events_of steps)) 0) (ap (λ (t : Step). t.1) (same at) ∙ event)
+    ap (λ (l : List Event2). slice_get (entries_named (l ++ events_of steps)) 0)
+    (ap (λ (t : Step). t.1) (same at) ∙ event)
   where
     same : Some s ≡ Some step → s ≡ step
     same h = cc
@@ -68,13 +66,15 @@ few_named : (steps : List Step) (place : ℕ)
     → length (entries_named (events_of steps)) ≤ place
 few_named [] place each none = omega arith
 few_named (s ∷ steps) zero each none =
-    let rest = few_named steps zero (λ j step at. each (suc j) step at) (λ j step le at. none (suc j) step (omega arith) at) in
+    let rest = few_named steps zero (λ j step at. each (suc j) step at)
+    (λ j step le at. none (suc j) step (omega arith) at) in
     let here : length (entries_named (s.1 ++ events_of steps)) ≡ length (entries_named (events_of steps)) =
     ap length (named_append s.1 (events_of steps))
     ∙ ap (λ (l : List ℕ). length (l ++ entries_named (events_of steps))) (none 0 s (omega arith) refl) in
     omega arith
 few_named (s ∷ steps) (suc place) each none =
-    let rest = few_named steps place (λ j step at. each (suc j) step at) (λ j step le at. none (suc j) step (omega arith) at) in
+    let rest = few_named steps place (λ j step at. each (suc j) step at)
+    (λ j step le at. none (suc j) step (omega arith) at) in
     elim (each 0 s refl) [
       | inl enters ↦
           let here : length (entries_named (s.1 ++ events_of steps)) ≡ suc (length (entries_named (events_of steps))) =
@@ -103,13 +103,16 @@ number_at (suc count) first place [] (call ∷ calls) below within same = absurd
     none : [] ≡ setup_call call ∷ take count (map setup_call calls) → ⊥
     none e = cc
 number_at (suc count) first zero (entry ∷ journal) (call ∷ calls) below within same =
-    ap (λ (own : ℕ). slice_get (if own == 0 then first ∷ numbers_from (first + 1) 0 journal else numbers_from (first + 1) 0 journal) 0)
+    ap (λ (own : ℕ). slice_get
+    (if own == 0 then first ∷ numbers_from (first + 1) 0 journal else numbers_from (first + 1) 0 journal) 0)
     (ap (λ (c : Call). c.process) (first_same same)) ∙ ap Some (plus_zero first)
   where
     plus_zero : (n : ℕ) → n ≡ n + 0
     plus_zero n = omega arith
 number_at (suc count) first (suc place) (entry ∷ journal) (call ∷ calls) below within same =
-    ap (λ (own : ℕ). slice_get (if own == 0 then first ∷ numbers_from (first + 1) 0 journal else numbers_from (first + 1) 0 journal) (suc place))
+    ap (λ (own : ℕ). slice_get
+    (if own == 0 then first ∷ numbers_from (first + 1) 0 journal else numbers_from (first + 1) 0 journal)
+    (suc place))
     (ap (λ (c : Call). c.process) (first_same same))
     ∙ number_at count (first + 1) place journal calls (omega arith) (omega arith) (rest_same same)
     ∙ ap Some (moved first place)
@@ -143,11 +146,13 @@ setup_lines_law x journal transcripts legal place step within at = elim (each pl
     each j other found =
         let count = legal.parts in
         let lines = legal.lines 0 (omega arith) in
-        asked (limit_of x) journal (opening_registers 0) lines.0 x.setup steps lines.1 j other found
+        asked (setting_of x journal 0) (opening_registers 0) lines.0
+        (first_line x 0) x.setup steps lines.1 j other found
 
     named : slice_get (entries_named (events_of steps)) place ≡ Some (1 + place)
     named = ap (λ (l : List ℕ). slice_get l place) (legal.each_call_once 0)
-        ∙ number_at (setup_entries x) 1 place journal x.setup within (below_min place (length x.setup) (limit_of x) within) legal.setup_first
+        ∙ number_at (setup_entries x) 1 place journal x.setup within
+        (below_min place (length x.setup) (limit_of x) within) legal.setup_first
 
     number_is : (number : ℕ) → Some number ≡ Some (1 + place) → number ≡ place + 1
     number_is number e = let same : number ≡ 1 + place = cc in omega arith
@@ -159,9 +164,11 @@ setup_lines_law x journal transcripts legal place step within at = elim (each pl
           ((legal.none_after_full 0).none j place earlier step found full.ended less at))
     ]
 
-    none : IsFullStep step → (j : ℕ) (later : Step) → place ≤ j → slice_get steps j ≡ Some later → entries_named later.1 ≡ []
+    none : IsFullStep step → (j : ℕ) (later : Step) → place ≤ j → slice_get steps j ≡ Some later
+        → entries_named later.1 ≡ []
     none full j later le found = elim (cases_eq j place) [
-      | inl here ↦ ap (λ (t : Step). entries_named t.1) (some_same (sym found ∙ ap (slice_get steps) here ∙ at)) ∙ ap entries_named full.event
+      | inl here ↦ ap (λ (t : Step). entries_named t.1) (some_same (sym found ∙ ap (slice_get steps) here ∙ at))
+          ∙ ap entries_named full.event
       | inr other ↦ (legal.none_after_full 0).none place j step later at full.ended (omega arith) found
     ]
       where

@@ -1,19 +1,25 @@
--- What the rules on points and reads look at: for each process the list of what it did, in order.
+-- What the rules on points, misses and reads look at: for each process the list of what it did, in order.
 use Rattle.std.specs.Prelude.{ℕ, List, Option, Some, None}
 
--- A deed: the process made an entry of the journal, stored a value in a cell, loaded from a cell a value with its writer
--- and that store's stamp, or was denied a reference. All but an entry have a point.
+-- where a word is stored: the number of its cell
+abbrev pub Spot : Type 0
+Spot = ℕ
+
+-- A deed: the process made an entry of the journal, stored a value, loaded a value with its writer and that store's
+-- stamp, made a reference that touched no word, or missed by an entry. All but entries and misses have a point.
 pub data Deed : Type 0 where
   Enters : (number : ℕ) → Deed
-  Stores : (cell value point : ℕ) → Deed
-  Loads : (cell value writer stamp point : ℕ) → Deed
-  Denies : (point : ℕ) → Deed
+  Stores : (spot : Spot) (value point : ℕ) → Deed
+  Loads : (spot : Spot) (value writer stamp point : ℕ) → Deed
+  Refers : (point : ℕ) → Deed
+  Misses : (segno by : ℕ) → Deed
 
 abbrev pub point_of : Deed → Option ℕ
 point_of (Enters number) = None
-point_of (Stores cell value point) = Some point
-point_of (Loads cell value writer stamp point) = Some point
-point_of (Denies point) = Some point
+point_of (Stores spot value point) = Some point
+point_of (Loads spot value writer stamp point) = Some point
+point_of (Refers point) = Some point
+point_of (Misses segno by) = None
 
 -- the deeds of every process
 abbrev pub Deeds : Type 0

@@ -1,41 +1,48 @@
--- The element rule: a reference is granted or denied as the judging rule says on the descriptor that is computed afresh
--- from the journal up to the element's point.
-use Rattle.std.specs.Prelude.{◌≡◌, ℕ, List, take, Result, Ok, Err}
-use Rattle.mx_sdw.specs.Judging.{judgement}
+-- The element rule: a printed reference is granted or denied as the judging rule says on the access at its printed
+-- point.
+use Rattle.std.specs.Prelude.{◌≡◌, ℕ, Option, Some, Result, Ok, Err}
+use Rattle.mx_sdw.specs.Judging.{judgement, ring_after}
 use Rattle.mx_sdw.specs.declared.denials.Denial.{Denial}
 use Rattle.mx_sdw.specs.declared.descriptors.Cell.{Cell}
 use Rattle.mx_sdw.specs.Descriptors.{Descriptor}
 use Rattle.mx_sdw.specs.declared.operations.Op.{Op}
 use Rattle.mx_sdw.specs.declared.operations.Op.TheVariants as op
-use Rattle.mx_state.specs.History.{opening, replay}
-use Rattle.mx_state.specs.Table.{descriptor}
-use Rattle.mx_state.specs.declared.journal.Entry.{Entry}
-use Rattle.mx_script.specs.Sessions.{Outline}
-use Rattle.mx_legal.specs.declared.elements.Element.{Element}
-use Rattle.mx_legal.specs.declared.elements.Kind.{Kind}
-use Rattle.mx_legal.specs.declared.elements.Kind.TheVariants as kind
-use Rattle.mx_legal.specs.declared.elements.Outcome.{Outcome}
-use Rattle.mx_legal.specs.declared.elements.Outcome.TheVariants as outcome
+use Rattle.mx_core.specs.declared.elements.Element.{Element}
+use Rattle.mx_core.specs.declared.elements.Kind.{Kind}
+use Rattle.mx_core.specs.declared.elements.Kind.TheVariants as kind
+use Rattle.mx_core.specs.declared.elements.Outcome.{Outcome}
+use Rattle.mx_core.specs.declared.elements.Outcome.TheVariants as outcome
+use Rattle.mx_legal.specs.Next.{Reference}
 
--- the operation that a kind of element asks the judging rule for
-abbrev pub op_of : Kind → Op
-op_of kind.Read = op.Read
-op_of kind.Write = op.Write
+-- under which kind an operation is printed
+abbrev pub kind_of : Op → Kind
+kind_of op.Read = kind.Read
+kind_of op.Indirect = kind.Ind
+kind_of op.Write = kind.Write
+kind_of op.Fetch = kind.Fetch
+kind_of (op.Call current same) = kind.Call
+kind_of op.Return = kind.Return
 
--- the descriptor of process p at a point: from the first so many entries alone
-abbrev pub descriptor_at : Outline → List Entry → ℕ → ℕ → ℕ → Descriptor
-descriptor_at x journal point p segno = descriptor (replay (opening x.principals) (take point journal)) p segno
+-- What a granted operation comes to: a word read, the word stored, or the ring in which the process goes on. Which
+-- word is read is the matter of the read rule.
+abbrev pub Gives : Op → Option ℕ → ℕ → Outcome → Type 0
+Gives op.Read stores entered (outcome.Read value writer stamp) = Unit {0}
+Gives op.Indirect stores entered (outcome.Read value writer stamp) = Unit {0}
+Gives op.Fetch stores entered (outcome.Read value writer stamp) = Unit {0}
+Gives op.Write stores entered (outcome.Written value) = stores ≡ Some value
+Gives (op.Call current same) stores entered (outcome.Entered ring) = ring ≡ entered
+Gives op.Return stores entered (outcome.Entered ring) = ring ≡ entered
+Gives _ _ _ _ = ⊥
 
--- the descriptor of an element
-abbrev pub descriptor_of : Outline → List Entry → ℕ → Element → Descriptor
-descriptor_of x journal p e = descriptor_at x journal e.point p e.segno
+-- granted where the rule grants, denied with the rule's denial
+abbrev pub Agrees : Reference → ℕ → Result Cell Denial → Outcome → Type 0
+Agrees r entered (Ok cell) came = Gives r.op r.stores entered came
+Agrees r entered (Err denial) came = came ≡ outcome.Denied denial
 
--- granted where the rule grants, denied with the rule's denial; a read reads, and a write writes
-abbrev pub Agrees : Kind → Outcome → Result Cell Denial → Type 0
-Agrees kind.Read (outcome.Read value writer stamp) (Ok cell) = Unit {0}
-Agrees kind.Write (outcome.Written value) (Ok cell) = Unit {0}
-Agrees asked (outcome.Denied denial) (Err ruled) = denial ≡ ruled
-Agrees _ _ _ = ⊥
-
-abbrev pub IsRightElement : Outline → List Entry → ℕ → Element → Type 0
-IsRightElement x journal p e = Agrees e.kind e.outcome (judgement (descriptor_of x journal p e) (op_of e.kind) e.ring e.word)
+-- the element is this reference, judged on this descriptor
+pub record IsJudged (r : Reference) (desc : Descriptor) (e : Element) : Type 0 where
+  pub kind : e.kind ≡ kind_of r.op
+  pub segno : e.segno ≡ r.segno
+  pub word : e.word ≡ r.word
+  pub ring : e.ring ≡ r.ring
+  pub outcome : Agrees r (ring_after desc r.op r.ring) (judgement desc r.op r.ring r.word) e.outcome

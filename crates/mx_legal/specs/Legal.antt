@@ -1,44 +1,23 @@
 -- A legal run of a session: its journal and its transcripts keep all the rules. One field a rule.
-use Rattle.std.specs.Prelude.{◌≡◌, ℕ, zero, suc, ◌+◌, ◌<◌, ◌≤◌, min, List, [], ◌∷◌, map, take, length, Some, slice_get}
+use Rattle.std.specs.Prelude.{◌≡◌, ℕ, ◌+◌, ◌<◌, ◌≤◌, ◌==◌, min, List, map, take, length}
+use Rattle.mx_call.specs.Registers.{Registers}
 use Rattle.mx_request.specs.declared.requests.Request.{Request}
+use Rattle.mx_script.specs.Sessions.{Outline, limit_of}
 use Rattle.mx_state.specs.History.{opening, IsRight}
 use Rattle.mx_state.specs.declared.journal.Entry as journaled
-use Rattle.mx_script.specs.Sessions.{Outline, limit_of}
-use Rattle.mx_script.specs.declared.lines.Line.{Line}
-use Rattle.mx_script.specs.declared.lines.Line.TheVariants.{Ask}
-use Rattle.mx_legal.specs.declared.elements.Element.{Element}
-use Rattle.mx_legal.specs.declared.elements.Event.TheVariants.{Seen}
-use Rattle.mx_legal.specs.declared.transcripts.Event2.TheVariants.{Core}
-use Rattle.mx_legal.specs.References.{deeds}
-use Rattle.mx_legal.specs.Elements.{IsRightElement}
-use Rattle.mx_legal.specs.declared.registers.Registers.{Registers}
-use Rattle.mx_legal.specs.Lines.{opening_registers, AreLines, AreNumbered}
+use Rattle.mx_legal.specs.Access.{descriptor_of}
+use Rattle.mx_legal.specs.Deeds.{Deeds}
+use Rattle.mx_legal.specs.Falls.{AreGated, AreSound}
 use Rattle.mx_legal.specs.FullJournal.{AreFullFrom, HasNoneAfterFull}
+use Rattle.mx_legal.specs.Misses.{AreRightMisses}
 use Rattle.mx_legal.specs.Points.{ArePoints}
 use Rattle.mx_legal.specs.Reads.{AreRightReads}
+use Rattle.mx_legal.specs.References.{deeds_by}
+use Rattle.mx_legal.specs.Parts.{AreLines}
+use Rattle.mx_legal.specs.Scripts.{lines_of}
+use Rattle.mx_legal.specs.Openings.{opening_registers}
+use Rattle.mx_legal.specs.Settings.{Setting}
 use Rattle.mx_legal.specs.Transcripts.{Step, part, events_of, entries_named, numbers_of}
-
--- the script of a process, counted from 0
-abbrev pub script_at : List (List Line) → ℕ → List Line
-script_at [] p = []
-script_at (script ∷ scripts) zero = script
-script_at (script ∷ scripts) (suc p) = script_at scripts p
-
--- the lines of process p: the setup's are process 0's
-abbrev pub lines_of : Outline → ℕ → List Line
-lines_of x zero = map Ask x.setup
-lines_of x (suc p) = script_at x.scripts p
-
--- the lines before the script of a process, counted from 0: scripts, each with its `process` line
-abbrev pub lines_before : List (List Line) → ℕ → ℕ
-lines_before scripts zero = 0
-lines_before [] (suc p) = 0
-lines_before (script ∷ scripts) (suc p) = 1 + length script + lines_before scripts p
-
--- the number of a process's first line in the session text, whose header is line 1
-abbrev pub first_line : Outline → ℕ → ℕ
-first_line x zero = 2
-first_line x (suc p) = 3 + length x.setup + lines_before x.scripts p
 
 -- a call: who made it, in which ring, and what it asked
 pub record Call : Type 0 where
@@ -56,6 +35,19 @@ setup_call request = record { process = 0; ring = 0; request = request }
 abbrev pub setup_entries : Outline → ℕ
 setup_entries x = min (length x.setup) (limit_of x)
 
+-- what the lines of process p are held against: each reference is judged on the access at its printed point
+abbrev pub setting_of : Outline → List journaled.Entry → ℕ → Setting
+setting_of x journal p = record {
+  process = p;
+  journal = journal;
+  full = length journal == limit_of x;
+  descriptor = descriptor_of x journal p;
+}
+
+-- what each process did
+abbrev pub deeds : Outline → List journaled.Entry → List (List Step) → Deeds
+deeds x journal transcripts = deeds_by (descriptor_of x journal) (λ p. events_of (part transcripts p))
+
 pub record IsLegal (x : Outline) (journal : List journaled.Entry) (transcripts : List (List Step)) : Type 0 where
   -- the journal is within its limit
   pub within_limit : length journal ≤ limit_of x
@@ -67,19 +59,27 @@ pub record IsLegal (x : Outline) (journal : List journaled.Entry) (transcripts :
   pub setup_full : AreFullFrom (setup_entries x) (part transcripts 0)
   -- there is one transcript for the initializer and each process
   pub parts : length transcripts ≡ 1 + length x.principals
-  -- each has the lines of the session in order, under their numbers
-  pub numbers : (p : ℕ) → p < length transcripts → AreNumbered (first_line x p) (part transcripts p)
   -- the entries of each process are those that its transcript names, in order, each once
   pub each_call_once : (p : ℕ) → entries_named (events_of (part transcripts p)) ≡ numbers_of p journal
-  -- lines keep the line rule, and registers the register rules, from the opening registers on
+  -- each has the lines of the session in order, and they keep the line rule and the register rules: each reference is
+  -- what its line asks for, and what the judging rule gives on the access at its printed point
   pub lines : (p : ℕ) → p < length transcripts
-      → (after : Registers) × AreLines (limit_of x) journal p (opening_registers p) (lines_of x p) (part transcripts p) after
+      → (after : Registers) × AreLines (setting_of x journal p) (opening_registers p) (lines_of x p)
+      (part transcripts p) after
   -- a process that found the journal full enters nothing more
   pub none_after_full : (p : ℕ) → HasNoneAfterFull (part transcripts p)
-  -- each reference is what the judging rule gives on the access at its printed point
-  pub elements : (p place : ℕ) (e : Element) → slice_get (events_of (part transcripts p)) place ≡ Some (Core (Seen e))
-      → IsRightElement x journal p e
+  -- each miss names another process's entry that changed the access
+  pub misses : (p : ℕ) → AreRightMisses x journal p (deeds x journal transcripts p)
   -- no point precedes anything that its process had seen
   pub points : (p : ℕ) → ArePoints (setup_entries x) (length journal) (deeds x journal transcripts p)
   -- each word read is the store that the read rule gives
   pub reads : AreRightReads (deeds x journal transcripts)
+
+-- the current ring of a process falls only through gates
+pub record HasGatedFalls (x : Outline) (journal : List journaled.Entry) (transcripts : List (List Step)) : Type 0 where
+  pub each : (p : ℕ) → AreGated (descriptor_of x journal p) (opening_registers p).ring (part transcripts p)
+
+-- and its pointer registers never have less
+pub record HasSoundRegisters (x : Outline) (journal : List journaled.Entry)
+    (transcripts : List (List Step)) : Type 0 where
+  pub each : (p : ℕ) → AreSound (setting_of x journal p) (opening_registers p) (lines_of x p) (part transcripts p)

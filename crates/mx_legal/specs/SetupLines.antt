@@ -1,4 +1,5 @@
--- What the rules make of the setup in a legal run: its lines within the limit enter the first entries of the journal, in order.
+-- What the rules make of the setup in a legal run: its lines within the limit enter the first entries of the journal,
+-- in order.
 use Rattle.std.specs.Prelude.{◌≡◌, ℕ, ◌+◌, ◌<◌, List, [], ◌∷◌, Some, slice_get}
 use Rattle.mx_state.specs.declared.journal.Entry as journaled
 use Rattle.mx_script.specs.Sessions.{Outline}
@@ -7,6 +8,7 @@ use Rattle.mx_legal.specs.Legal.{IsLegal, setup_entries}
 use Rattle.mx_legal.specs.Transcripts.{Step, part}
 
 abbrev pub SetupLinesLaw : Type 0
-SetupLinesLaw = (x : Outline) (journal : List journaled.Entry) (transcripts : List (List Step)) → IsLegal x journal transcripts
+SetupLinesLaw = (x : Outline) (journal : List journaled.Entry) (transcripts : List (List Step))
+    → IsLegal x journal transcripts
     → (place : ℕ) (step : Step) → place < setup_entries x → slice_get (part transcripts 0) place ≡ Some step
     → step.1 ≡ Entry (place + 1) ∷ []

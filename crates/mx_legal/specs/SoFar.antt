@@ -1,26 +1,85 @@
--- Helpers of the loops: how the deeds of all processes grow while a run goes on, and what holds of them so far.
-use Rattle.std.specs.Prelude.{◌≡◌, ◌≢◌, ℕ, ◌≤◌, [], ◌∷◌, ◌++◌, Some, slice_get}
-use Rattle.mx_legal.specs.Deeds.{Deed, Deeds, Enters, Stores, Loads, Denies}
-use Rattle.mx_legal.specs.Points.{ArePoints}
-use Rattle.mx_legal.specs.Reads.{AreRightReads}
+-- How lines so far go on, for whoever runs them: what was right stays right, event by event and line by line.
+use Rattle.std.specs.Prelude.{◌≡◌, ℕ, ◌<◌, ◌≤◌, true, List, [], ◌∷◌, ◌++◌, length, Some, slice_get}
+use Rattle.mx_call.specs.Registers.{Registers}
+use Rattle.mx_script.specs.Sessions.{Outline, limit_of}
+use Rattle.mx_script.specs.declared.lines.Line.{Line}
+use Rattle.mx_state.specs.declared.journal.Entry as journaled
+use Rattle.mx_core.specs.declared.elements.Element.{Element}
+use Rattle.mx_core.specs.declared.elements.Event.TheVariants.{Seen, Missing}
+use Rattle.mx_legal.specs.declared.transcripts.Event2.{Event2}
+use Rattle.mx_legal.specs.declared.transcripts.Event2.TheVariants.{Core, Entry}
+use Rattle.mx_legal.specs.declared.transcripts.Result2.{Result2}
+use Rattle.mx_legal.specs.Asking.{next}
+use Rattle.mx_legal.specs.Courses.{Course, Attempt, Answer, seen_in}
+use Rattle.mx_legal.specs.Elements.{IsJudged}
+use Rattle.mx_legal.specs.Legal.{setting_of}
+use Rattle.mx_legal.specs.Lines.{IsSoFar, IsEnd, IsLine}
+use Rattle.mx_legal.specs.Next.{Reference, Asks, Calls}
+use Rattle.mx_legal.specs.Parts.{AreDone}
+use Rattle.mx_legal.specs.Settings.{Setting, entry_at, judged}
+use Rattle.mx_legal.specs.Transcripts.{Step, events_of}
 
--- process p did one deed more, and nobody else did anything
-pub record Grows (old new : Deeds) (p : ℕ) (deed : Deed) : Type 0 where
-  pub own : new p ≡ old p ++ deed ∷ []
-  pub others : (u : ℕ) → u ≢ p → new u ≡ old u
+-- a process's part so far: the lines that are done, the line at work with its events, and the lines that are left
+pub record IsPartSoFar (s : Setting) (start : Registers) (lines : List (ℕ × Line)) (steps : List Step)
+    (number : ℕ) (line : Line) (left : List (ℕ × Line)) (now : Registers) (events : List Event2)
+    (course : Course) : Type 0 where
+  pub done : AreDone s start lines steps ((number, line) ∷ left) now
+  pub at_work : IsSoFar s now line events course
 
--- no number in a deed exceeds the journal's length
-abbrev pub IsWithin : ℕ → Deed → Type 0
-IsWithin entries (Enters number) = number ≤ entries
-IsWithin entries (Stores cell value point) = point ≤ entries
-IsWithin entries (Loads cell value writer stamp point) = (stamp ≤ entries) × (point ≤ entries)
-IsWithin entries (Denies point) = point ≤ entries
+-- the reference that is asked for was made
+abbrev pub ReferenceLaw : Type 0
+ReferenceLaw = (s : Setting) (g : Registers) (line : Line) (events : List Event2) (course : Course)
+    (asked : Reference) (e : Element)
+    → IsSoFar s g line events course → next g line course ≡ Asks asked → IsJudged asked (s.descriptor e) e
+    → IsSoFar s g line (events ++ Core (Seen e) ∷ []) (Attempt (seen_in course ++ judged s e ∷ []))
 
-abbrev pub AreWithin : ℕ → Deeds → Type 0
-AreWithin entries done = (u place : ℕ) (deed : Deed) → slice_get (done u) place ≡ Some deed → IsWithin entries deed
+-- the reference that is asked for missed
+abbrev pub MissLaw : Type 0
+MissLaw = (s : Setting) (g : Registers) (line : Line) (events : List Event2) (course : Course) (asked : Reference)
+    (segno by : ℕ)
+    → IsSoFar s g line events course → next g line course ≡ Asks asked
+    → IsSoFar s g line (events ++ Core (Missing segno by) ∷ []) (Attempt [])
 
--- what holds of the deeds of all processes when the journal has so many entries
-pub record AreSoFar (setup entries : ℕ) (done : Deeds) : Type 0 where
-  pub within : AreWithin entries done
-  pub points : (p : ℕ) → ArePoints setup entries (done p)
-  pub reads : AreRightReads done
+-- the call that is asked for was entered
+abbrev pub CallLaw : Type 0
+CallLaw = (s : Setting) (g : Registers) (line : Line) (events : List Event2) (course : Course)
+    (entry : journaled.Entry) (number : ℕ)
+    → IsSoFar s g line events course → next g line course ≡ Calls entry.ring entry.request
+    → entry.process ≡ s.process → entry_at s.journal number ≡ Some entry
+    → IsSoFar s g line (events ++ Entry number ∷ []) (Answer entry)
+
+-- the line at work came to its end
+abbrev pub LineLaw : Type 0
+LineLaw = (s : Setting) (start now after : Registers) (lines left : List (ℕ × Line)) (steps : List Step)
+    (number : ℕ) (line : Line) (events : List Event2) (course : Course) (ends : Result2)
+    → IsPartSoFar s start lines steps number line left now events course → IsEnd s now (next now line course) ends after
+    → AreDone s start lines (steps ++ (number, events, ends) ∷ []) left after
+
+-- a setting knows all that the other does of these events
+pub record Extends (old new : Setting) (events : List Event2) : Type 0 where
+  pub process : new.process ≡ old.process
+  pub entries : (number : ℕ) (entry : journaled.Entry) → entry_at old.journal number ≡ Some entry
+      → entry_at new.journal number ≡ Some entry
+  pub full : old.full ≡ true → new.full ≡ true
+  pub descriptors : (place : ℕ) (e : Element) → slice_get events place ≡ Some (Core (Seen e))
+      → new.descriptor e ≡ old.descriptor e
+
+-- then what is right in the one is right in the other
+abbrev pub ExtendsLaw : Type 0
+ExtendsLaw = (old new : Setting) (start now : Registers) (lines left : List (ℕ × Line)) (steps : List Step)
+    (number : ℕ) (line : Line) (events : List Event2) (course : Course)
+    → Extends old new (events_of steps ++ events)
+    → IsPartSoFar old start lines steps number line left now events course
+    → IsPartSoFar new start lines steps number line left now events course
+
+-- a line leaves nothing open: its events and result have one course and one outcome
+abbrev pub OneOutcomeLaw : Type 0
+OneOutcomeLaw = (s : Setting) (g after after' : Registers) (line : Line) (events : List Event2) (ends : Result2)
+    → IsLine s g line events ends after → IsLine s g line events ends after' → after ≡ after'
+
+-- the journal grows by an entry, below its limit: what was right of a process so far still is
+abbrev pub GrownLaw : Type 0
+GrownLaw = (x : Outline) (journal : List journaled.Entry) (entry : journaled.Entry) (p : ℕ) (events : List Event2)
+    → length journal < limit_of x
+    → ((place : ℕ) (e : Element) → slice_get events place ≡ Some (Core (Seen e)) → e.point ≤ length journal)
+    → Extends (setting_of x journal p) (setting_of x (journal ++ entry ∷ []) p) events

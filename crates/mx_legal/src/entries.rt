@@ -2,7 +2,7 @@
 
 ghost use Rattle.std.specs.Prelude.{◌≡◌};
 ghost use Rattle.std.specs.Option.{option_map};
-ghost use Rattle.mx_legal.specs.Lines.{entry_at};
+ghost use Rattle.mx_legal.specs.Settings.{entry_at};
 
 use mx_state::{Entry, Journal};
 

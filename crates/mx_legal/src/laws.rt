@@ -1,55 +1,56 @@
-//! Laws over the definitions: what was right of a run so far stays right as it goes on.
+//! Laws over the definitions.
 
-ghost use Rattle.mx_legal.specs.Continuing.{ReferredLaw, EnteredLaw, IdleLaw, NoneNamedLaw, NextNamedLaw};
+ghost use Rattle.mx_legal.specs.Printed.{EachReferenceLaw};
+ghost use Rattle.mx_legal.specs.Rings.{LineRingsLaw, RingsLaw, LegalRingsLaw};
 ghost use Rattle.mx_legal.specs.SetupLines.{SetupLinesLaw};
-ghost use Rattle.mx_legal.specs.Stability.{EntryLaw, StoreLaw, DenialLaw, LoadLaw, LinesLaw, LineAddedLaw, NumberAddedLaw, ReplayLaw, HistoryLaw, DeedsLaw, ElementLaw, FullLaw, NoneAfterFullLaw};
+ghost use Rattle.mx_legal.specs.SoFar.{ReferenceLaw, MissLaw, CallLaw, LineLaw, ExtendsLaw, GrownLaw, OneOutcomeLaw};
+ghost use Rattle.mx_legal.specs.Standing.{TraceLaw, PromiseLaw, FullLaw};
+ghost use Rattle.mx_legal.specs.WrongFalls.{WrongFalls};
+ghost use Rattle.mx_legal.specs.WrongLines.{WrongReferences, WrongCalls, WrongScripts};
+ghost use Rattle.mx_legal.specs.WrongPoints.{WrongPoints};
+ghost use Rattle.mx_legal.specs.WrongReads.{WrongReads};
 
-/// Whatever held of the deeds of all processes still holds when one of them enters the next entry of the journal.
-pub fn entry_law()
-    ensures { EntryLaw }
+/// A line under way goes on by an event that it asks for.
+pub fn event_law()
+    ensures reference { ReferenceLaw }
+    ensures miss { MissLaw }
+    ensures call { CallLaw }
 {}
 
-/// The same when a process stores at the journal's length.
-pub fn store_law()
-    ensures { StoreLaw }
+/// A line that came to its end is one line more.
+pub fn line_law()
+    ensures { LineLaw }
 {}
 
-/// The same when a process is denied a reference there.
-pub fn denial_law()
-    ensures { DenialLaw }
+/// What is right in one setting is right in another that knows all that it does, as that of a journal that grew.
+pub fn extends_law()
+    ensures kept { ExtendsLaw }
+    ensures grown { GrownLaw }
 {}
 
-/// The same when a process loads there what the read rule admits.
-pub fn load_law()
-    ensures { LoadLaw }
+/// A line's events and result leave one outcome.
+pub fn one_outcome_law()
+    ensures { OneOutcomeLaw }
 {}
 
-/// The lines of a process keep the line rule when the journal, below its limit, grows by an entry.
-pub fn lines_law()
-    ensures { LinesLaw }
+/// A line keeps the registers sound, and lets the ring fall only through a gate; so do all lines, and so does every
+/// legal run.
+pub fn rings_law()
+    ensures line { LineRingsLaw }
+    ensures lines { RingsLaw }
+    ensures run { LegalRingsLaw }
 {}
 
-/// The lines of a process keep the line rule, and their numbers, when it comes to its next line.
-pub fn line_added_law()
-    ensures line { LineAddedLaw }
-    ensures number { NumberAddedLaw }
+/// In a legal run each printed reference is what the judging rule gives on the access at its printed point.
+pub fn each_reference_is_judged()
+    ensures { EachReferenceLaw }
 {}
 
-/// The journal stays one history of the plain supervisor when it grows by an entry that is right in its place, and the
-/// state follows the entry.
-pub fn history_law()
-    ensures state { ReplayLaw }
-    ensures right { HistoryLaw }
-{}
-
-/// What each process did is the same when the journal grows.
-pub fn deeds_law()
-    ensures { DeedsLaw }
-{}
-
-/// A reference that was right stays right when the journal grows.
-pub fn element_law()
-    ensures { ElementLaw }
+/// A process knows its line at work over its own trace: one more element; and what it promises of all its lines is
+/// what a legal run asks.
+pub fn trace_law()
+    ensures element { TraceLaw }
+    ensures promise { PromiseLaw }
 {}
 
 /// A line finds the journal full only where it is at its limit.
@@ -57,37 +58,17 @@ pub fn full_law()
     ensures { FullLaw }
 {}
 
-/// A process that found the journal full enters nothing more, as long as nothing is entered at the limit.
-pub fn none_after_full_law()
-    ensures { NoneAfterFullLaw }
-{}
-
-/// A line of one process with one reference adds that deed to its deeds, and none to those of the others.
-pub fn referred_law()
-    ensures { ReferredLaw }
-{}
-
-/// A line with the journal's next entry adds this deed.
-pub fn entered_law()
-    ensures { EnteredLaw }
-{}
-
-/// A line without events adds no deed.
-pub fn idle_law()
-    ensures { IdleLaw }
-{}
-
-/// The entries of each process are still those that its transcript names after a line that names none.
-pub fn none_named_law()
-    ensures { NoneNamedLaw }
-{}
-
-/// And after a line with the journal's next entry, made by its process.
-pub fn next_named_law()
-    ensures { NextNamedLaw }
-{}
-
 /// In a legal run each line of the setup within the journal's limit enters the journal, under the number of its place.
 pub fn setup_lines_law()
     ensures { SetupLinesLaw }
+{}
+
+/// Wrong runs, each one change away from a right one, are refused: at least three by each rule.
+pub fn wrong_runs_are_refused()
+    ensures references { WrongReferences }
+    ensures calls { WrongCalls }
+    ensures scripts { WrongScripts }
+    ensures points { WrongPoints }
+    ensures reads { WrongReads }
+    ensures falls { WrongFalls }
 {}

@@ -2,7 +2,8 @@
 
 ghost use Rattle.std.specs.Prelude.{◌≡◌, ◌+◌, ◌<◌, ◌≤◌, ◌^◌, length};
 ghost use Rattle.std.specs.List.{sum_by};
-ghost use Rattle.mx_legal.specs.Legal.{first_line, lines_before, setup_entries};
+ghost use Rattle.mx_legal.specs.Legal.{setup_entries};
+ghost use Rattle.mx_legal.specs.Scripts.{first_line, lines_before};
 
 use mx_script::{Script, Session};
 
@@ -19,7 +20,8 @@ pub fn setup_entries(session: &Session) -> u32
     }
 }
 
-/// The number of the first line of process `p` in the session text, counted from 1. The lines of process 0 are the setup's.
+/// The number of the first line of process `p` in the session text, counted from 1. The lines of process 0 are the
+/// setup's.
 pub fn first_line(session: &Session, p: u8) -> u32
     ensures { result ≡ first_line session.now p }
 {

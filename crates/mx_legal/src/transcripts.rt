@@ -1,9 +1,9 @@
 //! Transcripts: what each line of a process's script came to.
 
 ghost use Rattle.std.specs.Prelude.{◌≡◌};
-ghost use Rattle.mx_legal.specs.Lines.{result_of};
+ghost use Rattle.mx_legal.specs.Asking.{result_of};
 
-use crate::elements::Event;
+use mx_core::Event;
 use mx_list::Sequence;
 use mx_request::Reply;
 use mx_sdw::{Denial, Word};

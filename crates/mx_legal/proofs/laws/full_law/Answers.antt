@@ -1,4 +1,4 @@
-use Rattle.mx_legal.proofs.LineLaws.{full_law}
+use Rattle.mx_legal.proofs.RingLaws.{full_law}
 use Rattle.mx_legal.proofs.laws.full_law.Goals as goal
 
 pub returns : goal.returns

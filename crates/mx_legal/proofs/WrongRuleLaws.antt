@@ -1,0 +1,151 @@
+-- Wrong points, reads and falls are refused.
+use Rattle.std.proofs.Common.{◌≡◌, ◌≢◌, ℕ, zero, suc, ◌<◌, ◌≤◌, inl, List, [], ◌∷◌, ◌++◌, refl, ap, sym, ◌∙◌, subst, Some, arith}
+use Rattle.std.specs.List.{slice_get}
+use Rattle.mx_core.specs.declared.elements.Element.{Element}
+use Rattle.mx_core.specs.declared.elements.Event.TheVariants.{Seen}
+use Rattle.mx_core.specs.declared.elements.Kind.TheVariants as kind
+use Rattle.mx_legal.specs.declared.transcripts.Event2.{Event2}
+use Rattle.mx_legal.specs.declared.transcripts.Event2.TheVariants.{Core, Entry}
+use Rattle.mx_legal.specs.Deeds.{Deed, Deeds, Enters, Stores, Loads, Refers}
+use Rattle.mx_legal.specs.Sightings.{Source, Sights, HasSighted, IsLatest}
+use Rattle.mx_legal.specs.WrongFalls.{gated, call, WrongFalls}
+use Rattle.mx_legal.specs.WrongPoints.{WrongPoints}
+use Rattle.mx_legal.specs.WrongReads.{did, WrongReads}
+
+pub wrong_points : WrongPoints
+wrong_points = record {
+  before_setup = λ are. let l : 2 ≤ 1 = (are 0 (Refers 1) 1 refl refl).after_setup in omega arith;
+  before_own = λ are. let l : 4 ≤ 3 = (are 1 (Refers 3) 3 refl refl).after_entries 0 4
+      (omega arith) refl in omega arith;
+  before_miss = λ are. let l : 4 ≤ 3 = (are 1 (Refers 3) 3 refl refl).after_misses 0 8 4
+      (omega arith) refl in omega arith;
+  before_stamp = λ are. let l : 4 ≤ 3 = (are 1 (Refers 3) 3 refl refl).after_stamps 0 320 7 2 4 3
+      (omega arith) refl in omega arith;
+  falls = λ are. let l : 4 ≤ 3 = (are 1 (Refers 3) 3 refl refl).rising 0 (Refers 4) 4
+      (omega arith) refl refl in omega arith;
+  beyond = λ are. let l : 6 ≤ 5 = (are 0 (Refers 6) 6 refl refl).within in omega arith;
+  after_next = λ are.
+      let l : 4 < 4 = (are 0 (Refers 4) 4 refl refl).before_next 4 (record {
+        at = 1;
+        after = omega arith;
+        entry = refl;
+        first = λ between other low high at. omega arith;
+      }) in omega arith;
+}
+
+two : (n : ℕ) → n ≡ 2 → n ≢ 0
+two n is e = omega arith
+
+-- of two stores the first; a single one; none
+before_last : (place : ℕ) → slice_get (Stores 320 5 0 ∷ Stores 320 6 0 ∷ Loads 320 5 1 0 0 ∷ []) place ≡ Some
+    (Stores 320 5 0)
+    → place < 1
+before_last zero at = omega arith
+before_last (suc zero) at = absurd cc
+before_last (suc (suc zero)) at = absurd cc
+before_last (suc (suc (suc place))) at = absurd cc
+
+first_of : (place : ℕ) → slice_get (Stores 320 5 0 ∷ Stores 320 6 0 ∷ Enters 1 ∷ []) place ≡ Some (Stores 320 5 0)
+    → place < 1
+first_of zero at = omega arith
+first_of (suc zero) at = absurd cc
+first_of (suc (suc zero)) at = absurd cc
+first_of (suc (suc (suc place))) at = absurd cc
+
+one_store : (place : ℕ) → slice_get (Stores 320 5 0 ∷ []) place ≡ Some (Stores 320 5 0) → place ≡ 0
+one_store zero at = refl
+one_store (suc place) at = absurd cc
+
+no_six : (place : ℕ) → slice_get (Stores 320 5 0 ∷ []) place ≡ Some (Stores 320 6 0) → ⊥
+no_six zero at = cc
+no_six (suc place) at = cc
+
+no_store : (place : ℕ) → slice_get [] place ≡ Some (Stores 320 5 0) → ⊥
+no_store place at = cc
+
+-- process 1 reads a store of process 2, one of process 3, and that of process 2 again
+abbrev again : Deeds
+again = did
+    ((Loads 320 5 2 0 0 ∷ Loads 320 9 3 0 0 ∷ Loads 320 5 2 0 0 ∷ []) ∷ (Stores 320 5 0 ∷ []) ∷
+    (Stores 320 9 0 ∷ []) ∷ [])
+
+other_process : (a b : ℕ) → a ≡ b → a ≡ 2 → b ≡ 3 → ⊥
+other_process a b same one other = omega arith
+
+-- before the last read it sighted process 3 last
+third_sighted : (source : Source) → HasSighted again source 1 1 320 3 (source 1 1)
+third_sighted source = record { deed = Loads 320 9 3 0 0; at = refl; sights = (refl, (λ e. omega arith), refl, refl) }
+
+no_other : (source : Source) (j : ℕ) (deed : Deed) → Some (Loads 320 9 3 0 0) ≡ Some deed
+    → Sights source 1 1 deed 320 2 j → ⊥
+no_other source j deed at sights =
+    let same : Loads 320 9 3 0 0 ≡ deed = cc in
+    let s : Sights source 1 1 (Loads 320 9 3 0 0) 320 2 j = subst (λ (d : Deed). Sights source 1 1 d 320 2 j)
+    (sym same) sights in
+    other_process 2 3 s.2 refl refl
+
+not_latest : (source : Source) (h j : ℕ) → IsLatest again source 1 2 320 h 2 j → ⊥
+not_latest source zero j latest = latest.last 1 3 (source 1 1) (omega arith) (omega arith) (third_sighted source)
+not_latest source (suc zero) j latest = no_other source j latest.sighted.deed latest.sighted.at latest.sighted.sights
+not_latest source (suc (suc h)) j latest = let l = latest.before in omega arith
+
+pub wrong_reads : WrongReads
+wrong_reads = record {
+  store_before = λ are.
+      let own = (are.right 1 2 320 5 1 0 0 refl).own (λ e. omega arith) refl in
+      own.last 1 6 0 (before_last (are.source 1 2) own.such.stored) (omega arith) refl;
+  nobodys = λ are.
+      ((are.right 1 1 320 0 0 0 0 refl).nobody refl).unsighted 0 1 0 (omega arith)
+      (record { deed = Stores 320 5 0; at = refl; sights = (refl, refl, refl) });
+  other_writer = λ are.
+      no_store (are.source 1 0)
+      ((are.right 1 0 320 5 3 0 0 refl).another (λ e. omega arith) (λ e. omega arith)).such.stored;
+  other_value = λ are.
+      no_six (are.source 1 0) ((are.right 1 0 320 6 2 0 0 refl).another (two 2 refl) (λ e. omega arith)).such.stored;
+  replaced = λ are.
+      let such = ((are.right 1 0 320 5 2 0 1 refl).another (two 2 refl) (λ e. omega arith)).such in
+      such.current (inl (record {
+        later = 1;
+        value = 6;
+        point = 0;
+        after = first_of (are.source 1 0) such.stored;
+        stored = refl;
+        known = record { later = 2; number = 1; after = omega arith; entry = refl; within = omega arith };
+      }));
+  forgotten = λ are.
+      ((are.right 1 0 320 0 0 0 1 refl).nobody refl).unknown 2 0 5 0 refl
+      (record { later = 1; number = 1; after = omega arith; entry = refl; within = omega arith });
+  again = λ are.
+      let other = (are.right 1 2 320 5 2 0 0 refl).another (two 2 refl) (λ e. omega arith) in
+      let here = one_store (are.source 1 2) other.such.stored in
+      let l = other.beyond.onward (not_latest are.source) 0 (are.source 1 0) (omega arith)
+      (record { deed = Loads 320 5 2 0 0; at = refl; sights = (refl, two 2 refl, refl, refl) }) in
+      omega arith;
+}
+
+last_is : (before : List Event2) (e call : Element) → Core (Seen e) ∷ [] ≡ before ++ Core (Seen call) ∷ [] → e ≡ call
+last_is [] e call h = cc
+last_is (first ∷ []) e call h = cc
+last_is (first ∷ second ∷ before) e call h = cc
+
+pub wrong_falls : WrongFalls
+wrong_falls = record {
+  by_return = λ gate.
+      let w : kind.Return ≡ kind.Call = ap (λ (e : Element). e.kind) (last_is gate.before _ gate.call gate.last)
+      ∙ gate.kind in cc;
+  no_gate = λ gate.
+      let w : 2 < 2 = subst (λ (e : Element). e.word < (gated e).gate)
+      (sym (last_is gate.before _ gate.call gate.last)) gate.gate in
+      omega arith;
+  too_low = λ gate. let w : 3 ≡ 4 = gate.into in omega arith;
+  from_outside = λ gate.
+      let w : 7 ≤ 6 = subst (λ (e : Element). e.ring ≤ (gated e).brackets.r3)
+      (sym (last_is gate.before _ gate.call gate.last)) gate.within in
+      omega arith;
+  after_call = λ gate. not_last gate.before gate.call gate.last;
+} where
+  not_last : (before : List Event2) (e : Element) → Core (Seen call) ∷ Entry 3 ∷ [] ≡ before ++ Core (Seen e) ∷ [] → ⊥
+  not_last [] e h = cc
+  not_last (a ∷ []) e h = cc
+  not_last (a ∷ b ∷ []) e h = cc
+  not_last (a ∷ b ∷ c ∷ before) e h = cc

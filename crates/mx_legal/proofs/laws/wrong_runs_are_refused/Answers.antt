@@ -1,0 +1,13 @@
+use Rattle.mx_legal.proofs.WrongLineLaws.{wrong_references, wrong_calls, wrong_scripts}
+use Rattle.mx_legal.proofs.WrongRuleLaws.{wrong_points, wrong_reads, wrong_falls}
+use Rattle.mx_legal.proofs.laws.wrong_runs_are_refused.Goals as goal
+
+pub returns : goal.returns
+returns c = record {
+  references = wrong_references;
+  calls = wrong_calls;
+  scripts = wrong_scripts;
+  points = wrong_points;
+  reads = wrong_reads;
+  falls = wrong_falls;
+}

@@ -1,0 +1,25 @@
+-- What a reader of a legal run may rely on: each printed reference is what the judging rule gives on the access at
+-- its printed point.
+use Rattle.std.specs.Prelude.{◌≡◌, ℕ, ◌<◌, List, length, Some, slice_get}
+use Rattle.mx_script.specs.Sessions.{Outline}
+use Rattle.mx_state.specs.declared.journal.Entry as journaled
+use Rattle.mx_core.specs.declared.elements.Element.{Element}
+use Rattle.mx_core.specs.declared.elements.Event.TheVariants.{Seen}
+use Rattle.mx_legal.specs.declared.transcripts.Event2.TheVariants.{Core}
+use Rattle.mx_legal.specs.Access.{descriptor_of}
+use Rattle.mx_legal.specs.Elements.{IsJudged}
+use Rattle.mx_legal.specs.Legal.{IsLegal}
+use Rattle.mx_legal.specs.Next.{Reference}
+use Rattle.mx_legal.specs.Transcripts.{Step, part, events_of}
+
+-- a reference that the judging rule answered so
+pub record IsRightElement (x : Outline) (journal : List journaled.Entry) (p : ℕ) (e : Element) : Type 0 where
+  pub asked : Reference
+  pub right : IsJudged asked (descriptor_of x journal p e) e
+
+abbrev pub EachReferenceLaw : Type 0
+EachReferenceLaw = (x : Outline) (journal : List journaled.Entry) (transcripts : List (List Step))
+    → IsLegal x journal transcripts
+    → (p place : ℕ) (e : Element) → p < length transcripts
+    → slice_get (events_of (part transcripts p)) place ≡ Some (Core (Seen e))
+    → IsRightElement x journal p e

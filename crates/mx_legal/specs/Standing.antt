@@ -1,0 +1,67 @@
+-- What a process knows of its own lines: it knows the descriptors of its own trace alone, its own front of the
+-- journal and its floor.
+use Rattle.std.specs.Prelude.{◌≡◌, ℕ, ◌≤◌, nat_le, length, true, List, [], ◌∷◌, ◌++◌, Some, slice_get}
+use Rattle.mx_sdw.specs.Descriptors.{Descriptor}
+use Rattle.mx_call.specs.Registers.{Registers}
+use Rattle.mx_script.specs.declared.lines.Line.{Line}
+use Rattle.mx_core.specs.declared.elements.Element.{Element}
+use Rattle.mx_core.specs.declared.elements.Event.TheVariants.{Seen}
+use Rattle.mx_legal.specs.declared.transcripts.Event2.{Event2}
+use Rattle.mx_legal.specs.declared.transcripts.Event2.TheVariants.{Core}
+use Rattle.mx_legal.specs.declared.transcripts.Result2.TheVariants.{HistoryFull}
+use Rattle.mx_legal.specs.Asking.{next}
+use Rattle.mx_legal.specs.Courses.{Course, Attempt, Judged, seen_in}
+use Rattle.mx_legal.specs.Elements.{IsJudged}
+use Rattle.mx_legal.specs.Lines.{IsSoFar, IsLine}
+use Rattle.mx_legal.specs.Next.{Reference, Asks}
+use Rattle.mx_legal.specs.Access.{descriptor_of}
+use Rattle.mx_legal.specs.Legal.{setting_of}
+use Rattle.mx_legal.specs.Openings.{opening_registers}
+use Rattle.mx_legal.specs.Parts.{AreLines}
+use Rattle.mx_legal.specs.Scripts.{lines_of}
+use Rattle.mx_legal.specs.Settings.{Setting}
+use Rattle.mx_legal.specs.Transcripts.{Step}
+use Rattle.mx_script.specs.Sessions.{Outline, limit_of}
+use Rattle.mx_state.specs.declared.journal.Entry as journaled
+
+-- these descriptors are those of a trace, which keeps one beside each element
+abbrev pub AgreesWith : (Element → Descriptor) → List Judged → Type 0
+AgreesWith d trace = (place : ℕ) (j : Judged) → slice_get trace place ≡ Some j → d j.element ≡ j.desc
+
+-- what a process knows of its line at work: it is right for all descriptors that agree with its trace
+abbrev pub IsKnown : Setting → List Judged → Registers → Line → List Event2 → Course → Type 0
+IsKnown s trace g line events course = (d : Element → Descriptor) → AgreesWith d trace
+    → IsSoFar (record s { descriptor = d }) g line events course
+
+-- the reference that is asked for, judged on the descriptor beside it
+abbrev pub TraceLaw : Type 0
+TraceLaw = (s : Setting) (trace : List Judged) (g : Registers) (line : Line) (events : List Event2) (course : Course)
+    (asked : Reference) (j : Judged)
+    → IsKnown s trace g line events course → next g line course ≡ Asks asked → IsJudged asked j.desc j.element
+    → IsKnown s (trace ++ j ∷ []) g line (events ++ Core (Seen j.element) ∷ []) (Attempt (seen_in course ++ j ∷ []))
+
+-- a line that found the journal full found it at its limit
+abbrev pub FullLaw : Type 0
+FullLaw = (s : Setting) (before after : Registers) (line : Line) (events : List Event2)
+    → IsLine s before line events HistoryFull after → s.full ≡ true
+
+-- what the lines of a process are held against, by its own front of the journal, its floor and some descriptors
+abbrev pub own_setting : Outline → List journaled.Entry → ℕ → ℕ → (Element → Descriptor) → Setting
+own_setting x front floor p d =
+    record { process = p; journal = front; full = nat_le (limit_of x) floor; descriptor = d }
+
+-- what a process promises of its whole part, for all descriptors that agree with its trace; the registers at the end
+-- do not hang on the descriptors
+abbrev pub PromisesLines : Outline → List journaled.Entry → ℕ → List Judged → ℕ → List Step → Registers → Type 0
+PromisesLines x front floor trace p steps after = (d : Element → Descriptor) → AgreesWith d trace
+    → AreLines (own_setting x front floor p d) (opening_registers p) (lines_of x p) steps after
+
+-- it is what a legal run asks of its lines, where its front is one of the journal, its floor and the journal are
+-- within their limits, and the descriptors of its trace are those of the tables
+abbrev pub PromiseLaw : Type 0
+PromiseLaw = (x : Outline) (front later : List journaled.Entry) (floor p : ℕ) (trace : List Judged)
+    (steps : List Step) (after : Registers)
+    → PromisesLines x front floor trace p steps after
+    → floor ≤ length (front ++ later) → length (front ++ later) ≤ limit_of x
+    → AgreesWith (descriptor_of x (front ++ later) p) trace
+    → AreLines (setting_of x (front ++ later) p) (opening_registers p) (lines_of x p) steps after

@@ -1,0 +1,32 @@
+-- Wrong reads: the read rule refuses them. Processes 1, 2 and 3 store and load in cell 320.
+use Rattle.std.specs.Prelude.{zero, suc, List, [], ◌∷◌}
+use Rattle.mx_legal.specs.Deeds.{Deed, Deeds, Enters, Stores, Loads}
+use Rattle.mx_legal.specs.Reads.{AreRightReads}
+
+-- what processes 1, 2, .. did
+abbrev pub did : List (List Deed) → Deeds
+did lists zero = []
+did [] (suc p) = []
+did (done ∷ lists) (suc zero) = done
+did (done ∷ lists) (suc (suc p)) = did lists (suc p)
+
+abbrev pub NeverReads : List (List Deed) → Type 0
+NeverReads lists = AreRightReads (did lists) → ⊥
+
+pub record WrongReads : Type 0 where
+  -- the process's own store before its last
+  pub store_before : NeverReads ((Stores 320 5 0 ∷ Stores 320 6 0 ∷ Loads 320 5 1 0 0 ∷ []) ∷ [])
+  -- nobody's word after an own store
+  pub nobodys : NeverReads ((Stores 320 5 0 ∷ Loads 320 0 0 0 0 ∷ []) ∷ [])
+  -- a store under another process's number
+  pub other_writer : NeverReads ((Loads 320 5 3 0 0 ∷ []) ∷ (Stores 320 5 0 ∷ []) ∷ [])
+  -- another value than was stored
+  pub other_value : NeverReads ((Loads 320 6 2 0 0 ∷ []) ∷ (Stores 320 5 0 ∷ []) ∷ [])
+  -- another process's store, whose later store there is known by the entry after it
+  pub replaced : NeverReads ((Loads 320 5 2 0 1 ∷ []) ∷ (Stores 320 5 0 ∷ Stores 320 6 0 ∷ Enters 1 ∷ []) ∷ [])
+  -- nobody's word where a store is known
+  pub forgotten : NeverReads ((Loads 320 0 0 0 1 ∷ []) ∷ (Stores 320 5 0 ∷ Enters 1 ∷ []) ∷ [])
+  -- another process's one store again, after one of a third was sighted
+  pub again : NeverReads
+      ((Loads 320 5 2 0 0 ∷ Loads 320 9 3 0 0 ∷ Loads 320 5 2 0 0 ∷ [])
+      ∷ (Stores 320 5 0 ∷ []) ∷ (Stores 320 9 0 ∷ []) ∷ [])
