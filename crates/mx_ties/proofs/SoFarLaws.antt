@@ -1,0 +1,306 @@
+-- A process with a line at work keeps its ties, step by step, and has run when its last line ends.
+use Rattle.std.proofs.Common.{nat_le, true, ◌≡◌, inl, inr, ℕ, suc, ◌+◌, ◌≤◌, List, [], ◌∷◌, ◌++◌, map, length, refl, ap, sym, ◌∙◌, subst, Some, arith, append_assoc}
+use Rattle.std.specs.List.{slice_get}
+use Rattle.std.proofs.lemmas.List.{append-nil}
+use Rattle.std.proofs.lemmas.Option.{slice_get_within}
+use Rattle.mx_sdw.specs.Descriptors.{Descriptor}
+use Rattle.mx_call.specs.Registers.{Registers}
+use Rattle.mx_state.specs.declared.journal.Entry as journaled
+use Rattle.mx_script.specs.Sessions.{Outline, limit_of}
+use Rattle.mx_script.specs.declared.lines.Line.{Line}
+use Rattle.mx_core.specs.declared.elements.Element.{Element}
+use Rattle.mx_core.specs.declared.elements.Event.{Event}
+use Rattle.mx_core.specs.declared.elements.Event.TheVariants.{Seen, Missing}
+use Rattle.mx_legal.specs.declared.transcripts.Event2.{Event2}
+use Rattle.mx_legal.specs.declared.transcripts.Event2.TheVariants.{Core, Entry}
+use Rattle.mx_legal.specs.declared.transcripts.Result2.{Result2}
+use Rattle.mx_legal.specs.declared.transcripts.Result2.TheVariants.{HistoryFull}
+use Rattle.mx_legal.specs.Access.{descriptor_of}
+use Rattle.mx_legal.specs.Asking.{next}
+use Rattle.mx_legal.specs.Courses.{Course, Judged}
+use Rattle.mx_legal.specs.Deeds.{Enters, Misses}
+use Rattle.mx_legal.specs.Lines.{IsEnd}
+use Rattle.mx_legal.specs.Openings.{opening_registers}
+use Rattle.mx_legal.specs.Scripts.{lines_of}
+use Rattle.mx_legal.specs.Settings.{entry_at}
+use Rattle.mx_legal.specs.SoFar.{Extends}
+use Rattle.mx_legal.specs.Standing.{AgreesWith, own_setting}
+use Rattle.mx_legal.specs.Transcripts.{Step, events_of, entries_named}
+use Rattle.mx_legal.proofs.Extending.{extends_law}
+use Rattle.mx_legal.proofs.GoingOn.{miss_law, call_law, line_law}
+use Rattle.mx_legal.proofs.Growing.{entry_still}
+use Rattle.mx_legal.proofs.RingLaws.{full_end}
+use Rattle.mx_legal.proofs.TraceLaws.{trace_law}
+use Rattle.mx_ties.specs.Closed.{followed, entry_in}
+use Rattle.mx_ties.specs.SoFar.{AreTied, IsFullKept}
+use Rattle.mx_ties.specs.Steps.{SeenStepLaw, FirstLineLaw, NoLineLaw, MissStepLaw, EntryStepLaw, LineStepLaw, LastLineLaw}
+use Rattle.mx_ties.specs.Views.{Referred, Missed, Marked, judged_in}
+use Rattle.mx_ties.proofs.EventsMore.{events_more, named_more, named_same, judged_more, judged_same}
+use Rattle.mx_ties.proofs.JournalLists.{followed_more}
+use Rattle.mx_ties.proofs.Places.{map_at, place_kept, place_found}
+use Rattle.mx_ties.proofs.TiedLaws.{seen_tied, miss_tied, entry_tied}
+
+le_of : (a b : ℕ) → nat_le a b ≡ true → a ≤ b
+le_of a b h = grind arith
+
+le_to : (a b c : ℕ) → nat_le a b ≡ true → b ≤ c → nat_le a c ≡ true
+le_to a b c h l = grind arith
+
+-- agreeing with a trace is agreeing with its beginning
+agrees_less : (d : Element → Descriptor) (trace more : List Judged) → AgreesWith d (trace ++ more) → AgreesWith d trace
+agrees_less d trace more agrees place j h = agrees place j (place_kept trace more place j h)
+
+longer_front : (x : Outline) (setup : List journaled.Entry) (history more : List Marked) (floor floor' p : ℕ)
+    (d : Element → Descriptor) (events : List Event2)
+    → floor ≤ floor' → Extends (own_setting x (followed setup history) floor p d)
+    (own_setting x (followed setup (history ++ more)) floor' p d) events
+longer_front x setup history more floor floor' p d events l = record {
+  process = refl;
+  entries = λ number entry h. subst (λ (j : List journaled.Entry). entry_at j number ≡ Some entry)
+      (sym (followed_more setup (history ++ more) history more refl))
+      (entry_still (followed setup history) (map entry_in more) number entry h);
+  full = λ full. le_to (limit_of x) floor floor' full l;
+  descriptors = λ place e at. refl;
+}
+
+full_more : (limit floor floor' : ℕ) (steps : List Step) (events : List Event2) (event : Event) → floor ≤ floor'
+    → IsFullKept limit floor steps events → IsFullKept limit floor' steps (events ++ Core event ∷ [])
+full_more limit floor floor' steps events event l f = record {
+  reached = λ place full h e. let r = f.reached place full h e in omega arith;
+  done = f.done;
+  at_work = λ place full i number h e n. f.at_work place full i number h e
+      (subst (λ (k : List ℕ). slice_get k i ≡ Some number) (named_same events event) n);
+}
+
+pub seen_step_law : SeenStepLaw
+seen_step_law x setup p steps number line left now events course v told asked j floor asks right low high stamps r =
+    record {
+      lines = λ d agrees.
+          let agrees' = subst (AgreesWith d) (judged_more v.trace j) agrees in
+          let less = agrees_less d (judged_in v.trace) (j ∷ []) agrees' in
+          let part = extends_law (own_setting x (followed setup v.history) v.floor p d)
+          (own_setting x (followed setup v.history) floor p d)
+          (opening_registers p) now (lines_of x p) left steps number line events course (record {
+            process = refl;
+            entries = λ n entry h. h;
+            full = λ full. le_to (limit_of x) v.floor floor full (omega arith);
+            descriptors = λ place e at. refl;
+          }) (r.lines d less) in record {
+            done = part.done;
+            at_work = trace_law (own_setting x (followed setup v.history) floor p d)
+                (judged_in v.trace) now line events course asked j
+                (λ d' a. (extends_law (own_setting x (followed setup v.history) v.floor p d')
+                (own_setting x (followed setup v.history) floor p d')
+                (opening_registers p) now (lines_of x p) left steps number line events course (record {
+                  process = refl;
+                  entries = λ n entry h. h;
+                  full = λ full. le_to (limit_of x) v.floor floor full (omega arith);
+                  descriptors = λ place e at. refl;
+                }) (r.lines d' a)).at_work) asks right d agrees';
+          };
+      tied = subst
+          (λ (l : List Event2). AreTied x setup p l
+          (record v { trace = v.trace ++ Referred j ∷ []; floor = floor }) told)
+          (append_assoc (events_of steps) events (Core (Seen j.element) ∷ []))
+          (seen_tied x setup p (events_of steps ++ events) v told r.tied j floor low high stamps);
+      full = full_more (limit_of x) v.floor floor steps events (Seen j.element) (omega arith) r.full;
+    }
+
+pub miss_step_law : MissStepLaw
+miss_step_law x setup p steps number line left now events course v told told' asked segno by floor more asks above
+    under rise told_by told_more r = record {
+      lines = λ d agrees.
+          let less = subst (AgreesWith d) (judged_same v.trace segno by) agrees in
+          let part = extends_law (own_setting x (followed setup v.history) v.floor p d)
+          (own_setting x (followed setup (v.history ++ more)) floor p d)
+          (opening_registers p) now (lines_of x p) left steps number line events course
+          (longer_front x setup v.history more v.floor floor p d (events_of steps ++ events) rise)
+          (r.lines d less) in record {
+            done = part.done;
+            at_work = miss_law
+                (own_setting x
+                (followed setup (v.history ++ more)) floor p d) now line events course asked segno by part.at_work asks;
+          };
+      tied = subst
+          (λ (l : List Event2). AreTied x setup p l
+          (record v { trace = v.trace ++ Missed segno by ∷ []; history = v.history ++ more; floor = floor }) told')
+          (append_assoc (events_of steps) events (Core (Missing segno by) ∷ []))
+          (miss_tied x setup p
+          (events_of steps ++ events) v told r.tied told' segno by floor more above under rise told_by told_more);
+      full = full_more (limit_of x) v.floor floor steps events (Missing segno by) rise r.full;
+    }
+
+entry_there : (setup : List journaled.Entry) (history : List Marked) (place : ℕ) (marked : Marked)
+    → slice_get history place ≡ Some marked
+    → entry_at (followed setup history) (length setup + suc place) ≡ Some marked.entry
+entry_there setup history place marked h =
+    subst (λ (n : ℕ). entry_at (followed setup history) n ≡ Some marked.entry) (number_is (length setup)) (behind setup)
+  where
+    number_is : (n : ℕ) → suc (n + place) ≡ n + suc place
+    number_is n = omega arith
+
+    here : place ≡ 0 + place
+    here = omega arith
+
+    later : (n : ℕ) → suc (n + place) ≡ suc n + place
+    later n = omega arith
+
+    behind : (front : List journaled.Entry) → slice_get (front ++ map entry_in history)
+        (length front + place) ≡ Some marked.entry
+    behind [] = subst (λ (n : ℕ). slice_get (map entry_in history) n ≡ Some marked.entry) here
+        (map_at entry_in history place marked h)
+    behind (first ∷ front) =
+        subst (λ (n : ℕ). slice_get (first ∷ (front ++ map entry_in history)) n ≡ Some marked.entry)
+        (later (length front)) (behind front)
+
+pub entry_step_law : EntryStepLaw
+entry_step_law x setup p steps number line left now events course v told told' more marked place floor asks at own
+    mark above under told_more told_here r =
+    let entered = length setup + suc place in record {
+      lines = λ d agrees.
+          let part = extends_law (own_setting x (followed setup v.history) v.floor p d)
+          (own_setting x (followed setup (v.history ++ more)) floor p d)
+          (opening_registers p) now (lines_of x p) left steps number line events course
+          (longer_front x setup v.history more v.floor floor p d (events_of steps ++ events) (omega arith))
+          (r.lines d agrees) in record {
+            done = part.done;
+            at_work = call_law
+                (own_setting x
+                (followed setup
+                (v.history ++ more)) floor p d) now line events course marked.entry entered part.at_work asks own
+                (entry_there setup (v.history ++ more) place marked at);
+          };
+      tied = subst
+          (λ (l : List Event2). AreTied x setup p l
+          (record v { history = v.history ++ more; floor = floor; amount = suc v.amount }) told')
+          (append_assoc (events_of steps) events (Entry entered ∷ []))
+          (entry_tied x setup p (events_of steps ++ events) v told r.tied told' more marked place floor at own mark
+          above under told_more told_here);
+      full = record {
+        reached = λ i full h e. let l = r.full.reached i full h e in omega arith;
+        done = r.full.done;
+        at_work = λ i full k n h e g.
+            elim (place_found (entries_named events) entered n k
+            (subst (λ (l : List ℕ). slice_get l k ≡ Some n) (named_more events (Entry entered ∷ [])) g)) [
+              | inl old ↦ r.full.at_work i full k n h e old
+              | inr new ↦ let same = new.1 in let l = r.full.reached i full h e in omega arith
+            ];
+      };
+    }
+
+-- a line that is done
+full_done : (x : Outline) (p : ℕ) (front : List journaled.Entry) (floor : ℕ) (steps : List Step) (number : ℕ)
+    (line : Line) (now after : Registers)
+    (events : List Event2) (course : Course) (ends : Result2)
+    → ((d : Element → Descriptor) → IsEnd (own_setting x front floor p d) now (next now line course) ends after)
+    → IsFullKept (limit_of x) floor steps events → IsFullKept (limit_of x) floor
+    (steps ++ (number, events, ends) ∷ []) []
+full_done x p front floor steps number line now after events course ends end f =
+    let step : Step = (number, events, ends) in record {
+      reached = λ place full h e. elim (place_found steps step full place h) [
+        | inl old ↦ f.reached place full old e
+        | inr new ↦
+            let d = descriptor_of x front p in
+            let is : ends ≡ HistoryFull = sym (ap (λ (s : Step). s.2) new.1) ∙ e in
+            le_of (limit_of x) floor
+            (full_end (own_setting x front floor p d) now line course (next now line course) after refl
+            (subst (λ (r : Result2). IsEnd (own_setting x front floor p d) now (next now line course) r after) is
+            (end d)))
+      ];
+      done = λ place later full s i n h e l g k. elim (place_found steps step s later g) [
+        | inl old ↦
+            let low = slice_get_within steps later s old in
+            elim (place_found steps step full place h) [
+              | inl old' ↦ f.done place later full s i n old' e l old k
+              | inr new ↦ let is = new.0 in absurd (omega arith)
+            ]
+        | inr new ↦ elim (place_found steps step full place h) [
+          | inl old' ↦ f.at_work place full i n old' e
+              (subst (λ (t : Step). slice_get (entries_named t.1) i ≡ Some n) new.1 k)
+          | inr new' ↦ let is = new.0 in let is' = new'.0 in absurd (omega arith)
+        ]
+      ];
+      at_work = λ place full i n h e k. cc;
+    }
+
+pub line_step_law : LineStepLaw
+line_step_law x setup p steps number number' line line' left now after events course ends v told end r = record {
+  lines = λ d agrees. record {
+    done = line_law (own_setting x (followed setup v.history) v.floor p d) (opening_registers p) now after
+        (lines_of x p) ((number', line') ∷ left) steps number line
+        events course ends (r.lines d agrees) (end d);
+    at_work = refl;
+  };
+  tied = subst (λ (l : List Event2). AreTied x setup p l v told)
+      (sym (append-nil (events_of (steps ++ (number, events, ends) ∷ []))
+      ∙ events_more steps (number, events, ends))) r.tied;
+  full = full_done x p (followed setup v.history) v.floor steps number line now after events course ends end r.full;
+}
+
+pub last_line_law : LastLineLaw
+last_line_law x setup p steps number line now after events course ends v told end r =
+    let step : Step = (number, events, ends) in
+    let tied = subst (λ (l : List Event2). AreTied x setup p l v told) (sym (events_more steps step)) r.tied in
+    let full = full_done x p
+    (followed setup v.history) v.floor steps number line now after events course ends end r.full in record {
+      after = after;
+      lines = λ d agrees. line_law (own_setting x (followed setup v.history) v.floor p d)
+          (opening_registers p) now after (lines_of x p) [] steps number line
+          events course ends (r.lines d agrees) (end d);
+      traced = tied.traced;
+      own = tied.own;
+      rising = tied.rising;
+      amount = tied.amount;
+      points = λ spot. (tied.going spot).points;
+      misses = λ spot. (tied.going spot).misses;
+      full = full.done;
+    }
+
+nothing_at : {A : Type 0} (i : ℕ) (a : A) → slice_get [] i ≡ Some a → ⊥
+nothing_at i a h = cc
+
+pub first_line_law : FirstLineLaw
+first_line_law x setup p number line left floor told is begun = record {
+  lines = λ d agrees. record { done = (sym is, refl); at_work = refl };
+  tied = record {
+    traced = refl;
+    own = λ place other h. absurd (nothing_at place (Entry other) h);
+    rising = tt;
+    amount = refl;
+    going = λ spot. record {
+      begun = begun;
+      points = λ place d q h e. absurd (nothing_at place d h);
+      misses = record {
+        rising = λ place segno by before earlier h l g. absurd (nothing_at place (Misses segno by) h);
+        before_next = λ place segno by other h n. absurd (nothing_at place (Misses segno by) h);
+        others = λ place segno by other h g c. absurd (nothing_at place (Misses segno by) h);
+      };
+      low = λ place d h. absurd (nothing_at place d h);
+      within = λ place other h. absurd (nothing_at place (Enters other) h);
+      told_own = λ place other segno h c. absurd (nothing_at place (Enters other) h);
+      told_misses = λ place segno by h. absurd (nothing_at place (Misses segno by) h);
+    };
+  };
+  full = record {
+    reached = λ place full h e. absurd (nothing_at place full h);
+    done = λ place later full s i n h e l g k. absurd (nothing_at place full h);
+    at_work = λ place full i n h e k. absurd (nothing_at place full h);
+  };
+}
+
+pub no_line_law : NoLineLaw
+no_line_law x setup p floor is = record {
+  after = opening_registers p;
+  lines = λ d agrees. (sym is, refl);
+  traced = refl;
+  own = λ place other h. absurd (nothing_at place (Entry other) h);
+  rising = tt;
+  amount = refl;
+  points = λ spot place d q h e. absurd (nothing_at place d h);
+  misses = λ spot. record {
+    rising = λ place segno by before earlier h l g. absurd (nothing_at place (Misses segno by) h);
+    before_next = λ place segno by other h n. absurd (nothing_at place (Misses segno by) h);
+    others = λ place segno by other h g c. absurd (nothing_at place (Misses segno by) h);
+  };
+  full = λ place later full s i n h e l g k. absurd (nothing_at place full h);
+}

@@ -1,0 +1,293 @@
+-- What the read rule says of traces, said of the deeds of transcripts.
+use Rattle.std.proofs.Common.{◌≡◌, ◌≢◌, inl, inr, ℕ, ◌<◌, refl, ap, sym, ◌∙◌, subst, Option, Some, None, arith}
+use Rattle.std.specs.List.{slice_get}
+use Rattle.std.proofs.lemmas.Bool.{cases_eq}
+use Rattle.mx_legal.specs.Deeds.{Spot, Deed, Deeds, Enters, Stores, Loads, Refers, Misses}
+use Rattle.mx_legal.specs.Sightings.{Source, Sights, HasSighted, IsLatest, IsBeyond}
+use Rattle.mx_legal.specs.Reads as transcript
+use Rattle.mx_reads.specs.Deeds.{CellUse}
+use Rattle.mx_reads.specs.Deeds as known
+use Rattle.mx_reads.specs.ReadRule.{Fronts}
+use Rattle.mx_reads.specs.ReadRule as rule
+use Rattle.mx_reads.specs.Sightings as sighting
+use Rattle.mx_ties.specs.Acts.{IsAct, acts_before, place_of}
+use Rattle.mx_ties.specs.Matching.{Matches, TransportLaw}
+use Rattle.mx_ties.specs.Uses.{as_known_by}
+use Rattle.mx_ties.proofs.ActLists.{before_grows, before_rises}
+use Rattle.mx_ties.proofs.StoresAlike as alike
+use Rattle.mx_ties.proofs.StoresAlike.{IsBack}
+
+record IsThere (trace : known.Deeds) (w l : ℕ) : Type 0 where
+  deed : known.Deed
+  at : slice_get (trace w) l ≡ Some deed
+
+module _ (use_at : Spot → CellUse) (done : Deeds) (trace : known.Deeds) (front : Fronts)
+    (m : Matches use_at done trace front) where
+  abbrev IsNear : Spot → Type 0
+  IsNear = alike.IsNear use_at done trace front m
+
+  abbrev rank : ℕ → ℕ → ℕ
+  rank u place = acts_before (done u) place
+
+  abbrev slot : ℕ → ℕ → ℕ
+  slot u i = place_of (done u) i
+
+  forth : (u place : ℕ) (d : Deed) → IsAct d → slice_get (done u) place ≡ Some d
+      → slice_get (trace u) (rank u place) ≡ Some (as_known_by use_at d)
+  forth = alike.forth use_at done trace front m
+
+  back : (u i : ℕ) (d : known.Deed) → slice_get (trace u) i ≡ Some d → IsBack use_at done u i d
+  back = alike.back use_at done trace front m
+
+  rank_slot : (u i : ℕ) (d : known.Deed) → slice_get (trace u) i ≡ Some d → rank u (slot u i) ≡ i
+  rank_slot = alike.rank_slot use_at done trace front m
+
+  less_back : (u a b : ℕ) → rank u a < rank u b → a < b
+  less_back = alike.less_back use_at done trace front m
+
+  -- the stores that reads stand for
+  abbrev meant : Option Deed → ℕ → ℕ
+  meant None k = k
+  meant (Some (Enters number)) k = k
+  meant (Some (Stores cell value point)) k = k
+  meant (Some (Loads cell value writer stamp point)) k = slot writer k
+  meant (Some (Refers point)) k = k
+  meant (Some (Misses segno by)) k = k
+
+  module _ (reads : rule.AreRightReads trace front) where
+    abbrev source : Source
+    source p i = meant (slice_get (done p) i) (reads.source p (rank p i))
+
+    -- the store that a read of a written word stands for is there
+    read_of : (p i : ℕ) (cell : CellUse) (value writer stamp q : ℕ)
+        → slice_get (trace p) i ≡ Some (known.Loads cell value writer stamp q) → writer ≢ 0
+        → slice_get (trace writer) (reads.source p i) ≡ Some (known.Stores cell value stamp)
+    read_of p i cell value writer stamp q h some = elim (cases_eq writer p) [
+      | inl e ↦ subst (λ (u : ℕ). slice_get (trace u) (reads.source p i) ≡ Some (known.Stores cell value stamp)) (sym e)
+          ((reads.right p i cell value writer stamp q h).own some e).such.stored
+      | inr n ↦ ((reads.right p i cell value writer stamp q h).another some n).such.stored
+    ]
+
+    -- sightings
+    act_sights : (p i : ℕ) (d : Deed) (cell : Spot) (w j : ℕ) → Sights source p i d cell w j → IsAct d
+    act_sights p i (Enters number) cell w j s = absurd s
+    act_sights p i (Stores own value point) cell w j s = tt
+    act_sights p i (Loads own value writer stamp point) cell w j s = tt
+    act_sights p i (Refers point) cell w j s = absurd s
+    act_sights p i (Misses segno by) cell w j s = absurd s
+
+    sights_to : (p i : ℕ) (d : Deed) (cell : Spot) (w j : ℕ) → slice_get (done p) i ≡ Some d
+        → Sights source p i d cell w j
+        → sighting.Sights reads.source p (rank p i) (as_known_by use_at d) (use_at cell) w (rank w j)
+    sights_to p i (Enters number) cell w j h s = absurd s
+    sights_to p i (Stores own value point) cell w j h s =
+        (ap use_at s.0, s.1, ap (λ (u : ℕ). rank u j) s.1 ∙ ap (λ (n : ℕ). rank p n) s.2)
+    sights_to p i (Loads own value writer stamp point) cell w j h s =
+        let there = forth p i (Loads own value writer stamp point) tt h in
+        let stood = read_of p (rank p i) (use_at own) value writer stamp point there s.1 in
+        let back = rank_slot writer (reads.source p (rank p i)) (known.Stores (use_at own) value stamp) stood in
+        let at : source p i ≡ slot writer (reads.source p (rank p i)) = ap
+        (λ (o : Option Deed). meant o (reads.source p (rank p i))) h in
+        (ap use_at s.0, s.1, s.2, ap (λ (u : ℕ). rank u j) s.2 ∙ ap (λ (n : ℕ). rank writer n) (s.3 ∙ at) ∙ back)
+    sights_to p i (Refers point) cell w j h s = absurd s
+    sights_to p i (Misses segno by) cell w j h s = absurd s
+
+    -- an act at its place in the transcript, where it is a load
+    source_slot : (p k : ℕ) (d : known.Deed) (own : Spot) (value writer stamp point : ℕ)
+        → slice_get (trace p) k ≡ Some d
+        → slice_get (done p) (slot p k) ≡ Some (Loads own value writer stamp point)
+        → source p (slot p k) ≡ slot writer (reads.source p k)
+    source_slot p k d own value writer stamp point h at =
+        ap (λ (o : Option Deed). meant o (reads.source p (rank p (slot p k)))) at
+        ∙ ap (λ (n : ℕ). slot writer (reads.source p n)) (rank_slot p k d h)
+
+    sights_from : (p k : ℕ) (d : known.Deed) (own : Deed) (cell : Spot) (near : IsNear cell) (w l : ℕ)
+        → slice_get (trace p) k ≡ Some d
+        → slice_get (done p) (slot p k) ≡ Some own → sighting.Sights reads.source p k (as_known_by use_at own)
+        (use_at cell) w l
+        → Sights source p (slot p k) own cell w (slot w l)
+    sights_from p k d (Enters number) cell near w l h at s = absurd s
+    sights_from p k d (Stores own value point) cell near w l h at s = (
+      near own (record { process = p; place = slot p k; deed = _; at = at; touches = refl }) s.0,
+      s.1,
+      ap
+          (λ (u : ℕ). slot u l) s.1 ∙ ap (λ (n : ℕ). slot p n) s.2,
+    )
+    sights_from p k d (Loads own value writer stamp point) cell near w l h at s = (
+      near own (record { process = p; place = slot p k; deed = _; at = at; touches = refl }) s.0,
+      s.1,
+      s.2,
+      ap (λ (u : ℕ). slot u l) s.2 ∙ ap (λ (n : ℕ). slot writer n) s.3
+          ∙ sym (source_slot p k d own value writer stamp point h at),
+    )
+    sights_from p k d (Refers point) cell near w l h at s = absurd s
+    sights_from p k d (Misses segno by) cell near w l h at s = absurd s
+
+    sighted_to : (p i : ℕ) (cell : Spot) (w j : ℕ) → HasSighted done source p i cell w j
+        → sighting.HasSighted trace reads.source p (rank p i) (use_at cell) w (rank w j)
+    sighted_to p i cell w j s = record {
+      deed = as_known_by use_at s.deed;
+      at = forth p i s.deed (act_sights p i s.deed cell w j s.sights) s.at;
+      sights = sights_to p i s.deed cell w j s.at s.sights;
+    }
+
+    sighted_from : (p k : ℕ) (cell : Spot) (near : IsNear cell) (w l : ℕ)
+        → sighting.HasSighted trace reads.source p k (use_at cell) w l
+        → HasSighted done source p (slot p k) cell w (slot w l)
+    sighted_from p k cell near w l s =
+        let b = back p k s.deed s.at in record {
+          deed = b.deed;
+          at = b.at;
+          sights = sights_from p k s.deed b.deed cell near w l s.at b.at
+              (subst (λ (d : known.Deed). sighting.Sights reads.source p k d (use_at cell) w l) (sym b.is) s.sights);
+        }
+
+    -- the store that was sighted is there
+    sighted_store : (p k : ℕ) (d : known.Deed) (cell : CellUse) (w l : ℕ) → slice_get (trace p) k ≡ Some d
+        → sighting.Sights reads.source p k d cell w l → IsThere trace w l
+    sighted_store p k (known.Enters number) cell w l h s = absurd s
+    sighted_store p k (known.Stores own value point) cell w l h s = record {
+      deed = known.Stores own value point;
+      at = subst (λ (u : ℕ). slice_get (trace u) l ≡ Some (known.Stores own value point)) (sym s.1)
+          (subst (λ (n : ℕ). slice_get (trace p) n ≡ Some (known.Stores own value point)) (sym s.2) h);
+    }
+    sighted_store p k (known.Loads own value writer stamp point) cell w l h s = record {
+      deed = known.Stores own value stamp;
+      at = subst (λ (u : ℕ). slice_get (trace u) l ≡ Some (known.Stores own value stamp)) (sym s.2)
+          (subst (λ (n : ℕ). slice_get (trace writer) n ≡ Some (known.Stores own value stamp)) (sym s.3)
+          (read_of p k own value writer stamp point h s.1));
+    }
+    sighted_store p k (known.Denies point) cell w l h s = absurd s
+    sighted_store p k (known.Misses segno by) cell w l h s = absurd s
+
+    latest_to : (p i : ℕ) (cell : Spot) (near : IsNear cell) (h w j : ℕ) → IsLatest done source p i cell h w j
+        → sighting.IsLatest trace reads.source p (rank p i) (use_at cell) (rank p h) w (rank w j)
+    latest_to p i cell near h w j l =
+        let s = l.sighted in
+        let here = act_sights p h s.deed cell w j s.sights in
+        record {
+          before = before_rises (done p) h i s.deed here s.at l.before;
+          sighted = sighted_to p h cell w j s;
+          last = λ later w' j' a b t.
+              let same = rank_slot p later t.deed t.at in
+              l.last (slot p later) w' (slot w' j') (less_back p h (slot p later) (omega arith))
+              (less_back p (slot p later) i (omega arith))
+              (sighted_from p later cell near w' j' t);
+        }
+
+    latest_from : (p i : ℕ) (cell : Spot) (near : IsNear cell) (k w l : ℕ)
+        → sighting.IsLatest trace reads.source p (rank p i) (use_at cell) k w l
+        → IsLatest done source p i cell (slot p k) w (slot w l)
+    latest_from p i cell near k w l t =
+        let s = t.sighted in
+        let same = rank_slot p k s.deed s.at in
+        let b = back p k s.deed s.at in
+        let low = t.before in
+        record {
+          before = less_back p (slot p k) i (omega arith);
+          sighted = sighted_from p k cell near w l s;
+          last = λ later w' j' a c r.
+              let first = before_rises (done p) (slot p k) later b.deed b.act b.at a in
+              let second = before_rises (done p) later i r.deed
+              (act_sights p later r.deed cell w' j' r.sights) r.at c in
+              t.last (rank p later) w' (rank w' j') (omega arith) second (sighted_to p later cell w' j' r);
+        }
+
+    beyond_to : (p i : ℕ) (cell : Spot) (near : IsNear cell) (w place : ℕ) → IsBeyond done source p i cell w place
+        → sighting.IsBeyond trace reads.source p (rank p i) (use_at cell) w (rank w place)
+    beyond_to p i cell near w place b = record {
+      again = λ k l t.
+          let s = t.sighted in
+          let most = b.again (slot p k) (slot w l) (latest_from p i cell near k w l t) in
+          let there = sighted_store p k s.deed (use_at cell) w l s.at s.sights in
+          let same = rank_slot w l there.deed there.at in
+          let more = before_grows (done w) (slot w l) place most in omega arith;
+      onward = λ none k l low s.
+          let same = rank_slot p k s.deed s.at in
+          let there = sighted_store p k s.deed (use_at cell) w l s.at s.sights in
+          let here = rank_slot w l there.deed there.at in
+          let act = back w l there.deed there.at in
+          let less = b.onward (λ h j t. none (rank p h) (rank w j) (latest_to p i cell near h w j t)) (slot p k)
+          (slot w l)
+          (less_back p (slot p k) i (omega arith)) (sighted_from p k cell near w l s) in
+          let more = before_rises (done w) (slot w l) place act.deed act.act act.at less in omega arith;
+    }
+
+    beyond_from : (p i : ℕ) (cell : Spot) (near : IsNear cell) (w place : ℕ) (d : Deed) → IsAct d
+        → slice_get (done w) place ≡ Some d
+        → sighting.IsBeyond trace reads.source p (rank p i) (use_at cell) w (rank w place)
+        → IsBeyond done source p i cell w place
+    beyond_from p i cell near w place d a at b = record {
+      again = λ h j t. alike.most_back use_at done trace front m w j place d a at
+          (b.again (rank p h) (rank w j) (latest_to p i cell near h w j t));
+      onward = λ none h j low s.
+          let here = act_sights p h s.deed cell w j s.sights in
+          less_back w j place
+          (b.onward (λ k l t. none (slot p k) (slot w l) (latest_from p i cell near k w l t)) (rank p h)
+          (rank w j)
+          (before_rises (done p) h i s.deed here s.at low) (sighted_to p h cell w j s));
+    }
+
+    read_from : (p i : ℕ) (cell : Spot) (value writer stamp q : ℕ)
+        → slice_get (done p) i ≡ Some (Loads cell value writer stamp q)
+        → transcript.IsRightRead done source p i (source p i) cell value writer stamp q
+    read_from p i cell value writer stamp q h =
+        let near : IsNear cell = λ own touched same. m.apart own cell touched
+        (record { process = p; place = i; deed = Loads cell value writer stamp q; at = h; touches = refl }) same in
+        let there = forth p i (Loads cell value writer stamp q) tt h in
+        let right = reads.right p (rank p i) (use_at cell) value writer stamp q there in
+        let at : source p i ≡ slot writer (reads.source p (rank p i)) = ap
+        (λ (o : Option Deed). meant o (reads.source p (rank p i))) h in
+        record {
+          nobody = λ e. let u = right.nobody e in record {
+            zero_value = u.zero_value;
+            zero_stamp = u.zero_stamp;
+            unsighted = λ k w j low s.
+                let here = act_sights p k s.deed cell w j s.sights in
+                u.unsighted (rank p k) w (rank w j) (before_rises (done p) k i s.deed here s.at low)
+                (sighted_to p k cell w j s);
+            unknown = λ v place value' point stored known'.
+                u.unknown v (rank v place) value' point (forth v place (Stores cell value' point) tt stored)
+                (m.known_to v place q (Stores cell value' point) tt stored known');
+          };
+          own = λ some e.
+              let o = right.own some e in
+              let k = reads.source p (rank p i) in
+              let same = rank_slot p k (known.Stores (use_at cell) value stamp) o.such.stored in
+              let mine : slot p k ≡ source p i = ap (λ (u : ℕ). slot u k) (sym e) ∙ sym at in
+              let low = o.before in
+              subst (λ (place : ℕ). transcript.IsOwnLast done p i place cell value stamp q) mine (record {
+                before = less_back p (slot p k) i (omega arith);
+                such = alike.such_from use_at done trace front m p k cell near value stamp q o.such;
+                last = λ later value' point a b stored.
+                    let first = before_rises (done p) (slot p k) later (Stores cell value stamp) tt
+                    (alike.store_slot use_at done trace front m p k cell near value stamp o.such.stored) a in
+                    let second = before_rises (done p) later i (Stores cell value' point) tt stored b in
+                    o.last (rank p later) value' point (omega arith) second
+                    (forth p later (Stores cell value' point) tt stored);
+              });
+          another = λ some n.
+              let o = right.another some n in
+              let k = reads.source p (rank p i) in
+              let same = rank_slot writer k (known.Stores (use_at cell) value stamp) o.such.stored in
+              let stored = alike.store_slot use_at done trace front m writer k cell near value stamp o.such.stored in
+              subst (λ (place : ℕ). transcript.IsFirstOther done source p i writer place cell value stamp q) (sym at)
+              (record {
+                such = alike.such_from use_at done trace front m writer k cell near value stamp q o.such;
+                beyond = beyond_from p i cell near writer (slot writer k) (Stores cell value stamp) tt stored
+                    (subst (λ (l : ℕ). sighting.IsBeyond trace reads.source p (rank p i) (use_at cell) writer l)
+                    (sym same) o.beyond);
+                first = λ earlier a s b.
+                    let less = before_rises (done writer) earlier (slot writer k)
+                    (Stores cell value stamp) tt s.stored a in
+                    o.first (rank writer earlier) (omega arith)
+                    (alike.such_to use_at done trace front m writer earlier cell near value stamp q s)
+                    (beyond_to p i cell near writer earlier b);
+              });
+        }
+
+    pub reads_from : transcript.AreRightReads done
+    reads_from = record { source = source; right = read_from }
+
+pub transport_law : TransportLaw
+transport_law use_at done trace front m reads = reads_from use_at done trace front m reads

@@ -1,0 +1,15 @@
+pub mod Acts
+pub mod Uses
+pub mod Counting
+pub mod Views
+pub mod Fronts
+pub mod Closed
+pub mod Ran
+pub mod Finished
+pub mod Matching
+pub mod Going
+pub mod SoFar
+pub mod Steps
+pub mod Bench
+pub mod BenchGoing
+pub mod Sample

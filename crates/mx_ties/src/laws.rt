@@ -1,0 +1,72 @@
+//! Laws over the definitions.
+
+ghost use Rattle.mx_ties.specs.Bench.{BenchOpeningLaw, BenchEntryLaw, BenchStoreLaw, BenchLoadLaw, BenchQuietLaw};
+ghost use Rattle.mx_ties.specs.BenchGoing.{BenchCallLaw, BenchLookLaw, BenchStampLaw, BenchOthersLaw};
+ghost use Rattle.mx_ties.specs.Counting.{CountingLaw};
+ghost use Rattle.mx_ties.specs.Finished.{FinishedLaw};
+ghost use Rattle.mx_ties.specs.Fronts.{FrontLaw};
+ghost use Rattle.mx_ties.specs.Going.{SeenLaw, MissLaw, EnteredLaw};
+ghost use Rattle.mx_ties.specs.Matching.{TransportLaw};
+ghost use Rattle.mx_ties.specs.Sample.{Sample};
+ghost use Rattle.mx_ties.specs.Steps.{FirstLineLaw, NoLineLaw, SeenStepLaw, MissStepLaw, EntryStepLaw, LineStepLaw, LastLineLaw};
+
+/// A run whose processes have all run, and whose office is closed, is legal.
+pub fn finished_law()
+    ensures { FinishedLaw }
+{}
+
+/// Where each process names rising numbers of its own entries, and all together name as many as there are, each names
+/// all.
+pub fn counting_law()
+    ensures { CountingLaw }
+{}
+
+/// What is known at a point lies among the first events of a trace that the mark of an entry up to it counts.
+pub fn front_law()
+    ensures { FrontLaw }
+{}
+
+/// Reads that are right in the traces are right in the transcripts.
+pub fn transport_law()
+    ensures { TransportLaw }
+{}
+
+/// A process that runs keeps its points and its misses.
+pub fn going_law()
+    ensures seen { SeenLaw }
+    ensures missed { MissLaw }
+    ensures entered { EnteredLaw }
+{}
+
+/// A process with a line at work keeps its ties at each step, and has run when its last line ends.
+pub fn steps_law()
+    ensures first { FirstLineLaw }
+    ensures none { NoLineLaw }
+    ensures seen { SeenStepLaw }
+    ensures missed { MissStepLaw }
+    ensures entered { EntryStepLaw }
+    ensures line { LineStepLaw }
+    ensures last { LastLineLaw }
+{}
+
+/// Under one lock, what is closed stays so after an entry and after a reference of one process.
+pub fn bench_law()
+    ensures opening { BenchOpeningLaw }
+    ensures entry { BenchEntryLaw }
+    ensures store { BenchStoreLaw }
+    ensures load { BenchLoadLaw }
+    ensures quiet { BenchQuietLaw }
+{}
+
+/// Under one lock the process that steps keeps its ties, and all others theirs.
+pub fn bench_going_law()
+    ensures call { BenchCallLaw }
+    ensures look { BenchLookLaw }
+    ensures stamp { BenchStampLaw }
+    ensures others { BenchOthersLaw }
+{}
+
+/// There is a run that meets all of this.
+pub fn sample_law()
+    ensures { Sample }
+{}

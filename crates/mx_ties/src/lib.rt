@@ -1,0 +1,16 @@
+//! From what processes and their office tell at the end of a run to the run's legality.
+//!
+//! `Finished` is the one law that ties them: where the office is closed (`Closed`), the setup's part is right and
+//! each process has run (`Ran`), the journal and the transcripts are a legal run. It speaks of no step, no lock and
+//! no schedule. Under it stand the counting law (`Counting`: each process names each of its entries) and the
+//! transport of reads (`Matching`: the read rule by fronts of traces, and by entries of transcripts). For whoever
+//! runs processes: what a process keeps of its own part so far (`SoFar`, `Steps`), and what is kept under one lock
+//! (`Bench`, `BenchGoing`). Stands on `mx_legal` and `mx_reads`; takes no memory.
+#![tactic(auto)]
+
+mod laws;
+
+pub use laws::{
+    bench_going_law, bench_law, counting_law, finished_law, front_law, going_law, sample_law,
+    steps_law, transport_law,
+};
