@@ -32,6 +32,7 @@ answered g (Set word) given = Nowhere
 answered g (Lda o) given = Nowhere
 answered g (Sta o) given = Nowhere
 
+-- what a line asks for, after what it has done so far
 abbrev pub next : Registers → Line → Course → Next
 next g line (Attempt seen) = attempts g line seen
 next g line (Answer entry) = answered g line entry.reply

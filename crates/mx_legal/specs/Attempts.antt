@@ -1,5 +1,5 @@
 -- An attempt of a memory line: what it asks for next, from the registers at the line's start and what it has seen so
--- far. It does its own at the target.
+-- far: its one reference, at the target. After that it has ended.
 use Rattle.std.specs.Prelude.{List, [], ◌∷◌, Option, Some, None}
 use Rattle.mx_ptr.specs.Pointers.{PointerParts}
 use Rattle.mx_call.specs.Registers.{Registers}

@@ -48,6 +48,7 @@ setting_of x journal p = record {
 abbrev pub deeds : Outline → List journaled.Entry → List (List Step) → Deeds
 deeds x journal transcripts = deeds_by (descriptor_of x journal) (λ p. events_of (part transcripts p))
 
+-- the rules of a legal run
 pub record IsLegal (x : Outline) (journal : List journaled.Entry) (transcripts : List (List Step)) : Type 0 where
   -- the journal is within its limit
   pub within_limit : length journal ≤ limit_of x

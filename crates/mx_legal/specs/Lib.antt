@@ -1,3 +1,4 @@
+-- the types of a run, and its lines
 pub mod Transcripts
 pub mod Next
 pub mod Elements
@@ -12,6 +13,7 @@ pub mod Lines
 pub mod Scripts
 pub mod Openings
 pub mod Parts
+-- the rules over deeds, and all rules together
 pub mod Access
 pub mod Deeds
 pub mod References
@@ -23,11 +25,14 @@ pub mod Reads
 pub mod FullJournal
 pub mod Falls
 pub mod Legal
-pub mod SoFar
+-- laws: what follows for a legal run
 pub mod Rings
 pub mod Printed
-pub mod Standing
 pub mod SetupLines
+-- laws: for whoever runs lines
+pub mod SoFar
+pub mod Standing
+-- wrong runs that are refused
 pub mod WrongLines
 pub mod WrongPoints
 pub mod WrongReads

@@ -13,6 +13,7 @@ pub record IsChanged (x : Outline) (journal : List journaled.Entry) (p segno by 
   pub next : by ≡ suc before
   pub differs : descriptor_at x journal by p segno ≢ descriptor_at x journal before p segno
 
+-- the deed at this place, a miss of this number by entry `by`, keeps the rule
 pub record IsRightMiss (x : Outline) (journal : List journaled.Entry) (p : ℕ) (done : List Deed)
     (place segno by : ℕ) : Type 0 where
   -- entry `by` is there, and another process's
