@@ -19,10 +19,10 @@ use Rattle.mx_legal.specs.declared.transcripts.Result2.TheVariants as result
 use Rattle.mx_legal.specs.Asking.{next}
 use Rattle.mx_legal.specs.Courses.{Course, Attempt, Answer}
 use Rattle.mx_legal.specs.Elements.{IsJudged}
-use Rattle.mx_legal.specs.Lines.{Goes, IsEnd}
+use Rattle.mx_legal.specs.Lines.{Goes, IsEnd, IsLine}
 use Rattle.mx_legal.specs.Next.{Reference, Asks, Calls, Ends}
 use Rattle.mx_legal.specs.Settings.{entry_at, judged}
-use Rattle.mx_legal.specs.WrongLines.{setting, g, lda, sta, read, out, refused, WrongReferences, WrongCalls, WrongScripts}
+use Rattle.mx_legal.specs.WrongLines.{setting, g, lda, sta, read, written, outside, out, refused, WrongReferences, WrongCalls, WrongScripts}
 
 -- the reference that a line asks for first, and the rest of the line
 peel : (l : Line) (r : Reference) (e : Element) (events : List Event2) (course : Course)
@@ -73,9 +73,38 @@ same_some a b h = cc
 same_a : (a b : ℕ) → result.A a ≡ result.A b → a ≡ b
 same_a a b h = cc
 
+-- the right ones
+judged_so : (l : Line) (r : Reference) (e : Element) (ends : Result2) (after : Registers)
+    → next g l (Attempt []) ≡ Asks r
+    → IsJudged r (setting.descriptor e) e → IsEnd setting g (next g l (Attempt (judged setting e ∷ []))) ends after
+    → IsLine setting g l (Core (Seen e) ∷ []) ends after
+judged_so l r e ends after asks right end = record {
+  course = Attempt (judged setting e ∷ []);
+  so_far = (Attempt (judged setting e ∷ []), record { asked = r; next = asks; right = right; leads = refl }, refl);
+  end = end;
+}
+
+loaded : IsLine setting g (lda 0) (Core (Seen read) ∷ []) (result.A 5) (record g { a = 5 })
+unfolding judgement
+loaded = judged_so (lda 0) (reads 0) read (result.A 5) (record g { a = 5 }) refl
+    (record { kind = refl; segno = refl; word = refl; ring = refl; outcome = tt }) (refl, refl)
+
+stored : IsLine setting g sta (Core (Seen written) ∷ []) result.Done g
+unfolding judgement
+stored = judged_so sta writes written result.Done g refl
+    (record { kind = refl; segno = refl; word = refl; ring = refl; outcome = refl }) (refl, refl)
+
+denied : IsLine setting g (lda 64) (Core (Seen outside) ∷ []) (result.Denied denial.OutOfBounds) g
+unfolding judgement
+denied = judged_so (lda 64) (reads 64) outside (result.Denied denial.OutOfBounds) g refl
+    (record { kind = refl; segno = refl; word = refl; ring = refl; outcome = refl }) (refl, refl)
+
 pub wrong_references : WrongReferences
 unfolding judgement
 wrong_references = record {
+  right_load = loaded;
+  right_store = stored;
+  right_denial = denied;
   other_value = λ after is.
       let w : Some 7 ≡ Some 1 = (peel sta writes _ [] is.course refl is.so_far).0.outcome in
       let z : 7 ≡ 1 = same_some 7 1 w in omega arith;
@@ -102,6 +131,11 @@ wrong_references = record {
 
 pub wrong_calls : WrongCalls
 wrong_calls = record {
+  right_call = record {
+    course = Answer out;
+    so_far = (Answer out, record { entry = out; there = refl; maker = refl; next = refl; leads = refl }, refl);
+    end = (refl, refl);
+  };
   other_request = λ path after is.
       let w : Calls 4 (Initiate path) ≡ Calls 4 Logout =
       (peel_call (line.Ask (Initiate path)) 1 out [] is.course refl is.so_far).0 in cc;

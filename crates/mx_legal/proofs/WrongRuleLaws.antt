@@ -1,19 +1,58 @@
 -- Wrong points, reads and falls are refused.
-use Rattle.std.proofs.Common.{◌≡◌, ◌≢◌, ℕ, zero, suc, ◌<◌, ◌≤◌, inl, List, [], ◌∷◌, ◌++◌, refl, ap, sym, ◌∙◌, subst, Some, arith}
+use Rattle.std.proofs.Common.{◌≡◌, ◌≢◌, ℕ, zero, suc, ◌<◌, ◌≤◌, inl, inr, List, [], ◌∷◌, ◌++◌, refl, ap, sym, ◌∙◌, subst, None, Some, arith}
 use Rattle.std.specs.List.{slice_get}
 use Rattle.mx_core.specs.declared.elements.Element.{Element}
 use Rattle.mx_core.specs.declared.elements.Event.TheVariants.{Seen}
 use Rattle.mx_core.specs.declared.elements.Kind.TheVariants as kind
 use Rattle.mx_legal.specs.declared.transcripts.Event2.{Event2}
 use Rattle.mx_legal.specs.declared.transcripts.Event2.TheVariants.{Core, Entry}
-use Rattle.mx_legal.specs.Deeds.{Deed, Deeds, Enters, Stores, Loads, Refers}
+use Rattle.mx_legal.specs.Deeds.{Deed, Deeds, Enters, Stores, Loads, Refers, Misses, point_of}
+use Rattle.mx_legal.specs.Points.{IsPoint, ArePoints}
+use Rattle.mx_legal.specs.Reads.{IsRightRead}
 use Rattle.mx_legal.specs.Sightings.{Source, Sights, HasSighted, IsLatest}
+use Rattle.mx_legal.specs.Stores.{HasStored}
 use Rattle.mx_legal.specs.WrongFalls.{gated, call, WrongFalls}
 use Rattle.mx_legal.specs.WrongPoints.{WrongPoints}
 use Rattle.mx_legal.specs.WrongReads.{did, WrongReads}
 
+-- the deeds of a right point
+abbrev before_entry : List Deed
+before_entry = Refers 3 ∷ Enters 4 ∷ []
+
+no_refers : (at number : ℕ) → slice_get before_entry at ≡ Some (Enters number) → number ≡ 4
+no_refers zero number h = absurd cc
+no_refers (suc zero) number h = cc
+no_refers (suc (suc at)) number h = absurd cc
+
+same_point : (q : ℕ) → Some 3 ≡ Some q → q ≡ 3
+same_point q h = cc
+
+right_at : (q : ℕ) → q ≡ 3 → IsPoint 2 5 before_entry 0 q
+right_at q is = record {
+  after_setup = omega arith;
+  after_entries = λ before number l h. absurd (omega arith);
+  after_misses = λ before segno by l h. absurd (omega arith);
+  after_stamps = λ before spot value writer stamp point l h. absurd (omega arith);
+  rising = λ before deed earlier l h e. absurd (omega arith);
+  within = omega arith;
+  before_next = λ number n. let four = no_refers n.at number n.entry in omega arith;
+}
+
+point_at : ArePoints 2 5 before_entry
+point_at zero deed q h e =
+    let same : Refers 3 ≡ deed = cc in
+    right_at q (same_point q (subst (λ (d : Deed). point_of d ≡ Some q) (sym same) e))
+point_at (suc zero) deed q h e =
+    let same : Enters 4 ≡ deed = cc in
+    absurd (nothing (subst (λ (d : Deed). point_of d ≡ Some q) (sym same) e))
+  where
+    nothing : None ≡ Some q → ⊥
+    nothing n = cc
+point_at (suc (suc place)) deed q h e = absurd cc
+
 pub wrong_points : WrongPoints
 wrong_points = record {
+  right_point = point_at;
   before_setup = λ are. let l : 2 ≤ 1 = (are 0 (Refers 1) 1 refl refl).after_setup in omega arith;
   before_own = λ are. let l : 4 ≤ 3 = (are 1 (Refers 3) 3 refl refl).after_entries 0 4
       (omega arith) refl in omega arith;
@@ -89,8 +128,66 @@ not_latest source zero j latest = latest.last 1 3 (source 1 1) (omega arith) (om
 not_latest source (suc zero) j latest = no_other source j latest.sighted.deed latest.sighted.at latest.sighted.sights
 not_latest source (suc (suc h)) j latest = let l = latest.before in omega arith
 
+-- a right read: process 1 reads the store of process 2, which is known
+abbrev known : Deeds
+known = did ((Loads 320 5 2 0 1 ∷ []) ∷ (Stores 320 5 0 ∷ Enters 1 ∷ []) ∷ [])
+
+abbrev first_store : Source
+first_store p i = 0
+
+only_store : (u at : ℕ) (cell : ℕ) (value point : ℕ) → HasStored known u at cell value point → (u ≡ 2) × (at ≡ 0)
+only_store zero at cell value point h = absurd cc
+only_store (suc zero) zero cell value point h = absurd cc
+only_store (suc zero) (suc at) cell value point h = absurd cc
+only_store (suc (suc zero)) zero cell value point h = (refl, refl)
+only_store (suc (suc zero)) (suc zero) cell value point h = absurd cc
+only_store (suc (suc zero)) (suc (suc at)) cell value point h = absurd cc
+only_store (suc (suc (suc u))) at cell value point h = absurd cc
+
+read_so : IsRightRead known first_store 1 0 0 320 5 2 0 1
+read_so = record {
+  nobody = λ e. absurd (omega arith);
+  own = λ n e. absurd (omega arith);
+  another = λ n m. record {
+    such = record {
+      stored = refl;
+      current = λ s. elim s [
+        | inl replaced ↦
+            let l = replaced.after in
+            let is = (only_store 2 replaced.later 320 replaced.value replaced.point replaced.stored).1 in omega arith
+        | inr over ↦ over.another (only_store over.other over.at 320 over.value over.point over.stored).0
+      ];
+    };
+    beyond = record {
+      again = λ h j latest. let l = latest.before in absurd (omega arith);
+      onward = λ none h j l sighted. absurd (omega arith);
+    };
+    first = λ earlier l such beyond. omega arith;
+  };
+}
+
+-- the first deed of process 1, if it is a load
+abbrev IsRightOne : Deed → Type 0
+IsRightOne (Enters number) = ⊥
+IsRightOne (Stores cell value point) = ⊥
+IsRightOne (Loads cell value writer stamp q) = IsRightRead known first_store 1 0 0 cell value writer stamp q
+IsRightOne (Refers point) = ⊥
+IsRightOne (Misses segno by) = ⊥
+
+the_read : (p i : ℕ) (cell value writer stamp q : ℕ) → slice_get (known p) i ≡ Some (Loads cell value writer stamp q)
+    → IsRightRead known first_store p i 0 cell value writer stamp q
+the_read zero i cell value writer stamp q h = absurd cc
+the_read (suc zero) zero cell value writer stamp q h =
+    let same : Loads 320 5 2 0 1 ≡ Loads cell value writer stamp q = cc in subst IsRightOne same read_so
+the_read (suc zero) (suc i) cell value writer stamp q h = absurd cc
+the_read (suc (suc zero)) zero cell value writer stamp q h = absurd cc
+the_read (suc (suc zero)) (suc zero) cell value writer stamp q h = absurd cc
+the_read (suc (suc zero)) (suc (suc i)) cell value writer stamp q h = absurd cc
+the_read (suc (suc (suc p))) i cell value writer stamp q h = absurd cc
+
 pub wrong_reads : WrongReads
 wrong_reads = record {
+  right_read = record { source = first_store; right = the_read };
   store_before = λ are.
       let own = (are.right 1 2 320 5 1 0 0 refl).own (λ e. omega arith) refl in
       own.last 1 6 0 (before_last (are.source 1 2) own.such.stored) (omega arith) refl;
@@ -130,6 +227,17 @@ last_is (first ∷ second ∷ before) e call h = cc
 
 pub wrong_falls : WrongFalls
 wrong_falls = record {
+  right_call = record {
+    before = [];
+    call = call;
+    last = refl;
+    kind = refl;
+    granted = refl;
+    gate = omega arith;
+    above = omega arith;
+    within = omega arith;
+    into = refl;
+  };
   by_return = λ gate.
       let w : kind.Return ≡ kind.Call = ap (λ (e : Element). e.kind) (last_is gate.before _ gate.call gate.last)
       ∙ gate.kind in cc;

@@ -20,6 +20,7 @@ abbrev pub NeverFalls : List Event2 → ℕ → Type 0
 NeverFalls events ring = IsGateCall gated events ring → ⊥
 
 pub record WrongFalls : Type 0 where
+  pub right_call : IsGateCall gated (Core (Seen call) ∷ []) 4
   -- by a return
   pub by_return : NeverFalls (Core (Seen (record call { kind = kind.Return })) ∷ []) 4
   -- at a word that is no gate

@@ -1,4 +1,4 @@
--- Wrong lines, each one change away from a right one: the line rule refuses them.
+-- Wrong lines, each one change away from the right ones beside them: the line rule refuses them.
 use Rattle.std.specs.Prelude.{ℕ, true, false, List, [], ◌∷◌}
 use Rattle.mx_sdw.specs.Descriptors.{segment_desc}
 use Rattle.mx_sdw.specs.declared.denials.Denial.TheVariants as denial
@@ -67,6 +67,9 @@ outside = record read { word = 64; outcome = outcome.Denied denial.OutOfBounds }
 -- reference; a second reference; a read printed for a store; another ring; a grant where the rule denies; a denial
 -- with another name
 pub record WrongReferences : Type 0 where
+  pub right_load : IsLine setting g (lda 0) (Core (Seen read) ∷ []) (result.A 5) (record g { a = 5 })
+  pub right_store : IsLine setting g sta (Core (Seen written) ∷ []) result.Done g
+  pub right_denial : IsLine setting g (lda 64) (Core (Seen outside) ∷ []) (result.Denied denial.OutOfBounds) g
   pub other_value : Never sta (Core (Seen (record written { outcome = outcome.Written 1 })) ∷ []) result.Done
   pub other_result : Never (lda 0) (Core (Seen read) ∷ []) (result.A 6)
   pub none : Never (lda 0) [] result.Done
@@ -80,6 +83,7 @@ pub record WrongReferences : Type 0 where
 -- calls: another request's entry; another process's; one from another ring; a refusal printed as done; a full journal
 -- below its limit
 pub record WrongCalls : Type 0 where
+  pub right_call : IsLine setting g (line.Ask Logout) (Entry 1 ∷ []) result.Done g
   pub other_request : (path : List ℕ) → Never (line.Ask (Initiate path)) (Entry 1 ∷ []) result.Done
   pub others_entry : Never (line.Ask Logout) (Entry 2 ∷ []) result.Done
   pub other_ring : Never (line.Ask Logout) (Entry 3 ∷ []) result.Done

@@ -8,6 +8,8 @@ abbrev pub NeverPoints : List Deed → Type 0
 NeverPoints done = ArePoints 2 5 done → ⊥
 
 pub record WrongPoints : Type 0 where
+  -- right: as many entries as there were, and the process makes the next one
+  pub right_point : ArePoints 2 5 (Refers 3 ∷ Enters 4 ∷ [])
   -- before the last entry of the setup
   pub before_setup : NeverPoints (Refers 1 ∷ [])
   -- before the entry that the process made before

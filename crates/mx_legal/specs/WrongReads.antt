@@ -14,6 +14,8 @@ abbrev pub NeverReads : List (List Deed) → Type 0
 NeverReads lists = AreRightReads (did lists) → ⊥
 
 pub record WrongReads : Type 0 where
+  -- right: another process's store, which is known
+  pub right_read : AreRightReads (did ((Loads 320 5 2 0 1 ∷ []) ∷ (Stores 320 5 0 ∷ Enters 1 ∷ []) ∷ []))
   -- the process's own store before its last
   pub store_before : NeverReads ((Stores 320 5 0 ∷ Stores 320 6 0 ∷ Loads 320 5 1 0 0 ∷ []) ∷ [])
   -- nobody's word after an own store

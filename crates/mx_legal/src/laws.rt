@@ -63,7 +63,8 @@ pub fn setup_lines_law()
     ensures { SetupLinesLaw }
 {}
 
-/// Wrong runs, each one change away from a right one, are refused: at least three by each rule.
+/// Wrong runs, each one change away from a right one that stands beside them, are refused: at least three by each
+/// rule.
 pub fn wrong_runs_are_refused()
     ensures references { WrongReferences }
     ensures calls { WrongCalls }
