@@ -15,6 +15,7 @@ use Rattle.mx_ties.specs.Closed.{IsClosed, followed, traces}
 use Rattle.mx_ties.specs.Fronts.{front_after}
 use Rattle.mx_ties.specs.Views.{Referred, Marked, View, known_kept}
 
+-- what is true of the bench: the journal, the passes and the cells under its lock
 pub record IsBench (x : Outline) (setup : List journaled.Entry) (history : List Marked) (views : ℕ → View)
     (present : CellUse → Bool) (memory : CellUse → Held) : Type 0 where
   pub closed : IsClosed x setup history views

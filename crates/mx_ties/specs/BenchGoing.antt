@@ -21,7 +21,7 @@ use Rattle.mx_ties.specs.Closed.{followed}
 use Rattle.mx_ties.specs.SoFar.{HasRunSoFar}
 use Rattle.mx_ties.specs.Views.{Marked, View}
 
--- a part on the bench
+-- a part on the bench, where what a process was told bounds nothing
 abbrev pub IsBenched : Outline → List journaled.Entry → ℕ → List Step → ℕ → Line → List (ℕ × Line) → Registers
     → List Event2
     → Course → View → Type 0

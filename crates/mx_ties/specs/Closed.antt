@@ -1,4 +1,5 @@
--- What the office tells when it is closed, of the journal and of the passes that it took back.
+-- What the office, which keeps the journal for all processes, tells when it is closed: of the journal, and of the
+-- passes that it took back.
 use Rattle.std.specs.Prelude.{◌≡◌, ℕ, ◌<◌, ◌≤◌, List, [], ◌++◌, map, take, length, Some, slice_get}
 use Rattle.mx_state.specs.History.{opening, IsRight}
 use Rattle.mx_state.specs.declared.journal.Entry as journaled
@@ -39,6 +40,7 @@ pub record IsRetired (x : Outline) (setup : List journaled.Entry) (history : Lis
   pub misses : (i segno by : ℕ) → slice_get v.trace i ≡ Some (Missed segno by)
       → (by ≤ length (followed setup history)) × IsChanged x (followed setup history) p segno by
 
+-- what is told of all
 pub record IsClosed (x : Outline) (setup : List journaled.Entry) (history : List Marked)
     (views : ℕ → View) : Type 0 where
   -- the journal is within its limit, one history of the plain supervisor, and begins with the setup

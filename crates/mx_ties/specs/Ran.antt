@@ -38,6 +38,7 @@ pub record AreMisses (x : Outline) (journal : List journaled.Entry) (p : ℕ) (d
   pub others : (place segno by other : ℕ) → slice_get done place ≡ Some (Misses segno by)
       → slice_get done other ≡ Some (Enters by) → IsChanged x journal p segno by → ⊥
 
+-- what is true of a process that has run
 pub record HasRun (x : Outline) (setup : List journaled.Entry) (p : ℕ) (steps : List Step) (v : View) : Type 0 where
   -- its lines keep the line rule over the history that it was told of, for all descriptors that agree with its trace;
   -- where it found the journal full, its floor is at the limit

@@ -56,6 +56,7 @@ PromisesPart x front floor trace p steps number line left now events course = (d
     → IsPartSoFar (own_setting x front floor p d) (opening_registers p)
     (lines_of x p) steps number line left now events course
 
+-- what is true of a process at work
 pub record HasRunSoFar (x : Outline) (setup : List journaled.Entry) (p : ℕ) (steps : List Step) (number : ℕ)
     (line : Line) (left : List (ℕ × Line)) (now : Registers) (events : List Event2) (course : Course) (v : View)
     (told : ℕ → ℕ) : Type 0 where

@@ -1,4 +1,4 @@
--- What the seats of a finished run show.
+-- What is kept of a process, in its pass: a trace of its references and misses, and the entries that it was told of.
 use Rattle.std.specs.Prelude.{ℕ, zero, suc, List, [], ◌∷◌}
 use Rattle.mx_state.specs.declared.journal.Entry as journaled
 use Rattle.mx_reads.specs.Deeds as known
@@ -40,8 +40,8 @@ pub record Marked : Type 0 where
   pub entry : journaled.Entry
   pub mark : ℕ
 
--- a pass: its trace, the history after the setup that it was told of, its floor, and how many own entries its share
--- counts
+-- a pass: its trace, the history after the setup that it was told of, its floor (no later point is below it), and how
+-- many own entries it counts
 pub record View : Type 0 where
   pub trace : List Kept
   pub history : List Marked

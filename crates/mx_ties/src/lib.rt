@@ -1,4 +1,6 @@
-//! From what processes and their office tell at the end of a run to the run's legality.
+//! From what processes and their office tell at the end of a run to the run's legality. The office is whoever keeps
+//! the journal for all processes; each has a pass, with the trace of its references and the entries that it was told
+//! of.
 //!
 //! `Finished` is the one law that ties them: where the office is closed (`Closed`), the setup's part is right and
 //! each process has run (`Ran`), the journal and the transcripts are a legal run. It speaks of no step, no lock and
