@@ -1,7 +1,7 @@
 pub mod Fields
+pub mod Classes
 pub mod RequestTexts
 pub mod ReplyTexts
-pub mod Classes
 pub mod Kinds
 pub mod Steps
 pub mod Reading

@@ -6,9 +6,9 @@ pub mod Requests
 pub mod Table
 pub mod Changes
 pub mod History
+pub mod Serving
 pub mod Laws
 pub mod Sound
-pub mod Serving
 pub mod Calling
 pub mod Replies
 pub mod Renewing
