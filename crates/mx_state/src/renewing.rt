@@ -54,7 +54,8 @@ pub(crate) fn renewed(
     let mut changes = room;
     for change in held {
         let desc = descriptor(hier, processes, change.process, change.segno);
-        if !change.desc.is_same(&desc) {
+        let same = change.desc.is_same(&desc);
+        if !same {
             changes.push_reserved(Change {
                 process: change.process,
                 segno: change.segno,
