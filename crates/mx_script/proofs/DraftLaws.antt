@@ -5,16 +5,16 @@ use Rattle.std.proofs.lemmas.List.{map-append}
 use Rattle.std.proofs.lemmas.List.Folds.{list_all-append}
 use Rattle.std.specs.List.{list_all}
 use Rattle.mx_name.specs.Principals.{PlainPrincipal}
-use Rattle.mx_request.proofs.CutLaws.{both, both_hold, fails, some_is, when_some}
-use Rattle.mx_request.specs.Cuts.{◌>>=◌}
-use Rattle.mx_request.specs.PathRequests.{is_path_request}
+use Rattle.mx_request.proofs.StepLaws.{both, both_hold, fails, some_is, when_some}
+use Rattle.mx_request.specs.Steps.{◌>>=◌}
+use Rattle.mx_request.specs.Classes.{class_of}
 use Rattle.mx_request.specs.RequestTexts.{fits_request, is_pathname, are_brackets}
 use Rattle.mx_request.specs.declared.requests.Request.{Request}
-use Rattle.mx_request.specs.declared.requests.Request.TheVariants.{CreateSeg, Logout}
+use Rattle.mx_request.specs.declared.requests.Request.TheVariants.{CreateDir, CreateSeg, CreateLink, Rename, Delete, SetAcl, DelAcl, SetBrackets, SetDirBrackets, Status, List as ListNames, ChangeWdir, Initiate, Logout}
 use Rattle.mx_script.specs.Drafts.{setup_step, script_step, step, one_process}
 use Rattle.mx_script.specs.FirstBadLine.{BeginsText}
 use Rattle.mx_script.specs.Progress.{rows_so_far, texts_so_far, goes_before, is_sound, run}
-use Rattle.mx_script.specs.Sessions.{Outline, outline, is_session, is_short, is_setup_request, is_script_line, is_logout, is_last, ends, is_script}
+use Rattle.mx_script.specs.Sessions.{Outline, outline, is_session, is_short, is_for_setup, is_setup_request, is_for_script, is_script_line, is_logout, is_last, ends, is_script}
 use Rattle.mx_script.specs.SessionTexts.{rows_of, row_text, asked, fits, fits_line}
 use Rattle.mx_script.specs.declared.lines.Line.{Line}
 use Rattle.mx_script.specs.declared.lines.Line.TheVariants.{Ask, Set, Lda, Sta}
@@ -30,10 +30,38 @@ none_is_some a e = cc
 short_request : (request : Request) → fits_request request ≡ true → is_short request ≡ true
 short_request (CreateSeg path words brackets) e =
     (both (nat_le words 99999) (are_brackets brackets) (both (is_pathname path) (nat_le words 99999 && are_brackets brackets) e).1).0
-short_request _ e = refl
+short_request (CreateDir path d1 d2) e = refl
+short_request (CreateLink path target) e = refl
+short_request (Rename path name) e = refl
+short_request (Delete path) e = refl
+short_request (SetAcl path id modes) e = refl
+short_request (DelAcl path id) e = refl
+short_request (SetBrackets path brackets) e = refl
+short_request (SetDirBrackets path d1 d2) e = refl
+short_request (Status path) e = refl
+short_request (ListNames path) e = refl
+short_request (ChangeWdir path) e = refl
+short_request (Initiate path) e = refl
+short_request Logout e = refl
+
+script_request : (request : Request) → is_for_script (class_of request) ≡ true
+script_request (CreateDir path d1 d2) = refl
+script_request (CreateSeg path words brackets) = refl
+script_request (CreateLink path target) = refl
+script_request (Rename path name) = refl
+script_request (Delete path) = refl
+script_request (SetAcl path id modes) = refl
+script_request (DelAcl path id) = refl
+script_request (SetBrackets path brackets) = refl
+script_request (SetDirBrackets path d1 d2) = refl
+script_request (Status path) = refl
+script_request (ListNames path) = refl
+script_request (ChangeWdir path) = refl
+script_request (Initiate path) = refl
+script_request Logout = refl
 
 script_line : (line : Line) → fits_line line ≡ true → is_script_line line ≡ true
-script_line (Ask request) e = short_request request e
+script_line (Ask request) e = both_hold _ _ (script_request request) (short_request request e)
 script_line (Set word) e = refl
 script_line (Lda operand) e = e
 script_line (Sta operand) e = e
@@ -71,7 +99,7 @@ longer front principal script line = rw (map-append, append_assoc) refl
 setup_adds : (setup : List Request) (line : Line) (after : Draft) → list_all is_setup_request setup ≡ true → fits_line line ≡ true
     → setup_step setup line ≡ Some after → Adds (Headed setup) (row.Line line) after
 setup_adds setup (Ask request) after s f e =
-    let found = when_some (is_path_request request) (Headed (setup ++ request ∷ [])) after e in
+    let found = when_some (is_for_setup (class_of request)) (Headed (setup ++ request ∷ [])) after e in
     subst (Adds (Headed setup) (asked request)) found.1
     (record {
       rows = ap (λ rows. row.Header ∷ rows) (map-append asked setup (request ∷ []));
@@ -138,7 +166,7 @@ run_setup : (done setup : List Request) (rest : List Row) → list_all is_setup_
 run_setup done [] rest e = ap (λ s. run rest (Headed s)) (sym (append-nil done))
 run_setup done (request ∷ setup) rest e =
     let f = both (is_setup_request request) (list_all is_setup_request setup) e in
-    let g = both (is_path_request request) (is_short request) f.0 in
+    let g = both (is_for_setup (class_of request)) (is_short request) f.0 in
     let once : run (map asked (request ∷ setup) ++ rest) (Headed done) ≡ run (map asked setup ++ rest) (Headed (done ++ request ∷ []))
     = rw g.0 refl in
     once ∙ run_setup (done ++ request ∷ []) setup rest f.1 ∙ ap (λ s. run rest (Headed s)) (append_assoc done (request ∷ []) setup)

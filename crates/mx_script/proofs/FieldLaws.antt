@@ -6,8 +6,9 @@ use Rattle.mx_name.proofs.TextLaws.{all_free}
 use Rattle.mx_name.specs.Names.{is_free}
 use Rattle.mx_sdw.proofs.OctalLaws.{octal_number_takes, octal_number_fits, octal_number_below, octal_has_digits}
 use Rattle.mx_sdw.specs.Octal.{is_octal_digit, octal, octal_number}
-use Rattle.mx_request.proofs.CutLaws.{both, both_hold, bind_some, when_some, cut_takes, cut_again}
-use Rattle.mx_request.specs.Cuts.{cut_at}
+use Rattle.mx_name.proofs.CutLaws.{cut_takes, cut_again}
+use Rattle.mx_request.proofs.StepLaws.{both, both_hold, bind_some, when_some}
+use Rattle.mx_name.specs.Cuts.{cut_at}
 use Rattle.mx_script.specs.Fields.{segment_word, operand_at, word_at}
 use Rattle.mx_script.specs.Sessions.{is_address}
 use Rattle.mx_script.specs.SessionTexts.{operand_text}

@@ -3,3 +3,5 @@ pub mod FieldLaws
 pub mod RowLaws
 pub mod DraftLaws
 pub mod ReadingLaws
+pub mod TextLaws
+pub mod SessionLaws

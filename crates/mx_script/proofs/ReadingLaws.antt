@@ -5,8 +5,9 @@ use Rattle.std.proofs.lemmas.List.Folds.{list_all-append}
 use Rattle.std.specs.List.{list_all}
 use Rattle.mx_name.specs.Names.{is_free}
 use Rattle.mx_name.specs.Principals.{PlainPrincipal}
-use Rattle.mx_request.proofs.CutLaws.{both, both_hold, some_is, cut_takes, cut_again}
-use Rattle.mx_request.specs.Cuts.{cut_at}
+use Rattle.mx_name.proofs.CutLaws.{cut_takes, cut_again}
+use Rattle.mx_request.proofs.StepLaws.{both, both_hold, some_is}
+use Rattle.mx_name.specs.Cuts.{cut_at}
 use Rattle.mx_request.specs.declared.requests.Request.{Request}
 use Rattle.mx_script.proofs.DraftLaws.{none_is_some, session_is_one, rows_ended, run_session, run_on, step_adds, goes_on}
 use Rattle.mx_script.proofs.RowLaws.{row_free}
@@ -30,7 +31,7 @@ fewer_lines : (xs : List (List ℕ)) → length xs ≤ length (lines_text xs)
 fewer_lines [] = omega arith
 fewer_lines (x ∷ xs) = omega (arith, fewer_lines xs, length-append x (10 ∷ lines_text xs))
 
-rows_free : (rows : List Row) → list_all fits rows ≡ true → list_all (is_free 10) (map row_text rows) ≡ true
+pub rows_free : (rows : List Row) → list_all fits rows ≡ true → list_all (is_free 10) (map row_text rows) ≡ true
 rows_free [] e = refl
 rows_free (r ∷ rows) e = let f = both (fits r) (list_all fits rows) e in both_hold _ _ (row_free r f.0) (rows_free rows f.1)
 
@@ -46,7 +47,7 @@ not_empty [] t rest e = cc
 not_empty (c ∷ x) t rest e = cc
 
 -- a text of whole lines that begins with others has those lines first
-lines_front : (xs ys : List (List ℕ)) (rest : List ℕ) → list_all (is_free 10) xs ≡ true → list_all (is_free 10) ys ≡ true
+pub lines_front : (xs ys : List (List ℕ)) (rest : List ℕ) → list_all (is_free 10) xs ≡ true → list_all (is_free 10) ys ≡ true
     → lines_text xs ≡ lines_text ys ++ rest → (more : List (List ℕ)) × (xs ≡ ys ++ more) × (lines_text more ≡ rest)
 lines_front xs [] rest a b e = (xs, refl, e)
 lines_front [] (y ∷ ys) rest a b e = absurd (not_empty y (lines_text ys) rest (sym e))
@@ -68,7 +69,7 @@ record IsSplit (rows : List Row) (front back : List (List ℕ)) : Type 0 where
   pub fronts : map row_text first ≡ front
   pub backs : map row_text second ≡ back
 
-parts_of : (x y : List ℕ) (xs ys : List (List ℕ)) → x ∷ xs ≡ y ∷ ys → (x ≡ y) × (xs ≡ ys)
+pub parts_of : (x y : List ℕ) (xs ys : List (List ℕ)) → x ∷ xs ≡ y ∷ ys → (x ≡ y) × (xs ≡ ys)
 parts_of x y xs ys e = (cc, cc)
 
 split : (rows : List Row) (front back : List (List ℕ)) → map row_text rows ≡ front ++ back → IsSplit rows front back
@@ -108,12 +109,12 @@ continues draft rows back alone fit e =
     }
 
 -- the rows of a session lead to it
-record IsWhole (x : Outline) : Type 0 where
+pub record IsWhole (x : Outline) : Type 0 where
   pub last : Draft
   pub runs : run (rows_of x) Empty ≡ Some last
   pub done : finished last [] ≡ Some x
 
-whole_of : (x : Outline) → is_session x ≡ true → IsWhole x
+pub whole_of : (x : Outline) → is_session x ≡ true → IsWhole x
 whole_of x e =
     let one = session_is_one x e in
     let is : is_session (one_process one.setup one.principal one.script) ≡ true = sym (ap is_session one.same) ∙ e in

@@ -6,13 +6,13 @@ use Rattle.mx_name.specs.Names.{is_free}
 use Rattle.mx_name.specs.Principals.{components_fault, principal_of, principal_text}
 use Rattle.mx_request.specs.declared.requests.Request.{Request}
 use Rattle.mx_request.specs.declared.requests.Request.TheVariants.{CreateDir, CreateSeg, CreateLink, Rename, Delete, SetAcl, DelAcl, SetBrackets, SetDirBrackets, Status, List as ListNames, ChangeWdir, Initiate, Logout}
-use Rattle.mx_request.proofs.CutLaws.{some_is, bind_some, same_bytes}
+use Rattle.mx_request.proofs.StepLaws.{some_is, bind_some, same_bytes}
 use Rattle.mx_request.proofs.TakenLaws.{no_fault, faultless}
 use Rattle.mx_script.proofs.FrontLaws.{after_takes}
 use Rattle.mx_script.proofs.FieldLaws.{operand_takes, operand_again, operand_free, word_takes, word_again, word_free}
 use Rattle.mx_request.proofs.AgainLaws.{one_request}
 use Rattle.mx_request.proofs.ForeignLaws.{newline_free}
-use Rattle.mx_request.specs.Cuts.{◌>>=◌}
+use Rattle.mx_request.specs.Steps.{◌>>=◌}
 use Rattle.mx_script.specs.Fronts.{after}
 use Rattle.mx_script.specs.Fields.{operand_at, word_at}
 use Rattle.mx_script.specs.Reading.{IsRow, read_or, set_at, lda_at, sta_at, memory_at, memory_row, plain_at, principal_row, process_at}
@@ -162,7 +162,7 @@ process_request (ChangeWdir path) = refl
 process_request (Initiate path) = refl
 process_request Logout = refl
 
-plain_again : (r : Row) → fits r ≡ true → plain_at (row_text r) ≡ plain_part r
+pub plain_again : (r : Row) → fits r ≡ true → plain_at (row_text r) ≡ plain_part r
 unfolding plain_at memory_at after
 plain_again row.Header e = refl
 plain_again row.End e = refl
@@ -176,7 +176,7 @@ process_front : (rest : List ℕ) → process_at (codes "process " ++ rest) ≡ 
 unfolding process_at after
 process_front rest = refl
 
-process_again : (r : Row) → fits r ≡ true → process_at (row_text r) ≡ process_part r
+pub process_again : (r : Row) → fits r ≡ true → process_at (row_text r) ≡ process_part r
 unfolding process_at after
 process_again row.Header e = refl
 process_again row.End e = refl

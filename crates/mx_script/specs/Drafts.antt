@@ -2,10 +2,10 @@
 use Rattle.std.specs.Prelude.{◌≡◌, ℕ, ◌<◌, ◌-◌, ◌^◌, List, [], ◌∷◌, ◌++◌, Option, None, Some, if◌then◌else◌}
 use Rattle.mx_name.specs.Principals.{PlainPrincipal}
 use Rattle.mx_request.specs.declared.requests.Request.{Request}
-use Rattle.mx_request.specs.PathRequests.{is_path_request}
-use Rattle.mx_request.specs.Cuts.{when}
+use Rattle.mx_request.specs.Classes.{class_of}
+use Rattle.mx_request.specs.Steps.{when}
 use Rattle.mx_script.specs.Reading.{IsRow}
-use Rattle.mx_script.specs.Sessions.{Outline, outline, session_of, line_count, is_logout}
+use Rattle.mx_script.specs.Sessions.{Outline, outline, session_of, line_count, is_for_setup, is_logout}
 use Rattle.mx_script.specs.declared.lines.Line.{Line}
 use Rattle.mx_script.specs.declared.lines.Line.TheVariants.{Ask}
 use Rattle.mx_script.specs.declared.reading.drafts.Draft.{Draft}
@@ -15,7 +15,7 @@ use Rattle.mx_script.specs.declared.rows.Row.TheVariants as row
 
 -- a setup goes on with a path request
 abbrev pub setup_step : List Request → Line → Option Draft
-setup_step setup (Ask request) = when (is_path_request request) (Headed (setup ++ request ∷ []))
+setup_step setup (Ask request) = when (is_for_setup (class_of request)) (Headed (setup ++ request ∷ []))
 setup_step setup _ = None
 
 -- a script goes on with any line, up to its logout

@@ -4,7 +4,8 @@ use Rattle.mx_sdw.specs.Octal.{octal_number}
 use Rattle.mx_sdw.specs.Words.{word_of}
 use Rattle.mx_script.specs.declared.lines.Base.TheVariants.{Segment}
 use Rattle.mx_script.specs.declared.lines.Operand.{Operand}
-use Rattle.mx_request.specs.Cuts.{◌>>=◌, when, cut_at}
+use Rattle.mx_name.specs.Cuts.{cut_at}
+use Rattle.mx_request.specs.Steps.{◌>>=◌, when}
 
 abbrev pub segment_word : ℕ → ℕ → Operand
 segment_word segno word = record { base = Segment segno; word = word }

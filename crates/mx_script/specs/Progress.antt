@@ -1,7 +1,7 @@
 -- Helpers that only private contracts cite: how far a text was read.
 use Rattle.std.specs.Prelude.{◌≡◌, ℕ, ◌+◌, Bool, true, ◌&&◌, not, List, [], ◌∷◌, ◌++◌, length, map, Option, Some}
 use Rattle.std.specs.List.{list_all}
-use Rattle.mx_request.specs.Cuts.{◌>>=◌}
+use Rattle.mx_request.specs.Steps.{◌>>=◌}
 use Rattle.mx_script.specs.Drafts.{step}
 use Rattle.mx_script.specs.Sessions.{is_setup_request, is_script_line, is_logout, is_script}
 use Rattle.mx_script.specs.SessionTexts.{row_text, asked, fits, lines_text}

@@ -2,7 +2,7 @@
 use Rattle.std.specs.Prelude.{◌≡◌, ℕ, ◌==◌, true, List, Option, None, Some, codes, if◌then◌else◌}
 use Rattle.std.specs.Cmp.Lexicographic.{pointwise}
 use Rattle.mx_name.specs.Principals.{principal_of}
-use Rattle.mx_request.specs.Cuts.{◌>>=◌}
+use Rattle.mx_request.specs.Steps.{◌>>=◌}
 use Rattle.mx_script.specs.Fronts.{after}
 use Rattle.mx_script.specs.Fields.{operand_at, word_at}
 use Rattle.mx_script.specs.SessionTexts.{row_text, fits}

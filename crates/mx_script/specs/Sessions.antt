@@ -1,11 +1,13 @@
 -- What a session consists of: its version, the journal's limit where it sets one, the setup's requests, and for each
 -- process its principal and its script; and which of these are the parts of a session.
-use Rattle.std.specs.Prelude.{◌≡◌, ◌-◌, ◌<◌, ℕ, ◌+◌, ◌==◌, ◌^◌, nat_le, Bool, true, false, ◌&&◌, if◌then◌else◌, List, [], ◌∷◌, length, Option, Some, None, is_none}
+use Rattle.std.specs.Prelude.{◌≡◌, ◌-◌, ◌<◌, ◌≤◌, ℕ, ◌+◌, ◌==◌, ◌^◌, nat_le, Bool, true, false, ◌&&◌, if◌then◌else◌, List, [], ◌∷◌, length, Option, Some, None, is_none}
 use Rattle.std.specs.List.{list_all, sum_by}
 use Rattle.mx_name.specs.Principals.{PlainPrincipal}
 use Rattle.mx_request.specs.declared.requests.Request.{Request}
-use Rattle.mx_request.specs.declared.requests.Request.TheVariants.{CreateSeg, Logout}
-use Rattle.mx_request.specs.PathRequests.{is_path_request}
+use Rattle.mx_request.specs.declared.requests.Request.TheVariants.{CreateDir, CreateSeg, CreateLink, Rename, Delete, SetAcl, DelAcl, SetBrackets, SetDirBrackets, Status, List as ListNames, ChangeWdir, Initiate, Logout}
+use Rattle.mx_request.specs.Classes.{class_of}
+use Rattle.mx_request.specs.declared.classes.RequestClass.{RequestClass}
+use Rattle.mx_request.specs.declared.classes.RequestClass.TheVariants.{OfPath, OfProcess, OfSupervisor}
 use Rattle.mx_script.specs.declared.lines.Base.{Base}
 use Rattle.mx_script.specs.declared.lines.Base.TheVariants.{Segment}
 use Rattle.mx_script.specs.declared.lines.Line.{Line}
@@ -30,12 +32,36 @@ outline version history setup principals scripts = record {
 
 -- WORDS has at most five digits; the types bound all other parts of a request
 abbrev pub is_short : Request → Bool
+is_short (CreateDir path d1 d2) = true
 is_short (CreateSeg path words brackets) = nat_le words 99999
-is_short _ = true
+is_short (CreateLink path target) = true
+is_short (Rename path name) = true
+is_short (Delete path) = true
+is_short (SetAcl path id modes) = true
+is_short (DelAcl path id) = true
+is_short (SetBrackets path brackets) = true
+is_short (SetDirBrackets path d1 d2) = true
+is_short (Status path) = true
+is_short (ListNames path) = true
+is_short (ChangeWdir path) = true
+is_short (Initiate path) = true
+is_short Logout = true
+
+-- the setup makes requests on paths
+abbrev pub is_for_setup : RequestClass → Bool
+is_for_setup OfPath = true
+is_for_setup OfProcess = false
+is_for_setup OfSupervisor = false
 
 -- what the setup may ask
 abbrev pub is_setup_request : Request → Bool
-is_setup_request request = is_path_request request && is_short request
+is_setup_request request = is_for_setup (class_of request) && is_short request
+
+-- a script asks for everything but what the supervisor enters for a process
+abbrev pub is_for_script : RequestClass → Bool
+is_for_script OfPath = true
+is_for_script OfProcess = true
+is_for_script OfSupervisor = false
 
 -- a segment number has at most four octal digits
 abbrev pub is_segno : Base → Bool
@@ -47,7 +73,7 @@ is_address operand = is_segno operand.base && nat_le operand.word 16383
 
 -- what a script may say
 abbrev pub is_script_line : Line → Bool
-is_script_line (Ask request) = is_short request
+is_script_line (Ask request) = is_for_script (class_of request) && is_short request
 is_script_line (Set word) = true
 is_script_line (Lda operand) = is_address operand
 is_script_line (Sta operand) = is_address operand
@@ -83,6 +109,24 @@ is_session x =
 abbrev pub session_of : Outline → Option Outline
 session_of x = if is_session x then Some x else None
 
+-- 1 to 15 processes, and as many scripts
+abbrev pub is_count : ℕ → ℕ → Bool
+is_count processes scripts = nat_le 1 processes && (nat_le processes 15 && (scripts == processes))
+
+-- each process has its script
+abbrev pub are_processes : List PlainPrincipal → List (List Line) → Bool
+are_processes principals scripts = is_count (length principals) (length scripts) && list_all is_script scripts
+
+-- a limit of the journal that a session may set
+abbrev pub is_limit : Option ℕ → Bool
+is_limit None = true
+is_limit (Some limit) = nat_le limit 262143
+
+-- the session of these parts, of several processes
+abbrev pub session_of_processes : Outline → Option Outline
+session_of_processes x =
+    if is_limit x.history && (list_all is_setup_request x.setup && are_processes x.principals x.scripts) then Some x else None
+
 -- the lines of its text: header, setup, for each process its `process` line and its script, and `end`
 abbrev pub line_count : Outline → ℕ
 line_count x = 2 + length x.setup + length x.principals + sum_by length x.scripts
@@ -95,7 +139,13 @@ limit_or_most (Some limit) = limit
 abbrev pub limit_of : Outline → ℕ
 limit_of x = limit_or_most x.history
 
--- what is true of every session: it has these parts, and its lines have numbers of 32 bits
+-- What whoever runs a session rests on: a setup of requests on paths, 1 to 15 processes, for each its script, and line
+-- numbers of 32 bits. A session text has one process so far.
 pub record IsSession (x : Outline) : Type 0 where
-  pub parts : is_session x ≡ true
+  pub setup : list_all is_setup_request x.setup ≡ true
+  pub some : 1 ≤ length x.principals
+  pub most : length x.principals ≤ 15
+  pub scripts : length x.scripts ≡ length x.principals
+  pub each : list_all is_script x.scripts ≡ true
+  pub limit : limit_of x ≤ 262143
   pub lines : line_count x < 2 ^ 32 - 1

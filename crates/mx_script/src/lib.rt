@@ -6,13 +6,15 @@
 //! begin the text of some session. Stands on `mx_request` for the requests and their lines.
 #![tactic(auto)]
 
+mod laws;
 mod lines;
 mod outlines;
 mod reading;
 mod rows;
 mod sessions;
 
-pub use lines::{Base, Line, Operand, Script, Scripts};
+pub use laws::each_text_is_of_one_session;
+pub use lines::{Base, BoxedRequest, Line, Operand, Script, Scripts};
 pub use reading::{SessionError, read_session};
 pub use rows::Row;
 pub use sessions::{Principals, Session};

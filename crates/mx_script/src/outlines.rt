@@ -2,11 +2,11 @@
 
 ghost use Rattle.std.specs.Prelude.{◌≡◌, ◌&&◌};
 ghost use Rattle.std.specs.List.{list_all};
-ghost use Rattle.mx_script.specs.Sessions.{is_short, is_setup_request, are_scripts, is_script, is_script_line, ends, is_logout, is_address};
+ghost use Rattle.mx_script.specs.Sessions.{is_short, is_for_setup, is_for_script, is_setup_request, are_scripts, are_processes, is_count, is_limit, is_script, is_script_line, ends, is_logout, is_address};
 
 use crate::lines::{Base, Line, Operand, Script};
 use mx_name::Principal;
-use mx_request::Request;
+use mx_request::{Request, RequestClass};
 
 /// Whether a setup may ask all this.
 pub(crate) fn is_setup(setup: &[Request]) -> bool
@@ -15,8 +15,26 @@ pub(crate) fn is_setup(setup: &[Request]) -> bool
     setup.iter().all(
         |request: &Request| -> bool
             ensures { result ≡ is_setup_request request.now }
-        { request.is_path_request() && is_short(request) },
+        { is_for_setup(request.class()) && is_short(request) },
     )
+}
+
+pub(crate) fn is_for_setup(class: RequestClass) -> bool
+    ensures { result ≡ is_for_setup class }
+{
+    match class {
+        RequestClass::OfPath => true,
+        RequestClass::OfProcess | RequestClass::OfSupervisor => false,
+    }
+}
+
+fn is_for_script(class: RequestClass) -> bool
+    ensures { result ≡ is_for_script class }
+{
+    match class {
+        RequestClass::OfPath | RequestClass::OfProcess => true,
+        RequestClass::OfSupervisor => false,
+    }
 }
 
 // WORDS has at most five digits.
@@ -25,7 +43,19 @@ fn is_short(request: &Request) -> bool
 {
     match request {
         Request::CreateSeg { words, .. } => *words <= 99_999,
-        _ => true,
+        Request::CreateDir { .. }
+        | Request::CreateLink { .. }
+        | Request::Rename { .. }
+        | Request::Delete { .. }
+        | Request::SetAcl { .. }
+        | Request::DelAcl { .. }
+        | Request::SetBrackets { .. }
+        | Request::SetDirBrackets { .. }
+        | Request::Status { .. }
+        | Request::List { .. }
+        | Request::ChangeWdir { .. }
+        | Request::Initiate { .. }
+        | Request::Logout => true,
     }
 }
 
@@ -36,6 +66,39 @@ pub(crate) fn are_scripts(principals: &[Principal], scripts: &[Script]) -> bool
     match (principals, scripts) {
         ([_], [script]) => is_script(script.items()),
         _ => false,
+    }
+}
+
+/// Whether these are 1 to 15 processes, with a script each.
+pub(crate) fn are_processes(principals: &[Principal], scripts: &[Script]) -> bool
+    ensures { result ≡ are_processes principals.now scripts.now }
+{
+    is_count(principals.len(), scripts.len()) && are_all_scripts(scripts)
+}
+
+fn is_count(processes: usize, scripts: usize) -> bool
+    ensures { result ≡ is_count processes scripts }
+{
+    1 <= processes && processes <= 15 && scripts == processes
+}
+
+fn are_all_scripts(scripts: &[Script]) -> bool
+    ensures { result ≡ list_all is_script scripts.now }
+{
+    scripts.iter().all(
+        |script: &Script| -> bool
+            ensures { result ≡ is_script script.now }
+        { is_script(script.items()) },
+    )
+}
+
+/// Whether a session may set the journal this limit.
+pub(crate) fn is_limit(history: Option<u32>) -> bool
+    ensures { result ≡ is_limit history }
+{
+    match history {
+        None => true,
+        Some(limit) => limit <= 262_143,
     }
 }
 
@@ -74,7 +137,10 @@ fn is_script_line(line: &Line) -> bool
     ensures { result ≡ is_script_line line.now }
 {
     match line {
-        Line::Ask(request) => is_short(request),
+        Line::Ask(boxed) => {
+            let request = boxed.request();
+            is_for_script(request.class()) && is_short(request)
+        }
         Line::Set { .. } => true,
         Line::Lda { operand } => is_address(operand),
         Line::Sta { operand } => is_address(operand),
@@ -84,7 +150,10 @@ fn is_script_line(line: &Line) -> bool
 pub(crate) fn is_logout(line: &Line) -> bool
     ensures { result ≡ is_logout line.now }
 {
-    matches!(line, Line::Ask(Request::Logout))
+    match line {
+        Line::Ask(request) => matches!(request.request(), Request::Logout),
+        Line::Set { .. } | Line::Lda { .. } | Line::Sta { .. } => false,
+    }
 }
 
 fn is_address(operand: &Operand) -> bool

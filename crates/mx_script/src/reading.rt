@@ -11,9 +11,9 @@ mod drafts;
 mod fields;
 mod lines;
 
-use crate::reading::cutting::cut;
 use crate::reading::drafts::Draft;
 use crate::sessions::Session;
+use mx_name::cut;
 use std::alloc::{AllocError, Global};
 use thiserror::Error;
 

@@ -1,10 +1,10 @@
 //! Sessions: what a session text says.
 
-ghost use Rattle.std.specs.Prelude.{◌≡◌, ◌<◌, ◌-◌, ◌^◌, Bool, true, false, IfSome, IfNone, IsSome, IsTrue, ◌↔◌, length, Option, None, Some, if◌then◌else◌};
+ghost use Rattle.std.specs.Prelude.{◌≡◌, ◌<◌, ◌≤◌, ◌-◌, ◌^◌, Bool, true, false, IfSome, IfNone, IsSome, IsTrue, ◌↔◌, length, Option, None, Some, if◌then◌else◌};
 ghost use Rattle.mx_script.specs.Sessions.{line_count, limit_of};
 
 use crate::lines::Scripts;
-use crate::outlines::{are_scripts, is_setup};
+use crate::outlines::{are_processes, are_scripts, is_limit, is_setup};
 use mx_list::Sequence;
 use mx_name::Principal;
 use mx_request::Requests;
@@ -13,8 +13,8 @@ use std::marker::Model;
 /// The principals of processes 1, 2, .. in order.
 pub type Principals = Sequence<Principal>;
 
-/// A session: what its setup asks for, and for each process its principal and its script. A value always has the parts of a
-/// session: a setup of path requests and, in this version, one process with one script, which ends with its logout.
+/// A session: what its setup asks for, and for each process its principal and its script. A value always has a setup of
+/// requests on paths, and 1 to 15 processes with a script each, which ends with its logout.
 #[derive(Debug, Drop)]
 pub struct Session {
     version: u8,
@@ -35,7 +35,7 @@ impl Model for Session {
 }
 
 impl Session {
-    ghost use Rattle.mx_script.specs.Sessions.{outline, session_of, IsSession};
+    ghost use Rattle.mx_script.specs.Sessions.{outline, session_of, session_of_processes, IsSession};
 
     /// The session of these parts, `None` exactly where they are not those of a session. Takes no memory.
     pub fn new(
@@ -55,6 +55,33 @@ impl Session {
         {
             Some(Session {
                 version,
+                history,
+                setup,
+                principals,
+                scripts,
+            })
+        } else {
+            None
+        }
+    }
+
+    /// The session of these parts with 1 to 15 processes, `None` exactly where they are not those of one. No session text
+    /// has more than one process so far, or a limit. Takes no memory.
+    pub fn of_processes(
+        history: Option<u32>,
+        setup: Requests,
+        principals: Principals,
+        scripts: Scripts,
+    ) -> Option<Session>
+        requires { line_count (outline 1 history setup principals scripts) < 2 ^ 32 - 1 }
+        ensures { result ≡ session_of_processes (outline 1 history setup principals scripts) }
+    {
+        if is_limit(history)
+            && is_setup(setup.items())
+            && are_processes(principals.items(), scripts.items())
+        {
+            Some(Session {
+                version: 1,
                 history,
                 setup,
                 principals,
@@ -86,10 +113,11 @@ impl Session {
         &self.setup
     }
 
-    /// The principals of the processes, one so far.
+    /// The principals of the processes.
     pub fn principals(&self) -> &Principals
         ensures value { result.now ≡ self.now.principals }
-        ensures one { length result.now ≡ 1 }
+        ensures some { 1 ≤ length result.now }
+        ensures most { length result.now ≤ 15 }
     {
         &self.principals
     }
@@ -97,7 +125,6 @@ impl Session {
     /// The scripts of the processes, as many as there are principals.
     pub fn scripts(&self) -> &Scripts
         ensures value { result.now ≡ self.now.scripts }
-        ensures one { length result.now ≡ 1 }
         ensures session { IsSession self.now }
     {
         &self.scripts
@@ -105,7 +132,8 @@ impl Session {
 
     /// The greatest number of entries of the journal: `history`, or else 262,143.
     pub fn limit(&self) -> u32
-        ensures { result ≡ limit_of self.now }
+        ensures value { result ≡ limit_of self.now }
+        ensures most { result ≤ 262143 }
     {
         match self.history {
             None => 262_143,

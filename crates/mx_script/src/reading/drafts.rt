@@ -5,7 +5,7 @@ ghost use Rattle.mx_script.specs.Sessions.{session_of, line_count, is_logout};
 ghost use Rattle.mx_script.specs.Drafts.{setup_step, script_step, step, Follows, one_process, finished, IsCountable};
 
 use crate::lines::{Line, Script};
-use crate::outlines::is_logout;
+use crate::outlines::{is_for_setup, is_logout};
 use crate::reading::lines::read_row;
 use crate::rows::Row;
 use crate::sessions::Session;
@@ -115,8 +115,8 @@ fn with_request(mut setup: Requests, line: Line) -> Result<Option<Draft>, AllocE
 {
     match line {
         Line::Ask(request) => {
-            if request.is_path_request() {
-                setup.push(request)?;
+            if is_for_setup(request.request().class()) {
+                setup.push(request.into_request())?;
                 Ok(Some(Draft::Headed(setup)))
             } else {
                 Ok(None)

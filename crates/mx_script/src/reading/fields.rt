@@ -1,23 +1,17 @@
 //! The fields of a line.
 
-ghost use Rattle.std.specs.Prelude.{◌≡◌, IfOk};
+ghost use Rattle.std.specs.Prelude.{◌≡◌};
 ghost use Rattle.mx_name.specs.Principals.{principal_of};
 ghost use Rattle.mx_script.specs.Fields.{operand_at, word_at};
 
 use crate::lines::{Base, Operand};
-use crate::reading::cutting::cut;
-use mx_name::{NameError, Principal};
+use mx_name::{Principal, cut};
 use mx_sdw::{Word, read_octal_number};
-use std::alloc::{AllocError, Global};
 
-pub(crate) fn read_principal(alloc: Global, text: &[u8]) -> Result<Option<Principal>, AllocError>
-    ensures { IfOk result (λ who. who ≡ principal_of text.now) }
+pub(crate) fn read_principal(text: &[u8]) -> Option<Principal>
+    ensures { result ≡ principal_of text.now }
 {
-    match Principal::read(alloc, text) {
-        Ok(who) => Ok(Some(who)),
-        Err(NameError::Memory) => Err(AllocError),
-        Err(_) => Ok(None),
-    }
+    Principal::read(text).ok()
 }
 
 /// The word of `set`, in octal.

@@ -4,7 +4,7 @@ ghost use Rattle.std.specs.Prelude.{◌≡◌, IfOk, IfSome, Some};
 ghost use Rattle.mx_script.specs.Reading.{IsRow, set_at, lda_at, sta_at, memory_at, plain_at, process_at};
 ghost use Rattle.mx_script.specs.declared.rows.Row.{Row};
 
-use crate::lines::Line;
+use crate::lines::{BoxedRequest, Line};
 use crate::reading::cutting::after;
 use crate::reading::fields::{read_operand, read_principal, read_word};
 use crate::rows::Row;
@@ -19,23 +19,24 @@ pub(crate) fn read_row(alloc: Global, line: &[u8]) -> Result<Option<Row>, AllocE
     if let Some(row) = read_plain(line) {
         return Ok(Some(row));
     }
-    if let Some(row) = read_process(alloc, line)? {
+    if let Some(row) = read_process(line) {
         return Ok(Some(row));
     }
     match Request::read(alloc, line)? {
-        Some(request) => Ok(Some(Row::Line(Line::Ask(request)))),
+        Some(request) => {
+            let boxed = BoxedRequest::new(alloc, request)?;
+            Ok(Some(Row::Line(Line::Ask(boxed))))
+        }
         None => Ok(None),
     }
 }
 
 #[tactic(auto, unfolding(crate::specs::Reading::process_at))]
-fn read_process(alloc: Global, line: &[u8]) -> Result<Option<Row>, AllocError>
-    ensures { IfOk result (λ told. told ≡ process_at line.now) }
+fn read_process(line: &[u8]) -> Option<Row>
+    ensures { result ≡ process_at line.now }
 {
-    match after(b"process ", line) {
-        Some(who) => Ok(read_principal(alloc, who)?.map(Row::Process)),
-        None => Ok(None),
-    }
+    let who = read_principal(after(b"process ", line)?)?;
+    Some(Row::Process(who))
 }
 
 /// A line that holds no text: the header, the end or a memory line.

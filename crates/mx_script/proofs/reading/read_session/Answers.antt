@@ -1,5 +1,5 @@
 use Rattle.std.proofs.Common.{◌≡◌, sym, ◌∙◌, subst, arith}
-use Rattle.mx_request.proofs.CutLaws.{some_is}
+use Rattle.mx_request.proofs.StepLaws.{some_is}
 use Rattle.mx_script.proofs.ReadingLaws.{nothing_read, read_on, counted, countable, bad_line, bad_end, only_session, whole_text}
 use Rattle.mx_script.specs.Drafts.{Follows}
 use Rattle.mx_script.specs.FirstBadLine.{IsFirstBad}

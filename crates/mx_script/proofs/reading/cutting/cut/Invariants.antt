@@ -1,7 +1,0 @@
-use Rattle.std.proofs.Common.{◌≡◌, take, drop}
-use Rattle.mx_request.specs.Cuts.{behind, cut_at}
-use Rattle.mx_script.proofs.reading.cutting.cut.Given as goal
-
--- the cut of the whole text is that of what is left, behind what was passed
-abbrev pub invariant-loop-i : goal.invariant-loop-i
-invariant-loop-i l = cut_at l.mark l.text ≡ behind (take l.i l.text) (cut_at l.mark (drop l.i l.text))
