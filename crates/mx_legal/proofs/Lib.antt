@@ -11,3 +11,4 @@ mod AskLines
 mod SetupLaws
 mod WrongLineLaws
 mod WrongRuleLaws
+pub mod RecordedLaws

@@ -23,4 +23,4 @@ pub use laws::{
 };
 pub use mx_core::{Element, Event, Kind, Outcome};
 pub use numbering::{first_line, setup_entries};
-pub use transcripts::{Event2, Events, Result2, Step, Transcript, Transcripts};
+pub use transcripts::{Event2, Recording, Result2, Steps, Transcript, Transcripts};
