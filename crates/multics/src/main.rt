@@ -1,26 +1,36 @@
 //! The program: it makes the real ends, the standard input and output, and hands them to the top call with the words of its
-//! command line. The status of the process is the top call's. All that matters is proved there.
+//! command line. The status of the process is the top call's, or that of no memory for the words. All that matters is proved
+//! in the top call.
 #![tactic(auto)]
 
 use mx_io::{StdSink, StdSource};
-use mx_run::multics;
+use mx_run::{OUT_OF_MEMORY, multics};
+use std::alloc::AllocError;
 use std::process::ExitCode;
 use std::{env, io};
 
 fn main(rt: HostRuntime) -> ExitCode {
-    let alloc = rt.alloc();
-    // Arguments that are no text are no words that are accepted.
-    let words = words(&rt).unwrap_or(Vec::new(alloc));
-    let mut source = StdSource::new(rt.stdin());
-    let mut sink = StdSink::new(rt.stdout());
-    ExitCode::from(multics(&rt, alloc, words.as_slice(), &mut source, &mut sink))
+    match words(&rt) {
+        Ok(words) => {
+            let mut source = StdSource::new(rt.stdin());
+            let mut sink = StdSink::new(rt.stdout());
+            ExitCode::from(multics(&rt, rt.alloc(), &words, &mut source, &mut sink))
+        }
+        Err(AllocError) => ExitCode::from(OUT_OF_MEMORY),
+    }
 }
 
-// The words after the program's name.
-fn words(rt: &HostRuntime) -> io::Result<Vec<String>> {
+// The words after the program's name; none where an argument is no text, so that they are not accepted.
+fn words(rt: &HostRuntime) -> Result<Vec<String>, AllocError> {
     let mut words = Vec::new(rt.alloc());
-    for word in env::args(rt)?.skip(1) {
-        words.push(word)?;
+    match env::args(rt) {
+        Ok(arguments) => {
+            for word in arguments.skip(1) {
+                words.push(word)?;
+            }
+        }
+        Err(error) if error.kind() == io::ErrorKind::OutOfMemory => return Err(AllocError),
+        Err(_) => {}
     }
     Ok(words)
 }

@@ -1,5 +1,6 @@
-//! The top call over the ends in memory: what the worked sessions print, and what is answered to every text that is close
-//! to the smallest session. The expected values come from the rules of the formats, worked out by hand.
+//! The top call over the ends in memory: what is answered to every text that is close to the smallest session, and to ends that
+//! fail; and a session over a whole hierarchy. The expected values come from the rules, worked out by hand. The teaching
+//! sessions are compared by the program `sessions`.
 
 use super::*;
 use calls::{Ends, GOOD, call};
@@ -66,100 +67,6 @@ fn the_smallest_session_runs(rt: HostRuntime) -> Result<(), Fail> {
     let answer = call(rt.alloc(), &["run"], &text, &GOOD)?;
     assert_eq!(rt; answer.status, 0);
     assert!(rt; answer.written.as_slice() == SMALLEST_RUN);
-    Ok(())
-}
-
-// A write above the first bracket is denied, and the read that follows finds what nobody has written.
-#[test]
-fn a_write_bracket_denies(rt: HostRuntime) -> Result<(), Fail> {
-    let answer = call(
-        rt.alloc(),
-        &["run"],
-        b"multics 1\ncreate_seg >a 64 1 4 4\nset_acl >a Jones.Faculty.a rw\nprocess Jones.Faculty.a\n\
-        initiate >a\nset 52\nsta 10|5\nlda 10|5\nlogout\nend\n",
-        &GOOD,
-    )?;
-    assert_eq!(rt; answer.status, 0);
-    assert!(rt;
-        answer.written.as_slice()
-            == b"journal 4\n\
-        1 0 0 create_seg >a 64 1 4 4 = ok\n2 0 0 set_acl >a Jones.Faculty.a rw = ok\n\
-        3 1 4 initiate >a = segno 10 new\n4 1 4 logout = ok\n\
-        process 0\nentry 1\nline 2 done\nentry 2\nline 3 done\n\
-        process 1\nentry 3\nline 5 done\nline 6 done\n\
-        write 10|5 ring 4 point 3 denied write_bracket\nline 7 denied write_bracket\n\
-        read 10|5 ring 4 point 3 word 0 from 0 stamp 0\nline 8 a 0\n\
-        entry 4\nline 9 done\nend\n"
-                .as_slice()
-    );
-    Ok(())
-}
-
-// The last word is read and the one after it is not; the list gives no write; number 11 stands for nothing.
-#[test]
-fn a_bound_and_a_list_deny(rt: HostRuntime) -> Result<(), Fail> {
-    let answer = call(
-        rt.alloc(),
-        &["run"],
-        b"multics 1\ncreate_seg >a 64 4 4 4\nset_acl >a Jones.Faculty.a r\nprocess Jones.Faculty.a\n\
-        initiate >a\nlda 10|77\nlda 10|100\nsta 10|0\nlda 11|0\nlogout\nend\n",
-        &GOOD,
-    )?;
-    assert_eq!(rt; answer.status, 0);
-    assert!(rt;
-        answer.written.as_slice()
-            == b"journal 4\n\
-        1 0 0 create_seg >a 64 4 4 4 = ok\n2 0 0 set_acl >a Jones.Faculty.a r = ok\n\
-        3 1 4 initiate >a = segno 10 new\n4 1 4 logout = ok\n\
-        process 0\nentry 1\nline 2 done\nentry 2\nline 3 done\n\
-        process 1\nentry 3\nline 5 done\n\
-        read 10|77 ring 4 point 3 word 0 from 0 stamp 0\nline 6 a 0\n\
-        read 10|100 ring 4 point 3 denied out_of_bounds\nline 7 denied out_of_bounds\n\
-        write 10|0 ring 4 point 3 denied not_writable\nline 8 denied not_writable\n\
-        read 11|0 ring 4 point 3 denied unknown_segment\nline 9 denied unknown_segment\n\
-        entry 4\nline 10 done\nend\n"
-                .as_slice()
-    );
-    Ok(())
-}
-
-// Who has no access to the root is not told why the segment is closed to him; a daemon is.
-#[test]
-fn a_null_entry_refuses(rt: HostRuntime) -> Result<(), Fail> {
-    let stranger = call(
-        rt.alloc(),
-        &["run"],
-        b"multics 1\ncreate_seg >a 64 4 4 4\nset_acl >a Jones.Faculty.a null\nprocess Jones.Faculty.a\n\
-        initiate >a\nlogout\nend\n",
-        &GOOD,
-    )?;
-    assert_eq!(rt; stranger.status, 0);
-    assert!(rt;
-        stranger.written.as_slice()
-            == b"journal 4\n\
-        1 0 0 create_seg >a 64 4 4 4 = ok\n2 0 0 set_acl >a Jones.Faculty.a null = ok\n\
-        3 1 4 initiate >a = refused 3 no_info\n4 1 4 logout = ok\n\
-        process 0\nentry 1\nline 2 done\nentry 2\nline 3 done\n\
-        process 1\nentry 3\nline 5 refused\nentry 4\nline 6 done\nend\n"
-                .as_slice()
-    );
-    let daemon = call(
-        rt.alloc(),
-        &["run"],
-        b"multics 1\ncreate_seg >a 64 4 4 4\nset_acl >a Backup.SysDaemon.a null\nprocess Backup.SysDaemon.a\n\
-        initiate >a\nlogout\nend\n",
-        &GOOD,
-    )?;
-    assert_eq!(rt; daemon.status, 0);
-    assert!(rt;
-        daemon.written.as_slice()
-            == b"journal 4\n\
-        1 0 0 create_seg >a 64 4 4 4 = ok\n2 0 0 set_acl >a Backup.SysDaemon.a null = ok\n\
-        3 1 4 initiate >a = refused 6 incorrect_access\n4 1 4 logout = ok\n\
-        process 0\nentry 1\nline 2 done\nentry 2\nline 3 done\n\
-        process 1\nentry 3\nline 5 refused\nentry 4\nline 6 done\nend\n"
-                .as_slice()
-    );
     Ok(())
 }
 

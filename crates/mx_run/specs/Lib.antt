@@ -1,2 +1,2 @@
+pub mod Verdicts
 pub mod Statuses
-pub mod Endings

@@ -1,4 +1,4 @@
-//! Sessions written line by line, each request beside the reply that the rules give for it. The whole printed run is compared.
+//! A session written line by line, each request beside the reply that the rules give for it. The whole printed run is compared.
 
 use super::calls::{GOOD, call};
 use super::rows::{self, Row};
@@ -76,98 +76,6 @@ impl Replay {
         let answer = call(alloc, &["run"], &self.session, &GOOD)?;
         Ok(answer.status == 0 && answer.written.as_slice() == run.as_slice())
     }
-}
-
-// Jones has status on a directory, and its one segment is closed to all but its maker.
-const CLOSED: [Row; 3] = [
-    ("create_dir >d 7 7", "ok"),
-    ("set_acl >d Jones.Faculty.a s", "ok"),
-    ("create_seg >d>x 64 4 4 4", "ok"),
-];
-
-// Jones is told what is there and what is not.
-#[test]
-fn who_may_ask_is_told(rt: HostRuntime) -> Result<(), Fail> {
-    let alloc = rt.alloc();
-    let mut replay = Replay::new(alloc)?;
-    replay.ask_all(alloc, &CLOSED)?;
-    replay.process(alloc, "Jones.Faculty.a")?;
-    replay.ask(alloc, "initiate >d>y", "refused 2 noentry")?;
-    replay.ask(alloc, "initiate >d>x", "refused 6 incorrect_access")?;
-    assert!(rt; replay.is_printed(alloc)?);
-    Ok(())
-}
-
-// A stranger is told the same of what is there and of what is not.
-#[test]
-fn a_stranger_is_told_nothing(rt: HostRuntime) -> Result<(), Fail> {
-    let alloc = rt.alloc();
-    let mut replay = Replay::new(alloc)?;
-    replay.ask_all(alloc, &CLOSED)?;
-    replay.process(alloc, "Smith.Ops.a")?;
-    replay.ask(alloc, "initiate >d>y", "refused 3 no_info")?;
-    replay.ask(alloc, "initiate >d>x", "refused 3 no_info")?;
-    assert!(rt; replay.is_printed(alloc)?);
-    Ok(())
-}
-
-// The requests of a process in ring 4 that may do everything at the root, each with its refusal.
-#[test]
-fn each_request_has_its_refusals(rt: HostRuntime) -> Result<(), Fail> {
-    let alloc = rt.alloc();
-    let mut replay = Replay::new(alloc)?;
-    replay.ask(alloc, "set_acl > Jones.Faculty.a sma", "ok")?;
-    replay.process(alloc, "Jones.Faculty.a")?;
-    replay.ask_all(
-        alloc,
-        &[
-            ("create_dir >d 4 4", "ok"),
-            ("create_dir >d 4 4", "refused 7 namedup"),
-            ("create_seg >d>x 64 1 4 4", "refused 12 bad_brackets"),
-            ("create_seg >d>x 64 4 4 4", "ok"),
-            ("set_acl >d>x *.*.* sma", "refused 13 invalid_mode"),
-            ("set_acl >d *.*.* m", "refused 13 invalid_mode"),
-            ("del_acl >d>x *.*.*", "refused 15 no_acl_entry"),
-            ("delete >d", "refused 9 dir_not_empty"),
-            ("create_link >l >l", "ok"),
-            ("list >l", "refused 5 link_loop"),
-            ("status >l", "link >l"),
-            ("list >d", "names x"),
-            ("status >d>x", "segment words 64 brackets 4 4 4 modes rw"),
-            ("initiate >d", "refused 8 notaseg"),
-            ("list >d>x", "refused 4 notadir"),
-            ("change_wdir <", "refused 1 bad_path"),
-            ("rename >d>x y", "ok"),
-        ],
-    )?;
-    // With the maker's own there are 64 identifiers.
-    for i in 1..64u32 {
-        let request = format!(in alloc; "set_acl >d>y U{i}.Ops.a r")?;
-        replay.ask(alloc, &request, "ok")?;
-    }
-    replay.ask(alloc, "set_acl >d>y U64.Ops.a r", "refused 14 acl_full")?;
-    assert!(rt; replay.is_printed(alloc)?);
-    Ok(())
-}
-
-// The eight stacks leave 1,016 pages: 63 times 16, and 8.
-#[test]
-fn pages_run_out(rt: HostRuntime) -> Result<(), Fail> {
-    let alloc = rt.alloc();
-    let mut replay = Replay::new(alloc)?;
-    replay.ask(alloc, "set_acl > Jones.Faculty.a sma", "ok")?;
-    replay.process(alloc, "Jones.Faculty.a")?;
-    replay.ask(alloc, "create_seg >a 0 4 4 4", "refused 11 bad_length")?;
-    replay.ask(alloc, "create_seg >a 1025 4 4 4", "refused 11 bad_length")?;
-    for i in 1..64u32 {
-        let request = format!(in alloc; "create_seg >a{i} 1024 4 4 4")?;
-        replay.ask(alloc, &request, "ok")?;
-    }
-    replay.ask(alloc, "create_seg >b 1024 4 4 4", "refused 16 no_pages")?;
-    replay.ask(alloc, "create_seg >b 512 4 4 4", "ok")?;
-    replay.ask(alloc, "create_seg >c 1 4 4 4", "refused 16 no_pages")?;
-    assert!(rt; replay.is_printed(alloc)?);
-    Ok(())
 }
 
 // More than a thousand lines over one hierarchy, with every refusal that a session can meet.

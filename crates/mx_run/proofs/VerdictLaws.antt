@@ -1,0 +1,39 @@
+-- What a right verdict means for a source that tells its bytes.
+use Rattle.std.proofs.Common.{ℕ, ◌<◌, ◌≤◌, List, length, refl, sym, subst, Option, Some, arith}
+use Rattle.mx_script.specs.SessionTexts.{IsText}
+use Rattle.mx_run.specs.Statuses.{IsDueStatus}
+use Rattle.mx_run.specs.Verdicts.{IsVerdict, verdict_status, most_bytes}
+use Rattle.mx_run.specs.declared.verdicts.Verdict.{Verdict}
+use Rattle.mx_run.specs.declared.verdicts.Verdict.TheVariants.{Ran, BadWords, BadLine, TooLong}
+
+pub due_status : (words : List (List ℕ)) (spelled : List ℕ) (source' : Option (List ℕ)) (verdict : Verdict)
+    → IsVerdict words (Some spelled) source' verdict → IsDueStatus words spelled (verdict_status verdict)
+due_status words spelled source' (Ran journal transcripts) right = record {
+  bad_words = λ other. absurd (other right.0);
+  session = λ run within some. refl;
+  no_session = λ run within none.
+      absurd (none (right.1.session, subst (λ (l : List ℕ). IsText l right.1.session) (sym right.1.read.0) right.1.text));
+  too_long = λ run more.
+      let within : length spelled ≤ most_bytes = subst (λ (l : List ℕ). length l ≤ most_bytes) (sym right.1.read.0) right.1.within in
+      absurd (omega arith);
+}
+due_status words spelled source' BadWords right = record {
+  bad_words = λ other. refl;
+  session = λ run within some. absurd (right.0 run);
+  no_session = λ run within none. absurd (right.0 run);
+  too_long = λ run more. absurd (right.0 run);
+}
+due_status words spelled source' (BadLine number) right = record {
+  bad_words = λ other. absurd (other right.0);
+  session = λ run within some. absurd (right.1.first.no_session (some.0, subst (λ (l : List ℕ). IsText l some.0) right.1.read.0 some.1));
+  no_session = λ run within none. refl;
+  too_long = λ run more.
+      let within : length spelled ≤ most_bytes = subst (λ (l : List ℕ). length l ≤ most_bytes) (sym right.1.read.0) right.1.within in
+      absurd (omega arith);
+}
+due_status words spelled source' TooLong right = record {
+  bad_words = λ other. absurd (other right.0);
+  session = λ run within some. let more : most_bytes < length spelled = right.1.0 in absurd (omega arith);
+  no_session = λ run within none. let more : most_bytes < length spelled = right.1.0 in absurd (omega arith);
+  too_long = λ run more. refl;
+}

@@ -1,0 +1,172 @@
+//! What comes of a command.
+
+ghost use Rattle.std.specs.Prelude.{◌≡◌, ◌⊎◌, ◌≤◌, [], ◌∷◌, ◌++◌, ◌↔◌, map, length, Some, Ok, IfOk, OnOk, OnErr, IsErrOf, IsTrue, codes};
+ghost use Rattle.std.specs.Fmt.{decimal};
+ghost use Rattle.std.specs.String.{string_bytes};
+ghost use Rattle.mx_io.specs.Bytes.{Appends, AppendsPart};
+ghost use Rattle.mx_io.specs.Faults.{Rose};
+ghost use Rattle.mx_run.specs.Verdicts.{IsRun, IsVerdict, verdict_status, verdict_text};
+ghost use Rattle.mx_run.specs.declared.verdicts.Unreached.TheVariants.{Fault, Memory};
+
+use itoa::Buffer;
+use mx_io::{ReadError, Sink, Source, read_all, write_all};
+use mx_legal::Transcripts;
+use mx_proc::run;
+use mx_script::{SessionError, read_session};
+use mx_state::Journal;
+use mx_text::{TextError, print};
+use std::alloc::{AllocError, Global};
+
+/// The greatest size of a session text, in bytes.
+const MOST_BYTES: usize = 4_194_304;
+
+/// What comes of a command, where memory is there and no end fails.
+#[derive(Drop)]
+pub enum Verdict {
+    /// The source held a session, and this is a legal run of it.
+    Ran {
+        journal: Journal,
+        transcripts: Transcripts,
+    },
+    /// The words are not accepted. The source was not read.
+    BadWords,
+    /// The source held no session; the number of the first bad line.
+    BadLine(u32),
+    /// The source held more than 4,194,304 bytes.
+    TooLong,
+}
+
+/// Why a command came to no verdict.
+#[derive(Clone, Copy, Debug, PartialEq, Eq)]
+pub(crate) enum Unreached {
+    Fault,
+    Memory,
+}
+
+impl From<AllocError> for Unreached {
+    ghost from_gives = { λ _ e. e ≡ Memory };
+
+    fn from(_: AllocError) -> Unreached {
+        Unreached::Memory
+    }
+}
+
+impl Verdict {
+    /// The verdict on a command. Where its words are accepted the source is read to its end, and its session is run; otherwise
+    /// the source is left as it is and no memory is taken.
+    pub(crate) fn reach<S: Source>(
+        alloc: Global,
+        words: &[String],
+        source: &mut S,
+    ) -> Result<Verdict, Unreached>
+        ensures right { IfOk result (IsVerdict (map string_bytes words.now) (S.left source.old) (S.left source.new)) }
+        ensures refused { (IsRun (map string_bytes words.now) → ⊥) → result ≡ Ok Verdict.BadWords }
+        ensures unread { (IsRun (map string_bytes words.now) → ⊥) → source.new ≡ source.old }
+        ensures cause { IsErrOf result Unreached.Fault → Rose (S.faults source.old) (S.faults source.new) }
+    {
+        if is_run(words) {
+            Verdict::of_source(alloc, source)
+        } else {
+            Ok(Verdict::BadWords)
+        }
+    }
+
+    // The verdict on a source.
+    fn of_source<S: Source>(alloc: Global, source: &mut S) -> Result<Verdict, Unreached>
+        ensures right { IfOk result (IsVerdict (codes "run" ∷ []) (S.left source.old) (S.left source.new)) }
+        ensures cause { IsErrOf result Unreached.Fault → Rose (S.faults source.old) (S.faults source.new) }
+    {
+        match read_all(alloc, source, MOST_BYTES) {
+            Ok(bytes) => Verdict::of_bytes(alloc, &bytes),
+            Err(ReadError::TooLong) => Ok(Verdict::TooLong),
+            Err(ReadError::Fault) => Err(Unreached::Fault),
+            Err(ReadError::Memory) => Err(Unreached::Memory),
+        }
+    }
+
+    // The verdict on bytes within the limit. The only error is `Memory`.
+    fn of_bytes(alloc: Global, bytes: &[u8]) -> Result<Verdict, Unreached>
+        requires { length bytes.now ≤ 4194304 }
+        ensures right { IfOk result (IsVerdict (codes "run" ∷ []) (Some bytes.now) (Some [])) }
+        ensures cause { OnErr result (IsErrOf result Unreached.Memory) }
+    {
+        match read_session(alloc, bytes) {
+            Ok(session) => {
+                let ran = run(alloc, &session)?;
+                Ok(Verdict::Ran {
+                    journal: ran.journal,
+                    transcripts: ran.transcripts,
+                })
+            }
+            Err(SessionError::BadLine(number)) => Ok(Verdict::BadLine(number)),
+            Err(SessionError::Memory) => Err(Unreached::Memory),
+        }
+    }
+
+    /// The status of a program that told this verdict.
+    pub(crate) fn status(&self) -> u8
+        ensures { result ≡ verdict_status self.now }
+    {
+        match self {
+            Verdict::Ran { .. } => 0,
+            Verdict::BadWords => 2,
+            Verdict::BadLine(_) => 5,
+            Verdict::TooLong => 6,
+        }
+    }
+
+    /// Writes the text of this verdict. On an error the front of it was written, and of all but a run nothing where memory ran
+    /// out. That words are not accepted is told without taking memory.
+    pub(crate) fn tell<K: Sink>(&self, alloc: Global, sink: &mut K) -> Result<(), TextError>
+        ensures all { OnOk result (Appends (K.out sink.old) (K.out sink.new) (verdict_text self.now)) }
+        ensures part { IsErrOf result TextError.Fault → AppendsPart (K.out sink.old) (K.out sink.new) (verdict_text self.now) }
+        ensures unwritten { IsErrOf result TextError.Memory → (sink.new ≡ sink.old)
+            ⊎ ((verdict_status self.now ≡ 0) × AppendsPart (K.out sink.old) (K.out sink.new) (verdict_text self.now)) }
+        ensures words { IsErrOf result TextError.Memory → self.now ≡ Verdict.BadWords → ⊥ }
+        ensures cause { IsErrOf result TextError.Fault → Rose (K.faults sink.old) (K.faults sink.new) }
+    {
+        match self {
+            Verdict::Ran {
+                journal,
+                transcripts,
+            } => print(alloc, journal, transcripts, sink),
+            Verdict::BadWords => write(sink, b"bad words\n"),
+            Verdict::BadLine(number) => {
+                let text = bad_line_text(alloc, *number)?;
+                write(sink, &text)
+            }
+            Verdict::TooLong => write(sink, b"too long\n"),
+        }
+    }
+}
+
+// Whether the words are the one word `run`.
+fn is_run(words: &[String]) -> bool
+    ensures { IsTrue result ↔ IsRun (map string_bytes words.now) }
+{
+    match words {
+        [word] => word.as_str() == "run",
+        _ => false,
+    }
+}
+
+// Writes a text. The only error is `Fault`.
+fn write<K: Sink>(sink: &mut K, text: &[u8]) -> Result<(), TextError>
+    ensures all { OnOk result (Appends (K.out sink.old) (K.out sink.new) text.now) }
+    ensures part { IsErrOf result TextError.Fault → AppendsPart (K.out sink.old) (K.out sink.new) text.now }
+    ensures only { IsErrOf result TextError.Memory → ⊥ }
+    ensures cause { IsErrOf result TextError.Fault → Rose (K.faults sink.old) (K.faults sink.new) }
+{
+    write_all(sink, text)?;
+    Ok(())
+}
+
+fn bad_line_text(alloc: Global, number: u32) -> Result<Vec<u8>, AllocError>
+    ensures { IfOk result (λ text. text.items ≡ codes "bad line " ++ decimal number ++ codes "\n") }
+{
+    let mut buffer = Buffer::new();
+    let mut text = Vec::from_slice(alloc, b"bad line ")?;
+    text.extend_from_slice(buffer.format(number).as_bytes())?;
+    text.extend_from_slice(b"\n")?;
+    Ok(text)
+}
