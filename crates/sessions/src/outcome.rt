@@ -1,8 +1,8 @@
 //! What comes of a session beside the run that is stored for it.
 
-ghost use Rattle.std.specs.Prelude.{◌≡◌, ◌≢◌, ℕ, List, IfOk};
-ghost use Rattle.teaching.specs.Differences.{differing_line};
-ghost use Rattle.teaching.specs.Runs.{IsRunOf};
+ghost use Rattle.std.specs.Prelude.{◌≡◌, ◌≢◌, ◌≤◌, ◌↔◌, ℕ, List, All, IfOk};
+ghost use Rattle.sessions.specs.Differences.{differing_line};
+ghost use Rattle.sessions.specs.Runs.{IsRunOf};
 
 use crate::comparison::first_difference;
 use mx_io::{MemorySink, MemorySource};
@@ -63,5 +63,17 @@ pub fn run_and_compare<R>(
             Some(line) => Outcome::DiffersAt(line),
         }),
         status => Ok(Outcome::Status(status)),
+    }
+}
+
+/// The status that says what came of some sessions: 0 exactly where each printed what is stored for it, and otherwise 1.
+pub fn status_of(outcomes: &[Outcome]) -> u8
+    ensures all { (result ≡ 0) ↔ All (λ outcome. outcome ≡ Outcome.AsStored) outcomes.now }
+    ensures other { result ≤ 1 }
+{
+    if outcomes.iter().all(|outcome| *outcome == Outcome::AsStored) {
+        0
+    } else {
+        1
     }
 }

@@ -1,6 +1,6 @@
 use Rattle.std.proofs.Common.{◌≡◌, ◌+◌, ◌-◌, ◌==◌, ◌≤◌, length, drop}
 use Rattle.std.specs.List.{common_prefix_len}
-use Rattle.teaching.proofs.comparison.shared_front.Given as goal
+use Rattle.sessions.proofs.comparison.shared_front.Given as goal
 
 abbrev pub invariant-loop-shared : goal.invariant-loop-shared
 invariant-loop-shared l =

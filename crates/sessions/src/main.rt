@@ -1,12 +1,12 @@
 //! The program: it runs teaching sessions and compares what is printed with the runs that are stored. Each word of its command
 //! line names one: `NAME.session` in the folder that it is started in is the session's text, and `NAME.run` its run. A line for
-//! each says what came of it, and status 0 means that all were as stored.
+//! each says what came of it. Status 0 means that all were as stored, 1 that one was not, 2 that none was named.
 #![tactic(auto)]
 
 mod comparison;
 mod outcome;
 
-use outcome::{Outcome, run_and_compare};
+use outcome::{Outcome, run_and_compare, status_of};
 use std::process::ExitCode;
 use std::{env, fs, io};
 
@@ -17,19 +17,17 @@ fn main(rt: HostRuntime) -> io::Result<ExitCode> {
     let mut names = env::args(&rt)?.skip(1).peekable();
     if names.peek().is_none() {
         eprintln!(rt;
-            "teaching NAME ..: runs each NAME.session of this folder, and compares what is printed with NAME.run"
+            "sessions NAME ..: runs each NAME.session of this folder, and compares what is printed with NAME.run"
         )?;
         return Ok(ExitCode::from(BAD_WORDS));
     }
-    let mut status = ExitCode::SUCCESS;
+    let mut outcomes = Vec::new(rt.alloc());
     for name in names {
         let outcome = outcome_of(&rt, &name)?;
-        if outcome != Outcome::AsStored {
-            status = ExitCode::FAILURE;
-        }
         println!(rt; "{name}: {outcome}")?;
+        outcomes.push(outcome)?;
     }
-    Ok(status)
+    Ok(ExitCode::from(status_of(&outcomes)))
 }
 
 // Runs the session of this name.

@@ -2,7 +2,7 @@
 
 ghost use Rattle.std.specs.Prelude.{◌≡◌, ◌↔◌, ◌==◌, ◌≤◌, length, IsNone, IfSome};
 ghost use Rattle.std.specs.List.{common_prefix_len};
-ghost use Rattle.teaching.specs.Differences.{line_at, differing_line};
+ghost use Rattle.sessions.specs.Differences.{line_at, differing_line};
 
 /// The first line, counted from 1, at which two texts differ, or none where they are the same.
 pub fn first_difference(text: &[u8], other: &[u8]) -> Option<usize>
