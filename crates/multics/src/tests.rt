@@ -8,7 +8,9 @@ use mx_io::{MemorySink, MemorySource};
 use std::alloc::{AllocError, Global};
 use std::test::Fail;
 
+mod access;
 mod calls;
+mod limits;
 mod replays;
 mod rows;
 

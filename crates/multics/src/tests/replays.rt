@@ -2,6 +2,7 @@
 
 use super::calls::{GOOD, call};
 use super::rows::{self, Row};
+use super::{access, limits};
 use std::alloc::{AllocError, Global};
 use std::test::Fail;
 
@@ -89,12 +90,12 @@ fn a_whole_hierarchy_is_replayed(rt: HostRuntime) -> Result<(), Fail> {
         rows::ASKING,
         rows::NESTED,
         rows::RENAMED,
-        rows::ACCESS,
-        rows::OTHERS,
-        rows::LINKS,
-        rows::WITHOUT_STATUS,
-        rows::LONG,
-        rows::SAME_NAME,
+        access::ACCESS,
+        access::OTHERS,
+        access::LINKS,
+        access::WITHOUT_STATUS,
+        access::LONG,
+        access::SAME_NAME,
     ] {
         replay.ask_all(alloc, rows)?;
     }
@@ -112,7 +113,7 @@ fn fill_access_list(replay: &mut Replay, alloc: Global) -> Result<(), AllocError
         let request = format!(in alloc; "set_acl work>new U{i}.Ops.a r")?;
         replay.ask(alloc, &request, "ok")?;
     }
-    replay.ask_all(alloc, rows::FULL_LIST)?;
+    replay.ask_all(alloc, limits::FULL_LIST)?;
     Ok(())
 }
 
@@ -127,7 +128,7 @@ fn fill_directory(replay: &mut Replay, alloc: Global) -> Result<(), AllocError> 
         let request = format!(in alloc; "create_link many>l{i} many>s0")?;
         replay.ask(alloc, &request, "ok")?;
     }
-    replay.ask_all(alloc, rows::FULL_DIRECTORY)?;
+    replay.ask_all(alloc, limits::FULL_DIRECTORY)?;
     Ok(())
 }
 
@@ -139,7 +140,7 @@ fn know_segments(replay: &mut Replay, alloc: Global) -> Result<(), AllocError> {
         let reply = format!(in alloc; "segno {segno:o} new")?;
         replay.ask(alloc, &request, &reply)?;
     }
-    replay.ask_all(alloc, rows::ALL_NUMBERS)?;
+    replay.ask_all(alloc, limits::ALL_NUMBERS)?;
     Ok(())
 }
 
@@ -150,6 +151,6 @@ fn use_up_pages(replay: &mut Replay, alloc: Global) -> Result<(), AllocError> {
         let request = format!(in alloc; "create_seg big>b{i} 1024 4 4 4")?;
         replay.ask(alloc, &request, "ok")?;
     }
-    replay.ask_all(alloc, rows::NO_PAGES)?;
+    replay.ask_all(alloc, limits::NO_PAGES)?;
     Ok(())
 }
