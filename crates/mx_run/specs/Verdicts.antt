@@ -7,8 +7,7 @@ use Rattle.mx_script.specs.FirstBadLine.{IsFirstBad}
 use Rattle.mx_script.specs.SessionTexts.{IsText}
 use Rattle.mx_script.specs.Sessions.{Outline}
 use Rattle.mx_state.specs.declared.journal.Entry.{Entry}
-use Rattle.mx_legal.specs.Falls.{HasGatedFalls}
-use Rattle.mx_legal.specs.Legal.{IsLegal}
+use Rattle.mx_legal.specs.Legal.{IsLegal, HasGatedFalls, HasSoundRegisters}
 use Rattle.mx_legal.specs.Transcripts.{Step}
 use Rattle.mx_text.specs.RunText.{run_text}
 use Rattle.mx_run.specs.declared.verdicts.Verdict.{Verdict}
@@ -23,7 +22,7 @@ abbrev pub most_bytes : ℕ
 most_bytes = 4194304
 
 -- The source was read to its end, and its bytes are the text of a session, within the limit. The journal and the transcripts are
--- a legal run of that session, and its rings fall only through gates.
+-- a legal run of that session, whose rings fall only through gates and whose pointer registers never have less than the ring.
 pub record IsRunFrom (source source' : Option (List ℕ)) (journal : List Entry) (transcripts : List (List Step)) : Type 0 where
   pub spelled : List ℕ
   pub session : Outline
@@ -31,7 +30,8 @@ pub record IsRunFrom (source source' : Option (List ℕ)) (journal : List Entry)
   pub within : length spelled ≤ most_bytes
   pub text : IsText spelled session
   pub legal : IsLegal session journal transcripts
-  pub gated : HasGatedFalls transcripts
+  pub gated : HasGatedFalls session journal transcripts
+  pub sound : HasSoundRegisters session journal transcripts
 
 -- The source was read to its end, and its bytes, within the limit, are no session: this is their first bad line.
 pub record IsBadLineOf (source source' : Option (List ℕ)) (number : ℕ) : Type 0 where

@@ -55,7 +55,8 @@ pub fn multics<R, S: Source, K: Sink>(
     ensures refused { (IsRun (map string_bytes words.now) → ⊥) → (result ≡ 2) ⊎ (result ≡ 4) }
     ensures unread { (IsRun (map string_bytes words.now) → ⊥) → source.new ≡ source.old }
 
-    // At status 1 nothing was written, or the front of a run text.
+    // At status 1 no end had failed; nothing was written, or the front of a run text.
+    ensures unfailed { result ≡ 1 → (S.faults source.new ≡ S.faults source.old) × (K.faults sink.new ≡ K.faults sink.old) }
     ensures out_of_memory { result ≡ 1 → (sink.new ≡ sink.old)
         ⊎ GainsFront (map string_bytes words.now) (S.left source.old) (S.left source.new) (K.out sink.old) (K.out sink.new) 0 }
 

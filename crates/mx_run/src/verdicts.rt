@@ -63,6 +63,7 @@ impl Verdict {
         ensures refused { (IsRun (map string_bytes words.now) → ⊥) → result ≡ Ok Verdict.BadWords }
         ensures unread { (IsRun (map string_bytes words.now) → ⊥) → source.new ≡ source.old }
         ensures cause { IsErrOf result Unreached.Fault → Rose (S.faults source.old) (S.faults source.new) }
+        ensures only { (IsErrOf result Unreached.Fault → ⊥) → S.faults source.new ≡ S.faults source.old }
     {
         if is_run(words) {
             Verdict::of_source(alloc, source)
@@ -75,6 +76,7 @@ impl Verdict {
     fn of_source<S: Source>(alloc: Global, source: &mut S) -> Result<Verdict, Unreached>
         ensures right { IfOk result (IsVerdict (codes "run" ∷ []) (S.left source.old) (S.left source.new)) }
         ensures cause { IsErrOf result Unreached.Fault → Rose (S.faults source.old) (S.faults source.new) }
+        ensures only { (IsErrOf result Unreached.Fault → ⊥) → S.faults source.new ≡ S.faults source.old }
     {
         match read_all(alloc, source, MOST_BYTES) {
             Ok(bytes) => Verdict::of_bytes(alloc, &bytes),
@@ -92,10 +94,10 @@ impl Verdict {
     {
         match read_session(alloc, bytes) {
             Ok(session) => {
-                let ran = run(alloc, &session)?;
+                let (journal, transcripts) = run(alloc, &session)?;
                 Ok(Verdict::Ran {
-                    journal: ran.journal,
-                    transcripts: ran.transcripts,
+                    journal,
+                    transcripts,
                 })
             }
             Err(SessionError::BadLine(number)) => Ok(Verdict::BadLine(number)),
@@ -124,6 +126,7 @@ impl Verdict {
             ⊎ ((verdict_status self.now ≡ 0) × AppendsPart (K.out sink.old) (K.out sink.new) (verdict_text self.now)) }
         ensures words { IsErrOf result TextError.Memory → self.now ≡ Verdict.BadWords → ⊥ }
         ensures cause { IsErrOf result TextError.Fault → Rose (K.faults sink.old) (K.faults sink.new) }
+        ensures only { (IsErrOf result TextError.Fault → ⊥) → K.faults sink.new ≡ K.faults sink.old }
     {
         match self {
             Verdict::Ran {
@@ -154,8 +157,9 @@ fn is_run(words: &[String]) -> bool
 fn write<K: Sink>(sink: &mut K, text: &[u8]) -> Result<(), TextError>
     ensures all { OnOk result (Appends (K.out sink.old) (K.out sink.new) text.now) }
     ensures part { IsErrOf result TextError.Fault → AppendsPart (K.out sink.old) (K.out sink.new) text.now }
-    ensures only { IsErrOf result TextError.Memory → ⊥ }
+    ensures no_memory { IsErrOf result TextError.Memory → ⊥ }
     ensures cause { IsErrOf result TextError.Fault → Rose (K.faults sink.old) (K.faults sink.new) }
+    ensures only { (IsErrOf result TextError.Fault → ⊥) → K.faults sink.new ≡ K.faults sink.old }
 {
     write_all(sink, text)?;
     Ok(())
