@@ -1,8 +1,9 @@
 -- What a right verdict means for a source that tells its bytes.
 use Rattle.std.proofs.Common.{ℕ, ◌<◌, ◌≤◌, List, length, refl, sym, subst, Option, Some, arith}
 use Rattle.mx_script.specs.SessionTexts.{IsText}
+use Rattle.mx_run.specs.Done.{most_bytes}
 use Rattle.mx_run.specs.Statuses.{IsDueStatus}
-use Rattle.mx_run.specs.Verdicts.{IsVerdict, verdict_status, most_bytes}
+use Rattle.mx_run.specs.Verdicts.{IsVerdict, verdict_status}
 use Rattle.mx_run.specs.declared.verdicts.Verdict.{Verdict}
 use Rattle.mx_run.specs.declared.verdicts.Verdict.TheVariants.{Ran, BadWords, BadLine, TooLong}
 

@@ -1,19 +1,10 @@
--- What the statuses of the top call mean. A source's bytes and a sink's are spoken of where they are told.
+-- What the other statuses of the top call mean. A source's bytes and a sink's are spoken of where they are told.
 use Rattle.std.specs.Prelude.{◌≡◌, ◌⊎◌, ℕ, ◌≤◌, ◌<◌, List, length, Option}
 use Rattle.mx_io.specs.Bytes.{Appends, AppendsPart}
 use Rattle.mx_script.specs.SessionTexts.{IsSomeSession}
-use Rattle.mx_state.specs.declared.journal.Entry.{Entry}
-use Rattle.mx_legal.specs.Transcripts.{Step}
-use Rattle.mx_text.specs.RunText.{run_text}
-use Rattle.mx_run.specs.Verdicts.{IsRun, IsRunFrom, IsVerdict, verdict_text, verdict_status, most_bytes}
+use Rattle.mx_run.specs.Done.{most_bytes}
+use Rattle.mx_run.specs.Verdicts.{IsRun, IsVerdict, verdict_text, verdict_status}
 use Rattle.mx_run.specs.declared.verdicts.Verdict.{Verdict}
-
--- Status 0: the source held the text of a session, and the sink gained the run text of a legal run of it.
-pub record IsDone (source source' sink sink' : Option (List ℕ)) : Type 0 where
-  pub journal : List Entry
-  pub transcripts : List (List Step)
-  pub run : IsRunFrom source source' journal transcripts
-  pub printed : Appends sink sink' (run_text journal transcripts)
 
 -- Statuses 0, 2, 5 and 6: the sink gained the whole text of a right verdict that has this status.
 pub record GainsVerdict (words : List (List ℕ)) (source source' sink sink' : Option (List ℕ)) (status : ℕ) : Type 0 where

@@ -4,34 +4,14 @@ use Rattle.std.specs.Prelude.{◌≡◌, ℕ, ◌≤◌, List, [], ◌∷◌, �
 use Rattle.std.specs.Fmt.{decimal}
 use Rattle.mx_io.specs.Bytes.{TakesAll, TakesTooMany}
 use Rattle.mx_script.specs.FirstBadLine.{IsFirstBad}
-use Rattle.mx_script.specs.SessionTexts.{IsText}
-use Rattle.mx_script.specs.Sessions.{Outline}
-use Rattle.mx_state.specs.declared.journal.Entry.{Entry}
-use Rattle.mx_legal.specs.Legal.{IsLegal, HasGatedFalls, HasSoundRegisters}
-use Rattle.mx_legal.specs.Transcripts.{Step}
 use Rattle.mx_text.specs.RunText.{run_text}
+use Rattle.mx_run.specs.Done.{IsRunFrom, most_bytes}
 use Rattle.mx_run.specs.declared.verdicts.Verdict.{Verdict}
 use Rattle.mx_run.specs.declared.verdicts.Verdict.TheVariants.{Ran, BadWords, BadLine, TooLong}
 
 -- the words of a command that runs a session
 abbrev pub IsRun : List (List ℕ) → Type 0
 IsRun words = words ≡ codes "run" ∷ []
-
--- the greatest size of a session text, in bytes
-abbrev pub most_bytes : ℕ
-most_bytes = 4194304
-
--- The source was read to its end, and its bytes are the text of a session, within the limit. The journal and the transcripts are
--- a legal run of that session, whose rings fall only through gates and whose pointer registers never have less than the ring.
-pub record IsRunFrom (source source' : Option (List ℕ)) (journal : List Entry) (transcripts : List (List Step)) : Type 0 where
-  pub spelled : List ℕ
-  pub session : Outline
-  pub read : TakesAll source source' spelled
-  pub within : length spelled ≤ most_bytes
-  pub text : IsText spelled session
-  pub legal : IsLegal session journal transcripts
-  pub gated : HasGatedFalls session journal transcripts
-  pub sound : HasSoundRegisters session journal transcripts
 
 -- The source was read to its end, and its bytes, within the limit, are no session: this is their first bad line.
 pub record IsBadLineOf (source source' : Option (List ℕ)) (number : ℕ) : Type 0 where

@@ -3,7 +3,8 @@
 ghost use Rattle.std.specs.Prelude.{◌≡◌, ◌⊎◌, ℕ, List, map, Some};
 ghost use Rattle.std.specs.String.{string_bytes};
 ghost use Rattle.mx_io.specs.Faults.{Rose};
-ghost use Rattle.mx_run.specs.Statuses.{IsDone, GainsVerdict, GainsFront, IsStopped, IsDueStatus};
+ghost use Rattle.mx_run.specs.Done.{IsDone};
+ghost use Rattle.mx_run.specs.Statuses.{GainsVerdict, GainsFront, IsStopped, IsDueStatus};
 ghost use Rattle.mx_run.specs.Verdicts.{IsRun};
 
 use crate::verdicts::{Unreached, Verdict};

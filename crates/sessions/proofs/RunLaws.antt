@@ -1,6 +1,6 @@
 -- What the top call printed into an empty sink is a run of the session that its source held.
 use Rattle.std.proofs.Common.{◌≡◌, ℕ, List, [], subst, Option, Some}
-use Rattle.mx_run.specs.Statuses.{IsDone}
+use Rattle.mx_run.specs.Done.{IsDone}
 use Rattle.sessions.specs.Runs.{IsRunOf}
 
 pub printed_run : (session held before after printed : List ℕ) (left : Option (List ℕ)) → held ≡ session → before ≡ [] → after ≡ printed
