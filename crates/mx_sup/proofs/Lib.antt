@@ -1,0 +1,4 @@
+pub mod HistoryLaws
+pub mod PartLaws
+pub mod SetupLaws
+pub mod AskLaws

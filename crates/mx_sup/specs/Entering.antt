@@ -1,0 +1,26 @@
+-- What a supervisor does: it opens with the setup, and enters one call after another.
+use Rattle.std.specs.Prelude.{◌≡◌, ℕ, ◌+◌, ◌<◌, List, [], ◌∷◌, ◌++◌, length}
+use Rattle.mx_legal.specs.Legal.{setup_entries}
+use Rattle.mx_legal.specs.Transcripts.{Step}
+use Rattle.mx_request.specs.declared.replies.Reply.{Reply}
+use Rattle.mx_request.specs.declared.requests.Request.{Request}
+use Rattle.mx_script.specs.Sessions.{Outline, limit_of}
+use Rattle.mx_state.specs.History.{IsRightEntry}
+use Rattle.mx_sup.specs.Supervised.{Supervised, supervised, state_of, IsHistory}
+use Rattle.mx_ties.specs.Ran.{IsSetUp}
+
+-- it has entered the setup of its session and nothing else, and this is the initializer's part
+pub record IsOpened (x : Outline) (s : Supervised) (steps : List Step) : Type 0 where
+  pub session : s.session ≡ x
+  pub only : length s.journal ≡ setup_entries x
+  pub history : IsHistory s
+  pub part : IsSetUp x s.journal steps
+
+-- below the limit, process p's request was entered last, with the plain supervisor's reply
+pub record HasEntered (old : Supervised) (p ring : ℕ) (request : Request) (entered : ℕ) (new : Supervised) : Type 0 where
+  pub below : length old.journal < limit_of old.session
+  pub number : entered ≡ length old.journal + 1
+  pub reply : Reply
+  pub right : IsRightEntry (state_of old) (record { process = p; ring = ring; request = request; reply = reply })
+  pub entry : new ≡ supervised old.session
+      (old.journal ++ record { process = p; ring = ring; request = request; reply = reply } ∷ [])

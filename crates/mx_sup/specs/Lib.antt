@@ -1,0 +1,3 @@
+pub mod Supervised
+pub mod Entering
+pub mod Setups

@@ -1,0 +1,98 @@
+//! The setup: the initializer's requests, and its part of the run.
+
+ghost use Rattle.std.specs.Prelude.{◌≡◌, ◌<◌, ◌+◌, ◌^◌, [], ◌∷◌, ◌++◌, IsTrue, IfOk, OnOk, slice_get};
+ghost use Rattle.std.specs.Option.{option_map};
+ghost use Rattle.mx_legal.specs.Legal.{setup_entries};
+ghost use Rattle.mx_script.specs.Sessions.{IsSession};
+ghost use Rattle.mx_state.specs.History.{opening, MayAsk};
+ghost use Rattle.mx_sup.specs.Setups.{HasSetUp, IsEntered, setup_step, setup_steps};
+
+use mx_legal::{Event2, Recording, Result2, Transcript, setup_entries};
+use mx_request::Request;
+use mx_script::Session;
+use mx_sdw::Ring;
+use mx_state::{Entry, State};
+use std::alloc::{AllocError, Global};
+
+/// Enters the setup's requests in order, as far as the limit allows: the journal after them.
+pub(crate) fn enter_setup(
+    alloc: Global,
+    session: &Session,
+    state: &mut State,
+) -> Result<Vec<Entry>, AllocError>
+    requires session { IsSession session.now }
+    requires opening { state.old ≡ opening session.now.principals }
+    ensures { IfOk result (λ journal. HasSetUp session.now (setup_entries session.now) state.new journal.items) }
+{
+    let requests = session.setup().items();
+    let count = setup_entries(session) as usize;
+    let mut journal = Vec::with_capacity(alloc, count)?;
+    for i in 0..count {
+        enter(alloc, &requests[i], state, &mut journal)?;
+    }
+    Ok(journal)
+}
+
+// Enters one request of the initializer.
+fn enter(
+    alloc: Global,
+    request: &Request,
+    state: &mut State,
+    journal: &mut Vec<Entry>,
+) -> Result<(), AllocError>
+    requires { MayAsk state.old 0 request.now }
+    ensures { OnOk result (IsEntered request.now state.old journal.old.items state.new journal.new.items) }
+{
+    let ring = Ring::new(0).unwrap();
+    let copy = request.copy()?;
+    let applied = state.apply(alloc, 0, ring, request)?;
+    journal.push(Entry {
+        process: 0,
+        ring,
+        request: copy,
+        reply: applied.reply,
+    })?;
+    Ok(())
+}
+
+/// The initializer's part of the run, where these are the setup's entries.
+pub(crate) fn setup_part(
+    alloc: Global,
+    session: &Session,
+    journal: &[Entry],
+) -> Result<Transcript, AllocError>
+    requires { IsSession session.now }
+    ensures { IfOk result (λ part. part ≡ setup_steps 2 1 journal.now session.now.setup) }
+{
+    let lines = session.setup().items().len();
+    let mut part = Recording::with_room(alloc, lines)?;
+    for i in 0..lines {
+        part.reserve()?;
+        end_line(&mut part, i as u32, entry_in(journal, i));
+    }
+    Ok(part.finish())
+}
+
+/// The entry at this place of a journal, counted from 0.
+pub(crate) fn entry_in(journal: &[Entry], place: usize) -> Option<&Entry>
+    ensures { option_map (λ entry. entry.now) result ≡ slice_get journal.now place }
+{
+    journal.get(place)
+}
+
+// The line of the setup at this place, counted from 0, with its entry; without one the journal was full.
+fn end_line(part: &mut Recording, place: u32, entry: Option<&Entry>)
+    requires event { IsTrue part.old.event_room }
+    requires line { IsTrue part.old.line_room }
+    requires small { place + 3 < 2 ^ 32 }
+    ensures steps { part.new.steps ≡ part.old.steps ++ setup_step place part.old.events (option_map (λ e. e.now) entry.entry) ∷ [] }
+    ensures events { part.new.events ≡ [] }
+{
+    match entry {
+        Some(entry) => {
+            part.push(Event2::Entry(place + 1));
+            part.end_line(2 + place, Result2::of(&entry.reply));
+        }
+        None => part.end_line(2 + place, Result2::HistoryFull),
+    }
+}
