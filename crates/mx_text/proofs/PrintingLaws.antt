@@ -1,6 +1,7 @@
 -- Laws on a text that is sent piece by piece.
-use Rattle.std.proofs.Common.{◌≡◌, ℕ, codes, get_or, ◌+◌, ◌<◌, ◌≤◌, List, [], ◌∷◌, ◌++◌, length, take, drop, Option, Some, None, ◌-◌, refl, sym, add-one, drop-cons, ◌∙◌, ap, subst, arith, append_assoc, length-append, length-drop}
+use Rattle.std.proofs.Common.{◌≡◌, ℕ, codes, get_or, ◌^◌, ◌+◌, ◌<◌, ◌≤◌, List, [], ◌∷◌, ◌++◌, length, take, drop, Option, Some, None, ◌-◌, refl, sym, add-one, drop-cons, ◌∙◌, ap, subst, arith, append_assoc, length-append, length-drop}
 use Rattle.std.proofs.Math.Seq.{take-append_seam}
+use Rattle.std.proofs.lemmas.Fmt.{length-decimal-le}
 use Rattle.std.proofs.lemmas.List.{take-append-drop}
 use Rattle.std.specs.Fmt.{decimal}
 use Rattle.std.specs.Result.{OnErr}
@@ -104,9 +105,8 @@ cut_here a b buffer rest line left text h parts = record {
 }
 
 -- the text of what is left, taken apart
-pub steps_left : (i : ℕ) (steps : List Step) (step : Step) → i < length steps → step ≡ get_or steps i step
-    → steps_text (drop i steps) ≡ step_text step ++ steps_text (drop (i + 1) steps)
-steps_left i steps step h e = rw (add-one i, drop-cons steps i step, ← e) refl
+pub steps_next : (steps left : List Step) (step : Step) → steps ≡ step ∷ left → steps_text steps ≡ step_text step ++ steps_text left
+steps_next steps left step e = ap steps_text e
 
 pub entries_left : (i number : ℕ) (entries : List Entry) (entry : Entry) → i < length entries → entry ≡ get_or entries i entry
     → entries_text number (drop i entries) ≡ entry_text number entry ++ entries_text (number + 1) (drop (i + 1) entries)
@@ -202,3 +202,12 @@ pub end_sent : (a b c : Option (List ℕ)) (rest added text end : List ℕ)
 end_sent a b c rest added text end h add last =
     let P : List ℕ → Type 0 = λ v. Appends b c v in
     sent_whole a b c (text ++ end) (rest ++ end) (sent_before a b text rest end h) (subst P add last)
+
+-- the heading of the journal is short
+pub short_heading : (none items label : List ℕ) (n : ℕ) → none ≡ [] → items ≡ none ++ (label ++ decimal n ++ codes "\n") → length label ≤ 8
+    → n < 2 ^ 64 → length items ≤ 32768
+short_heading none items label n empty is few small =
+    let d : length (decimal n) ≤ 20 = length-decimal-le 20 n (omega arith) (omega arith) small in
+    let a : length (label ++ decimal n ++ codes "\n") ≡ length (label ++ decimal n) + 1 = length-append (label ++ decimal n) (codes "\n") in
+    let b : length (label ++ decimal n) ≡ length label + length (decimal n) = length-append label (decimal n) in
+    rw (is, empty) (omega (arith, a, b, d, few))

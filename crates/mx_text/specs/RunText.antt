@@ -3,12 +3,12 @@ use Rattle.std.specs.Prelude.{ℕ, ◌+◌, List, [], ◌∷◌, ◌++◌, lengt
 use Rattle.std.specs.Fmt.{decimal}
 use Rattle.mx_sdw.specs.Denials.{denial_text}
 use Rattle.mx_sdw.specs.Octal.{octal}
-use Rattle.mx_legal.specs.declared.elements.Element.{Element}
-use Rattle.mx_legal.specs.declared.elements.Event.TheVariants.{Seen}
-use Rattle.mx_legal.specs.declared.elements.Kind.{Kind}
-use Rattle.mx_legal.specs.declared.elements.Kind.TheVariants as kind
-use Rattle.mx_legal.specs.declared.elements.Outcome.{Outcome}
-use Rattle.mx_legal.specs.declared.elements.Outcome.TheVariants as outcome
+use Rattle.mx_core.specs.declared.elements.Element.{Element}
+use Rattle.mx_core.specs.declared.elements.Event.TheVariants.{Seen, Missing}
+use Rattle.mx_core.specs.declared.elements.Kind.{Kind}
+use Rattle.mx_core.specs.declared.elements.Kind.TheVariants as kind
+use Rattle.mx_core.specs.declared.elements.Outcome.{Outcome}
+use Rattle.mx_core.specs.declared.elements.Outcome.TheVariants as outcome
 use Rattle.mx_state.specs.declared.journal.Entry as journaled
 use Rattle.mx_legal.specs.declared.transcripts.Event2.{Event2}
 use Rattle.mx_legal.specs.declared.transcripts.Event2.TheVariants.{Core, Entry}
@@ -32,12 +32,17 @@ entries_text number (entry ∷ entries) = entry_text number entry ++ entries_tex
 
 abbrev pub kind_text : Kind → List ℕ
 kind_text kind.Read = codes "read"
+kind_text kind.Ind = codes "ind"
 kind_text kind.Write = codes "write"
+kind_text kind.Fetch = codes "fetch"
+kind_text kind.Call = codes "call"
+kind_text kind.Return = codes "return"
 
 abbrev pub outcome_text : Outcome → List ℕ
 outcome_text (outcome.Read value writer stamp) =
     codes " word " ++ octal value ++ codes " from " ++ decimal writer ++ codes " stamp " ++ decimal stamp
 outcome_text (outcome.Written value) = codes " word " ++ octal value
+outcome_text (outcome.Entered ring) = codes " enter " ++ decimal ring
 outcome_text (outcome.Denied denial) = codes " denied " ++ denial_text denial
 
 -- `KIND S|W ring R point K ..`
@@ -48,6 +53,7 @@ element_text e =
 
 abbrev pub event_text : Event2 → List ℕ
 event_text (Core (Seen e)) = element_text e
+event_text (Core (Missing segno by)) = codes "missing " ++ octal segno ++ codes " by " ++ decimal by ++ codes "\n"
 event_text (Entry number) = codes "entry " ++ decimal number ++ codes "\n"
 
 abbrev pub events_text : List Event2 → List ℕ

@@ -15,7 +15,7 @@ mod numbers;
 use entries::add_entry;
 use lines::add_step;
 use mx_io::{Sink, WriteFault, write_all};
-use mx_legal::{Step, Transcript, Transcripts};
+use mx_legal::{Transcript, Transcripts};
 use mx_state::{Entry, Journal};
 use numbers::add_labelled;
 use std::alloc::{AllocError, Global};
@@ -51,7 +51,7 @@ const PIECE: usize = 32_768;
 
 /// Prints the run text of a journal and transcripts: `journal COUNT`, the entries under their numbers from 1, for each process
 /// from 0 its lines with their events, and `end`. On an error the first of its bytes were sent, and not all: `Fault` where the
-/// sink failed, `Memory` where memory was wanting. The memory taken does not grow with the number of entries and lines.
+/// sink failed, `Memory` where memory was wanting. At most 32 KiB are held between two entries or lines.
 pub fn print<K: Sink>(
     alloc: Global,
     journal: &Journal,
@@ -61,6 +61,7 @@ pub fn print<K: Sink>(
     ensures printed { OnOk result (Appends (K.out sink.old) (K.out sink.new) (run_text journal.now transcripts.now)) }
     ensures part { OnErr result (AppendsPart (K.out sink.old) (K.out sink.new) (run_text journal.now transcripts.now)) }
     ensures cause { IsErrOf result TextError.Fault → Rose (K.faults sink.old) (K.faults sink.new) }
+    ensures only { (IsErrOf result TextError.Fault → ⊥) → K.faults sink.new ≡ K.faults sink.old }
     ensures later { K.faults sink.old ≤ K.faults sink.new }
 {
     let entries = journal.items();
@@ -86,9 +87,12 @@ fn print_entries<K: Sink>(
     buffer: &mut Vec<u8>,
     sink: &mut K,
 ) -> Result<(), TextError>
+    requires { vec_len buffer.old ≤ 32768 }
+    ensures held { OnOk result (vec_len buffer.new ≤ 32768) }
     ensures sent { OnOk result (IsSent (K.out sink.old) (K.out sink.new) buffer.new.items (buffer.old.items ++ entries_text 1 entries.now)) }
     ensures part { OnErr result (IsCutShort (K.out sink.old) (K.out sink.new) (buffer.old.items ++ entries_text 1 entries.now)) }
     ensures cause { IsErrOf result TextError.Fault → Rose (K.faults sink.old) (K.faults sink.new) }
+    ensures only { (IsErrOf result TextError.Fault → ⊥) → K.faults sink.new ≡ K.faults sink.old }
     ensures later { K.faults sink.old ≤ K.faults sink.new }
 {
     for (i, entry) in entries.iter().enumerate() {
@@ -103,26 +107,37 @@ fn print_parts<K: Sink>(
     buffer: &mut Vec<u8>,
     sink: &mut K,
 ) -> Result<(), TextError>
+    requires { vec_len buffer.old ≤ 32768 }
+    ensures held { OnOk result (vec_len buffer.new ≤ 32768) }
     ensures sent { OnOk result (IsSent (K.out sink.old) (K.out sink.new) buffer.new.items (buffer.old.items ++ parts_text 0 parts.now)) }
     ensures part { OnErr result (IsCutShort (K.out sink.old) (K.out sink.new) (buffer.old.items ++ parts_text 0 parts.now)) }
     ensures cause { IsErrOf result TextError.Fault → Rose (K.faults sink.old) (K.faults sink.new) }
+    ensures only { (IsErrOf result TextError.Fault → ⊥) → K.faults sink.new ≡ K.faults sink.old }
     ensures later { K.faults sink.old ≤ K.faults sink.new }
 {
-    for (p, steps) in parts.iter().enumerate() {
+    for (p, transcript) in parts.iter().enumerate() {
         add_heading(buffer, b"process ", p)?;
-        print_steps(steps.items(), buffer, sink)?;
+        send_when_long(buffer, sink)?;
+        print_steps(transcript, buffer, sink)?;
     }
     Ok(())
 }
 
-fn print_steps<K: Sink>(steps: &[Step], buffer: &mut Vec<u8>, sink: &mut K) -> Result<(), TextError>
-    ensures sent { OnOk result (IsSent (K.out sink.old) (K.out sink.new) buffer.new.items (buffer.old.items ++ steps_text steps.now)) }
-    ensures part { OnErr result (IsCutShort (K.out sink.old) (K.out sink.new) (buffer.old.items ++ steps_text steps.now)) }
+fn print_steps<K: Sink>(
+    transcript: &Transcript,
+    buffer: &mut Vec<u8>,
+    sink: &mut K,
+) -> Result<(), TextError>
+    requires { vec_len buffer.old ≤ 32768 }
+    ensures held { OnOk result (vec_len buffer.new ≤ 32768) }
+    ensures sent { OnOk result (IsSent (K.out sink.old) (K.out sink.new) buffer.new.items (buffer.old.items ++ steps_text transcript.now)) }
+    ensures part { OnErr result (IsCutShort (K.out sink.old) (K.out sink.new) (buffer.old.items ++ steps_text transcript.now)) }
     ensures cause { IsErrOf result TextError.Fault → Rose (K.faults sink.old) (K.faults sink.new) }
+    ensures only { (IsErrOf result TextError.Fault → ⊥) → K.faults sink.new ≡ K.faults sink.old }
     ensures later { K.faults sink.old ≤ K.faults sink.new }
 {
-    for step in steps {
-        add_step(buffer, step)?;
+    for (number, events, ends) in transcript.steps() {
+        add_step(buffer, number, events, ends)?;
         send_when_long(buffer, sink)?;
     }
     Ok(())
@@ -135,6 +150,7 @@ fn send_when_long<K: Sink>(buffer: &mut Vec<u8>, sink: &mut K) -> Result<(), Wri
     ensures short { OnOk result (vec_len buffer.new ≤ 32768) }
     ensures part { OnErr result (IsCutShort (K.out sink.old) (K.out sink.new) buffer.old.items) }
     ensures cause { OnErr result (Rose (K.faults sink.old) (K.faults sink.new)) }
+    ensures only { OnOk result (K.faults sink.new ≡ K.faults sink.old) }
     ensures later { K.faults sink.old ≤ K.faults sink.new }
 {
     if buffer.len() > PIECE {

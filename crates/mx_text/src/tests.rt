@@ -2,7 +2,9 @@
 
 use crate::print;
 use mx_io::MemorySink;
-use mx_legal::{Element, Event, Event2, Kind, Outcome, Result2, Transcript, Transcripts};
+use mx_legal::{
+    Element, Event, Event2, Kind, Outcome, Recording, Result2, Transcript, Transcripts,
+};
 use mx_list::Sequence;
 use mx_request::{Reply, Request};
 use mx_sdw::{Denial, Ring};
@@ -41,15 +43,15 @@ fn transcript(
     alloc: Global,
     lines: &[(u32, Option<Event2>, Result2)],
 ) -> Result<Transcript, AllocError> {
-    let mut steps = Sequence::new(alloc);
-    for (number, event, outcome) in lines {
-        let events = match event {
-            Some(event) => Sequence::of_slice(alloc, &[*event])?,
-            None => Sequence::new(alloc),
-        };
-        steps.push((*number, events, *outcome))?;
+    let mut recording = Recording::with_room(alloc, lines.len())?;
+    for (number, event, ends) in lines {
+        recording.reserve()?;
+        if let Some(event) = event {
+            recording.push(*event);
+        }
+        recording.end_line(*number, *ends);
     }
-    Ok(steps)
+    Ok(recording.finish())
 }
 
 fn text(alloc: Global, journal: &Journal, transcripts: &Transcripts) -> Result<MemorySink, Fail> {

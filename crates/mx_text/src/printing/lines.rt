@@ -3,22 +3,28 @@
 ghost use Rattle.std.specs.Prelude.{◌≡◌, ◌++◌, OnOk};
 ghost use Rattle.mx_sdw.specs.Denials.{denial_text};
 ghost use Rattle.mx_sdw.specs.Octal.{octal};
+ghost use Rattle.mx_core.specs.declared.elements.Event.TheVariants.{Missing};
+ghost use Rattle.mx_legal.specs.declared.transcripts.Event2.TheVariants.{Core};
 ghost use Rattle.mx_text.specs.RunText.{kind_text, outcome_text, element_text, event_text, events_text, result_text, step_text};
 
 use super::numbers::{add_address, add_labelled};
-use mx_legal::{Element, Event, Event2, Kind, Outcome, Result2, Step};
+use mx_legal::{Element, Event, Event2, Kind, Outcome, Result2};
 use mx_sdw::{Denial, Word, write_octal};
 use std::alloc::AllocError;
 
 /// Adds a line's events, then `line N RESULT`.
-pub(super) fn add_step(out: &mut Vec<u8>, step: &Step) -> Result<(), AllocError>
-    ensures { OnOk result (out.new.items ≡ out.old.items ++ step_text step.now) }
+pub(super) fn add_step(
+    out: &mut Vec<u8>,
+    number: u32,
+    events: &[Event2],
+    ends: Result2,
+) -> Result<(), AllocError>
+    ensures { OnOk result (out.new.items ≡ out.old.items ++ step_text (number, events.now, ends)) }
 {
-    let (number, events, outcome) = step;
-    add_events(out, events.items())?;
-    add_labelled(out, b"line ", u64::from(*number))?;
+    add_events(out, events)?;
+    add_labelled(out, b"line ", u64::from(number))?;
     out.extend_from_slice(b" ")?;
-    add_result(out, outcome)?;
+    add_result(out, &ends)?;
     out.extend_from_slice(b"\n")
 }
 
@@ -36,11 +42,22 @@ fn add_event(out: &mut Vec<u8>, event: &Event2) -> Result<(), AllocError>
 {
     match event {
         Event2::Core(Event::Seen(element)) => add_element(out, element),
+        Event2::Core(Event::Missing { segno, by }) => add_miss(out, *segno, *by),
         Event2::Entry(number) => {
             add_labelled(out, b"entry ", u64::from(*number))?;
             out.extend_from_slice(b"\n")
         },
     }
+}
+
+// `missing S by K`
+fn add_miss(out: &mut Vec<u8>, segno: u16, by: u32) -> Result<(), AllocError>
+    ensures { OnOk result (out.new.items ≡ out.old.items ++ event_text (Core (Missing segno by))) }
+{
+    out.extend_from_slice(b"missing ")?;
+    write_octal(out, u64::from(segno))?;
+    add_labelled(out, b" by ", u64::from(by))?;
+    out.extend_from_slice(b"\n")
 }
 
 // `KIND S|W ring R point K ..`
@@ -61,7 +78,11 @@ fn kind_text(kind: &Kind) -> &'static str
 {
     match kind {
         Kind::Read => "read",
+        Kind::Ind => "ind",
         Kind::Write => "write",
+        Kind::Fetch => "fetch",
+        Kind::Call => "call",
+        Kind::Return => "return",
     }
 }
 
@@ -79,6 +100,7 @@ fn add_outcome(out: &mut Vec<u8>, outcome: &Outcome) -> Result<(), AllocError>
             add_labelled(out, b" stamp ", u64::from(*stamp))
         },
         Outcome::Written { value } => add_word(out, b" word ", value),
+        Outcome::Entered { ring } => add_labelled(out, b" enter ", u64::from(ring.number())),
         Outcome::Denied(denial) => add_denial(out, b" denied ", denial),
     }
 }

@@ -1,6 +1,15 @@
-use Rattle.std.proofs.Common.{arith}
-use Rattle.mx_text.proofs.PrintingLaws.{on_err, entries_cut, parts_sent, parts_cut, cut_memory, cut_part, end_cut, end_sent}
+use Rattle.std.proofs.Common.{rules, arith, ◌≡◌, ◌≤◌, ◌<◌, ◌^◌, length, vec_len, codes}
+use Rattle.mx_text.proofs.PrintingLaws.{on_err, short_heading, entries_cut, parts_sent, parts_cut, cut_memory, cut_part, end_cut, end_sent}
 use Rattle.mx_text.proofs.printing.print.Goals as goal
+
+pub print_entries-requires : goal.print_entries-requires
+print_entries-requires g c =
+    let few : length c.items-entries.result.now < 2 ^ 64 = search rules in
+    let eight : length (codes "journal ") ≤ 8 = omega arith in
+    let short : length c.add_heading.new.out.items ≤ 32768
+    = short_heading _ _ (codes "journal ") (length c.items-entries.result.now) c.new-buffer.ensures.items c.in_ok-add_heading.ensures eight few in
+    let same : vec_len c.add_heading.new.out ≡ length c.add_heading.new.out.items = search rules in
+    omega (arith, short, same)
 
 pub returns-in_err-print_entries-clause-part : goal.returns-in_err-print_entries-clause-part
 returns-in_err-print_entries-clause-part g c =

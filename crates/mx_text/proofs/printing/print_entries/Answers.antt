@@ -15,5 +15,6 @@ pub loop-i-preserved : goal.loop-i-preserved
 loop-i-preserved g c = record {
   is_sent = sent_next _ _ _ _ _ _ _ _ _ _ c.loop-i.invariant.is_sent (entries_left _ _ _ _ c.loop-i-test.true c.index-entries-i.is)
       c.in_ok-add_entry.ensures c.in_ok-send_when_long.ensures.sent;
-  later = search rules;
+  same = search rules;
+  held = search rules;
 }
