@@ -263,7 +263,12 @@ clear_law w cell g can = record {
       (λ c. cells c.cell) still g.reads;
   memory = record {
     cells = put_all (λ c h. IsCell w.start w.answered h) w.cell cell zero_cell
-        (record { word = omega arith; zero = λ e. refl; low = λ some. absurd (some refl); high = λ some. absurd (some refl) })
+        (record {
+          word = omega arith;
+          zero = λ e. refl;
+          low = λ some. absurd (some refl);
+          high = λ some. absurd (some refl);
+        })
         (λ c n. g.memory.cells c);
     clean_zero = put_both (λ c b h. IsTrue b → h ≡ zero_cell) w.clean w.cell cell true zero_cell (λ e. refl)
         (λ c n. g.memory.clean_zero c);

@@ -121,7 +121,12 @@ module _ (processes numbers start : ℕ) (table : ℕ → ℕ → Descriptor) (c
           });
     };
     memory = record {
-      cells = λ c. record { word = omega arith; zero = λ e. refl; low = λ some. absurd (some refl); high = λ some. absurd (some refl) };
+      cells = λ c. record {
+        word = omega arith;
+        zero = λ e. refl;
+        low = λ some. absurd (some refl);
+        high = λ some. absurd (some refl);
+      };
       clean_zero = λ c h. refl;
       clean_bare = λ c h. bare (page_of c) h;
       clean_bare_next = λ c h. bare (page_of c) h;

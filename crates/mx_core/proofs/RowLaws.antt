@@ -12,7 +12,7 @@ use Rattle.mx_core.specs.Causes.{IsCause}
 use Rattle.mx_sdw.specs.Admissible.{IsAdmissible}
 use Rattle.mx_core.specs.Row.{data_desc, row_table, row_opening, row_entry, row_steps, RowLaw}
 use Rattle.mx_core.specs.Steps.{CanAll, after}
-use Rattle.mx_core.specs.Words.{DescriptorWord, Valid, Fault}
+use Rattle.mx_core.specs.Words.{DescriptorWord, Valid, Fault, Triple, Asked}
 use Rattle.mx_core.specs.World.{Outside, Ready, World}
 use Rattle.mx_core.specs.declared.changes.Change.{Change}
 use Rattle.mx_core.specs.declared.steps.Cause.TheVariants as cause
@@ -170,14 +170,34 @@ two_two = omega arith
 eight : 8 < 128
 eight = omega arith
 
+-- what process 1 stores through, and process 2 reads through
+abbrev known : Triple
+known = record { segno = 9; number = 3; desc = data_desc true 21 }
+
+abbrev writing : Asked
+writing = record { op = op.Write; ring = 4; word = 0 }
+
+abbrev reading : Asked
+reading = record { op = op.Read; ring = 4; word = 0 }
+
 enabled : CanAll row_opening row_steps
 unfolding judgement
 enabled = (
   can_append,
   (
-    record { range = record { process = record { low = one_two; high = two_two }; number = eight }; pending = lt34; changed = changed },
+    record {
+      range = record { process = record { low = one_two; high = two_two }; number = eight };
+      pending = lt34;
+      changed = changed;
+    },
     (
-      record { range = record { low = one_two; high = two_two }; pending = lt34; changed = record { segno = 8; changed = changed }; struck = struck_2 },
+      record {
+        range = record { low = one_two; high = two_two };
+        pending = lt34;
+        changed = record
+            { segno = 8; changed = changed };
+        struck = struck_2;
+      },
       (
         record { range = record { low = one_two; high = two_two }; pending = lt34; connected = refl; left = inl refl },
         (
@@ -193,7 +213,12 @@ enabled = (
                   (
                     record { range = record { low = one_one; high = one_two }; ready = refl },
                     (
-                      record { range = record { low = one_one; high = one_two }; word = omega arith; hold = record { on = record { segno = 9; number = 3; desc = data_desc true 21 }; asked = record { op = op.Write; ring = 4; word = 0 }; basis = refl; hold = refl; operation = refl } },
+                      record {
+                        range = record { low = one_one; high = one_two };
+                        word = omega arith;
+                        hold = record
+                            { on = known; asked = writing; basis = refl; hold = refl; operation = refl };
+                      },
                       (
                         record { range = record { low = one_one; high = one_two }; inside = inside },
                         (
@@ -203,7 +228,11 @@ enabled = (
                             (
                               record { range = record { low = one_two; high = two_two }; ready = refl },
                               (
-                                record { range = record { low = one_two; high = two_two }; hold = record { on = record { segno = 9; number = 3; desc = data_desc true 21 }; asked = record { op = op.Read; ring = 4; word = 0 }; basis = refl; hold = refl; operation = refl } },
+                                record {
+                                  range = record { low = one_two; high = two_two };
+                                  hold = record
+                                      { on = known; asked = reading; basis = refl; hold = refl; operation = refl };
+                                },
                                 (
                                   record { range = record { low = one_two; high = two_two }; inside = inside },
                                   (
@@ -215,15 +244,36 @@ enabled = (
                                         (
                                           record { range = record { low = one_two; high = two_two }; inside = inside },
                                           (
-                                            record { range = record { process = record { low = one_two; high = two_two }; number = eight }; rest = le44; fault = record { by = 4; at = refl } },
+                                            record {
+                                              range = record {
+                                                process = record
+                                                    { low = one_two; high = two_two };
+                                                number =
+                                                    eight;
+                                              };
+                                              rest = le44;
+                                              fault = record { by = 4; at = refl };
+                                            },
                                             (
-                                              record { range = record { low = one_two; high = two_two }; outside = refl },
+                                              record {
+                                                range = record { low = one_two; high = two_two };
+                                                outside = refl;
+                                              },
                                               (
-                                                record { range = record { low = one_two; high = two_two }; entering = refl },
+                                                record {
+                                                  range = record { low = one_two; high = two_two };
+                                                  entering = refl;
+                                                },
                                                 (
-                                                  record { range = record { low = one_two; high = two_two }; ready = refl },
+                                                  record {
+                                                    range = record { low = one_two; high = two_two };
+                                                    ready = refl;
+                                                  },
                                                   (
-                                                    record { range = record { low = one_two; high = two_two }; inside = inside },
+                                                    record {
+                                                      range = record { low = one_two; high = two_two };
+                                                      inside = inside;
+                                                    },
                                                     tt,
                                                   ),
                                                 ),

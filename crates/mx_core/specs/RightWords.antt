@@ -1,5 +1,5 @@
--- What descriptor words may say (clauses 2 and 3, and the supervisor's part of 6). A column gives what the table has for
--- one pair after each number of entries.
+-- What descriptor words may say (clauses 2 and 3, and the supervisor's part of 6). A column gives what the table has
+-- for one pair after each number of entries.
 use Rattle.std.specs.Prelude.{◌≡◌, ◌≢◌, ℕ, ◌+◌, ◌<◌, ◌≤◌}
 use Rattle.mx_sdw.specs.Descriptors.{Descriptor}
 use Rattle.mx_core.specs.Words.{DescriptorWord, Valid, Fault}
