@@ -1,4 +1,8 @@
-pub mod Machine
+pub mod Worlds
 pub mod Running
-pub mod Advances
-pub mod Phases
+pub mod Access
+pub mod Processes
+pub mod Making
+pub mod Benches
+pub mod Stepping
+pub mod Rounds

@@ -1,16 +1,21 @@
-//! Running a session of one process: the machine that does one line after another, and what comes of it.
+//! Running a session: its processes on one bench, which makes one step of any of them.
 //!
-//! [`run`] promises a legal run in the definitions of `mx_legal`, whose rings fall only through gates; a reader needs nothing
-//! of this crate's `specs/`. They say what one line makes of the machine (`Machine`), what holds of a run so far (`Running`),
-//! and that each line keeps it (`Advances`, `Phases`). Stands on `mx_state` (the supervisor), `mx_script` (sessions) and
-//! `mx_legal` (the rules of a run).
+//! A [`Bench`] has the supervisor, the cells of the memory and each process's place in its script. [`Bench::step`] makes one
+//! element with its access to a cell, or one entry, or a call that finds the journal full, or a line that needs neither; the
+//! order of steps is whoever's who calls it. Its type says that the run so far keeps all that a legal run asks, so that
+//! [`Bench::finish`] hands out a legal run. [`run`] steps the processes in turn. Stands on `mx_sup` (the supervisor),
+//! `mx_script` (sessions), `mx_legal` (the rules of a run) and `mx_ties` (what keeps them step by step).
 #![tactic(auto)]
 
-mod laws;
-mod machine;
+mod benches;
 mod memory;
+mod processes;
+mod references;
 mod running;
 
-pub use laws::{advance_law, begin_law, legal_law, script_law, setup_law, start_law};
+pub use benches::{Bench, Stepped};
 pub use memory::Contents;
-pub use running::{Ran, run};
+pub use running::run;
+
+#[cfg(test)]
+mod tests;

@@ -1,7 +1,7 @@
 //! The words of the memory.
 
 ghost use Rattle.std.specs.Prelude.{◌≡◌, ◌<◌, ℕ, IfOk, length, slice_set};
-ghost use Rattle.mx_proc.specs.Machine.{contents_at, empty_contents};
+ghost use Rattle.mx_proc.specs.Worlds.{contents_at, empty_contents};
 
 use mx_sdw::Word;
 use std::alloc::{AllocError, Global};

@@ -1,5 +1,5 @@
 use Rattle.std.proofs.Common.{◌≡◌, ℕ, vec_len}
-use Rattle.mx_proc.specs.Machine.{contents_at, empty_contents}
+use Rattle.mx_proc.specs.Worlds.{contents_at, empty_contents}
 use Rattle.mx_proc.proofs.memory.Memory.new.Given as goal
 
 -- each cell so far is empty

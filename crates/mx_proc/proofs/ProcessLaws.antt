@@ -1,0 +1,116 @@
+-- One process of a list is changed in its place.
+use Rattle.std.proofs.Common.{◌≡◌, ◌⊎◌, inl, inr, ℕ, zero, suc, ◌<◌, ◌+◌, ◌^◌, IsTrue, List, [], ◌∷◌, ◌++◌, length, Some, refl, sym, ◌∙◌, ap, subst, arith, length-append}
+use Rattle.std.specs.List.{slice_get, slice_set, slice_index_or}
+use Rattle.mx_call.specs.Registers.{Registers}
+use Rattle.mx_legal.specs.Openings.{opening_registers}
+use Rattle.mx_legal.specs.Recorded.{Recorded, IsStill as IsStillRecorded}
+use Rattle.mx_legal.specs.Scripts.{first_line}
+use Rattle.mx_legal.specs.declared.transcripts.Event2.{Event2}
+use Rattle.mx_legal.specs.declared.transcripts.Result2.{Result2}
+use Rattle.mx_script.specs.Sessions.{Outline}
+use Rattle.mx_proc.proofs.SeatLaws.{set_here}
+use Rattle.mx_proc.specs.Processes.{IsFresh, AreFreshUpTo, IsStill, HasRoom, IsCountable, HasEnded, HasRegisters, HasLines}
+use Rattle.mx_proc.specs.declared.processes.Process.{Process}
+
+get_at : {A : Type 0} (xs : List A) (i : ℕ) (d : A) → i < length xs → slice_get xs i ≡ Some (slice_index_or xs i d)
+get_at [] i d h = absurd (omega (arith, h))
+get_at (x ∷ xs) zero d h = refl
+get_at (x ∷ xs) (suc i) d h = get_at xs i d (omega (arith, h))
+
+abbrev pub with_recording : Process → Recorded → Process
+with_recording p r = record { first = p.first; registers = p.registers; recording = r }
+
+pub reserved_still : (processes : List Process) (i : ℕ) (q : Process) (r : Recorded) → i < length processes
+    → IsStillRecorded (slice_index_or processes i q).recording r → IsStill processes i (slice_set processes i (with_recording (slice_index_or processes i q) r))
+reserved_still processes i q r h s = record {
+  before = slice_index_or processes i q;
+  at = get_at processes i q h;
+  after = with_recording (slice_index_or processes i q) r;
+  first = refl;
+  registers = refl;
+  steps = s.steps;
+  events = s.events;
+  set = refl;
+}
+
+pub reserved_room : (processes : List Process) (i : ℕ) (q p : Process) → i < length processes → IsTrue p.recording.event_room → IsTrue p.recording.line_room
+    → HasRoom (slice_set processes i p) i
+reserved_room processes i q p h event line = record {
+  process = p;
+  at = set_here processes i (slice_index_or processes i q) p (get_at processes i q h);
+  event = event;
+  line = line;
+}
+
+-- the one that is read is the one that has room
+same_at : (processes : List Process) (i : ℕ) (q p : Process) → i < length processes → slice_get processes i ≡ Some p → p ≡ slice_index_or processes i q
+same_at processes i q p h at = one p (slice_index_or processes i q) (sym at ∙ get_at processes i q h)
+  where
+    one : (a b : Process) → Some a ≡ Some b → a ≡ b
+    one a b e = cc
+
+pub room_of : (processes : List Process) (i : ℕ) (q : Process) → i < length processes → HasRoom processes i
+    → IsTrue (slice_index_or processes i q).recording.event_room × IsTrue (slice_index_or processes i q).recording.line_room
+room_of processes i q h room =
+    let same = same_at processes i q room.process h room.at in
+    (subst (λ (p : Process). IsTrue p.recording.event_room) same room.event, subst (λ (p : Process). IsTrue p.recording.line_room) same room.line)
+
+pub number_of : (processes : List Process) (i : ℕ) (q : Process) → i < length processes → IsCountable processes i
+    → (slice_index_or processes i q).first + length (slice_index_or processes i q).recording.steps < 2 ^ 32
+number_of processes i q h c =
+    subst (λ (p : Process). p.first + length p.recording.steps < 2 ^ 32) (same_at processes i q c.process h c.at) c.number
+
+pub has_ended : (processes : List Process) (i : ℕ) (q p : Process) (events : List Event2) (ends : Result2) (registers : Registers)
+    → i < length processes → p.first ≡ (slice_index_or processes i q).first → p.registers ≡ registers
+    → p.recording.steps ≡ (slice_index_or processes i q).recording.steps
+    ++ ((slice_index_or processes i q).first + length (slice_index_or processes i q).recording.steps, (slice_index_or processes i q).recording.events ++ events, ends) ∷ []
+    → p.recording.events ≡ [] → HasEnded processes i events ends registers (slice_set processes i p)
+has_ended processes i q p events ends registers h first done steps idle = record {
+  before = slice_index_or processes i q;
+  at = get_at processes i q h;
+  after = p;
+  first = first;
+  done = done;
+  steps = steps;
+  idle = idle;
+  set = refl;
+}
+
+pub registers_of : (processes : List Process) (i : ℕ) (q : Process) → i < length processes → HasRegisters processes i (slice_index_or processes i q).registers
+registers_of processes i q h = record { process = slice_index_or processes i q; at = get_at processes i q h; registers = refl }
+
+pub lines_of_one : (processes : List Process) (i n : ℕ) (q : Process) → i < length processes
+    → n ≡ length (slice_index_or processes i q).recording.steps → HasLines processes i n
+lines_of_one processes i n q h e = record { process = slice_index_or processes i q; at = get_at processes i q h; lines = e }
+
+-- processes before their first lines, one after another
+place_in : (processes : List Process) (p found : Process) (i : ℕ) → slice_get (processes ++ p ∷ []) i ≡ Some found
+    → (slice_get processes i ≡ Some found) ⊎ ((i ≡ length processes) × (p ≡ found))
+place_in [] p found zero e = inr (refl, cc)
+place_in [] p found (suc i) e = absurd (cc)
+place_in (q ∷ processes) p found zero e = inl e
+place_in (q ∷ processes) p found (suc i) e = elim (place_in processes p found i e) [
+  | inl old ↦ inl old
+  | inr new ↦ inr (ap suc new.0, new.1)
+]
+
+pub fresh_more : (x : Outline) (count : ℕ) (processes processes' : List Process) (p : Process) → AreFreshUpTo x count processes
+    → p.first ≡ first_line x (count + 1) → p.registers ≡ opening_registers 1 → p.recording.steps ≡ [] → p.recording.events ≡ []
+    → processes' ≡ processes ++ p ∷ [] → AreFreshUpTo x (count + 1) processes'
+fresh_more x count processes processes' p f first registers steps events more = record {
+  count = ap length more ∙ length-append processes (p ∷ []) ∙ ap (λ n. n + 1) f.count;
+  each = λ i found e. elim (place_in processes p found i (ap (λ (l : List Process). slice_get l i) (sym more) ∙ e)) [
+    | inl old ↦ f.each i found old
+    | inr new ↦ subst (λ (q : Process). IsFresh x i q) new.1 (fresh i (new.0 ∙ f.count))
+  ];
+}
+  where
+    next : (n : ℕ) → n + 1 ≡ suc n
+    next n = omega arith
+
+    fresh : (i : ℕ) → i ≡ count → IsFresh x i p
+    fresh i e = record {
+      idle = record { first = first ∙ ap (first_line x) (next count ∙ ap suc (sym e)); events = events };
+      registers = registers;
+      steps = steps;
+    }

@@ -1,0 +1,115 @@
+-- A round of steps leaves fewer lines, as long as one is left.
+use Rattle.std.proofs.Common.{◌≡◌, ◌⊎◌, inl, inr, ℕ, zero, suc, ◌<◌, ◌≤◌, ◌+◌, ◌-◌, List, [], ◌∷◌, drop, length, Some, refl, sym, ◌∙◌, ap, subst, arith, length-append}
+use Rattle.std.proofs.lemmas.Bool.{cases_lt}
+use Rattle.std.proofs.lemmas.Option.{slice_get_within}
+use Rattle.std.specs.List.{slice_get, slice_set}
+use Rattle.mx_legal.specs.Scripts.{lines_of}
+use Rattle.mx_script.specs.Sessions.{Outline}
+use Rattle.mx_proc.proofs.SeatLaws.{set_length, left_more}
+use Rattle.mx_proc.specs.Rounds.{lines_left, all_left, HaveEndedUpTo, IsAsked}
+use Rattle.mx_proc.specs.Running.{left_of}
+use Rattle.mx_proc.specs.Stepping.{HasStepped, HasEnded, HaveEnded}
+use Rattle.mx_proc.specs.Worlds.{Seat, World}
+use Rattle.mx_proc.specs.declared.benches.Stepped.{Stepped}
+use Rattle.mx_proc.specs.declared.benches.Stepped.TheVariants.{LineDone, Ended}
+
+-- one line less of one process
+fewer : (x : Outline) (p : ℕ) (seats : List Seat) (i : ℕ) (before after : Seat) → slice_get seats i ≡ Some before
+    → length (left_of x (p + i) after) < length (left_of x (p + i) before) → lines_left x p (slice_set seats i after) < lines_left x p seats
+fewer x p [] i before after e less = absurd (cc)
+fewer x p (seat ∷ seats) zero before after e less =
+    let same : seat ≡ before = same_seat seat before e in
+    let here : p + 0 ≡ p = omega arith in
+    let l : length (left_of x p after) < length (left_of x p seat)
+    = subst (λ n. length (left_of x n after) < length (left_of x n seat)) here
+    (subst (λ (s : Seat). length (left_of x (p + 0) after) < length (left_of x (p + 0) s)) (sym same) less) in
+    omega (arith, l)
+  where
+    same_seat : (a b : Seat) → Some a ≡ Some b → a ≡ b
+    same_seat a b e = cc
+fewer x p (seat ∷ seats) (suc i) before after e less =
+    let there : p + suc i ≡ suc p + i = omega arith in
+    let l = fewer x (suc p) seats i before after e (subst (λ n. length (left_of x n after) < length (left_of x n before)) there less) in
+    omega (arith, l)
+
+pub stepped_less : (old : World) (p : ℕ) (new : World) → 1 ≤ p → HasStepped old p new → all_left new < all_left old
+stepped_less old p new some h =
+    let own : 1 + (p - 1) ≡ p = omega (arith, some) in
+    let left : left_of old.session p h.after ≡ h.left
+    = ap (λ n. drop n (lines_of old.session p)) (ap length h.done ∙ length-append h.before.steps (h.step ∷ []) ∙ next (length h.before.steps))
+    ∙ left_more (length h.before.steps) (lines_of old.session p) h.line h.left h.at in
+    let less : length (left_of old.session p h.after) < length (left_of old.session p h.before)
+    = rw (left, h.at) (omega arith) in
+    let l = fewer old.session 1 old.seats (p - 1) h.before h.after h.seated
+    (subst (λ n. length (left_of old.session n h.after) < length (left_of old.session n h.before)) (sym own) less) in
+    rw (h.session, h.seats) l
+  where
+    next : (n : ℕ) → n + 1 ≡ suc n
+    next n = omega arith
+
+asked_step : (start : World) (i : ℕ) (now next : World) → HasStepped now (i + 1) next → IsAsked start i now → IsAsked start (i + 1) next
+asked_step start i now next h a =
+    let less = stepped_less now (i + 1) next (omega arith) h in
+    record {
+      session = h.session ∙ a.session;
+      seats = ap length h.seats ∙ set_length now.seats (i + 1 - 1) h.after ∙ a.seats;
+      progress = inl (elim a.progress [
+        | inl l ↦ omega (arith, l, less)
+        | inr s ↦ subst (λ (w : World). all_left next < all_left w) s.0 less
+      ]);
+    }
+
+asked_ended : (start : World) (i : ℕ) (now : World) → HasEnded now (i + 1) → IsAsked start i now → IsAsked start (i + 1) now
+asked_ended start i now h a = record {
+  session = a.session;
+  seats = a.seats;
+  progress = elim a.progress [
+    | inl l ↦ inl l
+    | inr s ↦ inr (s.0, more s.0 s.1)
+  ];
+}
+  where
+    same_seat : (a b : Seat) → Some a ≡ Some b → a ≡ b
+    same_seat a b e = cc
+
+    place : i + 1 - 1 ≡ i
+    place = omega arith
+
+    next : i + 1 ≡ suc i
+    next = omega arith
+
+    here : (seat : Seat) → now ≡ start → slice_get start.seats i ≡ Some seat → left_of start.session (suc i) seat ≡ []
+    here seat e at =
+        let at' : slice_get now.seats i ≡ Some seat = ap (λ (w : World). slice_get w.seats i) e ∙ at in
+        let it : h.seat ≡ seat = same_seat h.seat seat (sym h.seated ∙ ap (slice_get now.seats) place ∙ at') in
+        subst (λ (w : World). left_of w.session (suc i) seat ≡ []) e
+        (subst (λ n. left_of now.session n seat ≡ []) next (subst (λ (s : Seat). left_of now.session (i + 1) s ≡ []) it h.none))
+
+    more : now ≡ start → HaveEndedUpTo start i → HaveEndedUpTo start (i + 1)
+    more e up j seat below at = by_case (below_or j i below)
+      where
+        below_or : (j i : ℕ) → j < i + 1 → (j < i) ⊎ (j ≡ i)
+        below_or j i h = elim (cases_lt j i) [
+          | inl l ↦ inl l
+          | inr g ↦ inr (omega (arith, h, g))
+        ]
+
+        by_case : (j < i) ⊎ (j ≡ i) → left_of start.session (suc j) seat ≡ []
+        by_case (inl l) = up j seat l at
+        by_case (inr is) =
+            subst (λ n. left_of start.session (suc n) seat ≡ []) (sym is)
+            (here seat e (ap (slice_get start.seats) (sym is) ∙ at))
+
+-- a whole round leaves fewer lines, unless none was left
+pub round_less : (start now : World) → IsAsked start (length start.seats) now → (HaveEnded start → ⊥) → all_left now < all_left start
+round_less start now a some = elim a.progress [
+  | inl l ↦ l
+  | inr s ↦ absurd (some (λ i seat e. s.1 i seat (slice_get_within start.seats i seat e) e))
+]
+
+-- what a step answers
+pub asked_on : (start now next : World) (i : ℕ) (answered : Stepped) → (answered ≡ Ended → HasEnded now (i + 1)) → (answered ≡ LineDone → HasStepped now (i + 1) next)
+    → (answered ≡ Ended → next ≡ now) → IsAsked start i now → IsAsked start (i + 1) next
+asked_on start now next i LineDone ended done still a = asked_step start i now next (done refl) a
+asked_on start now next i Ended ended done still a =
+    subst (IsAsked start (i + 1)) (sym (still refl)) (asked_ended start i now (ended refl) a)

@@ -1,0 +1,352 @@
+-- What is true of a bench stays true as one process does one line more.
+use Rattle.std.proofs.Common.{◌≡◌, ◌≢◌, inl, inr, ℕ, suc, ◌<◌, ◌≤◌, ◌+◌, ◌==◌, nat_le, Bool, true, false, if◌then◌else◌, List, [], ◌∷◌, ◌++◌, map, drop, length, Some, refl, sym, ◌∙◌, ap, subst, arith, length-append, append_assoc}
+use Rattle.std.proofs.lemmas.Bool.{eqb-true}
+use Rattle.std.proofs.lemmas.List.{map-append}
+use Rattle.std.proofs.lemmas.Option.{slice_get_within}
+use Rattle.std.specs.List.{slice_get, slice_set}
+use Rattle.mx_call.specs.Registers.{Registers}
+use Rattle.mx_core.specs.declared.elements.Element.{Element}
+use Rattle.mx_core.specs.declared.elements.Event.TheVariants.{Seen}
+use Rattle.mx_core.specs.declared.elements.Outcome.TheVariants.{Read}
+use Rattle.mx_sdw.specs.Descriptors.{Descriptor}
+use Rattle.mx_legal.specs.Access.{descriptor_of}
+use Rattle.mx_legal.specs.Asking.{next, result_of}
+use Rattle.mx_legal.specs.Courses.{Course, Attempt, Answer, Judged}
+use Rattle.mx_legal.specs.Elements.{IsJudged}
+use Rattle.mx_legal.specs.Lines.{IsEnd}
+use Rattle.mx_legal.specs.Next.{Reference, Asks, Calls, Ends}
+use Rattle.mx_legal.specs.Scripts.{lines_of}
+use Rattle.mx_legal.specs.Standing.{own_setting}
+use Rattle.mx_legal.specs.declared.transcripts.Event2.{Event2}
+use Rattle.mx_legal.specs.declared.transcripts.Event2.TheVariants.{Core, Entry}
+use Rattle.mx_legal.specs.declared.transcripts.Result2.{Result2}
+use Rattle.mx_legal.specs.declared.transcripts.Result2.TheVariants as result
+use Rattle.mx_request.specs.declared.requests.Request.{Request}
+use Rattle.mx_script.specs.Sessions.{Outline, limit_of}
+use Rattle.mx_script.specs.declared.lines.Line.{Line}
+use Rattle.mx_script.specs.declared.lines.Line.TheVariants.{Ask}
+use Rattle.mx_state.specs.History.{opening, replay, IsRightEntry}
+use Rattle.mx_state.specs.declared.journal.Entry as journaled
+use Rattle.mx_reads.specs.Deeds.{Stores, Loads}
+use Rattle.mx_ties.proofs.BenchSteps.{bench_entry_law, bench_store_law, bench_load_law, bench_quiet_law}
+use Rattle.mx_ties.proofs.BenchGoingLaws.{bench_call_law, bench_look_law, bench_stamp_law}
+use Rattle.mx_ties.proofs.SoFarLaws.{line_step_law, last_line_law}
+use Rattle.mx_ties.specs.Bench.{IsBench, IsReferred, entered_view, referred_view}
+use Rattle.mx_ties.specs.BenchGoing.{IsBenched}
+use Rattle.mx_ties.specs.Closed.{followed, entry_in}
+use Rattle.mx_ties.specs.Uses.{use_of}
+use Rattle.mx_ties.specs.Views.{Marked, View}
+use Rattle.mx_proc.proofs.CellLaws.{stored_there, stored_only_there}
+use Rattle.mx_proc.proofs.RaisedLaws.{raise, raised, raised_bench}
+use Rattle.mx_proc.proofs.SeatLaws.{set_here, set_there, set_length, left_more}
+use Rattle.mx_proc.specs.Access.{IsAccess, stored}
+use Rattle.mx_proc.specs.Running.{IsBefore, left_of, IsRunning}
+use Rattle.mx_proc.specs.Worlds.{Seat, World, held, held_in, contents_at, always}
+use Rattle.mx_proc.specs.declared.memory.Contents.{Contents}
+
+-- a seat after one line more
+abbrev pub after_line : Seat → ℕ → List Event2 → Result2 → Registers → Seat
+after_line seat number events ends registers = record { registers = registers; steps = seat.steps ++ (number, events, ends) ∷ [] }
+
+-- the process is at this line, and others are left
+pub record IsAt (w : World) (i : ℕ) (seat : Seat) (number : ℕ) (line : Line) (left : List (ℕ × Line)) : Type 0 where
+  pub seated : slice_get w.seats i ≡ Some seat
+  pub at : left_of w.session (suc i) seat ≡ (number, line) ∷ left
+
+-- the view of one process changes
+abbrev pub put : ℕ → View → (ℕ → View) → ℕ → View
+put p v views u = if u == p then v else views u
+
+put_own : (p : ℕ) (v : View) (views : ℕ → View) → put p v views p ≡ v
+put_own p v views = rw (same p) refl
+  where
+    same : (n : ℕ) → (n == n) ≡ true
+    same n = grind arith
+
+put_other : (p : ℕ) (v : View) (views : ℕ → View) (u : ℕ) → u ≢ p → put p v views u ≡ views u
+put_other p v views u n = by_test (u == p) refl
+  where
+    by_test : (test : Bool) → (u == p) ≡ test → (if u == p then v else views u) ≡ views u
+    by_test true e = absurd (n (eqb-true u p e))
+    by_test false e = rw e refl
+
+-- the line at work ends
+ended : (x : Outline) (setup : List journaled.Entry) (p : ℕ) (seat : Seat) (number : ℕ) (line : Line) (left : List (ℕ × Line))
+    (events : List Event2) (course : Course) (ends : Result2) (after : Registers) (v : View)
+    → ((d : Element → Descriptor) → IsEnd (own_setting x (followed setup v.history) v.floor p d) seat.registers (next seat.registers line course) ends after)
+    → IsBenched x setup p seat.steps number line left seat.registers events course v
+    → IsBefore x setup p (after_line seat number events ends after) left v
+ended x setup p seat number line [] events course ends after v end r =
+    last_line_law x setup p seat.steps number line seat.registers after events course ends v (λ segno. limit_of x) end r
+ended x setup p seat number line (other ∷ left) events course ends after v end r =
+    line_step_law x setup p seat.steps number other.0 line other.1 left seat.registers after events course ends v (λ segno. limit_of x) end r
+
+-- before the line that is left
+at_line : (x : Outline) (setup : List journaled.Entry) (p : ℕ) (seat : Seat) (lines : List (ℕ × Line)) (number : ℕ) (line : Line) (left : List (ℕ × Line)) (v : View)
+    → lines ≡ (number, line) ∷ left → IsBefore x setup p seat lines v
+    → IsBenched x setup p seat.steps number line left seat.registers [] (Attempt []) v
+at_line x setup p seat lines number line left v e is = subst (λ (l : List (ℕ × Line)). IsBefore x setup p seat l v) e is
+
+after_it : (x : Outline) (p : ℕ) (seat : Seat) (number : ℕ) (line : Line) (left : List (ℕ × Line)) (events : List Event2) (ends : Result2) (after : Registers)
+    → left_of x p seat ≡ (number, line) ∷ left → left_of x p (after_line seat number events ends after) ≡ left
+after_it x p seat number line left events ends after e =
+    ap (λ n. drop n (lines_of x p)) (length-append seat.steps ((number, events, ends) ∷ []) ∙ one (length seat.steps))
+    ∙ left_more (length seat.steps) (lines_of x p) (number, line) left e
+  where
+    one : (n : ℕ) → n + 1 ≡ suc n
+    one n = omega arith
+
+-- a world after one line more of process i + 1, counted from 1
+abbrev pub stepped : World → ℕ → List journaled.Entry → List Contents → Seat → World
+stepped w i journal cells seat = record {
+  session = w.session;
+  journal = journal;
+  set_up = w.set_up;
+  cells = cells;
+  seats = slice_set w.seats i seat;
+}
+
+-- all processes are right, where one has done a line more and the views of the others are the same
+each_after : (x : Outline) (setup : List journaled.Entry) (seats : List Seat) (views views' : ℕ → View) (i : ℕ) (seat : Seat) (before : Seat)
+    → slice_get seats i ≡ Some before
+    → ((u : ℕ) → u ≢ suc i → views' u ≡ views u)
+    → ((j : ℕ) (s : Seat) → slice_get seats j ≡ Some s → IsBefore x setup (suc j) s (left_of x (suc j) s) (views (suc j)))
+    → IsBefore x setup (suc i) seat (left_of x (suc i) seat) (views' (suc i))
+    → (j : ℕ) (s : Seat) → slice_get (slice_set seats i seat) j ≡ Some s → IsBefore x setup (suc j) s (left_of x (suc j) s) (views' (suc j))
+each_after x setup seats views views' i seat before at others each own j s e = by_test (j == i) refl
+  where
+    apart : (a b : ℕ) → (a ≡ b → ⊥) → suc a ≢ suc b
+    apart a b n = λ e. n (omega (arith, e))
+
+    same : (n : ℕ) → (n == n) ≡ true
+    same n = grind arith
+
+    false_is : false ≡ true → ⊥
+    false_is e = cc
+
+    pair : (a b : ℕ) (s t : Seat) → a ≡ b → s ≡ t → ◌≡◌ {A = ℕ × Seat} (a, s) (b, t)
+    pair a b s t e f = cc
+
+    some : (s t : Seat) → Some s ≡ Some t → s ≡ t
+    some s t e = cc
+
+    by_test : (test : Bool) → (j == i) ≡ test → IsBefore x setup (suc j) s (left_of x (suc j) s) (views' (suc j))
+    by_test true t =
+        let same : j ≡ i = eqb-true j i t in
+        let P : ℕ × Seat → Type 0 = λ q. IsBefore x setup (suc q.0) q.1 (left_of x (suc q.0) q.1) (views' (suc q.0)) in
+        let here : Some seat ≡ Some s = sym (set_here seats i before seat at) ∙ ap (slice_get (slice_set seats i seat)) (sym same) ∙ e in
+        subst P (pair i j seat s (sym same) (some seat s here)) own
+    by_test false t =
+        let n : j ≡ i → ⊥ = λ q. false_is (sym t ∙ rw q (same i)) in
+        subst (λ v. IsBefore x setup (suc j) s (left_of x (suc j) s) v) (sym (others (suc j) (apart j i n)))
+        (each j s (sym (set_there seats i j seat n) ∙ e))
+
+-- a line that needs neither element nor entry
+pub set_law : (w : World) (i : ℕ) (seat : Seat) (number : ℕ) (line : Line) (left : List (ℕ × Line)) (ends : Result2) (after : Registers)
+    → IsRunning w → IsAt w i seat number line left → next seat.registers line (Attempt []) ≡ Ends ends after
+    → IsRunning (stepped w i w.journal w.cells (after_line seat number [] ends after))
+set_law w i seat number line left ends after r a e = record {
+  setup = r.setup;
+  history = r.history;
+  views = r.views;
+  journal = r.journal;
+  bench = r.bench;
+  set_up = r.set_up;
+  count = set_length w.seats i (after_line seat number [] ends after) ∙ r.count;
+  each = each_after w.session r.setup w.seats r.views r.views i (after_line seat number [] ends after) seat a.seated
+      (λ u n. refl) r.each
+      (subst (λ (l : List (ℕ × Line)). IsBefore w.session r.setup (suc i) (after_line seat number [] ends after) l (r.views (suc i)))
+      (sym (after_it w.session (suc i) seat number line left [] ends after a.at))
+      (ended w.session r.setup (suc i) seat number line left [] (Attempt []) ends after (r.views (suc i))
+      (λ d. rw e (refl, refl))
+      (at_line w.session r.setup (suc i) seat (left_of w.session (suc i) seat) number line left (r.views (suc i)) a.at (r.each i seat a.seated))));
+}
+
+-- a process of the bench
+seated_within : (w : World) (i : ℕ) (seat : Seat) → IsRunning w → slice_get w.seats i ≡ Some seat → suc i ≤ length w.session.principals
+seated_within w i seat r e = omega (arith, r.count, slice_get_within w.seats i seat e)
+
+-- a call that found the journal full: its process was told so
+same_view : (v : View) (floor : ℕ) → floor ≡ v.floor → record v { floor = floor } ≡ v
+same_view v floor e = rw e refl
+
+abbrev full_floors : (p : ℕ) (floor : ℕ) (views : ℕ → View) → ℕ → ℕ
+full_floors p floor views u = if u == p then floor else (views u).floor
+
+floor_own : (p floor : ℕ) (views : ℕ → View) → full_floors p floor views p ≡ floor
+floor_own p floor views = rw (same p) refl
+  where
+    same : (n : ℕ) → (n == n) ≡ true
+    same n = grind arith
+
+floor_other : (p floor : ℕ) (views : ℕ → View) (u : ℕ) → u ≢ p → full_floors p floor views u ≡ (views u).floor
+floor_other p floor views u n = by_test (u == p) refl
+  where
+    by_test : (test : Bool) → (u == p) ≡ test → (if u == p then floor else (views u).floor) ≡ (views u).floor
+    by_test true e = absurd (n (eqb-true u p e))
+    by_test false e = rw e refl
+
+pub full_law : (w : World) (i : ℕ) (seat : Seat) (number : ℕ) (line : Line) (left : List (ℕ × Line)) (ring : ℕ) (request : Request)
+    → IsRunning w → IsAt w i seat number line left → next seat.registers line (Attempt []) ≡ Calls ring request
+    → length w.journal ≡ limit_of w.session
+    → IsRunning (stepped w i w.journal w.cells (after_line seat number [] result.HistoryFull seat.registers))
+full_law w i seat number line left ring request r a e full =
+    let p : ℕ = suc i in
+    let most : ℕ = length (followed r.setup r.history) in
+    let at_limit : most ≡ limit_of w.session = sym (ap length r.journal) ∙ full in
+    let floors : ℕ → ℕ = full_floors p most r.views in
+    let within = seated_within w i seat r a.seated in
+    let low : (r.views p).floor ≤ most = (r.bench.closed.retired p (omega arith) within).floor in
+    let each_low : (u : ℕ) → 1 ≤ u → u ≤ length w.session.principals → floors u ≤ most
+    = λ u some least. below u (u == p) refl (r.bench.closed.retired u some least).floor in
+    let own : IsBenched w.session r.setup p seat.steps number line left seat.registers [] (Attempt []) (record (r.views p) { floor = most })
+    = raised w.session r.setup p seat.steps number line left seat.registers [] (Attempt []) (r.views p) most low
+    (at_line w.session r.setup p seat (left_of w.session p seat) number line left (r.views p) a.at (r.each i seat a.seated)) in
+    let after : Seat = after_line seat number [] result.HistoryFull seat.registers in
+    let is_full : nat_le (limit_of w.session) most ≡ true = reached (limit_of w.session) most at_limit in
+    record {
+      setup = r.setup;
+      history = r.history;
+      views = raise floors r.views;
+      journal = r.journal;
+      bench = raised_bench w.session r.setup r.history r.views always (held_in w.cells) floors each_low r.bench;
+      set_up = r.set_up;
+      count = set_length w.seats i after ∙ r.count;
+      each = each_after w.session r.setup w.seats r.views (raise floors r.views) i after seat a.seated
+          (λ u n. same_view (r.views u) (floors u) (floor_other p most r.views u n)) r.each
+          (subst (λ (l : List (ℕ × Line)). IsBefore w.session r.setup p after l (raise floors r.views p))
+          (sym (after_it w.session p seat number line left [] result.HistoryFull seat.registers a.at))
+          (subst (λ (n : ℕ). IsBefore w.session r.setup p after left (record (r.views p) { floor = n })) (sym (floor_own p most r.views))
+          (ended w.session r.setup p seat number line left [] (Attempt []) result.HistoryFull seat.registers (record (r.views p) { floor = most })
+          (λ d. rw e (is_full, refl, refl)) own)));
+    }
+  where
+    reached : (limit most : ℕ) → most ≡ limit → nat_le limit most ≡ true
+    reached limit most e = grind arith
+
+    below : (u : ℕ) (test : Bool) → (u == suc i) ≡ test → (r.views u).floor ≤ length (followed r.setup r.history)
+        → full_floors (suc i) (length (followed r.setup r.history)) r.views u ≤ length (followed r.setup r.history)
+    below u true t h = rw t (omega arith)
+    below u false t h = rw t h
+
+-- a call below the limit is entered
+pub call_law : (w : World) (i : ℕ) (seat : Seat) (number : ℕ) (left : List (ℕ × Line)) (request : Request) (entry : journaled.Entry)
+    → IsRunning w → IsAt w i seat number (Ask request) left
+    → entry.process ≡ suc i → entry.ring ≡ seat.registers.ring → entry.request ≡ request
+    → length w.journal < limit_of w.session → IsRightEntry (replay (opening w.session.principals) w.journal) entry
+    → IsRunning (stepped w i (w.journal ++ entry ∷ []) w.cells
+    (after_line seat number (Entry (length w.journal + 1) ∷ []) (result_of entry.reply) seat.registers))
+call_law w i seat number left request entry r a maker ring asked below right =
+    let p : ℕ = suc i in
+    let front : List journaled.Entry = followed r.setup r.history in
+    let marked : Marked = record { entry = entry; mark = length (r.views p).trace } in
+    let history : List Marked = r.history ++ marked ∷ [] in
+    let v : View = entered_view (r.views p) history (length front + 1) in
+    let views : ℕ → View = put p v r.views in
+    let within = seated_within w i seat r a.seated in
+    let below' : length front < limit_of w.session = subst (λ (j : List journaled.Entry). length j < limit_of w.session) r.journal below in
+    let right' : IsRightEntry (replay (opening w.session.principals) front) entry
+    = subst (λ (j : List journaled.Entry). IsRightEntry (replay (opening w.session.principals) j) entry) r.journal right in
+    let benched = at_line w.session r.setup p seat (left_of w.session p seat) number (Ask request) left (r.views p) a.at (r.each i seat a.seated) in
+    let called = bench_call_law w.session r.setup r.history r.views views always (held_in w.cells) p marked seat.steps number (Ask request) left
+    seat.registers [] (Attempt []) r.bench (omega arith) within maker refl below' (same_call ring asked) (put_own p v r.views) benched in
+    let after : ℕ → Seat = λ n. after_line seat number (Entry n ∷ []) (result_of entry.reply) seat.registers in
+    let own : IsBefore w.session r.setup p (after (length front + 1)) left (views p)
+    = ended w.session r.setup p seat number (Ask request) left (Entry (length front + 1) ∷ []) (Answer entry) (result_of entry.reply)
+    seat.registers (views p) (λ d. (refl, refl)) called in
+    record {
+      setup = r.setup;
+      history = history;
+      views = views;
+      journal = grown r.setup r.history marked w.journal r.journal;
+      bench = bench_entry_law w.session r.setup r.history r.views views always always (held_in w.cells) p marked r.bench (omega arith) within maker
+          refl below' right' (λ cell t. inl t) (put_own p v r.views) (put_other p v r.views);
+      set_up = r.set_up;
+      count = set_length w.seats i (after (length w.journal + 1)) ∙ r.count;
+      each = each_after w.session r.setup w.seats r.views views i (after (length w.journal + 1)) seat a.seated (put_other p v r.views) r.each
+          (subst (λ (l : List (ℕ × Line)). IsBefore w.session r.setup p (after (length w.journal + 1)) l (views p))
+          (sym (after_it w.session p seat number (Ask request) left (Entry (length w.journal + 1) ∷ []) (result_of entry.reply) seat.registers a.at))
+          (subst (λ (j : List journaled.Entry). IsBefore w.session r.setup p (after (length j + 1)) left (views p)) (sym r.journal) own));
+    }
+  where
+    same_call : entry.ring ≡ seat.registers.ring → entry.request ≡ request
+        → next seat.registers (Ask request) (Attempt []) ≡ Calls entry.ring entry.request
+    same_call e f = rw (e, f) refl
+
+    grown : (setup : List journaled.Entry) (history : List Marked) (marked : Marked) (journal : List journaled.Entry)
+        → journal ≡ followed setup history → journal ++ marked.entry ∷ [] ≡ followed setup (history ++ marked ∷ [])
+    grown setup history marked journal e =
+        ap (λ (j : List journaled.Entry). j ++ marked.entry ∷ []) e ∙ append_assoc setup (map entry_in history) (marked.entry ∷ [])
+        ∙ ap (λ (more : List journaled.Entry). setup ++ more) (sym (map-append entry_in history (marked ∷ [])))
+
+-- a reference
+pub refer_law : (w : World) (i : ℕ) (seat : Seat) (number : ℕ) (line : Line) (left : List (ℕ × Line)) (asked : Reference) (j : Judged)
+    (cells : List Contents) (ends : Result2) (after : Registers)
+    → IsRunning w → IsAt w i seat number line left
+    → next seat.registers line (Attempt []) ≡ Asks asked → IsJudged asked j.desc j.element
+    → j.desc ≡ descriptor_of w.session w.journal (suc i) j.element → j.element.point ≡ length w.journal
+    → IsAccess w.cells cells (suc i) j → next seat.registers line (Attempt (j ∷ [])) ≡ Ends ends after
+    → IsRunning (stepped w i w.journal cells (after_line seat number (Core (Seen j.element) ∷ []) ends after))
+refer_law w i seat number line left asked j cells ends after r a asks judged desc point access end =
+    let p : ℕ = suc i in
+    let front : List journaled.Entry = followed r.setup r.history in
+    let v : View = referred_view (r.views p) j (length front) in
+    let views : ℕ → View = put p v r.views in
+    let within = seated_within w i seat r a.seated in
+    let here : j.element.point ≡ length front = point ∙ ap length r.journal in
+    let is : IsReferred w.session r.setup r.history r.views views p j = record {
+      some = omega arith;
+      most = within;
+      desc = desc ∙ ap (λ (journal : List journaled.Entry). descriptor_of w.session journal p j.element) r.journal;
+      point = here;
+      own = put_own p v r.views;
+      others = put_other p v r.views;
+    } in
+    let benched = at_line w.session r.setup p seat (left_of w.session p seat) number line left (r.views p) a.at (r.each i seat a.seated) in
+    let seen = bench_look_law w.session r.setup r.history r.views views always (held_in w.cells) p j asked seat.steps number line left seat.registers
+    [] (Attempt []) r.bench is asks judged (stamps front here access) benched in
+    let own = ended w.session r.setup p seat number line left (Core (Seen j.element) ∷ []) (Attempt (j ∷ [])) ends after (views p)
+    (λ d. rw end (refl, refl)) seen in
+    let next_seat : Seat = after_line seat number (Core (Seen j.element) ∷ []) ends after in
+    record {
+      setup = r.setup;
+      history = r.history;
+      views = views;
+      journal = r.journal;
+      bench = touched views is here access;
+      set_up = r.set_up;
+      count = set_length w.seats i next_seat ∙ r.count;
+      each = each_after w.session r.setup w.seats r.views views i next_seat seat a.seated (put_other p v r.views) r.each
+          (subst (λ (l : List (ℕ × Line)). IsBefore w.session r.setup p next_seat l (views p))
+          (sym (after_it w.session p seat number line left (Core (Seen j.element) ∷ []) ends after a.at)) own);
+    }
+  where
+    same_stamp : (a b c x y z : ℕ) → Read a b c ≡ Read x y z → c ≡ z
+    same_stamp a b c x y z e = cc
+
+    stamps : (front : List journaled.Entry) → j.element.point ≡ length front → IsAccess w.cells cells (suc i) j
+        → (value writer stamp : ℕ) → j.element.outcome ≡ Read value writer stamp → stamp ≤ length (followed r.setup r.history)
+    stamps front here (inl s) = λ value writer stamp e. absurd (s.unread value writer stamp e)
+    stamps front here (inr (inl l)) = λ value writer stamp e.
+        subst (λ n. n ≤ length (followed r.setup r.history)) (same_stamp _ _ _ value writer stamp (sym l.outcome ∙ e))
+        (bench_stamp_law w.session r.setup r.history r.views always (held_in w.cells) (use_of l.cell) r.bench refl)
+    stamps front here (inr (inr q)) = λ value writer stamp e. absurd (q.unread value writer stamp e)
+
+    touched : (views : ℕ → View) → IsReferred w.session r.setup r.history r.views views (suc i) j
+        → j.element.point ≡ length (followed r.setup r.history) → IsAccess w.cells cells (suc i) j
+        → IsBench w.session r.setup r.history views always (held_in cells)
+    touched views is here (inl s) =
+        bench_store_law w.session r.setup r.history r.views views always (held_in w.cells) (held_in cells) (suc i) j (use_of s.cell) s.value r.bench is
+        (s.deed ∙ ap (Stores (use_of s.cell) s.value) here)
+        (ap (λ (c : List Contents). held_in c (use_of s.cell)) s.writes
+        ∙ stored_there w.cells s.cell (stored s.value (suc i) j.element.point) s.within
+        ∙ ap (λ n. held (stored s.value (suc i) n)) here)
+        (λ u n. ap (λ (c : List Contents). held_in c u) s.writes
+        ∙ stored_only_there w.cells s.cell (stored s.value (suc i) j.element.point) u n)
+    touched views is here (inr (inl l)) =
+        subst (λ (c : List Contents). IsBench w.session r.setup r.history views always (held_in c)) (sym l.keeps)
+        (bench_load_law w.session r.setup r.history r.views views always (held_in w.cells) (suc i) j (use_of l.cell) r.bench is refl
+        (l.deed ∙ ap (Loads (use_of l.cell) (contents_at w.cells l.cell).value (contents_at w.cells l.cell).writer (contents_at w.cells l.cell).stamp) here))
+    touched views is here (inr (inr q)) =
+        subst (λ (c : List Contents). IsBench w.session r.setup r.history views always (held_in c)) (sym q.keeps)
+        (bench_quiet_law w.session r.setup r.history r.views views always (held_in w.cells) (suc i) j r.bench is q.quiet)

@@ -1,0 +1,48 @@
+-- Helpers: a reference that was made at a target, on a descriptor and at a point.
+use Rattle.std.specs.Prelude.{◌≡◌, ℕ, List, length}
+use Rattle.mx_call.specs.Registers.{Registers}
+use Rattle.mx_core.specs.declared.elements.Element.{Element}
+use Rattle.mx_core.specs.declared.elements.Kind.{Kind}
+use Rattle.mx_core.specs.declared.elements.Outcome.{Outcome}
+use Rattle.mx_core.specs.declared.elements.Outcome.TheVariants.{Denied}
+use Rattle.mx_legal.specs.Courses.{Judged}
+use Rattle.mx_legal.specs.Elements.{IsJudged}
+use Rattle.mx_legal.specs.Next.{Reference, Ends}
+use Rattle.mx_legal.specs.Targets.{after_target}
+use Rattle.mx_legal.specs.declared.transcripts.Result2.TheVariants as result
+use Rattle.mx_ptr.specs.Pointers.{PointerParts}
+use Rattle.mx_script.specs.declared.lines.Line.{Line}
+use Rattle.mx_sdw.specs.Descriptors.{Descriptor}
+use Rattle.mx_sdw.specs.declared.denials.Denial.{Denial}
+use Rattle.mx_proc.specs.Access.{IsAccess}
+use Rattle.mx_proc.specs.declared.memory.Contents.{Contents}
+use Rattle.mx_proc.specs.declared.references.Made.{Made}
+
+abbrev pub element : Kind → PointerParts → ℕ → Outcome → Element
+element kind target point outcome = record {
+  kind = kind;
+  segno = target.segno;
+  word = target.word;
+  ring = target.ring;
+  point = point;
+  outcome = outcome;
+}
+
+abbrev pub denied : Kind → PointerParts → Registers → ℕ → Denial → Made
+denied kind target g point denial = record {
+  element = element kind target point (Denied denial);
+  ends = result.Denied denial;
+  after = g;
+}
+
+abbrev pub beside : Made → Descriptor → Judged
+beside m d = record { element = m.element; desc = d }
+
+-- it is the reference that was asked for, judged on the descriptor; it did with the cells what it tells, and its line ends
+pub record IsMade (line : Line) (asked : Reference) (g : Registers) (d : Descriptor) (target : PointerParts) (p point : ℕ)
+    (cells cells' : List Contents) (m : Made) : Type 0 where
+  pub judged : IsJudged asked d m.element
+  pub segno : m.element.segno ≡ target.segno
+  pub point_is : m.element.point ≡ point
+  pub access : length cells ≡ 65536 → IsAccess cells cells' p (beside m d)
+  pub end : after_target g line target d m.element.outcome ≡ Ends m.ends m.after

@@ -1,0 +1,27 @@
+-- Helpers: how many lines are left on a bench, and what a round of steps does.
+use Rattle.std.specs.Prelude.{◌≡◌, ◌⊎◌, ℕ, suc, ◌+◌, ◌<◌, List, [], ◌∷◌, length, Some, slice_get}
+use Rattle.mx_script.specs.Sessions.{Outline}
+use Rattle.mx_proc.specs.Running.{left_of}
+use Rattle.mx_proc.specs.Worlds.{Seat, World}
+
+-- the lines that are left to these processes, the first of which has this number
+abbrev pub lines_left : Outline → ℕ → List Seat → ℕ
+lines_left x p [] = 0
+lines_left x p (seat ∷ seats) = length (left_of x p seat) + lines_left x (suc p) seats
+
+abbrev pub all_left : World → ℕ
+all_left w = lines_left w.session 1 w.seats
+
+-- a process, counted from 0, has no line left
+abbrev pub HasNone : World → ℕ → Type 0
+HasNone w i = (seat : Seat) → slice_get w.seats i ≡ Some seat → left_of w.session (suc i) seat ≡ []
+
+-- these first processes have no line left
+abbrev pub HaveEndedUpTo : World → ℕ → Type 0
+HaveEndedUpTo w count = (i : ℕ) (seat : Seat) → i < count → slice_get w.seats i ≡ Some seat → left_of w.session (suc i) seat ≡ []
+
+-- so many processes were asked for a step: either lines were done, or these had none left and nothing was done
+pub record IsAsked (start : World) (count : ℕ) (now : World) : Type 0 where
+  pub session : now.session ≡ start.session
+  pub seats : length now.seats ≡ length start.seats
+  pub progress : (all_left now < all_left start) ⊎ ((now ≡ start) × HaveEndedUpTo start count)

@@ -1,0 +1,204 @@
+//! The processes of a bench: their registers, and what was recorded of them.
+
+ghost use Rattle.std.specs.Prelude.{◌≡◌, ◌<◌, ◌+◌, ◌^◌, [], ◌∷◌, ◌++◌, IfOk, IsTrue, OnOk, length};
+ghost use Rattle.mx_legal.specs.Openings.{opening_registers};
+ghost use Rattle.mx_script.specs.Sessions.{IsSession};
+ghost use Rattle.mx_proc.specs.Processes.{AreFresh, IsStill, HasRoom, IsCountable, HasEnded, HasRegisters, HasLines, events_in};
+
+use mx_call::Regs;
+use mx_legal::{Event2, Recording, Result2, Transcript, first_line};
+use mx_ptr::Pointer;
+use mx_script::Session;
+use mx_sdw::{Ring, Word};
+use std::alloc::{AllocError, Global};
+use std::marker::Model;
+
+/// A process between two lines: the number of its first line in the session text, its registers, and what was recorded of
+/// the lines that it has done.
+#[derive(Drop)]
+pub(crate) struct Process {
+    first: u32,
+    registers: Regs,
+    recording: Recording,
+}
+
+/// The processes 1, 2, .. of a session, counted from 0.
+#[derive(Drop)]
+pub(crate) struct Processes {
+    items: Vec<Process>,
+}
+
+impl Model for Processes {
+    ghost use Rattle.std.specs.Prelude.{List};
+    ghost use Rattle.mx_proc.specs.declared.processes.Process.{Process as PlainProcess};
+
+    ghost Value = { List PlainProcess };
+
+    ghost view = { λ a. a.items.items };
+}
+
+impl Processes {
+    /// The processes of a session before their first lines.
+    pub(crate) fn fresh(alloc: Global, session: &Session) -> Result<Processes, AllocError>
+        ensures fresh { IfOk result (λ processes. AreFresh session.now processes) }
+        ensures session { IsSession session.now }
+    {
+        let items = fresh_processes(alloc, session)?;
+        Ok(Processes { items })
+    }
+
+    /// How many there are.
+    pub(crate) fn len(&self) -> usize
+        ensures { result ≡ length self.now }
+    {
+        self.items.len()
+    }
+
+    /// The registers of a process.
+    pub(crate) fn registers(&self, i: usize) -> Regs
+        requires { i < length self.now }
+        ensures { HasRegisters self.now i result }
+    {
+        registers_at(&self.items, i)
+    }
+
+    /// How many lines a process has done.
+    pub(crate) fn lines(&self, i: usize) -> usize
+        requires { i < length self.now }
+        ensures { HasLines self.now i result }
+    {
+        lines_at(&self.items, i)
+    }
+
+    /// Makes room for the next line of a process; nothing else changes.
+    pub(crate) fn reserve(&mut self, i: usize) -> Result<(), AllocError>
+        requires { i < length self.old }
+        ensures room { OnOk result (HasRoom self.new i) }
+        ensures still { IsStill self.old i self.new }
+    {
+        reserve(self.items.as_mut_slice(), i)
+    }
+
+    /// The line at work of a process ends, with this event if there is one.
+    pub(crate) fn end_line(&mut self, i: usize, event: Option<Event2>, ends: Result2, after: &Regs)
+        requires within { i < length self.old }
+        requires room { HasRoom self.old i }
+        requires number { IsCountable self.old i }
+        ensures { HasEnded self.old i (events_in event) ends after.now self.new }
+    {
+        end_line(self.items.as_mut_slice(), i, event, ends, after);
+    }
+
+    /// The processes themselves.
+    pub(crate) fn into_items(self) -> Vec<Process>
+        ensures { result.items ≡ self }
+    {
+        self.items
+    }
+}
+
+fn fresh_processes(alloc: Global, session: &Session) -> Result<Vec<Process>, AllocError>
+    ensures fresh { IfOk result (λ processes. AreFresh session.now processes.items) }
+    ensures session { IsSession session.now }
+{
+    let scripts = session.scripts().items();
+    let mut processes = Vec::with_capacity(alloc, scripts.len())?;
+    for (i, script) in scripts.iter().enumerate() {
+        let process = Process {
+            first: first_line(session, i as u8 + 1),
+            registers: opening_registers(),
+            recording: Recording::with_room(alloc, script.items().len())?,
+        };
+        processes.push(process)?;
+    }
+    Ok(processes)
+}
+
+// The registers of a process before its first line.
+fn opening_registers() -> Regs
+    ensures { result ≡ opening_registers 1 }
+{
+    let ring = Ring::new(4).unwrap();
+    let stack = Pointer {
+        ring,
+        segno: 4,
+        word: 0,
+        further: false,
+    };
+    Regs {
+        ring,
+        procedure: stack,
+        pr: [stack; 8],
+        a: Word::zero(),
+    }
+}
+
+fn registers_at(processes: &[Process], i: usize) -> Regs
+    requires { i < length processes.now }
+    ensures { HasRegisters processes.now i result }
+{
+    processes[i].registers
+}
+
+fn lines_at(processes: &[Process], i: usize) -> usize
+    requires { i < length processes.now }
+    ensures { HasLines processes.now i result }
+{
+    processes[i].recording.lines()
+}
+
+fn reserve(processes: &mut [Process], i: usize) -> Result<(), AllocError>
+    requires { i < length processes.old }
+    ensures room { OnOk result (HasRoom processes.new i) }
+    ensures still { IsStill processes.old i processes.new }
+{
+    processes[i].recording.reserve()
+}
+
+fn end_line(processes: &mut [Process], i: usize, event: Option<Event2>, ends: Result2, after: &Regs)
+    requires within { i < length processes.old }
+    requires room { HasRoom processes.old i }
+    requires number { IsCountable processes.old i }
+    ensures { HasEnded processes.old i (events_in event) ends after.now processes.new }
+{
+    processes[i].end_line(event, ends, after);
+}
+
+impl Process {
+    /// What was recorded of it.
+    pub(crate) fn finish(self) -> Transcript
+        ensures { result ≡ self.recording.steps }
+    {
+        let Process { recording, .. } = self;
+        recording.finish()
+    }
+
+    // Its line at work ends.
+    fn end_line(&mut self, event: Option<Event2>, ends: Result2, after: &Regs)
+        requires event { IsTrue self.old.recording.event_room }
+        requires line { IsTrue self.old.recording.line_room }
+        requires number { self.old.first + length self.old.recording.steps < 2 ^ 32 }
+        ensures first { self.new.first ≡ self.old.first }
+        ensures done { self.new.registers ≡ after.now }
+        ensures steps { self.new.recording.steps ≡ self.old.recording.steps
+            ++ (self.old.first + length self.old.recording.steps, self.old.recording.events ++ events_in event, ends) ∷ [] }
+        ensures idle { self.new.recording.events ≡ [] }
+    {
+        let number = self.first + self.recording.lines() as u32;
+        push_if(&mut self.recording, event);
+        self.recording.end_line(number, ends);
+        self.registers = *after;
+    }
+}
+
+// One more event, if there is one.
+fn push_if(recording: &mut Recording, event: Option<Event2>)
+    requires { IsTrue recording.old.event_room }
+    ensures steps { recording.new.steps ≡ recording.old.steps }
+    ensures events { recording.new.events ≡ recording.old.events ++ events_in event }
+    ensures room { recording.new.line_room ≡ recording.old.line_room }
+{
+    if let Some(event) = event {
+        recording.push(event);
+    }
+}

@@ -1,0 +1,138 @@
+//! References to memory: judged, made on the cells, and what they make of the registers.
+
+ghost use Rattle.std.specs.Prelude.{◌≡◌, ◌<◌, ℕ, length, IfOk};
+ghost use Rattle.mx_legal.specs.Operands.{operand_target};
+ghost use Rattle.mx_legal.specs.Next.{at_place, storing};
+ghost use Rattle.mx_script.specs.declared.lines.Operand.{Operand as PlainOperand};
+ghost use Rattle.mx_script.specs.declared.lines.Line.TheVariants as lines;
+ghost use Rattle.mx_sdw.specs.Admissible.{IsAdmissible};
+ghost use Rattle.mx_sdw.specs.Judging.{judgement};
+ghost use Rattle.mx_sdw.specs.declared.operations.Op.TheVariants as ops;
+ghost use Rattle.mx_proc.specs.Making.{IsMade, element, denied};
+
+use crate::memory::{Contents, Memory};
+use mx_call::Regs;
+use mx_legal::{Element, Kind, Outcome, Result2};
+use mx_ptr::Pointer;
+use mx_script::{Base, Operand};
+use mx_sdw::{Cell, Denial, Desc, Op, Ring, judge};
+
+/// A reference that was made: its element, and the result of its line and the registers after it.
+#[derive(Clone, Copy)]
+pub(crate) struct Made {
+    pub(crate) element: Element,
+    pub(crate) ends: Result2,
+    pub(crate) after: Regs,
+}
+
+/// Where an operand leads: to its effective pointer.
+pub(crate) fn target_of(operand: &Operand, registers: &Regs) -> Pointer
+    ensures { result ≡ operand_target registers.now operand.now }
+{
+    let Base::Segment(segno) = operand.base;
+    Pointer {
+        ring: registers.ring,
+        segno,
+        word: operand.word,
+        further: false,
+    }
+}
+
+/// Reads the word at the target, on this descriptor and at this point: A becomes it.
+pub(crate) fn load(
+    cells: &Memory,
+    desc: &Desc,
+    target: &Pointer,
+    registers: &Regs,
+    point: u32,
+) -> Made
+    requires { IsAdmissible desc.now }
+    ensures { (o : PlainOperand) → (p : ℕ) → IsMade (lines.Lda o) (at_place ops.Read target.now) registers.now desc.now target.now p point cells.now cells.now result }
+{
+    match ruling(desc, Op::Read, target.ring, target.word) {
+        Ok(cell) => {
+            let held = cells.contents(cell.0);
+            let outcome = Outcome::Read {
+                value: held.value,
+                writer: held.writer,
+                stamp: held.stamp,
+            };
+            Made {
+                element: element(Kind::Read, target, point, outcome),
+                ends: Result2::A(held.value),
+                after: Regs {
+                    a: held.value,
+                    ..*registers
+                },
+            }
+        }
+        Err(denial) => denied(Kind::Read, target, registers, point, denial),
+    }
+}
+
+/// Stores A at the target, on this descriptor and at this point, for process `p`.
+pub(crate) fn store(
+    cells: &mut Memory,
+    desc: &Desc,
+    target: &Pointer,
+    registers: &Regs,
+    p: u8,
+    point: u32,
+) -> Made
+    requires { IsAdmissible desc.now }
+    ensures made { (o : PlainOperand) → IsMade (lines.Sta o) (storing registers.now.a target.now) registers.now desc.now target.now p point cells.old cells.new result }
+    ensures wide { length cells.new ≡ length cells.old }
+{
+    match ruling(desc, Op::Write, target.ring, target.word) {
+        Ok(cell) => {
+            let value = registers.a;
+            cells.store(
+                cell.0,
+                Contents {
+                    value,
+                    writer: p,
+                    stamp: point,
+                },
+            );
+            Made {
+                element: element(Kind::Write, target, point, Outcome::Written { value }),
+                ends: Result2::Done,
+                after: *registers,
+            }
+        }
+        Err(denial) => denied(Kind::Write, target, registers, point, denial),
+    }
+}
+
+// The cell that the judging rule grants, or its denial.
+fn ruling(desc: &Desc, op: Op, ring: Ring, word: u16) -> Result<Cell, Denial>
+    requires { IsAdmissible desc.now }
+    ensures value { result ≡ judgement desc.now op ring word }
+    ensures within { IfOk result (λ cell. cell.0 < 65536) }
+{
+    judge(desc, op, ring, u32::from(word))
+}
+
+fn element(kind: Kind, target: &Pointer, point: u32, outcome: Outcome) -> Element
+    ensures { result ≡ element kind target.now point outcome }
+{
+    Element {
+        kind,
+        segno: target.segno,
+        word: target.word,
+        ring: target.ring,
+        point,
+        outcome,
+    }
+}
+
+// A denial leaves the registers as they were.
+fn denied(kind: Kind, target: &Pointer, registers: &Regs, point: u32, denial: Denial) -> Made
+    ensures { result ≡ denied kind target.now registers.now point denial }
+{
+    Made {
+        element: element(kind, target, point, Outcome::Denied(denial)),
+        ends: Result2::Denied(denial),
+        after: *registers,
+    }
+}

@@ -1,0 +1,219 @@
+//! Sessions of several processes, stepped in a chosen order: what each line comes to was worked out by hand.
+
+use crate::Bench;
+use mx_legal::{Event, Event2, Outcome, Result2, Transcript};
+use mx_list::Sequence;
+use mx_name::Principal;
+use mx_request::Request;
+use mx_script::{Base, BoxedRequest, Line, Operand, Session};
+use mx_sdw::Word;
+use std::alloc::{AllocError, Global};
+use std::test::Fail;
+
+// A script line: `set 7`, `lda` or `sta` of the word 10|0, or a request.
+fn line(alloc: Global, text: &[u8]) -> Result<Line, Fail> {
+    let operand = Operand {
+        base: Base::Segment(0o10),
+        word: 0,
+    };
+    if text == b"lda".as_slice() {
+        return Ok(Line::Lda { operand });
+    }
+    if text == b"sta".as_slice() {
+        return Ok(Line::Sta { operand });
+    }
+    if text == b"set 7".as_slice() {
+        let word = Word::new(7).ok_or("a word")?;
+        return Ok(Line::Set { word });
+    }
+    let request = Request::read(alloc, text)?.ok_or("a request")?;
+    Ok(Line::Ask(BoxedRequest::new(alloc, request)?))
+}
+
+// A session over the segment >a that everybody may read and write; process 1 may change its access.
+fn session(alloc: Global, history: Option<u32>, scripts: &[&[&[u8]]]) -> Result<Session, Fail> {
+    let mut setup = Sequence::new(alloc);
+    for text in [
+        b"create_seg >a 64 4 4 4".as_slice(),
+        b"set_acl >a *.*.* rw",
+        b"set_acl > U.X.a sma",
+    ] {
+        setup.push(Request::read(alloc, text)?.ok_or("a request")?)?;
+    }
+    let mut principals = Sequence::new(alloc);
+    let mut lines = Sequence::new(alloc);
+    for (script, who) in scripts
+        .iter()
+        .zip([b"U.X.a".as_slice(), b"V.X.a", b"W.X.a"])
+    {
+        principals.push(Principal::read(who)?)?;
+        let mut script_lines = Sequence::new(alloc);
+        for text in script.iter() {
+            script_lines.push(line(alloc, text)?)?;
+        }
+        lines.push(script_lines)?;
+    }
+    let session = Session::of_processes(history, setup, principals, lines).ok_or("a session")?;
+    Ok(session)
+}
+
+// Steps the processes in this order.
+fn step_all(bench: &mut Bench, alloc: Global, order: &[u8]) -> Result<(), Fail> {
+    for p in order {
+        if *p == 0 || *p > bench.count() {
+            return Err("a process".into());
+        }
+        bench.step(alloc, *p)?;
+    }
+    Ok(())
+}
+
+// An event or the full journal: the line's number, a letter, a point or an entry's number, a word, and the process and
+// the stamp of the store that was read, as one number.
+type Told = (u32, u8, u32, u64, u32);
+
+fn told(alloc: Global, transcript: &Transcript) -> Result<Vec<Told>, AllocError> {
+    let mut all = Vec::new(alloc);
+    for (number, events, ends) in transcript.steps() {
+        for event in events {
+            let (letter, at, word, from) = brief(event);
+            all.extend_from_slice(&[(number, letter, at, word, from)])?;
+        }
+        if ends == Result2::HistoryFull {
+            all.extend_from_slice(&[(number, b'f', 0, 0, 0)])?;
+        }
+    }
+    Ok(all)
+}
+
+fn brief(event: &Event2) -> (u8, u32, u64, u32) {
+    match event {
+        Event2::Entry(number) => (b'e', *number, 0, 0),
+        Event2::Core(Event::Missing { by, .. }) => (b'm', *by, 0, 0),
+        Event2::Core(Event::Seen(element)) => match element.outcome {
+            Outcome::Read {
+                value,
+                writer,
+                stamp,
+            } => (
+                b'r',
+                element.point,
+                value.value(),
+                u32::from(writer) * 256 + stamp % 256,
+            ),
+            Outcome::Written { value } => (b'w', element.point, value.value(), 0),
+            Outcome::Entered { .. } => (b'c', element.point, 0, 0),
+            Outcome::Denied(_) => (b'd', element.point, 0, 0),
+        },
+    }
+}
+
+// The transcripts of processes 1, 2, .. after these steps, and then the rest in turn.
+fn run_in(alloc: Global, session: &Session, order: &[u8]) -> Result<Vec<Vec<Told>>, Fail> {
+    let mut bench = Bench::new(alloc, session)?;
+    step_all(&mut bench, alloc, order)?;
+    bench.complete(alloc)?;
+    let (_, transcripts) = bench.finish();
+    let mut all = Vec::new(alloc);
+    for transcript in transcripts.items() {
+        all.push(told(alloc, transcript)?)?;
+    }
+    Ok(all)
+}
+
+// Whether these are the transcripts.
+fn are_told(all: &[Vec<Told>], want: &[&[Told]]) -> bool {
+    all.len() == want.len()
+        && all
+            .iter()
+            .zip(want)
+            .all(|(one, want)| one.as_slice() == *want)
+}
+
+#[test]
+fn a_word_is_read_before_and_after_it_is_stored(rt: HostRuntime) -> Result<(), Fail> {
+    let alloc = rt.alloc();
+    // Process 1 has lines 6 to 10, process 2 lines 12 to 16. Both stores are equal, and at one point.
+    let scripts: [&[&[u8]]; 2] = [
+        &[b"initiate >a", b"set 7", b"sta", b"sta", b"logout"],
+        &[b"initiate >a", b"lda", b"lda", b"lda", b"logout"],
+    ];
+    let session = session(alloc, None, &scripts)?;
+    let all = run_in(alloc, &session, &[1, 2, 1, 2, 1, 2, 1, 2, 2, 1])?;
+    let want: [&[Told]; 3] = [
+        &[(2, b'e', 1, 0, 0), (3, b'e', 2, 0, 0), (4, b'e', 3, 0, 0)],
+        &[
+            (6, b'e', 4, 0, 0),
+            (8, b'w', 5, 7, 0),
+            (9, b'w', 5, 7, 0),
+            (10, b'e', 7, 0, 0),
+        ],
+        &[
+            (12, b'e', 5, 0, 0),
+            (13, b'r', 5, 0, 0),
+            (14, b'r', 5, 7, 0x105),
+            (15, b'r', 5, 7, 0x105),
+            (16, b'e', 6, 0, 0),
+        ],
+    ];
+    assert!(rt; are_told(&all, &want));
+    Ok(())
+}
+
+#[test]
+fn access_is_taken_away_between_two_reads(rt: HostRuntime) -> Result<(), Fail> {
+    let alloc = rt.alloc();
+    // Process 1 has lines 6 to 8, process 2 lines 10 to 13, process 3 lines 15 to 18.
+    let scripts: [&[&[u8]]; 3] = [
+        &[b"initiate >a", b"set_acl >a V.X.a null", b"logout"],
+        &[b"initiate >a", b"lda", b"lda", b"logout"],
+        &[b"initiate >a", b"set 7", b"sta", b"logout"],
+    ];
+    let session = session(alloc, None, &scripts)?;
+    let all = run_in(alloc, &session, &[2, 3, 1, 2, 3, 3, 1, 2])?;
+    let want: [&[Told]; 4] = [
+        &[(2, b'e', 1, 0, 0), (3, b'e', 2, 0, 0), (4, b'e', 3, 0, 0)],
+        &[(6, b'e', 6, 0, 0), (7, b'e', 7, 0, 0), (8, b'e', 8, 0, 0)],
+        &[
+            (10, b'e', 4, 0, 0),
+            (11, b'r', 6, 0, 0),
+            (12, b'd', 7, 0, 0),
+            (13, b'e', 9, 0, 0),
+        ],
+        &[
+            (15, b'e', 5, 0, 0),
+            (17, b'w', 6, 7, 0),
+            (18, b'e', 10, 0, 0),
+        ],
+    ];
+    assert!(rt; are_told(&all, &want));
+    Ok(())
+}
+
+#[test]
+fn memory_lines_go_on_when_the_journal_is_full(rt: HostRuntime) -> Result<(), Fail> {
+    let alloc = rt.alloc();
+    // Process 1 has lines 6 to 9, process 2 lines 11 to 13.
+    let scripts: [&[&[u8]]; 2] = [
+        &[b"initiate >a", b"status >a", b"lda", b"logout"],
+        &[b"initiate >a", b"sta", b"logout"],
+    ];
+    let session = session(alloc, Some(5), &scripts)?;
+    let all = run_in(alloc, &session, &[1, 2, 1, 2, 1])?;
+    let want: [&[Told]; 3] = [
+        &[(2, b'e', 1, 0, 0), (3, b'e', 2, 0, 0), (4, b'e', 3, 0, 0)],
+        &[
+            (6, b'e', 4, 0, 0),
+            (7, b'f', 0, 0, 0),
+            (8, b'r', 5, 0, 0x205),
+            (9, b'f', 0, 0, 0),
+        ],
+        &[
+            (11, b'e', 5, 0, 0),
+            (12, b'w', 5, 0, 0),
+            (13, b'f', 0, 0, 0),
+        ],
+    ];
+    assert!(rt; are_told(&all, &want));
+    Ok(())
+}
