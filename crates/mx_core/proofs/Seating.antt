@@ -7,6 +7,7 @@ use Rattle.std.proofs.lemmas.Option.{slice_get-get_or, slice_get_within}
 use Rattle.mx_reads.proofs.Places.{place_kept, place_last}
 use Rattle.mx_sdw.specs.Descriptors.{Descriptor}
 use Rattle.mx_reads.specs.Held.{Held}
+use Rattle.mx_core.specs.Acknowledging.{after_connect}
 use Rattle.mx_core.specs.AssociativeMemory.{recalled, remembered}
 use Rattle.mx_core.specs.Cells.{cell_loaded, after_load_cell, cell_stored, after_store_cell}
 use Rattle.mx_core.specs.Judging.{at_once}
@@ -368,6 +369,16 @@ module _ (counts : Counts) (seats : List Seat) (held : List Held) (cleans readie
         clean_cells = parts.memory.clean_cells;
         ready_pages = parts.memory.ready_pages;
       }) own))
+
+  pub connect_parts : (ShowsSeat w.numbers u (columns w p) → ShowsSeat w.numbers u' (record (columns w p) {
+    process = record (w.process p) { connect = counts.length; look = 0 };
+  }))
+      → ShowsParts counts (slice_set seats place u') held cleans readies floors (after_connect w p)
+  connect_parts own =
+      process_parts (record (w.process p) { connect = w.length; look = 0 })
+      (λ h. subst (λ (k : ℕ). ShowsSeat w.numbers u' (record (columns w p) {
+        process = record (w.process p) { connect = k; look = 0 };
+      })) (sym (length_is counts w parts.same)) (own h))
 
 pub split_parts : (counts : Counts) (seats : List Seat) (held : List Held) (cleans readies : List Bool)
     (floors floors' : List (Option ℕ)) (w : World) → ShowsParts counts seats held cleans readies floors w

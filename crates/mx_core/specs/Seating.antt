@@ -1,5 +1,5 @@
 -- Helpers: what the judging and cell steps of a process leave of its columns.
-use Rattle.std.specs.Prelude.{ℕ, max, nat_le, nat_lt, List, [], ◌∷◌, ◌++◌, Option, Some, None}
+use Rattle.std.specs.Prelude.{◌≡◌, ◌≢◌, ℕ, ◌<◌, IsTrue, max, nat_le, nat_lt, List, [], ◌∷◌, ◌++◌, Option, Some, None}
 use Rattle.mx_sdw.specs.Descriptors.{unknown_desc}
 use Rattle.mx_reads.specs.Held.{Held}
 use Rattle.mx_core.specs.AssociativeMemory.{remembered}
@@ -54,3 +54,11 @@ read_columns c u a held = traced
 abbrev pub written_columns : Columns → Triple → Asked → ℕ → Columns
 written_columns c u a value = traced (record c { process = record c.process { hold = None } })
     (Judged (element_of u.segno a c.process.floor (outcome.Written value)) a.op u.desc)
+
+-- where the pending entry changes the number, its word is struck by that entry
+abbrev pub IsStruckIn : Columns → ℕ → ℕ → Type 0
+IsStruckIn c count j = c.present j ≢ c.before j → c.words j ≡ Fault count
+
+-- where the pending entry changes one of the numbers, the process has acknowledged
+abbrev pub AreAcknowledged : Columns → ℕ → Type 0
+AreAcknowledged c n = (j : ℕ) → j < n → c.present j ≢ c.before j → IsTrue c.process.acknowledged

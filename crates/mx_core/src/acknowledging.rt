@@ -5,7 +5,7 @@ ghost use Rattle.mx_core.specs.Causes.{IsRefusal};
 ghost use Rattle.mx_core.specs.Shows.{Shows};
 ghost use Rattle.mx_core.specs.Steps.{Can, after};
 ghost use Rattle.mx_core.specs.World.{World as WorldValue};
-ghost use Rattle.mx_core.specs.declared.steps.Step.TheVariants.{Look, Acknowledge};
+ghost use Rattle.mx_core.specs.declared.steps.Step.TheVariants.{Connect, Look, Acknowledge};
 
 use crate::steps::Cause;
 use crate::steps::StepError::{self, NotEnabled};
@@ -53,6 +53,28 @@ impl World {
             return Err(NotEnabled(Cause::Inside { process }));
         }
         self.seats[place].acknowledge();
+        Ok(())
+    }
+
+    pub(crate) fn connect(&mut self, process: u8) -> Result<(), StepError>
+        ensures { (w : WorldValue) → Shows self.old w
+            → MatchResult result (λ done. Can w (Connect process) × Shows self.new (after w (Connect process)))
+            (λ why. IsRefusal w (Connect process) why × Shows self.new w) }
+    {
+        if process == 0 || process > self.processes {
+            return Err(NotEnabled(Cause::Range));
+        }
+        if self.count <= self.answered {
+            return Err(NotEnabled(Cause::NothingPending));
+        }
+        let place = usize::from(process);
+        let Some(_) = self.seats[place].first_change() else {
+            return Err(NotEnabled(Cause::NotChanged));
+        };
+        if let Some(segno) = self.seats[place].first_unstruck(self.count) {
+            return Err(NotEnabled(Cause::Unstruck { process, segno }));
+        }
+        self.seats[place].connect(self.count);
         Ok(())
     }
 }

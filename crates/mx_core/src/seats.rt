@@ -3,6 +3,7 @@
 ghost use Rattle.std.specs.Prelude.{◌≡◌, vec_len};
 
 use crate::associative::AssociativeMemory;
+use crate::covering::covers;
 use crate::elements::Kept;
 use crate::words::{Asked, DescriptorWord, Stage, Triple};
 use mx_sdw::Desc;
@@ -37,8 +38,11 @@ pub struct Seat {
 }
 
 impl Seat {
-    ghost use Rattle.std.specs.Prelude.{ℕ, ◌≢◌, ◌↔◌, ◌<◌, max, true, IsTrue, MatchOption};
-    ghost use Rattle.mx_core.specs.Acknowledging.{HasLeft};
+    ghost use Rattle.std.specs.Prelude.{ℕ, ◌≢◌, ◌↔◌, ◌<◌, max, true, IsTrue, MatchBool, MatchOption};
+    ghost use Rattle.mx_core.specs.Acknowledging.{HasLeft, forgotten};
+    ghost use Rattle.mx_core.specs.FirstFailing.{IsFirstNot};
+    ghost use Rattle.mx_core.specs.Pages.{covers};
+    ghost use Rattle.mx_core.specs.Seating.{AreAcknowledged, IsStruckIn};
     ghost use Rattle.mx_core.specs.Entering.{next_turn, entered, connect_loaded, left};
     ghost use Rattle.mx_core.specs.Notes.{told_by};
     ghost use Rattle.mx_core.specs.Put.{put};
@@ -164,5 +168,93 @@ impl Seat {
             → ShowsSeat n self.new (record c { process = told_by c.process note }) }
     {
         self.floor = self.floor.max(floor);
+    }
+
+    /// Whether the word of a number is struck by this entry.
+    pub(crate) fn is_struck(&self, segno: u16, count: u32) -> bool
+        requires { segno < self.now.numbers }
+        ensures { (n : ℕ) (c : Columns) → ShowsSeat n self.now c → IsTrue result ↔ (c.words segno ≡ Fault count) }
+    {
+        match self.words[usize::from(segno)] {
+            DescriptorWord::Fault { number } => number == count,
+            DescriptorWord::Valid { .. } => false,
+        }
+    }
+
+    /// The first number that the pending entry gives another descriptor.
+    pub(crate) fn first_change(&self) -> Option<u16>
+        ensures { (n : ℕ) (c : Columns) → ShowsSeat n self.now c
+            → MatchOption result ((j : ℕ) → j < n → c.present j ≡ c.before j)
+            (λ i. (i < n) × (c.present i ≢ c.before i)) }
+    {
+        for segno in 0..self.numbers {
+            if self.is_changed(segno) {
+                return Some(segno);
+            }
+        }
+        None
+    }
+
+    /// Whether a number is changed and its word not struck by this entry.
+    fn is_unstruck(&self, segno: u16, count: u32) -> bool
+        requires { segno < self.now.numbers }
+        ensures { (n : ℕ) (c : Columns) → ShowsSeat n self.now c
+            → MatchBool result (IsStruckIn c count segno → ⊥) (IsStruckIn c count segno) }
+    {
+        self.is_changed(segno) && !self.is_struck(segno, count)
+    }
+
+    /// The first changed number whose word is not struck by this entry.
+    pub(crate) fn first_unstruck(&self, count: u32) -> Option<u16>
+        ensures { (n : ℕ) (c : Columns) → ShowsSeat n self.now c
+            → MatchOption result ((j : ℕ) → j < n → IsStruckIn c count j) (IsFirstNot (IsStruckIn c count)) }
+    {
+        for segno in 0..self.numbers {
+            if self.is_unstruck(segno, count) {
+                return Some(segno);
+            }
+        }
+        None
+    }
+
+    /// Whether the process has a changed number and has not acknowledged.
+    pub(crate) fn owes(&self) -> bool
+        ensures { (n : ℕ) (c : Columns) → ShowsSeat n self.now c
+            → MatchBool result (AreAcknowledged c n → ⊥) (AreAcknowledged c n) }
+    {
+        !self.acknowledged && self.first_change().is_some()
+    }
+
+    /// Tells the process, by its connect word, to empty its memory.
+    pub(crate) fn connect(&mut self, count: u32)
+        ensures { (n : ℕ) (c : Columns) → ShowsSeat n self.old c
+            → ShowsSeat n self.new (record c { process = record c.process { connect = count; look = 0 } }) }
+    {
+        self.connect = count;
+        self.look = 0;
+    }
+
+    /// Takes the present descriptors as answered, and forgets what was kept of the process meanwhile.
+    pub(crate) fn answer(&mut self)
+        ensures { (n : ℕ) (c : Columns) → ShowsSeat n self.old c
+            → ShowsSeat n self.new (record c { process = forgotten c.process; before = c.present }) }
+    {
+        self.before.copy_from_slice(&self.present);
+        self.look = 0;
+        self.acknowledged = false;
+    }
+
+    /// Whether a present descriptor covers a page.
+    pub(crate) fn covers(&self, page: u32) -> bool
+        ensures { (n : ℕ) (c : Columns) → ShowsSeat n self.now c
+            → MatchBool result ((j : ℕ) × (j < n) × (covers (c.present j) page ≡ true))
+            ((j : ℕ) → j < n → covers (c.present j) page ≡ true → ⊥) }
+    {
+        for desc in &self.present {
+            if covers(desc, page) {
+                return true;
+            }
+        }
+        false
     }
 }
