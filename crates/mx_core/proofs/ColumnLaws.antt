@@ -1,5 +1,5 @@
 -- What the judging steps leave of a process's columns, by the word that it found.
-use Rattle.std.proofs.Common.{◌≡◌, ℕ, ◌<◌, ◌≤◌, Bool, true, false, List, refl, ap, sym, ◌∙◌, subst, Option, Some, None, arith, rules}
+use Rattle.std.proofs.Common.{◌≡◌, ℕ, ◌<◌, ◌≤◌, true, false, List, refl, ap, sym, ◌∙◌, subst, Option, Some, None, rules}
 use Rattle.std.specs.Prelude.{nat_le, nat_lt}
 use Rattle.mx_sdw.specs.Descriptors.{Descriptor}
 use Rattle.mx_core.specs.Judging.{at_once}

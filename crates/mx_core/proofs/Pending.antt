@@ -1,5 +1,5 @@
 -- What seats tell of the pending entry: beyond the numbers and the processes nothing is changed.
-use Rattle.std.proofs.Common.{◌≡◌, ◌≢◌, inl, inr, ℕ, ◌<◌, ◌≤◌, sym, ◌∙◌, subst, IsTrue, arith}
+use Rattle.std.proofs.Common.{◌≡◌, inl, inr, ℕ, ◌<◌, ◌≤◌, sym, ◌∙◌, subst}
 use Rattle.std.proofs.lemmas.Bool.{cases_lt}
 use Rattle.mx_core.specs.Acknowledging.{HasChanged}
 use Rattle.mx_core.specs.Causes.{StruckAt, AcknowledgedAt}
@@ -35,3 +35,14 @@ module _ (w : World) (good : Good w) (p : ℕ) where
 
   pub all_acknowledged : AreAcknowledged (columns w p) w.numbers → AcknowledgedAt w p
   all_acknowledged all n changed = all n (changed_below n changed) changed
+
+pub below_acknowledged : (w : World) → Good w → (p : ℕ) → AcknowledgedAt w p → AreAcknowledged (columns w p) w.numbers
+below_acknowledged w good p all n under changed = all n changed
+
+-- the supervisor has no pair, and what the world has not is not changed
+pub nobody_changed : (w : World) → Good w → (n : ℕ) → IsChanged w 0 n → ⊥
+nobody_changed w good n changed = changed (good.shape.nobody w.length n ∙ sym (good.shape.nobody w.answered n))
+
+pub more_unchanged : (w : World) → Good w → (p n : ℕ) → w.processes < p → IsChanged w p n → ⊥
+more_unchanged w good p n out changed =
+    changed (good.shape.more w.length p n out ∙ sym (good.shape.more w.answered p n out))

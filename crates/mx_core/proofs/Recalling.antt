@@ -1,10 +1,9 @@
 -- What a memory has of a number, by the place of that number; and what a put leaves.
-use Rattle.std.proofs.Common.{◌≡◌, ◌≢◌, ℕ, zero, suc, ◌+◌, ◌<◌, ◌≤◌, Bool, true, false, cond, List, [], ◌∷◌, ◌++◌, length, refl, ap, sym, ◌∙◌, subst, Some, None, arith, rules}
+use Rattle.std.proofs.Common.{◌≡◌, ◌≢◌, ℕ, zero, suc, Bool, true, false, cond, List, [], ◌∷◌, ◌++◌, length, refl, ap, sym, ◌∙◌, subst, Some, None, arith, rules}
 use Rattle.std.specs.Prelude.{◌==◌, slice_index_or, slice_set}
 use Rattle.std.specs.List.{slice_get}
 use Rattle.std.proofs.lemmas.Option.{get_or_from_slice_get}
 use Rattle.mx_core.specs.AssociativeMemory.{recalled, replaced, HasNotBefore, HasNot, IsAt}
-use Rattle.mx_core.specs.Put.{pick}
 use Rattle.mx_core.specs.Words.{Triple}
 use Rattle.mx_core.proofs.Puts.{pick_true, pick_false}
 

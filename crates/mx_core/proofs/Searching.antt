@@ -1,5 +1,5 @@
 -- What a search over numbers knows after one number more.
-use Rattle.std.proofs.Common.{◌≡◌, inl, inr, ℕ, ◌+◌, ◌<◌, subst, sym, arith}
+use Rattle.std.proofs.Common.{inl, inr, ℕ, ◌+◌, ◌<◌, subst, sym, arith}
 use Rattle.std.proofs.lemmas.Bool.{cases_eq}
 
 pub one_more : (P : ℕ → Type 0) (k : ℕ) → ((j : ℕ) → j < k → P j) → P k → (j : ℕ) → j < k + 1 → P j

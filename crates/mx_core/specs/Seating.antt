@@ -2,6 +2,7 @@
 use Rattle.std.specs.Prelude.{◌≡◌, ◌≢◌, ℕ, ◌<◌, IsTrue, max, nat_le, nat_lt, List, [], ◌∷◌, ◌++◌, Option, Some, None}
 use Rattle.mx_sdw.specs.Descriptors.{unknown_desc}
 use Rattle.mx_reads.specs.Held.{Held}
+use Rattle.mx_core.specs.Acknowledging.{forgotten}
 use Rattle.mx_core.specs.AssociativeMemory.{remembered}
 use Rattle.mx_core.specs.Judging.{at_once}
 use Rattle.mx_core.specs.Loading.{element_of, based}
@@ -62,3 +63,6 @@ IsStruckIn c count j = c.present j ≢ c.before j → c.words j ≡ Fault count
 -- where the pending entry changes one of the numbers, the process has acknowledged
 abbrev pub AreAcknowledged : Columns → ℕ → Type 0
 AreAcknowledged c n = (j : ℕ) → j < n → c.present j ≢ c.before j → IsTrue c.process.acknowledged
+
+abbrev pub answered_columns : Columns → Columns
+answered_columns c = record c { process = forgotten c.process; before = c.present }

@@ -39,10 +39,10 @@ pub struct Seat {
 
 impl Seat {
     ghost use Rattle.std.specs.Prelude.{ℕ, ◌≢◌, ◌↔◌, ◌<◌, max, true, IsTrue, MatchBool, MatchOption};
-    ghost use Rattle.mx_core.specs.Acknowledging.{HasLeft, forgotten};
+    ghost use Rattle.mx_core.specs.Acknowledging.{HasLeft};
     ghost use Rattle.mx_core.specs.FirstFailing.{IsFirstNot};
     ghost use Rattle.mx_core.specs.Pages.{covers};
-    ghost use Rattle.mx_core.specs.Seating.{AreAcknowledged, IsStruckIn};
+    ghost use Rattle.mx_core.specs.Seating.{AreAcknowledged, IsStruckIn, answered_columns};
     ghost use Rattle.mx_core.specs.Entering.{next_turn, entered, connect_loaded, left};
     ghost use Rattle.mx_core.specs.Notes.{told_by};
     ghost use Rattle.mx_core.specs.Put.{put};
@@ -237,7 +237,7 @@ impl Seat {
     /// Takes the present descriptors as answered, and forgets what was kept of the process meanwhile.
     pub(crate) fn answer(&mut self)
         ensures { (n : ℕ) (c : Columns) → ShowsSeat n self.old c
-            → ShowsSeat n self.new (record c { process = forgotten c.process; before = c.present }) }
+            → ShowsSeat n self.new (answered_columns c) }
     {
         self.before.copy_from_slice(&self.present);
         self.look = 0;

@@ -1,4 +1,4 @@
-use Rattle.std.proofs.Common.{rules, ◌∙◌, ap, ◌++◌, ◌∷◌, []}
+use Rattle.std.proofs.Common.{rules}
 use Rattle.mx_core.proofs.Recalling.{replaced_here, replaced_none}
 use Rattle.mx_core.proofs.associative.AssociativeMemory.replacing.Goals as goal
 

@@ -1,4 +1,4 @@
-use Rattle.std.proofs.Common.{◌≡◌, rules}
+use Rattle.std.proofs.Common.{rules}
 use Rattle.mx_core.specs.Seating.{IsStruckIn}
 use Rattle.mx_core.proofs.Searching.{one_more}
 use Rattle.mx_core.proofs.seats.Seat.first_unstruck.Goals as goal

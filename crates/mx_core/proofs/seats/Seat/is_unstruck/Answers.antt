@@ -1,6 +1,5 @@
-use Rattle.std.proofs.Common.{◌≡◌, ◌↔◌, Bool, true, false, IsTrue, refl, sym, subst, rules}
+use Rattle.std.proofs.Common.{◌≡◌, ◌↔◌, Bool, true, false, IsTrue, refl, rules}
 use Rattle.std.specs.Prelude.{MatchBool, not}
-use Rattle.mx_core.specs.Seating.{IsStruckIn}
 use Rattle.mx_core.proofs.seats.Seat.is_unstruck.Goals as goal
 
 open_by : (Changed Struck : Type 0) (b : Bool) → Changed → (IsTrue b ↔ Struck)

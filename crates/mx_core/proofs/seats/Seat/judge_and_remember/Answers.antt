@@ -1,4 +1,4 @@
-use Rattle.std.proofs.Common.{◌≡◌, sym, ap, ◌∙◌, rules}
+use Rattle.std.proofs.Common.{◌≡◌, ap, ◌∙◌, rules}
 use Rattle.mx_core.specs.AssociativeMemory.{remembered}
 use Rattle.mx_core.specs.World.{Process}
 use Rattle.mx_core.proofs.ColumnLaws.{remembered_shown}

@@ -1,6 +1,6 @@
-use Rattle.std.proofs.Common.{◌≡◌, ℕ, sym, ap, ◌∙◌, subst, rules}
+use Rattle.std.proofs.Common.{sym, ap, ◌∙◌, subst, rules}
 use Rattle.std.specs.Result.{MatchResult}
-use Rattle.mx_core.specs.Seating.{found_word, loaded_by}
+use Rattle.mx_core.specs.Seating.{loaded_by}
 use Rattle.mx_core.specs.Shows.{Columns, ShowsSeat}
 use Rattle.mx_core.specs.Words.{DescriptorWord}
 use Rattle.mx_core.specs.World.{Process}

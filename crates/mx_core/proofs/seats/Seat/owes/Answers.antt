@@ -1,5 +1,5 @@
 use Rattle.std.proofs.Common.{◌≡◌, ◌≢◌, ℕ, ◌<◌, Bool, false, Option, Some, None, ap, sym, ◌∙◌, subst, rules}
-use Rattle.std.specs.Prelude.{IsTrue, MatchBool, MatchOption}
+use Rattle.std.specs.Prelude.{MatchBool, MatchOption}
 use Rattle.std.specs.Option.{is_some}
 use Rattle.mx_core.specs.Seating.{AreAcknowledged}
 use Rattle.mx_core.specs.Shows.{Columns}

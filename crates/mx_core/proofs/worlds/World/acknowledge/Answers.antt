@@ -1,4 +1,4 @@
-use Rattle.std.proofs.Common.{◌∙◌, inl, inr, true, ap, sym, refl, arith, rules}
+use Rattle.std.proofs.Common.{◌∙◌, inl, inr, true, ap, sym, refl, rules}
 use Rattle.mx_core.specs.Acknowledging.{CanAcknowledge}
 use Rattle.mx_core.specs.Shows.{Counts, columns}
 use Rattle.mx_core.specs.World.{Process}

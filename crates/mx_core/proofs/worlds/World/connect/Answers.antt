@@ -1,5 +1,5 @@
-use Rattle.std.proofs.Common.{ℕ, inl, inr, sym, subst, refl, rules}
-use Rattle.mx_core.specs.Acknowledging.{HasChanged, CanConnect, after_connect}
+use Rattle.std.proofs.Common.{inl, inr, refl, rules}
+use Rattle.mx_core.specs.Acknowledging.{HasChanged, CanConnect}
 use Rattle.mx_core.specs.Shows.{columns}
 use Rattle.mx_core.proofs.Pending.{none_changed, all_struck, first_open}
 use Rattle.mx_core.proofs.ProcessLaws.{connect_law}

@@ -1,7 +1,7 @@
-use Rattle.std.proofs.Common.{◌∙◌, ap, sym, rules}
+use Rattle.std.proofs.Common.{◌∙◌, ap, rules}
 use Rattle.mx_core.specs.Entering.{CanLeave, left}
 use Rattle.mx_core.specs.Shows.{columns}
-use Rattle.mx_core.specs.World.{Outside, Process}
+use Rattle.mx_core.specs.World.{Process}
 use Rattle.mx_core.proofs.ProcessLaws.{leave_law}
 use Rattle.mx_core.proofs.Seating.{seat_shown, process_parts, process_is}
 use Rattle.mx_core.proofs.worlds.World.leave.Goals as goal

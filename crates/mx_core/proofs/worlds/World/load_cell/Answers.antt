@@ -1,12 +1,11 @@
-use Rattle.std.proofs.Common.{◌≡◌, ℕ, inl, inr, ap, sym, ◌∙◌, subst, refl, arith, rules}
+use Rattle.std.proofs.Common.{◌≡◌, inl, inr, subst, refl, rules}
 use Rattle.mx_reads.specs.Held.{Held}
 use Rattle.mx_core.specs.Cells.{CanLoadCell}
 use Rattle.mx_core.specs.Pages.{cell_at}
 use Rattle.mx_core.specs.Seating.{read_columns}
 use Rattle.mx_core.specs.Shows.{columns, ShowsSeat}
-use Rattle.mx_core.specs.World.{Process}
 use Rattle.mx_core.proofs.CellLaws.{cell_low, load_cell_law}
-use Rattle.mx_core.proofs.Seating.{seat_shown, read_parts, written_parts, same_parts, value_is, process_is}
+use Rattle.mx_core.proofs.Seating.{seat_shown, read_parts, same_parts, value_is, process_is}
 use Rattle.mx_core.proofs.worlds.World.load_cell.Goals as goal
 
 pub returns-in_default : goal.returns-in_default

@@ -1,4 +1,4 @@
-use Rattle.std.proofs.Common.{◌∙◌, ap, sym, arith, rules}
+use Rattle.std.proofs.Common.{◌∙◌, ap, sym, rules}
 use Rattle.mx_core.specs.Acknowledging.{CanLook}
 use Rattle.mx_core.specs.Shows.{Counts, columns}
 use Rattle.mx_core.specs.World.{Process}

@@ -1,4 +1,4 @@
-use Rattle.std.proofs.Common.{◌∙◌, ap, sym, inl, inr, refl, rules}
+use Rattle.std.proofs.Common.{◌∙◌, ap, sym, rules}
 use Rattle.mx_core.specs.AssociativeMemory.{recalled}
 use Rattle.mx_core.specs.Loading.{CanRecall}
 use Rattle.mx_core.specs.Shows.{columns}

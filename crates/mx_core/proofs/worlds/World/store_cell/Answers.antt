@@ -1,12 +1,9 @@
-use Rattle.std.proofs.Common.{◌≡◌, ℕ, ◌+◌, ◌*◌, inl, inr, ap, sym, ◌∙◌, subst, refl, arith, rules}
-use Rattle.mx_reads.specs.Held.{Held}
+use Rattle.std.proofs.Common.{◌+◌, ◌*◌, inl, inr, ap, refl, rules}
 use Rattle.mx_core.specs.Cells.{CanStoreCell}
-use Rattle.mx_core.specs.Pages.{cell_at}
-use Rattle.mx_core.specs.Seating.{read_columns}
-use Rattle.mx_core.specs.Shows.{columns, ShowsSeat}
+use Rattle.mx_core.specs.Shows.{columns}
 use Rattle.mx_core.specs.World.{Process}
 use Rattle.mx_core.proofs.CellLaws.{cell_low, store_cell_law}
-use Rattle.mx_core.proofs.Seating.{seat_shown, read_parts, written_parts, same_parts, value_is, process_is}
+use Rattle.mx_core.proofs.Seating.{seat_shown, written_parts, same_parts, process_is}
 use Rattle.mx_core.proofs.worlds.World.store_cell.Goals as goal
 
 pub returns-in_default : goal.returns-in_default
