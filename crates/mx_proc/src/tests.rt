@@ -1,11 +1,14 @@
 //! Sessions of several processes, stepped in a chosen order: what each line comes to was worked out by hand.
 
+ghost use Rattle.std.specs.Prelude.{◌≡◌, IfSome, length};
+ghost use Rattle.std.specs.List.{sum_by};
+
 use crate::Bench;
 use mx_legal::{Event, Event2, Outcome, Result2, Transcript};
 use mx_list::Sequence;
 use mx_name::Principal;
 use mx_request::Request;
-use mx_script::{Base, BoxedRequest, Line, Operand, Session};
+use mx_script::{Base, BoxedRequest, Line, Operand, Script, Session};
 use mx_sdw::Word;
 use std::alloc::{AllocError, Global};
 use std::test::Fail;
@@ -53,8 +56,23 @@ fn session(alloc: Global, history: Option<u32>, scripts: &[&[&[u8]]]) -> Result<
         }
         lines.push(script_lines)?;
     }
+    let count = line_count(lines.items()).ok_or("few lines")?;
+    if count > 1000 || setup.items().len() > 1000 || principals.items().len() > 1000 {
+        return Err("few lines".into());
+    }
     let session = Session::of_processes(history, setup, principals, lines).ok_or("a session")?;
     Ok(session)
+}
+
+// How many lines these scripts have.
+fn line_count(scripts: &[Script]) -> Option<usize>
+    ensures { IfSome result (λ count. count ≡ sum_by length scripts.now) }
+{
+    let mut count = 0_usize;
+    for script in scripts {
+        count = count.checked_add(script.items().len())?;
+    }
+    Some(count)
 }
 
 // Steps the processes in this order.

@@ -4,4 +4,3 @@ pub mod RowLaws
 pub mod DraftLaws
 pub mod ReadingLaws
 pub mod TextLaws
-pub mod SessionLaws
