@@ -1,7 +1,8 @@
 -- Octal numbers: what is spelled is read back, and what is read is spelled so.
-use Rattle.std.proofs.Common.{◌≡◌, ℕ, zero, suc, ◌+◌, ◌-◌, ◌*◌, ◌/◌, ◌%◌, ◌<◌, ◌≤◌, ◌^◌, inl, inr, nat_eq, nat_le, ◌≢◌, ◌↔◌, Bool, true, false, not, ◌&&◌, cond, List, [], ◌∷◌, ◌++◌, length, Some, None, refl, ap, sym, ◌∙◌, subst, arith, append_assoc, append-nil, length-append, lit<}
+use Rattle.std.proofs.Common.{◌≡◌, ℕ, zero, suc, ◌+◌, ◌-◌, ◌*◌, ◌/◌, ◌%◌, ◌<◌, ◌≤◌, ◌^◌, inl, inr, nat_eq, nat_le, ◌≢◌, ◌↔◌, Bool, true, false, not, ◌&&◌, cond, List, [], ◌∷◌, ◌++◌, length, take, drop, slice_set, Some, None, refl, ap, sym, ◌∙◌, subst, arith, append_assoc, append-nil, length-append, lit<}
 use Rattle.std.proofs.Math.Nat.{pow-le-pow_right, pow-succ'}
 use Rattle.std.proofs.lemmas.List.Folds.{list_all-append}
+use Rattle.std.proofs.lemmas.List.{drop-set, drop_all, take_all, length-drop, length-set}
 use Rattle.std.proofs.lemmas.Bool.{cases_lt}
 use Rattle.std.proofs.lemmas.Bool.Decides.{nat_tests}
 use Rattle.std.specs.List.{list_all}
@@ -137,9 +138,48 @@ pub octal_large : (n : ℕ) → 8 ≤ n → octal n ≡ octal (n / 8) ++ (48 + n
 unfolding octal
 octal_large n h = more_digits n n h ∙ ap (λ xs. xs ++ (48 + n % 8) ∷ []) (same_in n (suc (n / 8)) (n / 8) (omega arith) (omega arith))
 
-pub appended : (before front after : List ℕ) (n : ℕ) → 8 ≤ n → front ≡ before ++ octal (n / 8) → after ≡ front ++ (48 + n % 8) ∷ []
-    → after ≡ before ++ octal n
-appended before front after n h f a = rw (a, f, octal_large n h, append_assoc) refl
+-- what there is of a spelling: the digits from a place on, before which the spelling of n is to come and has room
+pub record HasSpelled (whole digits : List ℕ) (start n : ℕ) : Type 0 where
+  pub spelled : octal n ++ drop (start + 1) digits ≡ whole
+  pub room : n < 8 ^ (start + 1)
+
+-- before the first digit is written
+pub none_spelled : (digits : List ℕ) (n : ℕ) → length digits ≡ 22 → n < 2 ^ 64 → HasSpelled (octal n) digits 21 n
+none_spelled digits n l h = record {
+  spelled = rw (drop_all 22 digits (omega (arith, l))) (append-nil (octal n));
+  room = below_with_more n 22 22 (omega arith) (omega arith);
+}
+
+-- a number of two digits or more has room for one digit before its last
+room_before : (n i : ℕ) → n < 8 ^ (i + 1) → 8 ≤ n → 0 < i
+room_before n zero r h = absurd (omega arith)
+room_before n (suc i) r h = omega arith
+
+-- the last digit of what is left to spell
+pub last_written : (whole digits : List ℕ) (start n : ℕ) → HasSpelled whole digits start n → start < length digits → 8 ≤ n
+    → (0 < start) × HasSpelled whole (slice_set digits start (48 + n % 8)) (start - 1) (n / 8)
+last_written whole digits start n has s h =
+    let p : 0 < start = room_before n start has.room h in
+    let same : start - 1 + 1 ≡ start = omega arith in
+    let same' : start + 1 ≡ suc start = omega arith in
+    let times : 8 ^ (start + 1) ≡ 8 * 8 ^ start = rw same' (pow-succ' 8 start) in
+    let below : n / 8 < 8 ^ start = omega (arith, has.room) in
+    let last : drop start (slice_set digits start (48 + n % 8)) ≡ (48 + n % 8) ∷ drop (start + 1) digits = drop-set digits start (48 + n % 8) s in (
+      p,
+      record {
+        spelled = rw (same, last) (sym (append_assoc (octal (n / 8)) ((48 + n % 8) ∷ []) (drop (start + 1) digits))
+            ∙ ap (λ xs. xs ++ drop (start + 1) digits) (sym (octal_large n h)) ∙ has.spelled);
+        room = subst (λ i. n / 8 < 8 ^ i) (sym same) below;
+      },
+    )
+
+-- the first digit of what is left to spell
+pub first_written : (whole digits : List ℕ) (start n k : ℕ) → HasSpelled whole digits start n → start < length digits → n < 8
+    → length digits - start ≤ k → take k (drop start (slice_set digits start (48 + n))) ≡ whole
+first_written whole digits start n k has s h e =
+    let all : length (drop start (slice_set digits start (48 + n))) ≤ k
+    = rw (length-drop, length-set) e in
+    take_all k (drop start (slice_set digits start (48 + n))) all ∙ drop-set digits start (48 + n) s ∙ ap (λ xs. xs ++ drop (start + 1) digits) (sym (octal_small n h)) ∙ has.spelled
 
 -- the spelling of a number read on from n is that of n, and the digits read
 spelled_on : (ds : List ℕ) (k j n : ℕ) → k ≡ suc j + length ds → 0 < n → list_all is_octal_digit ds ≡ true

@@ -35,24 +35,21 @@ fn value_of(text: &[u8]) -> u64
 }
 
 /// Appends the octal spelling of a number; want of memory leaves the bytes as they were.
-#[tactic(auto, using(crate::proofs::OctalLaws::octal_small, crate::proofs::OctalLaws::appended))]
+#[tactic(auto, using(crate::proofs::OctalLaws::last_written, crate::proofs::OctalLaws::first_written))]
 pub fn write_octal(out: &mut Vec<u8>, n: u64) -> Result<(), AllocError>
     ensures ok { OnOk result (out.new.items ≡ out.old.items ++ octal n) }
     ensures err { OnErr result (out.new.items ≡ out.old.items) }
 {
-    if n < 8 {
-        out.push(b'0' + n as u8)?;
-        return Ok(());
+    let mut digits = [b'0'; 22];
+    let mut start = 21;
+    let mut left = n;
+    while left >= 8 {
+        digits[start] = b'0' + (left % 8) as u8;
+        start -= 1;
+        left /= 8;
     }
-    let start = out.len();
-    write_octal(out, n / 8)?;
-    match out.push(b'0' + (n % 8) as u8) {
-        Ok(()) => Ok(()),
-        Err(refused) => {
-            out.truncate(start);
-            Err(refused.into())
-        },
-    }
+    digits[start] = b'0' + left as u8;
+    out.extend_from_slice(&digits[start..])
 }
 
 fn is_octal(text: &[u8]) -> bool
