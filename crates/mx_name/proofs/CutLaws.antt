@@ -1,7 +1,10 @@
 -- Laws of cuts: what a cut takes apart is its text, and a front without the byte is cut off again.
-use Rattle.std.proofs.Common.{ℕ, ◌≡◌, ◌==◌, Bool, true, false, cond, not, List, [], ◌∷◌, ◌++◌, Option, None, Some, refl, ap, subst}
+use Rattle.std.proofs.Common.{ℕ, zero, suc, ◌≡◌, ◌==◌, ◌<◌, Bool, true, false, cond, not, List, [], ◌∷◌, ◌++◌, take, drop, length, Option, None, Some, refl, ap, subst, arith, ◌+◌, ◌-◌}
 use Rattle.std.specs.List.{slice_split, onto_first}
+use Rattle.std.specs.Option.{option_map}
+use Rattle.std.proofs.lemmas.List.{take_rest}
 use Rattle.std.proofs.lemmas.Bool.{eqb-true, eq-eqb}
+use Rattle.memchr.specs.Find.{Nowhere, Passes, IsFirstByte, is_byte}
 use Rattle.mx_name.specs.Names.{is_free}
 use Rattle.mx_name.specs.Cuts.{behind, cut_at}
 use Rattle.mx_name.specs.Parts.{parts_by}
@@ -59,3 +62,40 @@ pub parts_cut : (byte : ℕ) (text : List ℕ) → slice_split (λ c. c == byte)
 unfolding cut_at
 parts_cut byte [] = refl
 parts_cut byte (c ∷ cs) = parts_on byte c cs (c == byte) (cut_at byte cs) (parts_cut byte cs)
+
+-- where no byte is the one, there is no cut
+cut_past : (byte c : ℕ) (cs : List ℕ) (test : Bool) → (c == byte) ≡ test → (test ≡ true → ⊥) → cut_at byte cs ≡ None
+    → cond test (Some ([], cs)) (behind (c ∷ []) (cut_at byte cs)) ≡ None
+cut_past byte c cs true t differs e = absurd (differs refl)
+cut_past byte c cs false t differs e = rw e refl
+
+pub cut_none : (byte : ℕ) (text : List ℕ) → Nowhere (Passes (is_byte byte) text) 0 (length text) → cut_at byte text ≡ None
+unfolding cut_at
+cut_none byte [] absent = refl
+cut_none byte (c ∷ cs) absent =
+    cut_past byte c cs (c == byte) refl (absent 0 (omega arith) (omega arith))
+    (cut_none byte cs (λ k low high. absent (suc k) (omega arith) (omega arith)))
+
+-- the cut is at the first byte that is the one
+cut_behind : (byte c k : ℕ) (cs : List ℕ) (test : Bool) → (c == byte) ≡ test → (test ≡ true → ⊥)
+    → cut_at byte cs ≡ Some (take k cs, drop (suc k) cs)
+    → cond test (Some ([], cs)) (behind (c ∷ []) (cut_at byte cs)) ≡ Some (c ∷ take k cs, drop (suc k) cs)
+cut_behind byte c k cs true t differs e = absurd (differs refl)
+cut_behind byte c k cs false t differs e = rw e refl
+
+pub cut_first : (byte k : ℕ) (text : List ℕ) → k < length text → Nowhere (Passes (is_byte byte) text) 0 k
+    → Passes (is_byte byte) text k → cut_at byte text ≡ Some (take k text, drop (suc k) text)
+unfolding cut_at
+cut_first byte k [] within absent is = absurd (omega arith)
+cut_first byte zero (c ∷ cs) within absent is = rw is refl
+cut_first byte (suc k) (c ∷ cs) within absent is =
+    cut_behind byte c k cs (c == byte) refl (absent 0 (omega arith) (omega arith))
+    (cut_first byte k cs (omega arith) (λ j low high. absent (suc j) (omega arith) (omega arith)) is)
+
+-- so the first place where the byte is gives the cut
+pub cut_found : (byte : ℕ) (text : List ℕ) (place : Option ℕ) → IsFirstByte (is_byte byte) text place
+    → cut_at byte text ≡ option_map (λ k. (take k text, take (length text - (k + 1)) (drop (k + 1) text))) place
+cut_found byte text None absent = cut_none byte text absent
+cut_found byte text (Some k) is =
+    let next : k + 1 ≡ suc k = omega arith in
+    rw (take_rest text (k + 1), next) (cut_first byte k text is.0.high is.0.before is.1)

@@ -68,13 +68,6 @@ pathname_names text = by_test (ltb 168 (length text))
     by_test true e = absurd (cc)
     by_test false e = e
 
-pub climbs_fit : (base : List (List ℕ)) (text : List ℕ) → resolve_fault base text ≡ None → climbs text ≤ length base
-climbs_fit base text e = by_test (ltb (length base) (climbs text)) refl e
-  where
-    by_test : (b : Bool) → ltb (length base) (climbs text) ≡ b → cond b (Some path_error.AboveRoot) (cond (ltb 168 (length (path_text (resolved base text)))) (Some path_error.TooLong) None) ≡ None → climbs text ≤ length base
-    by_test true f e = absurd (cc)
-    by_test false f e = grind (arith, nat_tests, f)
-
 pub resolved_path : (base : List (List ℕ)) (text : List ℕ) → IsPath base → pathname_fault text ≡ None → resolve_fault base text ≡ None → IsPath (resolved base text)
 resolved_path base text path e f = record {
   within = by_test (ltb (length base) (climbs text)) (ltb 168 (length (path_text (resolved base text)))) refl f;

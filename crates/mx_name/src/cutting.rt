@@ -5,18 +5,17 @@ ghost use Rattle.std.specs.Option.{option_map};
 ghost use Rattle.mx_name.specs.Cuts.{cut_at};
 ghost use Rattle.mx_name.specs.Parts.{parts_by};
 
+use memchr::memchr;
+
 /// What stands before the first `mark` of a text, and what after it; none where it has no `mark`. Takes no memory.
-#[tactic(auto, unfolding(crate::specs::Cuts::cut_at))]
 pub fn cut(mark: u8, text: &[u8]) -> Option<(&[u8], &[u8])>
     ensures cut { option_map (λ p. (p.0.now, p.1.now)) result ≡ cut_at mark text.now }
     ensures shorter { IfSome result (λ p. length p.1.now < length text.now) }
 {
-    for (i, byte) in text.iter().enumerate() {
-        if *byte == mark {
-            return Some((&text[..i], &text[i + 1..]));
-        }
+    match memchr(mark, text) {
+        Some(at) => Some((&text[..at], &text[at + 1..])),
+        None => None,
     }
-    None
 }
 
 /// The same, said of all parts of the text between marks.
@@ -26,5 +25,19 @@ pub(crate) fn first_part(mark: u8, text: &[u8]) -> Option<(&[u8], &[u8])>
         ≡ parts_by mark text.now (option_map (λ p. (p.0.now, p.1.now)) result) }
     ensures shorter { IfSome result (λ p. length p.1.now < length text.now) }
 {
-    cut(mark, text)
+    near_cut(mark, text)
+}
+
+/// The same cut, byte by byte: names and components are too short for the search of `cut` to gain anything.
+#[tactic(auto, unfolding(crate::specs::Cuts::cut_at))]
+fn near_cut(mark: u8, text: &[u8]) -> Option<(&[u8], &[u8])>
+    ensures cut { option_map (λ p. (p.0.now, p.1.now)) result ≡ cut_at mark text.now }
+    ensures shorter { IfSome result (λ p. length p.1.now < length text.now) }
+{
+    for (i, byte) in text.iter().enumerate() {
+        if *byte == mark {
+            return Some((&text[..i], &text[i + 1..]));
+        }
+    }
+    None
 }

@@ -106,12 +106,10 @@ impl Ord for AclId {
 impl Hash for AclId {
     ghost use Rattle.mx_name.specs.OrderLaws.{id_decides};
     ghost use Rattle.mx_name.specs.Identifiers.{component_text};
-    ghost use Rattle.std.specs.Prelude.{◌++◌};
-    ghost use Rattle.std.specs.Hash.{slice, same_Alike};
+    ghost use Rattle.std.specs.Prelude.{[], ◌∷◌};
+    ghost use Rattle.std.specs.Hash.{same_Alike};
 
-    ghost hash_input = { λ a. slice ⟦<u8 as Hash>⟧.hash_input (component_text a.person)
-        ++ slice ⟦<u8 as Hash>⟧.hash_input (component_text a.project)
-        ++ slice ⟦<u8 as Hash>⟧.hash_input (component_text a.tag) };
+    ghost hash_input = { λ a. component_text a.person ∷ component_text a.project ∷ component_text a.tag ∷ [] };
 
     ghost respects_eq = { (same_Alike _ id_decides).fed };
 

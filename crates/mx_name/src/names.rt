@@ -114,9 +114,16 @@ fn all_name_bytes(text: &[u8]) -> bool
 fn is_name_byte(byte: u8) -> bool
     ensures { result ≡ is_name_byte byte }
 {
-    match byte {
-        b'>' | b'<' | b'*' | b'?' | b'$' | b',' | b'|' | b':' | b'=' => false,
-        b'!'..=b'~' => true,
-        _ => false,
-    }
+    NAME_BYTES[usize::from(byte)] != b','
 }
+
+// Each byte that a name may hold stands at its own place, and a comma, which none may hold, at every other place.
+static NAME_BYTES: [u8; 256] = *b"\
+    ,,,,,,,,,,,,,,,,,,,,,,,,,,,,,,,,\
+    ,!\"#,%&'(),+,-./0123456789,;,,,,\
+    @ABCDEFGHIJKLMNOPQRSTUVWXYZ[\\]^_\
+    `abcdefghijklmnopqrstuvwxyz{,}~,\
+    ,,,,,,,,,,,,,,,,,,,,,,,,,,,,,,,,\
+    ,,,,,,,,,,,,,,,,,,,,,,,,,,,,,,,,\
+    ,,,,,,,,,,,,,,,,,,,,,,,,,,,,,,,,\
+    ,,,,,,,,,,,,,,,,,,,,,,,,,,,,,,,,";

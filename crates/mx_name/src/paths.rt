@@ -176,7 +176,7 @@ fn added_length(text: &[u8]) -> usize
     }
 }
 
-/// The names, in one piece of memory.
+/// The names, in one piece of memory: there is room for names of three bytes, and more names than that make it grow.
 fn resolved(
     alloc: Global,
     base: &[EntryName],
@@ -187,20 +187,12 @@ fn resolved(
     ensures { IfOk result (λ names. names ≡ resolved base.now text.now) }
 {
     let kept = kept(base, text);
-    let mut names = Vec::with_capacity(alloc, kept.len() + most_names(text))?;
+    let mut names = Vec::with_capacity(alloc, kept.len() + text.len() / 4 + 1)?;
     names.extend_from_slice(kept)?;
     if let Some(added) = named(text) {
         add_names(&mut names, added)?;
     }
     Ok(Sequence::of(names))
-}
-
-/// No pathname has more names: it has one more than separators.
-fn most_names(text: &[u8]) -> usize
-    ensures { result ≤ length text.now + 1 }
-{
-    let separators = text.iter().filter(|byte| **byte == b'>').count();
-    separators + 1
 }
 
 /// Appends the names of a text that has no bad name.

@@ -1,9 +1,9 @@
 //! Short texts, held in the value itself.
-ghost use Rattle.std.specs.Prelude.{◌≡◌, ◌≤◌, ◌<◌, ◌==◌, Some, refl, length};
+ghost use Rattle.std.specs.Prelude.{◌≡◌, ◌≤◌, ◌<◌, ◌==◌, [], ◌∷◌, Some, refl, length};
+ghost use Rattle.std.proofs.Common.{ap};
 ghost use Rattle.std.specs.Ordering.{nat_cmp};
 ghost use Rattle.std.specs.Cmp.{partial_equiv_from_equiv};
 ghost use Rattle.std.specs.Cmp.Lexicographic.{pointwise, slice_cmp, nat_list_eq_equiv, nat_list_cmp_total, texts_ties, texts_po, bytes_decides};
-ghost use Rattle.std.specs.Hash.{slice, same_Alike};
 
 use std::cmp::Ordering;
 use std::hash::{Hash, Hasher};
@@ -95,11 +95,11 @@ impl<const MOST: usize> Ord for Text<MOST> {
 }
 
 impl<const MOST: usize> Hash for Text<MOST> {
-    ghost hash_input = { slice ⟦<u8 as Hash>⟧.hash_input };
+    ghost hash_input = { λ text. text ∷ [] };
 
-    ghost respects_eq = { (same_Alike (slice ⟦<u8 as Hash>⟧.hash_input) bytes_decides).fed };
+    ghost respects_eq = { λ text other same. ap (λ bytes. bytes ∷ []) ((bytes_decides text other).0 same) };
 
     fn hash<H: Hasher>(&self, state: &mut H) {
-        self.bytes().hash(state);
+        state.write(self.bytes());
     }
 }

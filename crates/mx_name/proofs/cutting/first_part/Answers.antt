@@ -5,4 +5,4 @@ use Rattle.mx_name.proofs.cutting.first_part.Goals as goal
 
 pub returns-clause-parts : goal.returns-clause-parts
 returns-clause-parts c =
-    parts_cut c.args.mark c.args.text.now ∙ ap (parts_by c.args.mark c.args.text.now) (sym c.cut.ensures.cut)
+    parts_cut c.args.mark c.args.text.now ∙ ap (parts_by c.args.mark c.args.text.now) (sym c.near_cut.ensures.cut)
