@@ -1,5 +1,6 @@
 pub mod SlotLaws
 pub mod NameLaws
+pub mod OrderLaws
 pub mod KeyLaws
 pub mod KeptLaws
 pub mod WalkLaws
@@ -9,3 +10,4 @@ pub mod MakingLaws
 pub mod ChangeLaws
 pub mod SortLaws
 pub mod DescriptorLaws
+pub mod NameTextLaws

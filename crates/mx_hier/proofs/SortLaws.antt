@@ -9,13 +9,13 @@ use Rattle.std.proofs.lemmas.List.Sorted.{sum_by-IsPermutation, IsPermutation-re
 use Rattle.std.proofs.lemmas.List.Sums.{sum_by-cons}
 use Rattle.mx_hier.specs.List.{placed, in_byte_order}
 
-abbrev before : List ℕ → List ℕ → Bool
+abbrev pub before : List ℕ → List ℕ → Bool
 before a b = is_lt (slice_cmp nat_cmp a b)
 
-same_name : (a b : List ℕ) → slice_cmp nat_cmp a b ≡ Equal → a ≡ b
+pub same_name : (a b : List ℕ) → slice_cmp nat_cmp a b ≡ Equal → a ≡ b
 same_name a b tied = same_text a b (sym (texts_ties a b ∙ ap is_eq tied))
 
-not_turned : (a b : List ℕ) → before a b ≡ true → before b a ≡ false
+pub not_turned : (a b : List ℕ) → before a b ≡ true → before b a ≡ false
 not_turned a b less = by (slice_cmp nat_cmp a b) refl less
   where
     by : (o : Ordering) → slice_cmp nat_cmp a b ≡ o → is_lt o ≡ true → before b a ≡ false
@@ -24,15 +24,15 @@ not_turned a b less = by (slice_cmp nat_cmp a b) refl less
     by Greater is h = absurd (true≢false (sym h))
 
 -- no name comes before the one that it follows
-abbrev Follows : List ℕ → List (List ℕ) → Type 0
+abbrev pub Follows : List ℕ → List (List ℕ) → Type 0
 Follows name [] = ⊤
 Follows name (next ∷ names) = before next name ≡ false
 
-abbrev Rises : List (List ℕ) → Type 0
+abbrev pub Rises : List (List ℕ) → Type 0
 Rises [] = ⊤
 Rises (name ∷ names) = Follows name names × Rises names
 
-rises_sorted : (names : List (List ℕ)) → IsSorted (slice_cmp nat_cmp) names → Rises names
+pub rises_sorted : (names : List (List ℕ)) → IsSorted (slice_cmp nat_cmp) names → Rises names
 rises_sorted [] sorted = tt
 rises_sorted (name ∷ []) sorted = (tt, tt)
 rises_sorted (name ∷ next ∷ names) sorted =
@@ -51,7 +51,7 @@ rises_placed name (next ∷ names) up = by (before next name) refl (rises_placed
     by true is more = (follows_placed next name names (not_turned next name is) up.0, more)
     by false is more = (is, up)
 
-rises_in_byte_order : (names : List (List ℕ)) → Rises (in_byte_order names)
+pub rises_in_byte_order : (names : List (List ℕ)) → Rises (in_byte_order names)
 rises_in_byte_order [] = tt
 rises_in_byte_order (name ∷ names) = rises_placed name (in_byte_order names) (rises_in_byte_order names)
 
@@ -65,7 +65,7 @@ module _ (f : List ℕ → ℕ) where
       by true more = omega (arith, more, sum_by-cons f next (placed name names), sum_by-cons f next names)
       by false more = sum_by-cons f name (next ∷ names)
 
-  sum_in_byte_order : (names : List (List ℕ)) → sum_by f (in_byte_order names) ≡ sum_by f names
+  pub sum_in_byte_order : (names : List (List ℕ)) → sum_by f (in_byte_order names) ≡ sum_by f names
   sum_in_byte_order [] = refl
   sum_in_byte_order (name ∷ names) = omega (arith, sum_placed name (in_byte_order names), sum_in_byte_order names, sum_by-cons f name names)
 
@@ -96,7 +96,7 @@ not_all_after name first names others less up same =
     let here : up_to name name ≡ 1 = rw (tied_itself nat_list_cmp_total name) refl in
     omega (arith, here, same, none_up_to name first others less up, sum_by-cons (up_to name) name names)
 
-one_order : (xs ys : List (List ℕ)) → Rises xs → Rises ys → ((f : List ℕ → ℕ) → sum_by f xs ≡ sum_by f ys) → xs ≡ ys
+pub one_order : (xs ys : List (List ℕ)) → Rises xs → Rises ys → ((f : List ℕ → ℕ) → sum_by f xs ≡ sum_by f ys) → xs ≡ ys
 one_order [] [] up up' same = refl
 one_order [] (y ∷ ys) up up' same = absurd (omega (arith, same (λ _. 1), sum_by-cons (λ (_ : List ℕ). 1) y ys))
 one_order (x ∷ xs) [] up up' same = absurd (omega (arith, same (λ _. 1), sum_by-cons (λ (_ : List ℕ). 1) x xs))
@@ -113,7 +113,7 @@ pub sorted_names : (names sorted : List (List ℕ)) → IsPermutation names sort
 sorted_names names sorted moved up =
     one_order sorted (in_byte_order names) (rises_sorted sorted up) (rises_in_byte_order names) (λ f. sum_by-IsPermutation f names sorted moved ∙ sym (sum_in_byte_order f names))
 
-rises_is_sorted : (names : List (List ℕ)) → Rises names → IsSorted (slice_cmp nat_cmp) names
+pub rises_is_sorted : (names : List (List ℕ)) → Rises names → IsSorted (slice_cmp nat_cmp) names
 rises_is_sorted [] up = λ k d p q. absurd (omega (arith, q))
 rises_is_sorted (name ∷ []) up = λ k d p q. absurd (omega (arith, q))
 rises_is_sorted (name ∷ next ∷ names) up = λ k d p q. at k d q (rises_is_sorted (next ∷ names) up.1)

@@ -26,3 +26,4 @@ pub mod Strangers
 pub mod Who
 pub mod Listed
 pub mod Stops
+pub mod NameTexts

@@ -5,7 +5,7 @@ ghost use Rattle.mx_sdw.specs.Admissible.{IsAdmissible};
 ghost use Rattle.mx_hier.specs.ChangeWorkingDirectory.{directory_refusals, directory};
 ghost use Rattle.mx_hier.specs.Connected.{desc_of, desc_for};
 ghost use Rattle.mx_hier.specs.Initiate.{segment_refusals, segment};
-ghost use Rattle.mx_hier.specs.List.{in_byte_order, list_at, list};
+ghost use Rattle.mx_hier.specs.List.{list_at, list};
 ghost use Rattle.mx_hier.specs.Rules.{first_of, Tells, TellsFirst};
 ghost use Rattle.mx_hier.specs.Sound.{IsStored};
 ghost use Rattle.mx_hier.specs.Status.{status_of, status_at, status};
@@ -16,11 +16,11 @@ ghost use Rattle.mx_hier.specs.declared.branches.Node.TheVariants.{Directory as 
 use crate::branches::{Directory, Node, Segment};
 use crate::callers::Who;
 use crate::hier::Hier;
+use crate::names::Names;
 use crate::refusals::{HierError, Refusal};
 use crate::walks::resolved;
 use mx_acl::Modes;
-use mx_list::Sequence;
-use mx_name::{EntryName, Path, Pathname, Principal};
+use mx_name::{Path, Pathname, Principal};
 use mx_sdw::{Brackets, Desc, Ring};
 use std::alloc::{AllocError, Global};
 
@@ -41,9 +41,6 @@ pub enum Status {
         target: Path,
     },
 }
-
-/// Names of entries, in order.
-pub type Names = Sequence<EntryName>;
 
 impl Hier {
     /// What is said of an entry; of a link itself, and not of what it leads to. `NoInfo` where the caller has no s on
@@ -99,8 +96,7 @@ impl Hier {
             return Err(HierError::Refused(why));
         }
         let names = self.tables.names_in(alloc, uid)?;
-        let sorted = in_byte_order(names)?;
-        Ok(Names::of(sorted))
+        Ok(names)
     }
 
     /// The path of a directory on which some mode is left to the caller, as it is written: where its links lead is not
@@ -211,13 +207,4 @@ fn segment_desc(segment: &Segment, who: &Principal) -> Desc
         segment.page,
         segment.words,
     )
-}
-
-/// The names in byte order.
-fn in_byte_order(names: Vec<EntryName>) -> Result<Vec<EntryName>, AllocError>
-    ensures { IfOk result (λ sorted. sorted.items ≡ in_byte_order names.items) }
-{
-    let mut names = names;
-    names.sort()?;
-    Ok(names)
 }

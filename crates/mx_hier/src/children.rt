@@ -1,27 +1,38 @@
 //! The names in one directory.
-ghost use Rattle.std.specs.Prelude.{◌≡◌, ◌==◌, ◌++◌, [], ◌∷◌, None, IfOk, OnOk, OnErr, length};
-ghost use Rattle.std.specs.Cmp.Lexicographic.{pointwise};
-ghost use Rattle.std.specs.List.{IsDistinct};
+ghost use Rattle.std.specs.Prelude.{◌≡◌, ◌==◌, ◌+◌, ◌<◌, ◌≤◌, ◌++◌, ℕ, List, [], ◌∷◌, None, IfOk, OnOk, OnErr, length};
+ghost use Rattle.std.specs.Cmp.Lexicographic.{pointwise, slice_cmp};
+ghost use Rattle.std.specs.List.{Contains, IsDistinct, insert, slice_index_or, sum_by};
+ghost use Rattle.std.specs.List.Sorted.{IsSorted};
+ghost use Rattle.std.specs.Ordering.{nat_cmp};
+ghost use Rattle.std.specs.Vec.{vec_capacity};
 ghost use Rattle.std.specs.Map.{keys_of, lookup, remove_entry};
+ghost use Rattle.mx_hier.specs.List.{in_byte_order};
 ghost use Rattle.mx_hier.specs.Listed.{renamed};
 
+use crate::names::Names;
 use indexmap::IndexMap;
 use mx_name::EntryName;
 use std::alloc::{AllocError, Global};
 use std::marker::Model;
 
-/// The names in one directory, each with the uid of its branch, in the order of their making.
+/// The names in one directory, each with the uid of its branch, in the order of their making; and once more, alone and
+/// in byte order, for `list`.
 #[derive(Debug, Drop)]
 pub(crate) struct Children {
     uids: IndexMap<EntryName, u32>,
+    sorted: Vec<EntryName>,
 }
 
 impl Model for Children {
-    ghost use Rattle.std.specs.Prelude.{List, ℕ};
+    ghost use Rattle.std.specs.Prelude.{◌≡◌, List, ℕ};
+    ghost use Rattle.std.specs.Map.{keys_of};
+    ghost use Rattle.mx_hier.specs.List.{in_byte_order};
 
     ghost Value = { List (List ℕ × ℕ) };
 
     ghost view = { λ a. a.uids.entries };
+
+    ghost invariant = { λ a. a.sorted.items ≡ in_byte_order (keys_of a.uids.entries) };
 }
 
 impl Children {
@@ -31,6 +42,7 @@ impl Children {
     {
         Children {
             uids: IndexMap::new(alloc),
+            sorted: Vec::new(alloc),
         }
     }
 
@@ -48,15 +60,11 @@ impl Children {
         self.uids.len()
     }
 
-    /// A copy of the names.
-    pub(crate) fn names(&self, alloc: Global) -> Result<Vec<EntryName>, AllocError>
-        ensures { IfOk result (λ names. names.items ≡ keys_of self.now) }
+    /// The names, in byte order.
+    pub(crate) fn names(&self, alloc: Global) -> Result<Names, AllocError>
+        ensures { IfOk result (λ names. names ≡ in_byte_order (keys_of self.now)) }
     {
-        let mut names = Vec::new(alloc);
-        for name in self.uids.keys() {
-            names.push(*name)?;
-        }
-        Ok(names)
+        Names::of(alloc, &self.sorted)
     }
 
     /// Adds a name that is not there, last.
@@ -65,7 +73,9 @@ impl Children {
         ensures ok { OnOk result (self.new ≡ self.old ++ (name, uid) ∷ []) }
         ensures err { OnErr result (self.new ≡ self.old) }
     {
+        self.sorted.reserve(1)?;
         self.uids.insert(name, uid)?;
+        place(&mut self.sorted, name);
         Ok(())
     }
 
@@ -76,7 +86,9 @@ impl Children {
     {
         // `len` is called for its clause that no name stands twice.
         let _count = self.uids.len();
-        self.uids.shift_remove(name);
+        if self.uids.shift_remove(name).is_some() {
+            displace(&mut self.sorted, name);
+        }
     }
 
     /// Gives the entry of a name another name that is not there; it keeps its place. Where memory is wanting, nothing
@@ -94,9 +106,60 @@ impl Children {
                 self.uids.insert(new, uid)?;
                 // The last entry takes the place of the one that is removed.
                 self.uids.swap_remove(old);
+                displace(&mut self.sorted, old);
+                place(&mut self.sorted, new);
                 Ok(())
             }
             None => Ok(()),
         }
+    }
+}
+
+/// Puts a name among names in byte order, in room that there is.
+fn place(names: &mut Vec<EntryName>, name: EntryName)
+    requires room { length names.old.items < vec_capacity names.old }
+    requires sorted { IsSorted (slice_cmp nat_cmp) names.old.items }
+    ensures sorted { IsSorted (slice_cmp nat_cmp) names.new.items }
+    ensures all { (f : List ℕ → ℕ) → sum_by f names.new.items ≡ f name + sum_by f names.old.items }
+{
+    let at = place_of(names, &name);
+    // There is room, so that this does not fail.
+    let _room = names.insert(at, name);
+}
+
+/// Where a name belongs among names in byte order.
+fn place_of(names: &[EntryName], name: &EntryName) -> usize
+    requires { IsSorted (slice_cmp nat_cmp) names.now }
+    ensures sorted { IsSorted (slice_cmp nat_cmp) (insert names.now result name.now) }
+    ensures within { result ≤ length names.now }
+{
+    match names.binary_search(name) {
+        Ok(at) => at,
+        Err(at) => at,
+    }
+}
+
+/// Takes a name out of names in byte order.
+fn displace(names: &mut Vec<EntryName>, name: &EntryName)
+    requires sorted { IsSorted (slice_cmp nat_cmp) names.old.items }
+    requires there { Contains names.old.items name.now }
+    ensures sorted { IsSorted (slice_cmp nat_cmp) names.new.items }
+    ensures all { (f : List ℕ → ℕ) → sum_by f names.old.items ≡ f name.now + sum_by f names.new.items }
+    ensures room { length names.new.items < vec_capacity names.new }
+{
+    let at = position_of(names, name);
+    names.remove(at);
+}
+
+/// Where a name stands among names in byte order.
+fn position_of(names: &[EntryName], name: &EntryName) -> usize
+    requires sorted { IsSorted (slice_cmp nat_cmp) names.now }
+    requires there { Contains names.now name.now }
+    ensures within { result < length names.now }
+    ensures name { slice_index_or names.now result name.now ≡ name.now }
+{
+    match names.binary_search(name) {
+        Ok(at) => at,
+        Err(at) => at,
     }
 }

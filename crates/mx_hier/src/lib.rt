@@ -15,6 +15,7 @@ mod children;
 mod hier;
 mod laws;
 mod making;
+mod names;
 mod refusals;
 mod slots;
 mod tables;
@@ -22,7 +23,7 @@ mod tables;
 mod tests;
 mod walks;
 
-pub use asking::{Names, Status};
+pub use asking::Status;
 pub use branches::{Branch, Directory, Node, Segment};
 pub use callers::Who;
 pub use hier::Hier;
@@ -30,4 +31,5 @@ pub use laws::{
     a_followed_walk_ends_at_no_link, a_stranger_learns_nothing, a_walk_ends_alike_for_all,
     listed_names_ascend, segments_have_pages_of_their_own,
 };
+pub use names::Names;
 pub use refusals::{HierError, Refusal};

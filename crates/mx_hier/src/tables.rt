@@ -12,10 +12,12 @@ ghost use Rattle.mx_hier.specs.Changing.{branch_with_acl};
 ghost use Rattle.mx_hier.specs.Delete.{without};
 ghost use Rattle.mx_hier.specs.SetBrackets.{branch_bracketed};
 ghost use Rattle.mx_hier.specs.SetDirectoryBrackets.{branch_dir_bracketed};
+ghost use Rattle.mx_hier.specs.List.{in_byte_order};
 ghost use Rattle.mx_hier.specs.Listed.{listed_added, listed_changed, present, slot_of, changed_at, acl_of, AclAnswers, kept_for, with_name, renamed, AreKept};
 
 use crate::branches::{Branch, Node};
 use crate::children::Children;
+use crate::names::Names;
 use crate::slots::{
     branch_at, put_name, remove_acl_at, set_acl_at, set_brackets_at, set_dir_brackets_at,
     take_branch,
@@ -91,9 +93,10 @@ impl Tables {
         }
     }
 
-    /// The names of a directory's entries, in the order of their making.
-    pub(crate) fn names_in(&self, alloc: Global, dir: u32) -> Result<Vec<EntryName>, AllocError>
-        ensures { IfOk result (λ names. names.items ≡ map (λ branch. branch.name) (entries_of self.now.branches dir)) }
+    /// The names of a directory's entries, in byte order.
+    pub(crate) fn names_in(&self, alloc: Global, dir: u32) -> Result<Names, AllocError>
+        ensures { IfOk result (λ names.
+            names ≡ in_byte_order (map (λ branch. branch.name) (entries_of self.now.branches dir))) }
     {
         let names = copied_at(&self.names, alloc, dir)?;
         Ok(names)
@@ -196,15 +199,15 @@ fn uid_at(names: &[Children], dir: u32, name: &EntryName) -> Option<u32>
     }
 }
 
-fn copied_at(names: &[Children], alloc: Global, dir: u32) -> Result<Vec<EntryName>, AllocError>
-    ensures { IfOk result (λ copied. copied.items ≡ keys_of (kept_for names.now dir)) }
+fn copied_at(names: &[Children], alloc: Global, dir: u32) -> Result<Names, AllocError>
+    ensures { IfOk result (λ copied. copied ≡ in_byte_order (keys_of (kept_for names.now dir))) }
 {
     match names_at(names, dir) {
         Some(kept) => {
             let copied = kept.names(alloc)?;
             Ok(copied)
         }
-        None => Ok(Vec::new(alloc)),
+        None => Names::of(alloc, &[]),
     }
 }
 

@@ -188,10 +188,10 @@ end";
     }
 
     fn names(alloc: Global, texts: &[&[u8]]) -> Result<Reply, Fail> {
-        let mut names = Names::new(alloc);
+        let mut names = Vec::new(alloc);
         for text in texts {
             names.push(EntryName::read(text)?)?;
         }
-        Ok(Reply::Names(names))
+        Ok(Reply::Names(Names::of(alloc, &names)?))
     }
 }

@@ -4,7 +4,7 @@ ghost use Rattle.std.specs.Prelude.{◌≡◌, ◌++◌, [], ◌∷◌, OnOk, On
 ghost use Rattle.std.specs.Fmt.{decimal};
 ghost use Rattle.mx_acl.specs.Modes.{modes_text};
 ghost use Rattle.mx_hier.specs.declared.asking.Status.TheVariants.{Segment, Directory, Link};
-ghost use Rattle.mx_request.specs.declared.replies.Reply.TheVariants.{Refused, Names, Segno};
+ghost use Rattle.mx_request.specs.declared.replies.Reply.TheVariants.{Refused, Names as Listed, Segno};
 ghost use Rattle.mx_request.specs.Fields.{line_of, ring_text};
 ghost use Rattle.mx_request.specs.Growth.{IsGrown, blank_before};
 ghost use Rattle.mx_request.specs.ReplyTexts.{status_fields, reply_text};
@@ -12,8 +12,8 @@ ghost use Rattle.mx_request.specs.ReplyTexts.{status_fields, reply_text};
 use super::fields::{push_field, push_number, push_ring, push_rings};
 use crate::replies::{Known, Reply};
 use mx_acl::Modes;
-use mx_hier::{Refusal, Status};
-use mx_name::{EntryName, Path};
+use mx_hier::{Names, Refusal, Status};
+use mx_name::Path;
 use mx_sdw::{Brackets, Ring, write_octal};
 use std::alloc::AllocError;
 
@@ -26,7 +26,7 @@ pub(crate) fn push_reply(out: &mut Vec<u8>, reply: &Reply) -> Result<(), AllocEr
         Reply::Done => out.extend_from_slice(b"ok"),
         Reply::Refused(why) => push_refusal(out, why),
         Reply::Status(status) => push_status(out, status),
-        Reply::Names(names) => push_names(out, names.items()),
+        Reply::Names(names) => push_names(out, names),
         Reply::Segno(known) => push_known(out, known),
     }
 }
@@ -121,24 +121,12 @@ fn push_link(out: &mut Vec<u8>, target: &Path) -> Result<(), AllocError>
     target.append_to(out)
 }
 
-#[tactic(auto, using(crate::proofs::GrowthLaws::word_grows))]
-fn push_names(out: &mut Vec<u8>, names: &[EntryName]) -> Result<(), AllocError>
-    ensures ok { OnOk result (out.new.items ≡ out.old.items ++ reply_text (Names names.now)) }
+fn push_names(out: &mut Vec<u8>, names: &Names) -> Result<(), AllocError>
+    ensures ok { OnOk result (out.new.items ≡ out.old.items ++ reply_text (Listed names.now)) }
     ensures err { OnErr result (IsGrown out.old.items out.new.items) }
 {
     out.extend_from_slice(b"names")?;
-    push_each(out, names)
-}
-
-/// The names with a blank before each.
-fn push_each(out: &mut Vec<u8>, names: &[EntryName]) -> Result<(), AllocError>
-    ensures ok { OnOk result (out.new.items ≡ out.old.items ++ blank_before names.now) }
-    ensures err { OnErr result (IsGrown out.old.items out.new.items) }
-{
-    for name in names {
-        push_field(out, name.bytes())?;
-    }
-    Ok(())
+    out.extend_from_slice(names.text())
 }
 
 fn push_known(out: &mut Vec<u8>, known: &Known) -> Result<(), AllocError>

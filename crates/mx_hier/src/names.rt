@@ -1,0 +1,82 @@
+//! Names of entries, in one text.
+
+ghost use Rattle.std.specs.Prelude.{◌≡◌, ◌++◌, ◌∷◌, true, IfOk, OnOk};
+ghost use Rattle.std.specs.List.{flat_map};
+ghost use Rattle.mx_name.specs.Names.{is_free};
+ghost use Rattle.mx_hier.specs.NameTexts.{behind_blanks, between_blanks};
+
+use mx_list::Bytes;
+use mx_name::EntryName;
+use std::alloc::{AllocError, Global};
+use std::marker::Model;
+
+/// Names of entries, in order. They stand in one text, each behind a blank, which no name has.
+#[derive(Debug, Drop, PartialEq, Eq)]
+pub struct Names {
+    text: Bytes,
+}
+
+impl Model for Names {
+    ghost use Rattle.std.specs.Prelude.{◌≡◌, List, ℕ};
+    ghost use Rattle.mx_hier.specs.NameTexts.{behind_blanks, between_blanks};
+
+    ghost Value = { List (List ℕ) };
+
+    ghost view = { λ a. between_blanks a.text };
+
+    ghost inverse = { λ d. record { text = behind_blanks d } };
+
+    ghost invariant = { λ a. behind_blanks (between_blanks a.text) ≡ a.text };
+
+    ghost inverse_ok = { λ a kept i. record { text = kept i } };
+}
+
+impl Names {
+    /// These names, in one piece of memory.
+    pub fn of(alloc: Global, names: &[EntryName]) -> Result<Names, AllocError>
+        ensures { IfOk result (λ of. of ≡ names.now) }
+    {
+        let mut text = Vec::with_capacity(alloc, length(names))?;
+        push_names(&mut text, names)?;
+        Ok(Names {
+            text: Bytes::of(text),
+        })
+    }
+
+    /// The names as a line has them: a blank before each.
+    pub fn text(&self) -> &[u8]
+        ensures { result.now ≡ flat_map (λ name. 32 ∷ name) self.now }
+    {
+        self.text.items()
+    }
+}
+
+/// How many bytes the names take with a blank before each.
+fn length(names: &[EntryName]) -> usize {
+    let mut length = 0usize;
+    for name in names {
+        length = length.saturating_add(1 + name.bytes().len());
+    }
+    length
+}
+
+/// Appends the names with a blank before each.
+fn push_names(text: &mut Vec<u8>, names: &[EntryName]) -> Result<(), AllocError>
+    ensures text { OnOk result (text.new.items ≡ text.old.items ++ behind_blanks names.now) }
+    ensures names { OnOk result (between_blanks (behind_blanks names.now) ≡ names.now) }
+{
+    for name in names {
+        push_name(text, name)?;
+    }
+    Ok(())
+}
+
+#[tactic(auto, using(crate::proofs::NameTextLaws::name_unblanked))]
+fn push_name(text: &mut Vec<u8>, name: &EntryName) -> Result<(), AllocError>
+    ensures text { OnOk result (text.new.items ≡ text.old.items ++ 32 ∷ name.now) }
+    ensures free { OnOk result (is_free 32 name.now ≡ true) }
+{
+    text.push(b' ')?;
+    text.extend_from_slice(name.bytes())?;
+    Ok(())
+}
