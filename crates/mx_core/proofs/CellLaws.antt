@@ -2,6 +2,7 @@
 use Rattle.std.proofs.Common.{◌≡◌, ◌≢◌, inl, inr, ℕ, ◌+◌, ◌*◌, ◌/◌, ◌<◌, ◌≤◌, Bool, true, false, [], ◌∷◌, ◌++◌, map, refl, ap, sym, ◌∙◌, subst, Option, Some, None, arith}
 use Rattle.std.specs.Prelude.{IsTrue, ◌^◌, max, nat_le, nat_lt, not, ◌&&◌, ◌||◌, ◌==◌}
 use Rattle.std.proofs.lemmas.Bool.{cases_eq, and_parts, and_from, or_cases, or_left, or_right, eq-eqb, eqb-true, le-leb, lt-ltb, not-true, both_ways}
+use Rattle.mx_sdw.specs.Admissible.{IsAdmissible}
 use Rattle.mx_sdw.specs.Descriptors.{Descriptor}
 use Rattle.mx_sdw.specs.Judging.{cell_of}
 use Rattle.mx_sdw.specs.Operations.{writes}
@@ -97,6 +98,17 @@ has_cell w p u a g basis hold = record {
 
     next : w.length ≤ w.answered + 1
     next = g.access.length_high
+
+-- a held reference lies in the memory
+pub cell_low : (w : World) (p : ℕ) (u : Triple) (a : Asked) → Good w → (w.process p).basis ≡ Some u
+    → (w.process p).hold ≡ Some a → cell_at u.desc a.word < 65536
+cell_low w p u a g basis hold =
+    let has = has_cell w p u a g basis hold in
+    let allowed = granted_is_allowed u.desc a.op a.ring a.word (cell_of u.desc a.word) has.granted in
+    let admissible : IsAdmissible u.desc =
+    subst IsAdmissible (sym has.stands) (g.shape.admissible (w.process p).floor p u.segno) in
+    let under = allowed.bound in
+    let within = (admissible.segment allowed.kind).cells in omega arith
 
 -- a stamp is within the answered length
 stamp_within : (w : World) (c : ℕ) → Good w → (w.cell c).stamp ≤ w.answered

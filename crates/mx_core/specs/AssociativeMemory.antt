@@ -1,5 +1,5 @@
 -- The associative memory of a process: the last sixteen descriptors that it loaded, each with its number and its entry.
-use Rattle.std.specs.Prelude.{◌≡◌, ℕ, ◌≤◌, ◌==◌, nat_le, List, [], ◌∷◌, length, find, Option, Some, slice_get}
+use Rattle.std.specs.Prelude.{◌≡◌, ◌≢◌, ℕ, ◌<◌, ◌≤◌, ◌==◌, nat_le, List, [], ◌∷◌, length, find, Option, Some, slice_get}
 use Rattle.mx_core.specs.Put.{pick}
 use Rattle.mx_core.specs.Words.{Triple}
 
@@ -33,3 +33,16 @@ at_most_sixteen memory = pick (nat_le (length memory) 16) memory (without_first 
 
 abbrev pub remembered : Triple → List Triple → List Triple
 remembered u memory = at_most_sixteen (replaced u memory)
+
+-- Helpers: the number is that of no triple before a place, of none at all, or first of the triple at a place.
+abbrev pub HasNotBefore : ℕ → List Triple → ℕ → Type 0
+HasNotBefore n memory place = (j : ℕ) (u : Triple) → j < place → slice_get memory j ≡ Some u → u.segno ≢ n
+
+abbrev pub HasNot : ℕ → List Triple → Type 0
+HasNot n memory = HasNotBefore n memory (length memory)
+
+pub record IsAt (n : ℕ) (memory : List Triple) (place : ℕ) : Type 0 where
+  pub before : HasNotBefore n memory place
+  pub triple : Triple
+  pub here : slice_get memory place ≡ Some triple
+  pub number : triple.segno ≡ n

@@ -17,6 +17,8 @@ use Rattle.mx_core.specs.World.{Outside, Entering, Ready, World}
 use Rattle.mx_core.specs.declared.steps.Cause.{Cause}
 use Rattle.mx_core.specs.declared.steps.Cause.TheVariants as cause
 use Rattle.mx_core.specs.declared.steps.Step.{Step}
+use Rattle.mx_core.specs.declared.steps.StepError.{StepError}
+use Rattle.mx_core.specs.declared.steps.StepError.TheVariants.{NotEnabled, Memory}
 use Rattle.mx_core.specs.declared.steps.Step.TheVariants.{Append, Strike, Connect, Look, Acknowledge, Answer, Settle, Clear, Split, Report, Enter, LoadConnect, LoadDesc, Recall, LoadCell, StoreCell, Leave, Join}
 
 abbrev pub StruckAt : World → ℕ → ℕ → Type 0
@@ -99,3 +101,8 @@ IsCause w (Join p i) why =
 pub record HasCause (w : World) (step : Step) : Type 0 where
   pub why : Cause
   pub is : IsCause w step why
+
+-- a step is refused with a cause, or for want of memory
+abbrev pub IsRefusal : World → Step → StepError → Type 0
+IsRefusal w step (NotEnabled why) = IsCause w step why
+IsRefusal w step Memory = Unit {0}

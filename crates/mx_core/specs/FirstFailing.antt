@@ -17,6 +17,11 @@ pub record NamesFirst (holds : ℕ → Type 0) (named : ℕ → Cause) (why : Ca
   pub is : why ≡ named at
   pub first : IsFirstNot holds at
 
+-- the first pair at which it fails: of the first process that has one its first number
+pub record IsFirstPairNot (holds : ℕ → ℕ → Type 0) (p n : ℕ) : Type 0 where
+  pub first : IsFirstNot (holds p) n
+  pub before : (q m : ℕ) → q < p → holds q m
+
 -- the cause names the first pair at which it fails: of the first process that has one its first number
 pub record NamesFirstPair (holds : ℕ → ℕ → Type 0) (named : ℕ → ℕ → Cause) (why : Cause) : Type 0 where
   pub process : ℕ

@@ -29,3 +29,5 @@ pub mod Invariant
 pub mod Sentences
 pub mod Laws
 pub mod Row
+pub mod Shows
+pub mod Seating

@@ -135,3 +135,12 @@ pub enum Cause {
     /// No note of this number waits to be joined.
     NoNote,
 }
+
+/// Why a step was not made.
+#[derive(Clone, Copy, Debug, PartialEq, Eq)]
+pub enum StepError {
+    /// It is not enabled.
+    NotEnabled(Cause),
+    /// Memory was refused.
+    Memory,
+}

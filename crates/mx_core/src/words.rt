@@ -1,6 +1,7 @@
 //! The shared words, and what a process keeps of them.
 
-use mx_sdw::{Desc, Op, Ring};
+use mx_sdw::{Desc, Op, Ring, Word};
+use std::marker::Model;
 
 /// What a descriptor word says: a process's descriptor of a number, or that it is being changed.
 #[derive(Clone, Copy, Debug, PartialEq, Eq)]
@@ -42,4 +43,25 @@ pub enum Stage {
     Entering,
     /// It may judge.
     Ready,
+}
+
+/// What a cell holds: a word, the process that stored it (0: nobody yet), and the point of that store.
+#[derive(Clone, Copy, Debug, PartialEq, Eq)]
+pub struct Held {
+    /// The word.
+    pub value: Word,
+    /// Who stored it.
+    pub writer: u8,
+    /// At which point.
+    pub stamp: u32,
+}
+
+impl Model for Held {
+    ghost use Rattle.mx_reads.specs.Held.{Held as HeldValue};
+
+    ghost Value = { HeldValue };
+
+    ghost view = { λ held. record { value = held.value; writer = held.writer; stamp = held.stamp } };
+
+    ghost inverse = { λ held. record { value = held.value; writer = held.writer; stamp = held.stamp } };
 }
