@@ -144,7 +144,7 @@ gives_dec : (run : Run) (page : ℕ) → Dec (IsTrue (gives (run ∷ []) page))
 gives_dec run page = elim (cases_Bool (gives (run ∷ []) page))
     [ inl e ↦ inl e | inr e ↦ inr (λ h. both_ways (gives (run ∷ []) page) e h) ]
 
-page_under : (given : List Run) (page : ℕ) → ((i : ℕ) (a : Run) → slice_get given i ≡ Some a → a.page + a.pages ≤ 1024)
+pub page_under : (given : List Run) (page : ℕ) → ((i : ℕ) (a : Run) → slice_get given i ≡ Some a → a.page + a.pages ≤ 1024)
     → IsTrue (gives given page) → page < 1024
 page_under [] page all h = cc
 page_under (run ∷ rest) page all h =
@@ -156,7 +156,7 @@ page_under (run ∷ rest) page all h =
       | inr there ↦ page_under rest page (λ i a e. all (suc i) a e) there
     ]
 
-anew_under : (changes : List Change) (page : ℕ)
+pub anew_under : (changes : List Change) (page : ℕ)
     → ((i : ℕ) (c : Change) → slice_get changes i ≡ Some c → IsAdmissible c.desc) → IsTrue (covered_anew changes page)
     → page < 1024
 anew_under [] page all h = cc

@@ -29,5 +29,7 @@ pub mod Invariant
 pub mod Sentences
 pub mod Laws
 pub mod Row
+pub mod Listing
 pub mod Shows
 pub mod Seating
+pub mod Marking

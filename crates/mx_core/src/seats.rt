@@ -122,6 +122,17 @@ impl Seat {
         !self.present[number].is_same(&self.before[number])
     }
 
+    /// Puts a descriptor into the present table, if that has the number.
+    pub(crate) fn put(&mut self, segno: u16, desc: &Desc)
+        ensures { (n : ℕ) (c : Columns) → ShowsSeat n self.old c → segno < n
+            → ShowsSeat n self.new (record c { present = put c.present segno desc.now }) }
+    {
+        let number = usize::from(segno);
+        if number < self.present.len() {
+            self.present[number] = *desc;
+        }
+    }
+
     /// Strikes the word of a number.
     pub(crate) fn strike(&mut self, segno: u16, count: u32)
         requires { segno < self.old.numbers }
