@@ -8,11 +8,13 @@ use Rattle.mx_reads.proofs.Places.{place_kept, place_last}
 use Rattle.mx_sdw.specs.Descriptors.{Descriptor}
 use Rattle.mx_reads.specs.Held.{Held}
 use Rattle.mx_core.specs.Acknowledging.{after_connect}
+use Rattle.mx_core.specs.Append.{with_changes, after_append}
 use Rattle.mx_core.specs.AssociativeMemory.{recalled, remembered}
 use Rattle.mx_core.specs.Cells.{cell_loaded, after_load_cell, cell_stored, after_store_cell}
 use Rattle.mx_core.specs.Judging.{at_once}
 use Rattle.mx_core.specs.Loading.{with_event, element_of, based, judged_to, judged, missed, found, loaded, after_load_desc, recalling, after_recall}
 use Rattle.mx_core.specs.Notes.{after_split, told_by, joined, after_join}
+use Rattle.mx_core.specs.Marking.{AllShow, with_present}
 use Rattle.mx_core.specs.Notions.{IsProcess, IsPending, NothingPending, with_process}
 use Rattle.mx_core.specs.Pages.{cell_at}
 use Rattle.mx_core.specs.Put.{pick, put}
@@ -21,6 +23,8 @@ use Rattle.mx_core.specs.Shows.{Columns, columns, Counts, counts_of, floor_of, S
 use Rattle.mx_core.specs.Striking.{with_word, after_strike, settled, after_settle}
 use Rattle.mx_core.specs.Words.{DescriptorWord, Valid, Fault, Triple, Asked}
 use Rattle.mx_core.specs.World.{Process, Note, Kept, Judged, Missed, World}
+use Rattle.mx_core.specs.declared.changes.Change.{Change}
+use Rattle.mx_core.specs.declared.changes.Run.{Run}
 use Rattle.mx_core.specs.declared.elements.Outcome.{Outcome}
 use Rattle.mx_core.specs.declared.elements.Outcome.TheVariants as outcome
 use Rattle.mx_core.specs.declared.seats.Seat.{Seat}
@@ -392,3 +396,38 @@ split_parts counts seats held cleans readies floors floors' w parts is = record 
       (sym (is ∙ ap (λ (k : ℕ). floors ++ Some k ∷ []) (sym (answered_is counts w parts.same))))
       (notes_split floors w.made w.note (record { floor = w.answered; told = w.told }) parts.notes);
 }
+
+-- where a descriptor is put into the present table of one seat, the seats show the table with it
+pub put_shown : (many : ℕ) (seats : List Seat) (f : ℕ → Columns) (table : ℕ → ℕ → Descriptor) (place p n : ℕ)
+    (d : Descriptor) (u u' : Seat) → place ≡ p → place < length seats → u ≡ slice_index_or seats place u
+    → (ShowsSeat many u (with_present f table p)
+    → ShowsSeat many u' (record (with_present f table p) { present = put (table p) n d }))
+    → AllShow many seats (with_present f table)
+    → AllShow many (slice_set seats place u') (with_present f (put table p (put (table p) n d)))
+put_shown many seats f table place p n d u u' here under is own shows j s at =
+    elim (set_found seats place j u' s at) [
+      | inl a ↦
+          subst (λ (x : Seat). ShowsSeat many x (with_present f (put table p (put (table p) n d)) j)) (sym a.1)
+          (subst (λ (q : ℕ). ShowsSeat many u' (with_present f (put table p (put (table p) n d)) q)) (sym (a.0 ∙ here))
+          (subst (λ (h : ℕ → Descriptor). ShowsSeat many u' (record (f p) { present = h }))
+          (sym (put_here table p (put (table p) n d)))
+          (own (subst (λ (q : ℕ). ShowsSeat many u (with_present f table q)) here
+          (shows place u (at_place seats place u under is))))))
+      | inr b ↦
+          subst (λ (h : ℕ → Descriptor). ShowsSeat many s (record (f j) { present = h }))
+          (sym (put_else table p (put (table p) n d) j (λ e. b.0 (e ∙ sym here)))) (shows j s b.1)
+    ]
+
+-- an entry added: the present table is another, and the table before it stays
+pub append_shown : (seats : List Seat) (w : World) (p : ℕ) (changes : List Change) (given : List Run)
+    → w.answered ≤ w.length
+    → AllShow w.numbers seats (with_present (columns w) (with_changes changes (w.table w.length)))
+    → ShowsSeats seats (after_append w p changes given)
+append_shown seats w p changes given low shows q s at =
+    let table = with_changes changes (w.table w.length) in
+    subst (λ (c : Columns). ShowsSeat w.numbers s c)
+    (sym (λ i. record (columns w q) {
+      before = put_else w.table (w.length + 1) table w.answered (λ e. absurd (omega arith)) i q;
+      present = put_here w.table (w.length + 1) table i q;
+    }))
+    (shows q s at)

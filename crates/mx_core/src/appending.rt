@@ -10,7 +10,7 @@ ghost use Rattle.mx_core.specs.Steps.{Can, after};
 ghost use Rattle.mx_core.specs.World.{World as WorldValue};
 ghost use Rattle.mx_core.specs.declared.steps.Step.TheVariants.{Append};
 
-use crate::changes::{Change, Changes, Run, Runs};
+use crate::changes::{Change, Run};
 use crate::covering::{admits, covered_anew, gives};
 use crate::listing::{pages_once, pages_within, pairs_once};
 use crate::marking::{make_ready, put_changes, soil};
@@ -22,15 +22,13 @@ impl World {
     pub(crate) fn append(
         &mut self,
         process: u8,
-        changes: &Changes,
-        given: &Runs,
+        changes: &[Change],
+        given: &[Run],
     ) -> Result<(), StepError>
         ensures { (w : WorldValue) → Shows self.old w
             → MatchResult result (λ done. Can w (Append process changes.now given.now) × Shows self.new (after w (Append process changes.now given.now)))
             (λ why. IsRefusal w (Append process changes.now given.now) why × Shows self.new w) }
     {
-        let changes = changes.items();
-        let given = given.items();
         if !self.is_in_range(process, changes, given) {
             return Err(NotEnabled(Cause::Range));
         }
