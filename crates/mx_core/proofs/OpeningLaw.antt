@@ -20,7 +20,7 @@ use Rattle.mx_core.proofs.ReadLaws.{front_within}
 nothing_at : {A : Type 0} (x : A) → None ≡ Some x → ⊥
 nothing_at x e = cc
 
-some_below : (n : ℕ) (has : ℕ → Bool) (i : ℕ) → i < n → IsTrue (has i) → IsTrue (any_below n has)
+pub some_below : (n : ℕ) (has : ℕ → Bool) (i : ℕ) → i < n → IsTrue (has i) → IsTrue (any_below n has)
 some_below zero has i under h = absurd (omega arith)
 some_below (suc n) has i under h = elim (cases_eq i n) [
   | inl e ↦ or_left (has n) (any_below n has) (subst (λ (m : ℕ). IsTrue (has m)) e h)

@@ -18,7 +18,7 @@ use std::alloc::{AllocError, Global};
 
 impl Seat {
     /// The descriptor word of a number; beyond the table's numbers every descriptor is unknown.
-    fn found(&self, segno: u16, start: u32) -> DescriptorWord
+    pub(crate) fn found(&self, segno: u16, start: u32) -> DescriptorWord
         ensures { (n : ℕ) (c : Columns) → ShowsSeat n self.now c → result ≡ found_word n start c segno }
     {
         if segno < self.numbers {

@@ -1,6 +1,7 @@
 //! The eighteen kinds of step, and why one may not be enabled.
 
 use crate::changes::{Changes, Runs};
+use mx_list::Sequence;
 use mx_sdw::{Op, Ring, Word};
 
 /// A step of the machine. The kinds up to `Report` are the supervisor's, the others a process's; process 0 joins as the
@@ -91,6 +92,9 @@ pub enum Step {
         note: u32,
     },
 }
+
+/// Steps in the order in which they are made.
+pub type Steps = Sequence<Step>;
 
 /// Why a step is not enabled: the first of its conditions that fails, in the order in which the kinds are described. Of
 /// several pairs, processes or pages the first is named.
