@@ -79,6 +79,13 @@ impl DescList {
         })
     }
 
+    /// How many processes it has.
+    pub fn processes(&self) -> u8
+        ensures { result ≡ self.now.processes }
+    {
+        self.processes
+    }
+
     /// How many numbers each process has.
     pub fn numbers(&self) -> u16
         ensures { result ≡ self.now.numbers }
