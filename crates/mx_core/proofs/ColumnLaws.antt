@@ -18,7 +18,8 @@ apart c u a memory (Some o) = refl
 
 -- a judgement with the memory replaced after it
 pub remembered_shown : (n : ℕ) (s : Seat) (c : Columns) (u : Triple) (a : Asked) (memory : List Triple)
-    → ShowsSeat n s (with_memory (judged_columns c u a) memory) → ShowsSeat n s (judged_columns (with_memory c memory) u a)
+    → ShowsSeat n s (with_memory (judged_columns c u a) memory)
+    → ShowsSeat n s (judged_columns (with_memory c memory) u a)
 remembered_shown n s c u a memory shows = subst (ShowsSeat n s) (apart c u a memory (at_once u.desc a)) shows
 
 at_most : (a b : ℕ) → a ≤ b → nat_le a b ≡ true

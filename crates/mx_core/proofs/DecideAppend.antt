@@ -144,7 +144,8 @@ gives_dec : (run : Run) (page : ℕ) → Dec (IsTrue (gives (run ∷ []) page))
 gives_dec run page = elim (cases_Bool (gives (run ∷ []) page))
     [ inl e ↦ inl e | inr e ↦ inr (λ h. both_ways (gives (run ∷ []) page) e h) ]
 
-pub page_under : (given : List Run) (page : ℕ) → ((i : ℕ) (a : Run) → slice_get given i ≡ Some a → a.page + a.pages ≤ 1024)
+pub page_under : (given : List Run) (page : ℕ)
+    → ((i : ℕ) (a : Run) → slice_get given i ≡ Some a → a.page + a.pages ≤ 1024)
     → IsTrue (gives given page) → page < 1024
 page_under [] page all h = cc
 page_under (run ∷ rest) page all h =

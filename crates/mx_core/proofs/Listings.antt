@@ -1,8 +1,8 @@
 -- What the tests of an entry's lists say of each two of their items.
-use Rattle.std.proofs.Common.{◌≡◌, inl, inr, ℕ, zero, suc, ◌+◌, ◌<◌, ◌≤◌, List, [], ◌∷◌, length, Bool, true, false, refl, ap, sym, ◌∙◌, subst, Some, None, arith}
-use Rattle.std.specs.Prelude.{IsTrue, nat_le, nat_lt, ◌==◌, ◌&&◌, ◌||◌, max, not}
+use Rattle.std.proofs.Common.{◌≡◌, inl, inr, ℕ, zero, suc, ◌+◌, ◌<◌, ◌≤◌, List, [], ◌∷◌, Bool, true, false, refl, ap, sym, ◌∙◌, subst, Some, None, arith}
+use Rattle.std.specs.Prelude.{IsTrue, nat_le, nat_lt, ◌==◌, ◌&&◌, max, not}
 use Rattle.std.specs.List.{slice_get}
-use Rattle.std.proofs.lemmas.Bool.{cases_Bool, both_ways, and_parts, and_from, and_cases, or_cases, or_parts, or_left, ltb-true, ltb-false, leb-true, leb-false, eqb-true, eqb-false, eq-eqb, lt-ltb, le-leb, not_from_false, not_from_true}
+use Rattle.std.proofs.lemmas.Bool.{cases_Bool, both_ways, and_parts, and_from, and_cases, or_cases, or_parts, or_left, ltb-true, ltb-false, leb-true, eqb-true, eq-eqb, lt-ltb, le-leb, not_from_false}
 use Rattle.mx_core.specs.Listing.{lists_pair, pairs_once, share, lists_page, pages_once, pages_within}
 use Rattle.mx_core.specs.Pages.{gives}
 use Rattle.mx_core.specs.declared.changes.Change.{Change}
@@ -35,24 +35,25 @@ HasNoPair changes pair = (j : ℕ) (b : Change) → slice_get changes j ≡ Some
 
 pair_listed : (changes : List Change) (pair : Change) → lists_pair changes pair ≡ true → HasPair changes pair
 pair_listed [] pair h = cc
-pair_listed (c ∷ rest) pair h = elim (or_cases (c.process == pair.process && c.segno == pair.segno) (lists_pair rest pair) h) [
-  | inl here ↦
-      let both = and_parts (c.process == pair.process) (c.segno == pair.segno) here in record {
-        place = 0;
-        other = c;
-        at = refl;
-        process = eqb-true c.process pair.process both.0;
-        segno = eqb-true c.segno pair.segno both.1;
-      }
-  | inr there ↦
-      let has = pair_listed rest pair there in record {
-        place = suc has.place;
-        other = has.other;
-        at = has.at;
-        process = has.process;
-        segno = has.segno;
-      }
-]
+pair_listed (c ∷ rest) pair h = elim (or_cases (c.process == pair.process && c.segno == pair.segno)
+    (lists_pair rest pair) h) [
+      | inl here ↦
+          let both = and_parts (c.process == pair.process) (c.segno == pair.segno) here in record {
+            place = 0;
+            other = c;
+            at = refl;
+            process = eqb-true c.process pair.process both.0;
+            segno = eqb-true c.segno pair.segno both.1;
+          }
+      | inr there ↦
+          let has = pair_listed rest pair there in record {
+            place = suc has.place;
+            other = has.other;
+            at = has.at;
+            process = has.process;
+            segno = has.segno;
+          }
+    ]
 
 pair_unlisted : (changes : List Change) (pair : Change) → lists_pair changes pair ≡ false → HasNoPair changes pair
 pair_unlisted [] pair h j b at p n = nothing_at b at
@@ -102,7 +103,8 @@ pairs_are_twice (c ∷ rest) h all = elim (cases_Bool (lists_pair rest c)) [
 ]
 
 -- a run has a page
-gives_parts : (run : Run) (page : ℕ) → IsTrue (gives (run ∷ []) page) → (run.page ≤ page) × (page < run.page + run.pages)
+gives_parts : (run : Run) (page : ℕ) → IsTrue (gives (run ∷ []) page) → (run.page ≤ page)
+    × (page < run.page + run.pages)
 gives_parts run page h = elim (or_cases (nat_le run.page page && nat_lt page (run.page + run.pages)) false h) [
   | inl here ↦
       let both = and_parts (nat_le run.page page) (nat_lt page (run.page + run.pages)) here in
@@ -119,12 +121,14 @@ gives_from run page low high =
 shared : (a b : Run) → share a b ≡ true
     → IsTrue (gives (a ∷ []) (max a.page b.page)) × IsTrue (gives (b ∷ []) (max a.page b.page))
 shared a b h =
-    let both = and_parts (nat_lt (max a.page b.page) (a.page + a.pages)) (nat_lt (max a.page b.page) (b.page + b.pages)) h in (
+    let both = and_parts (nat_lt (max a.page b.page) (a.page + a.pages))
+    (nat_lt (max a.page b.page) (b.page + b.pages)) h in (
       gives_from a (max a.page b.page) (omega arith) (ltb-true (max a.page b.page) (a.page + a.pages) both.0),
       gives_from b (max a.page b.page) (omega arith) (ltb-true (max a.page b.page) (b.page + b.pages) both.1),
     )
 
-unshared : (a b : Run) → share a b ≡ false → (page : ℕ) → IsTrue (gives (a ∷ []) page) → IsTrue (gives (b ∷ []) page) → ⊥
+unshared : (a b : Run) → share a b ≡ false → (page : ℕ) → IsTrue (gives (a ∷ []) page) → IsTrue (gives (b ∷ []) page)
+    → ⊥
 unshared a b h page f g =
     let one = gives_parts a page f in
     let two = gives_parts b page g in

@@ -1,6 +1,6 @@
 -- Lists of marks after one page or cell more: what a loop over pages has marked below a page, one over the cells of a
 -- page below a cell.
-use Rattle.std.proofs.Common.{◌≡◌, ◌≢◌, inl, inr, ℕ, ◌+◌, ◌*◌, ◌/◌, ◌<◌, ◌≤◌, List, length, Bool, true, false, refl, ap, sym, ◌∙◌, subst, Some, arith}
+use Rattle.std.proofs.Common.{◌≡◌, ◌≢◌, inl, inr, ℕ, ◌+◌, ◌*◌, ◌/◌, ◌<◌, ◌≤◌, List, length, Bool, true, false, refl, ap, sym, ◌∙◌, Some, arith}
 use Rattle.std.specs.Prelude.{nat_le, nat_lt, ◌==◌, ◌&&◌, ◌||◌, not}
 use Rattle.std.specs.Cmp.{both_ways as same_tests}
 use Rattle.std.proofs.lemmas.Bool.{cases_eq, cases_lt, and_parts, and_from, and_right, or_left, lt-ltb, le-ltb, le-leb, lt-leb, ltb-true, leb-true, eq-eqb, ne_eqb, not_from_true, not_from_false, eqb-true}
@@ -80,7 +80,8 @@ soil_none P b m = sym (ap (λ (t : Bool). b && not (t && P m)) (le-ltb m 0 (omeg
 pub page_none : (b : Bool) (low n : ℕ) → b ≡ (b && not (nat_le low n && nat_lt n low))
 page_none b low n = elim (cases_lt n low) [
   | inl under ↦ sym (ap (λ (t : Bool). b && not (t && nat_lt n low)) (lt-leb low n under) ∙ and_true b)
-  | inr over ↦ sym (ap (λ (t : Bool). b && not t) (and_right (nat_le low n) (nat_lt n low) (le-ltb n low over)) ∙ and_true b)
+  | inr over ↦ sym (ap (λ (t : Bool). b && not t) (and_right (nat_le low n) (nat_lt n low) (le-ltb n low over))
+      ∙ and_true b)
 ]
 
 pub page_put : (f : ℕ → Bool) (low k n : ℕ) → low ≤ k
@@ -93,7 +94,8 @@ page_put f low k n from = put_all (λ m b. b ≡ (f m && not (nat_le low m && na
 
 pub page_done : (b : Bool) (page low n : ℕ) → low ≡ 64 * page
     → (b && not (nat_le low n && nat_lt n (low + 64))) ≡ (b && not (n / 64 == page))
-page_done b page low n e = ap (λ (t : Bool). b && not t) (same_tests (nat_le low n && nat_lt n (low + 64)) (n / 64 == page)
+page_done b page low n e = ap (λ (t : Bool). b && not t)
+    (same_tests (nat_le low n && nat_lt n (low + 64)) (n / 64 == page)
     (λ t.
     let both = and_parts (nat_le low n) (nat_lt n (low + 64)) t in
     let from = leb-true low n both.0 in

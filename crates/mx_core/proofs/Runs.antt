@@ -23,7 +23,8 @@ pub after_more : (w : World) (made : List Step) (step : Step)
 after_more w [] step = refl
 after_more w (first ∷ rest) step = after_more (after w first) rest step
 
-pub take_next : {A : Type 0} (xs : List A) (i : ℕ) (x : A) → slice_get xs i ≡ Some x → take (suc i) xs ≡ take i xs ++ x ∷ []
+pub take_next : {A : Type 0} (xs : List A) (i : ℕ) (x : A) → slice_get xs i ≡ Some x → take (suc i) xs
+    ≡ take i xs ++ x ∷ []
 take_next [] i x at = absurd (nothing_at x at)
 take_next (y ∷ xs) zero x at = ap (λ z. z ∷ []) (same_at y x at)
 take_next (y ∷ xs) (suc i) x at = ap (λ l. y ∷ l) (take_next xs i x at)

@@ -168,13 +168,15 @@ pub value_is : {A : Type 0} (xs : List A) (f : ℕ → A) (i : ℕ) (x : A) → 
 value_is xs f i x has under is = some_again x (f i) (sym (at_place xs i x under is) ∙ has i under)
 
 -- a value of a function and of its list replaced
-pub lists_set : {A : Type 0} (xs : List A) (f : ℕ → A) (i : ℕ) (x : A) → Lists xs f → Lists (slice_set xs i x) (put f i x)
+pub lists_set : {A : Type 0} (xs : List A) (f : ℕ → A) (i : ℕ) (x : A) → Lists xs f
+    → Lists (slice_set xs i x) (put f i x)
 lists_set xs f i x has = put_all (λ j b. j < length (slice_set xs i x) → slice_get (slice_set xs i x) j ≡ Some b) f i x
     (set_here xs i x)
     (λ j n l. set_else xs i j x n ∙ has j (let e = set_length xs i x in omega arith))
 
 -- a process of a running world replaced
-module _ (counts : Counts) (seats : List Seat) (held : List Held) (cleans readies : List Bool) (floors : List (Option ℕ))
+module _ (counts : Counts) (seats : List Seat) (held : List Held) (cleans readies : List Bool)
+    (floors : List (Option ℕ))
     (w : World) (place p : ℕ) (u u' : Seat) (here : place ≡ p) (under : place < length seats)
     (is : u ≡ slice_index_or seats place u) (parts : ShowsParts counts seats held cleans readies floors w) where
   pub process_parts : (o : Process)

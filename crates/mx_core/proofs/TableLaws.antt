@@ -1,6 +1,6 @@
 -- What rows of descriptors have at a place, and past their end.
-use Rattle.std.proofs.Common.{◌≡◌, inl, inr, ◌⊎◌, ℕ, zero, suc, ◌+◌, ◌<◌, ◌≤◌, List, [], ◌∷◌, ◌++◌, length, Bool, true, false, refl, ap, sym, ◌∙◌, subst, Option, Some, None, arith}
-use Rattle.std.specs.Prelude.{IsTrue, slice_set, slice_index_or, replicate}
+use Rattle.std.proofs.Common.{◌≡◌, inl, inr, ◌⊎◌, ℕ, zero, suc, ◌<◌, ◌≤◌, List, [], ◌∷◌, ◌++◌, length, Bool, true, false, refl, ap, sym, ◌∙◌, subst, Option, Some, None, arith}
+use Rattle.std.specs.Prelude.{slice_set, slice_index_or, replicate}
 use Rattle.std.specs.List.{slice_get}
 use Rattle.std.proofs.lemmas.Bool.{cases_eq as same_or, cases_lt, or_from, false_from_ne_true}
 use Rattle.std.proofs.lemmas.Option.{slice_get_within}
@@ -247,7 +247,8 @@ value_added xs f x has is = go xs f has is
 -- what stands at a place of a list that is known by another name
 pub desc_here : (row items : List Descriptor) (n : ℕ) (d : Descriptor) → items ≡ row → n < length items
     → d ≡ slice_index_or items n d → desc_in row n ≡ d
-desc_here row items n d e under is = desc_at row n d (subst (λ l. slice_get l n ≡ Some d) e (at_place items n d under is))
+desc_here row items n d e under is = desc_at row n d
+    (subst (λ l. slice_get l n ≡ Some d) e (at_place items n d under is))
 
 pub row_here : (rows items : List (List Descriptor)) (i : ℕ) (row : List Descriptor) → items ≡ rows → i < length items
     → row ≡ slice_index_or items i row → row_in rows i ≡ row

@@ -1,6 +1,6 @@
 -- Helpers: what a program can test of the lists of an entry: that no pair and no page is listed twice, and that no page
 -- lies beyond the last.
-use Rattle.std.specs.Prelude.{ℕ, ◌+◌, nat_le, nat_lt, ◌==◌, max, Bool, true, false, ◌&&◌, ◌||◌, not, List, [], ◌∷◌}
+use Rattle.std.specs.Prelude.{◌+◌, nat_le, nat_lt, ◌==◌, max, Bool, true, false, ◌&&◌, ◌||◌, not, List, [], ◌∷◌}
 use Rattle.mx_core.specs.declared.changes.Change.{Change}
 use Rattle.mx_core.specs.declared.changes.Run.{Run}
 

@@ -26,7 +26,8 @@ impl World {
         given: &[Run],
     ) -> Result<(), StepError>
         ensures { (w : WorldValue) → Shows self.old w
-            → MatchResult result (λ done. Can w (Append process changes.now given.now) × Shows self.new (after w (Append process changes.now given.now)))
+            → MatchResult result (λ done. Can w (Append process changes.now given.now)
+            × Shows self.new (after w (Append process changes.now given.now)))
             (λ why. IsRefusal w (Append process changes.now given.now) why × Shows self.new w) }
     {
         if !self.is_in_range(process, changes, given) {
@@ -54,7 +55,8 @@ impl World {
     /// Whether the process, the pairs, the descriptors and the pages are in range, and each pair and page listed once.
     fn is_in_range(&self, process: u8, changes: &[Change], given: &[Run]) -> bool
         ensures { (w : WorldValue) → Shows self.now w
-            → MatchBool result (IsEntryInRange w process changes.now given.now) (IsEntryInRange w process changes.now given.now → ⊥) }
+            → MatchBool result (IsEntryInRange w process changes.now given.now)
+            (IsEntryInRange w process changes.now given.now → ⊥) }
     {
         if process == 0 || process > self.processes {
             return false;
@@ -153,7 +155,8 @@ impl World {
     fn is_given(&self, changes: &[Change], given: &[Run], page: u32) -> bool
         requires { page < 1024 }
         ensures { (w : WorldValue) → Shows self.now w
-            → MatchBool result (IsCoveredAt w changes.now given.now page) (IsCoveredAt w changes.now given.now page → ⊥) }
+            → MatchBool result (IsCoveredAt w changes.now given.now page)
+            (IsCoveredAt w changes.now given.now page → ⊥) }
     {
         if !covered_anew(changes, page) {
             return true;

@@ -41,7 +41,8 @@ impl AssociativeMemory {
         }
     }
 
-    /// A memory with this triple in the place of that of its number, or as the last; a seventeenth pushes the first out.
+    /// A memory with this triple in the place of that of its number, or as the last; a seventeenth pushes the first
+    /// out.
     pub(crate) fn with(
         &self,
         triple: &Triple,

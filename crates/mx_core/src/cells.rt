@@ -40,7 +40,8 @@ impl World {
 
     pub(crate) fn store_cell(&mut self, process: u8, value: Word) -> Result<(), StepError>
         ensures { (w : WorldValue) → Shows self.old w
-            → MatchResult result (λ done. Can w (StoreCell process value) × Shows self.new (after w (StoreCell process value)))
+            → MatchResult result (λ done. Can w (StoreCell process value)
+            × Shows self.new (after w (StoreCell process value)))
             (λ why. IsRefusal w (StoreCell process value) why × Shows self.new w) }
     {
         if process == 0 || process > self.processes {

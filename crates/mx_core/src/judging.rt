@@ -20,7 +20,8 @@ impl World {
         asked: Asked,
     ) -> Result<(), StepError>
         ensures { (w : WorldValue) → Shows self.old w
-            → MatchResult result (λ done. Can w (LoadDesc process segno asked.op asked.ring asked.word) × Shows self.new (after w (LoadDesc process segno asked.op asked.ring asked.word)))
+            → MatchResult result (λ done. Can w (LoadDesc process segno asked.op asked.ring asked.word)
+            × Shows self.new (after w (LoadDesc process segno asked.op asked.ring asked.word)))
             (λ why. IsRefusal w (LoadDesc process segno asked.op asked.ring asked.word) why × Shows self.new w) }
     {
         if process == 0 || process > self.processes {
@@ -38,7 +39,8 @@ impl World {
 
     pub(crate) fn recall(&mut self, process: u8, segno: u16, asked: Asked) -> Result<(), StepError>
         ensures { (w : WorldValue) → Shows self.old w
-            → MatchResult result (λ done. Can w (Recall process segno asked.op asked.ring asked.word) × Shows self.new (after w (Recall process segno asked.op asked.ring asked.word)))
+            → MatchResult result (λ done. Can w (Recall process segno asked.op asked.ring asked.word)
+            × Shows self.new (after w (Recall process segno asked.op asked.ring asked.word)))
             (λ why. IsRefusal w (Recall process segno asked.op asked.ring asked.word) why × Shows self.new w) }
     {
         if process == 0 || process > self.processes {

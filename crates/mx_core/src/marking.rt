@@ -1,4 +1,5 @@
-//! What an entry leaves: its descriptors in the present table, its pages ready, and cells that it covers clean no longer.
+//! What an entry leaves: its descriptors in the present table, its pages ready, and the cells that it covers no longer
+//! clean.
 
 ghost use Rattle.std.specs.Prelude.{ℕ, ◌≡◌, ◌<◌, ◌==◌, ◌&&◌, ◌||◌, not, Bool, vec_len};
 ghost use Rattle.mx_core.specs.Append.{with_changes};
@@ -14,7 +15,8 @@ use crate::seats::Seat;
 
 /// Puts the changes into the present table, one after another.
 pub(crate) fn put_changes(seats: &mut Vec<Seat>, changes: &[Change])
-    ensures shown { (many : ℕ) (f : ℕ → Columns) (table : ℕ → ℕ → Descriptor) → AreInPlace many (vec_len seats.old) changes.now
+    ensures shown { (many : ℕ) (f : ℕ → Columns) (table : ℕ → ℕ → Descriptor)
+        → AreInPlace many (vec_len seats.old) changes.now
         → AllShow many seats.old.items (with_present f table)
         → AllShow many seats.new.items (with_present f (with_changes changes.now table)) }
     ensures len { vec_len seats.new ≡ vec_len seats.old }
@@ -30,10 +32,12 @@ pub(crate) fn put_changes(seats: &mut Vec<Seat>, changes: &[Change])
 
 /// Puts a change into the present table; a pair that the table has not stays.
 fn put_change(seats: &mut Vec<Seat>, change: &Change)
-    ensures shown { (many : ℕ) (f : ℕ → Columns) (table : ℕ → ℕ → Descriptor) → IsInPlace many (vec_len seats.old) change.now
+    ensures shown { (many : ℕ) (f : ℕ → Columns) (table : ℕ → ℕ → Descriptor)
+        → IsInPlace many (vec_len seats.old) change.now
         → AllShow many seats.old.items (with_present f table)
         → AllShow many seats.new.items
-        (with_present f (put table change.now.process (put (table change.now.process) change.now.segno change.now.desc))) }
+        (with_present f (put table change.now.process
+        (put (table change.now.process) change.now.segno change.now.desc))) }
     ensures len { vec_len seats.new ≡ vec_len seats.old }
 {
     let place = usize::from(change.process);
@@ -45,7 +49,8 @@ fn put_change(seats: &mut Vec<Seat>, change: &Change)
 /// Makes the given pages ready.
 pub(crate) fn make_ready(ready: &mut Vec<bool>, given: &[Run])
     requires { vec_len ready.old ≡ 1024 }
-    ensures shown { (f : ℕ → Bool) → Lists ready.old.items f → Lists ready.new.items (λ page. gives given.now page || f page) }
+    ensures shown { (f : ℕ → Bool) → Lists ready.old.items f
+        → Lists ready.new.items (λ page. gives given.now page || f page) }
     ensures len { vec_len ready.new ≡ vec_len ready.old }
 {
     for page in 0..1024_u32 {

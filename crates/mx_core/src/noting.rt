@@ -44,7 +44,8 @@ impl World {
 
     pub(crate) fn report(&mut self, process: u8, length: u32) -> Result<(), StepError>
         ensures { (w : WorldValue) → Shows self.old w
-            → MatchResult result (λ done. Can w (Report process length) × Shows self.new (after w (Report process length)))
+            → MatchResult result (λ done. Can w (Report process length)
+            × Shows self.new (after w (Report process length)))
             (λ why. IsRefusal w (Report process length) why × Shows self.new w) }
     {
         if process == 0 || process > self.processes {

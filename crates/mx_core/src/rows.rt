@@ -98,7 +98,8 @@ impl DescList {
         requires low { 1 ≤ process }
         requires high { process ≤ self.old.processes }
         requires number { segno < self.old.numbers }
-        ensures table { (p n : ℕ) → table_of self.new p n ≡ put (table_of self.old) process (put (table_of self.old process) segno desc) p n }
+        ensures table { (p n : ℕ) → table_of self.new p n
+            ≡ put (table_of self.old) process (put (table_of self.old process) segno desc) p n }
         ensures processes { self.new.processes ≡ self.old.processes }
         ensures numbers { self.new.numbers ≡ self.old.numbers }
     {
@@ -147,7 +148,8 @@ impl DescList {
     pub(crate) fn soil(&self, clean: &mut Vec<bool>)
         requires { vec_len clean.old ≡ 65536 }
         ensures shown { (f : ℕ → Bool) → Lists clean.old.items f → Lists clean.new.items
-            (λ cell. f cell && not (is_covered self.now.processes self.now.numbers (table_of self.now) (page_of cell))) }
+            (λ cell. f cell
+            && not (is_covered self.now.processes self.now.numbers (table_of self.now) (page_of cell))) }
         ensures len { vec_len clean.new ≡ vec_len clean.old }
     {
         for page in 0..1024_u32 {

@@ -69,7 +69,8 @@ impl Seat {
 
     /// Lowers the flag.
     pub(crate) fn leave(&mut self)
-        ensures { (n : ℕ) (c : Columns) → ShowsSeat n self.old c → ShowsSeat n self.new (record c { process = left c.process }) }
+        ensures { (n : ℕ) (c : Columns) → ShowsSeat n self.old c
+            → ShowsSeat n self.new (record c { process = left c.process }) }
     {
         self.flag = 0;
         self.stage = Stage::Outside;

@@ -34,7 +34,8 @@ impl Seat {
     /// Misses a number, by an entry.
     fn miss(&mut self, segno: u16, by: u32) -> Result<(), AllocError>
         ensures { (n : ℕ) (c : Columns) → ShowsSeat n self.old c
-            → MatchResult result (λ done. ShowsSeat n self.new (missed_columns c segno by)) (λ e. ShowsSeat n self.new c) }
+            → MatchResult result (λ done. ShowsSeat n self.new (missed_columns c segno by))
+            (λ e. ShowsSeat n self.new c) }
     {
         self.trace.extend_from_slice(&[Kept::Missed { segno, by }])?;
         self.basis = None;
@@ -45,7 +46,8 @@ impl Seat {
     /// Judges on a triple.
     pub(crate) fn judge(&mut self, triple: &Triple, asked: Asked) -> Result<(), AllocError>
         ensures { (n : ℕ) (c : Columns) → ShowsSeat n self.old c
-            → MatchResult result (λ done. ShowsSeat n self.new (judged_columns c triple.now asked)) (λ e. ShowsSeat n self.new c) }
+            → MatchResult result (λ done. ShowsSeat n self.new (judged_columns c triple.now asked))
+            (λ e. ShowsSeat n self.new c) }
     {
         match asked.at_once(&triple.desc) {
             None => {
@@ -115,7 +117,8 @@ impl Seat {
     pub(crate) fn held_read(&self) -> Option<(Triple, Asked)>
         ensures { (n : ℕ) (c : Columns) → ShowsSeat n self.now c
             → MatchOption result
-            ((u : TripleValue) (a : AskedValue) → c.process.basis ≡ Some u → c.process.hold ≡ Some a → loads a.op ≡ true → ⊥)
+            ((u : TripleValue) (a : AskedValue) → c.process.basis ≡ Some u → c.process.hold ≡ Some a
+            → loads a.op ≡ true → ⊥)
             (λ r. (c.process.basis ≡ Some r.0) × (c.process.hold ≡ Some r.1) × (loads r.1.op ≡ true)) }
     {
         let (triple, asked) = (self.basis?, self.hold?);
@@ -130,7 +133,8 @@ impl Seat {
     pub(crate) fn held_write(&self) -> Option<(Triple, Asked)>
         ensures { (n : ℕ) (c : Columns) → ShowsSeat n self.now c
             → MatchOption result
-            ((u : TripleValue) (a : AskedValue) → c.process.basis ≡ Some u → c.process.hold ≡ Some a → writes a.op ≡ true → ⊥)
+            ((u : TripleValue) (a : AskedValue) → c.process.basis ≡ Some u → c.process.hold ≡ Some a
+            → writes a.op ≡ true → ⊥)
             (λ r. (c.process.basis ≡ Some r.0) × (c.process.hold ≡ Some r.1) × (writes r.1.op ≡ true)) }
     {
         let (triple, asked) = (self.basis?, self.hold?);
@@ -149,7 +153,8 @@ impl Seat {
         held: &Held,
     ) -> Result<(), AllocError>
         ensures { (n : ℕ) (c : Columns) → ShowsSeat n self.old c
-            → MatchResult result (λ done. ShowsSeat n self.new (read_columns c triple.now asked held.now)) (λ e. ShowsSeat n self.new c) }
+            → MatchResult result (λ done. ShowsSeat n self.new (read_columns c triple.now asked held.now))
+            (λ e. ShowsSeat n self.new c) }
     {
         let outcome = Outcome::Read {
             value: held.value,

@@ -14,7 +14,8 @@ use crate::worlds::World;
 impl World {
     pub(crate) fn strike(&mut self, process: u8, segno: u16) -> Result<(), StepError>
         ensures { (w : WorldValue) → Shows self.old w
-            → MatchResult result (λ done. Can w (Strike process segno) × Shows self.new (after w (Strike process segno)))
+            → MatchResult result (λ done. Can w (Strike process segno)
+            × Shows self.new (after w (Strike process segno)))
             (λ why. IsRefusal w (Strike process segno) why × Shows self.new w) }
     {
         if process == 0 || process > self.processes {
@@ -36,7 +37,8 @@ impl World {
 
     pub(crate) fn settle(&mut self, process: u8, segno: u16) -> Result<(), StepError>
         ensures { (w : WorldValue) → Shows self.old w
-            → MatchResult result (λ done. Can w (Settle process segno) × Shows self.new (after w (Settle process segno)))
+            → MatchResult result (λ done. Can w (Settle process segno)
+            × Shows self.new (after w (Settle process segno)))
             (λ why. IsRefusal w (Settle process segno) why × Shows self.new w) }
     {
         if process == 0 || process > self.processes {

@@ -28,5 +28,6 @@ pub struct DescList {
     pub(crate) processes: u8,
     pub(crate) numbers: u16,
     ghost rows_of_each: { vec_len rows ≡ processes },
-    ghost numbers_of_each: { (i : ℕ) (row : List Descriptor) → slice_get rows.items i ≡ Some row → length row ≡ numbers },
+    ghost numbers_of_each: { (i : ℕ) (row : List Descriptor) → slice_get rows.items i ≡ Some row → length row
+        ≡ numbers },
 }

@@ -97,6 +97,16 @@ fn refusal(world: &mut World, step: &Step) -> Option<Cause> {
     }
 }
 
+// Whether each step is refused with the cause beside it.
+fn are_refused(world: &mut World, steps: &[(Step, Cause)]) -> bool {
+    for (step, cause) in steps {
+        if refusal(world, step) != Some(*cause) {
+            return false;
+        }
+    }
+    true
+}
+
 // The floor of a process of the world.
 fn floor(world: &World, process: u8) -> Option<u32> {
     if process == 0 || process > world.processes() {
@@ -120,22 +130,22 @@ fn event(world: &World, process: u8, place: usize) -> Option<(u16, u32, Option<O
     }
 }
 
-fn load(process: u8, segno: u16, op: Op) -> Result<Step, Fail> {
-    Ok(Step::LoadDesc {
+fn load(ring: Ring, process: u8, segno: u16, op: Op) -> Step {
+    Step::LoadDesc {
         process,
         segno,
         op,
-        ring: ring()?,
+        ring,
         word: 0,
-    })
+    }
 }
 
-fn recall(process: u8, segno: u16, op: Op) -> Result<Step, Fail> {
-    Ok(Step::Recall {
+fn recall(ring: Ring, process: u8, segno: u16, op: Op) -> Step {
+    Step::Recall {
         process,
         segno,
         op,
-        ring: ring()?,
+        ring,
         word: 0,
-    })
+    }
 }

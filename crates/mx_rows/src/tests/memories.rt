@@ -1,6 +1,6 @@
 //! A process judges on its associative memory while the word is struck, and misses once it was told and has left.
 
-use super::{event, load, make, opened, recall, refusal, take_access, word};
+use super::{event, load, make, opened, recall, refusal, ring, take_access, word};
 use mx_core::{Cause, Outcome, Step};
 use mx_sdw::{Op, Word};
 use std::test::Fail;
@@ -9,20 +9,22 @@ use std::test::Fail;
 fn a_struck_word_is_still_recalled(rt: HostRuntime) -> Result<(), Fail> {
     let alloc = rt.alloc();
     let mut world = opened(alloc)?;
+    let (four, seven) = (ring()?, word(7)?);
+    let taken = take_access(alloc)?;
     let before = [
         Step::Enter { process: 2 },
         Step::LoadConnect { process: 2 },
-        load(2, 8, Op::Read)?,
+        load(four, 2, 8, Op::Read),
         Step::LoadCell { process: 2 },
-        take_access(alloc)?,
+        taken,
         Step::Strike {
             process: 2,
             segno: 8,
         },
-        recall(2, 8, Op::Write)?,
+        recall(four, 2, 8, Op::Write),
         Step::StoreCell {
             process: 2,
-            value: word(7)?,
+            value: seven,
         },
     ];
     make(&mut world, &before)?;
@@ -32,7 +34,7 @@ fn a_struck_word_is_still_recalled(rt: HostRuntime) -> Result<(), Fail> {
         stamp: 0,
     };
     assert_eq!(rt; event(&world, 2, 0), Some((8, 3, Some(zero))));
-    let stored = Outcome::Written { value: word(7)? };
+    let stored = Outcome::Written { value: seven };
     assert_eq!(rt; event(&world, 2, 1), Some((8, 3, Some(stored))));
     let after = [
         Step::Connect { process: 2 },
@@ -49,10 +51,10 @@ fn a_struck_word_is_still_recalled(rt: HostRuntime) -> Result<(), Fail> {
         segno: 8,
     };
     assert_eq!(rt;
-        refusal(&mut world, &recall(2, 8, Op::Read)?),
+        refusal(&mut world, &recall(four, 2, 8, Op::Read)),
         Some(forgotten)
     );
-    make(&mut world, &[load(2, 8, Op::Read)?])?;
+    make(&mut world, &[load(four, 2, 8, Op::Read)])?;
     assert_eq!(rt; event(&world, 2, 2), Some((8, 4, None)));
     Ok(())
 }
@@ -62,23 +64,27 @@ fn a_struck_word_is_still_recalled(rt: HostRuntime) -> Result<(), Fail> {
 fn a_memory_has_sixteen_numbers(rt: HostRuntime) -> Result<(), Fail> {
     let alloc = rt.alloc();
     let mut world = opened(alloc)?;
+    let four = ring()?;
     make(
         &mut world,
         &[Step::Enter { process: 1 }, Step::LoadConnect { process: 1 }],
     )?;
     for segno in 0..17_u16 {
-        make(&mut world, &[load(1, segno, Op::Read)?])?;
+        make(&mut world, &[load(four, 1, segno, Op::Read)])?;
     }
     let forgotten = Cause::NoRecall {
         process: 1,
         segno: 0,
     };
     assert_eq!(rt;
-        refusal(&mut world, &recall(1, 0, Op::Read)?),
+        refusal(&mut world, &recall(four, 1, 0, Op::Read)),
         Some(forgotten)
     );
     for segno in 1..17_u16 {
-        assert_eq!(rt; refusal(&mut world, &recall(1, segno, Op::Read)?), None);
+        assert_eq!(rt;
+            refusal(&mut world, &recall(four, 1, segno, Op::Read)),
+            None
+        );
     }
     Ok(())
 }

@@ -1,6 +1,6 @@
 //! A page is given out, cleared, and given out again: what was stored in its first use is not read in its second.
 
-use super::{data, entry, event, load, make, opened, refusal, word};
+use super::{data, entry, event, load, make, opened, refusal, ring, word};
 use mx_core::{Cause, Outcome, Step, World};
 use mx_sdw::{Desc, Op, Word};
 use std::alloc::Global;
@@ -32,16 +32,17 @@ fn clear(world: &mut World) -> Result<(), Fail> {
 fn a_page_is_used_again(rt: HostRuntime) -> Result<(), Fail> {
     let alloc = rt.alloc();
     let mut world = opened(alloc)?;
+    let (four, seven) = (ring()?, word(7)?);
     let page = Some(30);
     make(&mut world, &[entry(alloc, 1, 10, data(true, 30)?, page)?])?;
     settle(&mut world, 1, 0)?;
     let store = [
         Step::Enter { process: 1 },
         Step::LoadConnect { process: 1 },
-        load(1, 10, Op::Write)?,
+        load(four, 1, 10, Op::Write),
         Step::StoreCell {
             process: 1,
-            value: word(7)?,
+            value: seven,
         },
         Step::Leave { process: 1 },
     ];
@@ -65,11 +66,11 @@ fn a_page_is_used_again(rt: HostRuntime) -> Result<(), Fail> {
     let read = [
         Step::Enter { process: 2 },
         Step::LoadConnect { process: 2 },
-        load(2, 10, Op::Read)?,
+        load(four, 2, 10, Op::Read),
         Step::LoadCell { process: 2 },
     ];
     make(&mut world, &read)?;
-    let stored = Outcome::Written { value: word(7)? };
+    let stored = Outcome::Written { value: seven };
     assert_eq!(rt; event(&world, 1, 0), Some((10, 4, Some(stored))));
     let zero = Outcome::Read {
         value: Word::zero(),

@@ -1,7 +1,7 @@
 //! A revocation told by a word: process 1 takes write access from process 2, whose word is struck, connected,
 //! acknowledged, answered and settled while both run.
 
-use super::{event, floor, load, make, opened, refusal, take_access, word};
+use super::{event, floor, load, make, opened, refusal, ring, take_access, word};
 use mx_core::{Cause, Outcome, Step};
 use mx_sdw::{Denial, Op};
 use std::test::Fail;
@@ -16,6 +16,7 @@ fn a_revocation_is_told_by_a_word(rt: HostRuntime) -> Result<(), Fail> {
         segno: 8,
     };
     assert_eq!(rt; refusal(&mut world, &Step::Answer), Some(unstruck));
+    let (four, one) = (ring()?, word(1)?);
     let steps = [
         Step::Strike {
             process: 2,
@@ -31,20 +32,20 @@ fn a_revocation_is_told_by_a_word(rt: HostRuntime) -> Result<(), Fail> {
         },
         Step::Enter { process: 1 },
         Step::LoadConnect { process: 1 },
-        load(1, 9, Op::Write)?,
+        load(four, 1, 9, Op::Write),
         Step::StoreCell {
             process: 1,
-            value: word(1)?,
+            value: one,
         },
         Step::Leave { process: 1 },
         Step::Enter { process: 2 },
         Step::LoadConnect { process: 2 },
-        load(2, 9, Op::Read)?,
+        load(four, 2, 9, Op::Read),
         Step::LoadCell { process: 2 },
         Step::Leave { process: 2 },
         Step::Enter { process: 2 },
         Step::LoadConnect { process: 2 },
-        load(2, 8, Op::Write)?,
+        load(four, 2, 8, Op::Write),
         Step::Leave { process: 2 },
         Step::Settle {
             process: 2,
@@ -52,15 +53,15 @@ fn a_revocation_is_told_by_a_word(rt: HostRuntime) -> Result<(), Fail> {
         },
         Step::Enter { process: 2 },
         Step::LoadConnect { process: 2 },
-        load(2, 8, Op::Write)?,
+        load(four, 2, 8, Op::Write),
         Step::Leave { process: 2 },
     ];
     make(&mut world, &steps)?;
-    let stored = Outcome::Written { value: word(1)? };
+    let stored = Outcome::Written { value: one };
     assert_eq!(rt; event(&world, 1, 0), Some((9, 4, Some(stored))));
     assert_eq!(rt; event(&world, 1, 1), None);
     let read = Outcome::Read {
-        value: word(1)?,
+        value: one,
         writer: 1,
         stamp: 4,
     };

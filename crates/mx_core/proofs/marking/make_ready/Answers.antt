@@ -1,4 +1,4 @@
-use Rattle.std.proofs.Common.{◌≡◌, ℕ, ◌+◌, true, false, sym, ◌∙◌, arith, rules}
+use Rattle.std.proofs.Common.{◌+◌, true, sym, ◌∙◌, rules}
 use Rattle.std.specs.Prelude.{nat_lt, ◌&&◌, ◌||◌, slice_set}
 use Rattle.mx_core.specs.Pages.{gives}
 use Rattle.mx_core.specs.Put.{put}
@@ -32,5 +32,6 @@ loop-page-preserved c = elim c.if-gives.branch [
 
 pub returns-clause-shown : goal.returns-clause-shown
 returns-clause-shown c f has =
-    lists_as _ (λ p. (nat_lt p c.loop-page.page && gives c.args.given.now p) || f p) (λ p. gives c.args.given.now p || f p)
+    lists_as _ (λ p. (nat_lt p c.loop-page.page && gives c.args.given.now p) || f p)
+    (λ p. gives c.args.given.now p || f p)
     (c.loop-page.invariant.0 f has) (λ n under. ready_done (gives c.args.given.now) f c.loop-page.page n (search rules))

@@ -7,4 +7,5 @@ use Rattle.mx_core.proofs.marking.make_ready.Given as goal
 
 abbrev pub invariant-loop-page : goal.invariant-loop-page
 invariant-loop-page l = ((f : ℕ → Bool) → Lists l.initial.ready.items f
-    → Lists l.ready.items (λ p. (nat_lt p l.page && gives l.given p) || f p)) × (vec_len l.ready ≡ vec_len l.initial.ready)
+    → Lists l.ready.items (λ p. (nat_lt p l.page && gives l.given p) || f p))
+    × (vec_len l.ready ≡ vec_len l.initial.ready)

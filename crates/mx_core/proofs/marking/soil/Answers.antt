@@ -1,4 +1,4 @@
-use Rattle.std.proofs.Common.{◌≡◌, ℕ, ◌+◌, true, false, sym, ◌∙◌, arith, rules}
+use Rattle.std.proofs.Common.{◌+◌, sym, ◌∙◌, rules}
 use Rattle.std.specs.Prelude.{nat_lt, ◌==◌, ◌&&◌, not}
 use Rattle.mx_core.specs.Pages.{page_of, covered_anew}
 use Rattle.mx_core.proofs.Marks.{lists_as, soil_put, soil_keep, soil_done}
@@ -11,9 +11,11 @@ loop-page-preserved c = elim c.if-covered_anew.branch [
     λ f has.
         let k = c.loop-page.page in
         let P = covered_anew c.args.changes.now in
-        lists_as w.soil_page.new.clean.items (λ n. (f n && not (nat_lt (page_of n) k && P (page_of n))) && not (page_of n == k))
+        lists_as w.soil_page.new.clean.items
+        (λ n. (f n && not (nat_lt (page_of n) k && P (page_of n))) && not (page_of n == k))
         (λ n. f n && not (nat_lt (page_of n) (k + 1) && P (page_of n)))
-        (w.soil_page.ensures.shown (λ n. f n && not (nat_lt (page_of n) k && P (page_of n))) (c.loop-page.invariant.0 f has))
+        (w.soil_page.ensures.shown (λ n. f n && not (nat_lt (page_of n) k && P (page_of n)))
+        (c.loop-page.invariant.0 f has))
         (λ n under. soil_put P (f n) (page_of n) k (sym c.covered_anew.ensures ∙ w.if-covered_anew.true)),
     w.soil_page.ensures.len ∙ c.loop-page.invariant.1,
   )

@@ -14,8 +14,8 @@ loop-desc-preserved c =
     let count : c.loop-desc.desc-index ≡ length words.items = search rules in (
       c.in_ok-extend_from_slice.ensures.len ∙ ap (λ (k : ℕ). k + 1) c.loop-desc.invariant.0,
       subst (λ (l : List DescriptorWord). Lists l (λ n. Valid c.args.start (desc_in row n)))
-      (sym c.in_ok-extend_from_slice.ensures.items)
-      (value_added words.items (λ n. Valid c.args.start (desc_in row n)) (Valid c.args.start c.desc-item.result)
-      c.loop-desc.invariant.1
-      (ap (λ (d : Descriptor). Valid c.args.start d) (sym at ∙ ap (desc_in row) count))),
+          (sym c.in_ok-extend_from_slice.ensures.items)
+          (value_added words.items (λ n. Valid c.args.start (desc_in row n)) (Valid c.args.start c.desc-item.result)
+          c.loop-desc.invariant.1
+          (ap (λ (d : Descriptor). Valid c.args.start d) (sym at ∙ ap (desc_in row) count))),
     )

@@ -1,4 +1,4 @@
-use Rattle.std.proofs.Common.{◌≡◌, List, refl, sym, ◌∙◌, subst, rules}
+use Rattle.std.proofs.Common.{List, refl, subst, rules}
 use Rattle.mx_sdw.specs.Descriptors.{Descriptor}
 use Rattle.mx_core.specs.Opening.{opening_process}
 use Rattle.mx_core.specs.Shows.{Lists}
@@ -14,7 +14,8 @@ returns c = record {
   words = subst (λ (l : List Descriptor). Lists c.in_ok-words.words.items (λ n. Valid c.args.start (desc_in l n)))
       (search rules) c.in_ok-words.ensures.1;
   before = subst (λ (l : List Descriptor). Lists l (desc_in c.args.row.now)) (search rules) (row_listed c.args.row.now);
-  present = subst (λ (l : List Descriptor). Lists l (desc_in c.args.row.now)) (search rules) (row_listed c.args.row.now);
+  present = subst (λ (l : List Descriptor). Lists l (desc_in c.args.row.now)) (search rules)
+      (row_listed c.args.row.now);
   trace = search rules;
   reported = refl;
 }

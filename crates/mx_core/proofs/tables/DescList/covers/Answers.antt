@@ -1,4 +1,4 @@
-use Rattle.std.proofs.Common.{◌≡◌, ℕ, List, sym, subst, rules}
+use Rattle.std.proofs.Common.{ℕ, List, sym, subst, rules}
 use Rattle.mx_sdw.specs.Descriptors.{Descriptor}
 use Rattle.mx_core.specs.Tables.{row_in, HasCover}
 use Rattle.mx_core.proofs.Searching.{one_more, yes_by, not_by}
@@ -10,7 +10,8 @@ returns-then-covers c =
     let m = c.args.self.now in
     let e = row_here m.rows.items c.deref-row-items.result.now c.loop-row.row-index c.row-item.result
     (search rules) (search rules) c.row-item.is in
-    sym (table_covers m.rows.items m.processes m.numbers c.args.page c.loop-row.row-index (search rules) m.numbers_of_each
+    sym (table_covers m.rows.items m.processes m.numbers c.args.page c.loop-row.row-index
+    (search rules) m.numbers_of_each
     (search rules) (subst (λ (r : List Descriptor). HasCover r c.args.page) (sym e)
     (yes_by (HasCover c.row-item.result c.args.page) c.covers.result c.if-covers.true c.covers.ensures)))
 

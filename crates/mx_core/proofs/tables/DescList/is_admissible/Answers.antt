@@ -1,4 +1,4 @@
-use Rattle.std.proofs.Common.{◌≡◌, ℕ, suc, sym, subst, rules}
+use Rattle.std.proofs.Common.{ℕ, suc, sym, subst, rules}
 use Rattle.mx_core.specs.Tables.{row_in, AreAdmissible}
 use Rattle.mx_core.proofs.Searching.{one_more, yes_by, not_by}
 use Rattle.mx_core.proofs.TableLaws.{row_here, table_admissible}

@@ -1,10 +1,14 @@
-use Rattle.std.proofs.Common.{◌≡◌, ℕ, ◌+◌, List, ap, sym, ◌∙◌, subst, rules}
+use Rattle.std.proofs.Common.{ℕ, ◌+◌, List, ap, sym, ◌∙◌, subst, rules}
 use Rattle.mx_sdw.specs.Descriptors.{Descriptor}
 use Rattle.mx_core.proofs.TableLaws.{AreUnknown, unknown_added, unknown_table}
 use Rattle.mx_core.proofs.tables.DescList.new.Goals as goal
 
 pub invariant_of-result : goal.invariant_of-result
-invariant_of-result c = record { rows_of_each = search rules; numbers_of_each = λ i row at. (c.loop.invariant.1 i row at).0 }
+invariant_of-result c = record {
+  rows_of_each = search rules;
+  numbers_of_each = λ i row at.
+      (c.loop.invariant.1 i row at).0;
+}
 
 pub returns-clause-unknown : goal.returns-clause-unknown
 returns-clause-unknown c p n = unknown_table c.loop.rows.items c.args.numbers c.loop.invariant.1 p n

@@ -1,4 +1,4 @@
-use Rattle.std.proofs.Common.{◌≡◌, ℕ, suc, ◌-◌, ◌<◌, List, length, sym, ◌∙◌, subst, arith, rules}
+use Rattle.std.proofs.Common.{◌≡◌, suc, ◌-◌, ◌<◌, List, length, sym, subst, arith, rules}
 use Rattle.std.specs.Prelude.{slice_set}
 use Rattle.mx_sdw.specs.Descriptors.{Descriptor}
 use Rattle.mx_core.specs.Put.{put}
@@ -16,7 +16,8 @@ returns-clause-table c p n =
     let many = m.numbers_of_each i row at in
     let under : c.args.segno < length row = search rules in
     let is : c.args.process ≡ suc i =
-        let e = c.from.ensures in let low = c.requires.low in omega arith in
+    let e = c.from.ensures in let low = c.requires.low in omega arith in
     subst (λ (l : List Descriptor). table_in (slice_set m.rows.items i l) p n
-    ≡ put (table_in m.rows.items) c.args.process (put (table_in m.rows.items c.args.process) c.args.segno c.args.desc) p n)
+    ≡ put (table_in m.rows.items) c.args.process
+    (put (table_in m.rows.items c.args.process) c.args.segno c.args.desc) p n)
     (sym c.put.ensures) (table_put m.rows.items i c.args.process c.args.segno row c.args.desc is at under p n)

@@ -1,4 +1,4 @@
-use Rattle.std.proofs.Common.{◌≡◌, ℕ, suc, ◌+◌, List, length, ap, sym, ◌∙◌, subst, arith, rules}
+use Rattle.std.proofs.Common.{◌≡◌, ℕ, suc, ◌+◌, List, length, ap, sym, ◌∙◌, subst, rules}
 use Rattle.mx_sdw.specs.Descriptors.{Descriptor}
 use Rattle.mx_core.specs.Marking.{AllShow}
 use Rattle.mx_core.specs.Shows.{Columns, ShowsSeat}
@@ -17,9 +17,9 @@ loop-row-preserved c =
     (search rules) (search rules) c.row-item.is in
     let count : suc c.loop-row.row-index ≡ length seats.items = search rules in (
       c.in_ok-push-2.ensures.len ∙ ap (λ (k : ℕ). k + 1) c.loop-row.invariant.0,
-      subst (λ (l : List Seat). AllShow m.numbers l f) (sym c.in_ok-push-2.ensures.items)
-      (seat_added m.numbers seats.items f s c.loop-row.invariant.1
-      (subst (λ (k : ℕ). ShowsSeat m.numbers s (f k)) count
-      (subst (λ (r : List Descriptor). ShowsSeat m.numbers s (opening_columns c.args.start (desc_in r))) (sym e)
-      c.in_ok-new-2.ensures))),
+      subst (λ (l : List Seat). AllShow m.numbers l f) (sym {A = List Seat} c.in_ok-push-2.ensures.items)
+          (seat_added m.numbers seats.items f s c.loop-row.invariant.1
+          (subst (λ (k : ℕ). ShowsSeat m.numbers s (f k)) count
+          (subst (λ (r : List Descriptor). ShowsSeat m.numbers s (opening_columns c.args.start (desc_in r))) (sym e)
+          c.in_ok-new-2.ensures))),
     )

@@ -1,4 +1,4 @@
-use Rattle.std.proofs.Common.{◌≡◌, ℕ, ◌+◌, true, false, sym, ◌∙◌, rules}
+use Rattle.std.proofs.Common.{◌+◌, sym, ◌∙◌, rules}
 use Rattle.std.specs.Prelude.{nat_lt, ◌==◌, ◌&&◌, not}
 use Rattle.mx_core.specs.Opening.{is_covered}
 use Rattle.mx_core.specs.Pages.{page_of}
@@ -13,9 +13,11 @@ loop-page-preserved c = elim c.if-covers.branch [
     λ f has.
         let k = c.loop-page.page in
         let P = is_covered c.args.self.now.processes c.args.self.now.numbers (table_of c.args.self.now) in
-        lists_as w.soil_page.new.clean.items (λ n. (f n && not (nat_lt (page_of n) k && P (page_of n))) && not (page_of n == k))
+        lists_as w.soil_page.new.clean.items
+        (λ n. (f n && not (nat_lt (page_of n) k && P (page_of n))) && not (page_of n == k))
         (λ n. f n && not (nat_lt (page_of n) (k + 1) && P (page_of n)))
-        (w.soil_page.ensures.shown (λ n. f n && not (nat_lt (page_of n) k && P (page_of n))) (c.loop-page.invariant.0 f has))
+        (w.soil_page.ensures.shown (λ n. f n && not (nat_lt (page_of n) k && P (page_of n)))
+        (c.loop-page.invariant.0 f has))
         (λ n under. soil_put P (f n) (page_of n) k (sym c.covers.ensures ∙ w.if-covers.true)),
     w.soil_page.ensures.len ∙ c.loop-page.invariant.1,
   )

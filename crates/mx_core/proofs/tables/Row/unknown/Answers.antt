@@ -1,6 +1,6 @@
-use Rattle.std.proofs.Common.{◌≡◌, ℕ, List, ap, sym, ◌∙◌, subst, rules}
+use Rattle.std.proofs.Common.{List, ap, ◌∙◌, rules}
 use Rattle.std.specs.Prelude.{replicate}
-use Rattle.mx_sdw.specs.Descriptors.{Descriptor, unknown_desc}
+use Rattle.mx_sdw.specs.Descriptors.{Descriptor}
 use Rattle.mx_core.specs.Tables.{desc_in}
 use Rattle.mx_core.proofs.TableLaws.{unknown_row}
 use Rattle.mx_core.proofs.tables.Row.unknown.Goals as goal

@@ -1,6 +1,5 @@
-use Rattle.std.proofs.Common.{◌≡◌, ℕ, zero, suc, ◌-◌, ◌<◌, ◌≤◌, Bool, true, false, List, [], ◌∷◌, length, take, drop, get_or, Some, None, refl, ap, sym, subst, arith, rules}
+use Rattle.std.proofs.Common.{◌≡◌, zero, suc, Bool, true, false, List, ◌∷◌, Some, refl, sym, subst, arith}
 use Rattle.std.specs.Prelude.{MatchBool}
-use Rattle.std.specs.List.{slice_get}
 use Rattle.std.proofs.lemmas.Option.{slice_get_within}
 use Rattle.mx_core.specs.Append.{IsGoodChange}
 use Rattle.mx_core.specs.Marking.{AreGood}
@@ -40,7 +39,8 @@ returns-then-is_good t c w shows =
 
 pub returns-else-is_good : goal.returns-else-is_good
 returns-else-is_good t c w shows =
-    subst (λ (b : Bool). MatchBool b (AreGood w c.args.changes.now) (AreGood w c.args.changes.now → ⊥)) (sym c.if-is_good.false)
+    subst (λ (b : Bool). MatchBool b (AreGood w c.args.changes.now) (AreGood w c.args.changes.now → ⊥))
+    (sym c.if-is_good.false)
     (subst (λ (l : List Change). AreGood w l → ⊥)
     (sym (split_up c.args.changes.now c.change-item.result c.in-len1-up.len_at_least c.change-item.is))
     (first_by w c.change-item.result _

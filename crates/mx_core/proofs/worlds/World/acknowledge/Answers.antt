@@ -45,7 +45,8 @@ returns c w shows =
     } in (
       can,
       record {
-        parts = process_parts _ _ _ _ _ _ w c.from-place.result p c.index_mut.result.now c.acknowledge.new.self (search rules)
+        parts = process_parts _ _ _ _ _ _ w c.from-place.result p c.index_mut.result.now c.acknowledge.new.self
+            (search rules)
             (search rules) c.index_mut.ensures.value shows.parts (record (w.process p) { acknowledged = true })
             (c.acknowledge.ensures w.numbers (columns w p));
         good = acknowledge_law w p shows.good can;

@@ -1,9 +1,8 @@
-use Rattle.std.proofs.Common.{◌≡◌, inl, inr, ℕ, ◌+◌, ◌<◌, ap, refl, sym, ◌∙◌, subst, arith, rules}
+use Rattle.std.proofs.Common.{inl, inr, ◌+◌, ap, refl, rules}
 use Rattle.std.specs.Vec.{vec_len}
-use Rattle.mx_core.specs.Append.{IsEntryInRange, IsClearAt, IsCoveredAt, CanAppend}
+use Rattle.mx_core.specs.Append.{IsEntryInRange, CanAppend}
 use Rattle.mx_core.specs.Marking.{AreInPlace}
 use Rattle.mx_core.specs.Shows.{Counts, columns}
-use Rattle.mx_core.specs.World.{World}
 use Rattle.mx_core.proofs.AppendLaw.{append_law}
 use Rattle.mx_core.proofs.Searching.{yes_by, not_by}
 use Rattle.mx_core.proofs.Seating.{append_shown, resting_is, length_is}
@@ -13,7 +12,7 @@ pub returns-then-not-is_in_range : goal.returns-then-not-is_in_range
 returns-then-not-is_in_range c w shows = (
   inl (
     not_by (IsEntryInRange w c.args.process c.args.changes.now c.args.given.now) c.is_in_range.result (search rules)
-    (c.is_in_range.ensures w shows),
+        (c.is_in_range.ensures w shows),
     refl,
   ),
   shows,
@@ -100,15 +99,16 @@ returns c w shows =
       covered = λ page. c.in_default-first_not_given.ensures w shows range.each page;
     } in
     let places : AreInPlace w.numbers (vec_len m.seats) changes = λ i a at.
-        let good = range.each i a at in
-        let f = ap (λ (x : Counts). x.processes) shows.parts.same in
-        let high = good.pair.process.high in
-        record { process = search rules; number = good.pair.number } in (
+    let good = range.each i a at in
+    let f = ap (λ (x : Counts). x.processes) shows.parts.same in
+    let high = good.pair.process.high in
+    record { process = search rules; number = good.pair.number } in (
       can,
       record {
         parts = record {
           same = λ i. record (shows.parts.same i) { length = e i + 1 };
-          shows = append_shown c.put_changes.new.seats.items w c.args.process changes given shows.good.access.answered_low
+          shows = append_shown c.put_changes.new.seats.items w c.args.process changes given
+              shows.good.access.answered_low
               (c.put_changes.ensures.shown w.numbers (columns w) (w.table w.length) places shows.parts.shows);
           memory = record {
             cells = shows.parts.memory.cells;

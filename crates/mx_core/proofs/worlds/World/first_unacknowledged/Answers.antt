@@ -27,4 +27,5 @@ loop-place-preserved c w shows q under =
     let s = seat_shown m.seats.items w p p c.index.result.now refl (search rules) c.index.ensures shows.parts.shows in
     let paid = subst (λ (b : Bool). MatchBool b (AreAcknowledged (columns w p) w.numbers → ⊥)
     (AreAcknowledged (columns w p) w.numbers)) c.if-owes.false (c.owes.ensures w.numbers (columns w p) s) in
-    one_more (AcknowledgedAt w) p (λ r l. c.loop-place.invariant w shows r l) (all_acknowledged w shows.good p paid) q under
+    one_more (AcknowledgedAt w) p (λ r l. c.loop-place.invariant w shows r l)
+    (all_acknowledged w shows.good p paid) q under

@@ -1,7 +1,6 @@
 use Rattle.std.proofs.Common.{◌≡◌, Bool, false, true, sym, ◌∙◌, rules}
 use Rattle.std.specs.Prelude.{MatchBool}
 use Rattle.std.proofs.lemmas.Bool.{both_ways}
-use Rattle.mx_core.specs.Append.{IsClearAt}
 use Rattle.mx_core.specs.Marking.{IsCleanPage}
 use Rattle.mx_core.specs.Pages.{gives}
 use Rattle.mx_core.proofs.worlds.World.is_clear.Goals as goal

@@ -1,4 +1,4 @@
-use Rattle.std.proofs.Common.{◌≡◌, Bool, false, true, refl, ap, sym, ◌∙◌, rules}
+use Rattle.std.proofs.Common.{◌≡◌, Bool, false, true, ap, sym, ◌∙◌, rules}
 use Rattle.std.specs.Prelude.{MatchBool, ◌||◌}
 use Rattle.std.proofs.lemmas.Bool.{both_ways}
 use Rattle.mx_core.specs.Pages.{gives, covered_anew}

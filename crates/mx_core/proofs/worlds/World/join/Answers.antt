@@ -9,7 +9,8 @@ pub returns : goal.returns
 returns c w shows =
     let p = c.args.process in
     let m = c.args.self.now in
-    let found = note_found m.notes.items w.made w.note c.args.note c.in-Some.floor shows.parts.notes c.in-Some.ensures in
+    let found = note_found m.notes.items w.made w.note c.args.note c.in-Some.floor
+    shows.parts.notes c.in-Some.ensures in
     let can : CanJoin w p c.args.note = record {
       range = let e = ap (λ (x : Counts). x.processes) shows.parts.same in search rules;
       note = record { note = found.note; at = found.is };

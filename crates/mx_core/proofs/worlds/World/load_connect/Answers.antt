@@ -18,7 +18,8 @@ returns c w shows =
     } in (
       can,
       record {
-        parts = process_parts _ _ _ _ _ _ w c.from-place.result p c.index_mut.result.now c.load_connect.new.self (search rules)
+        parts = process_parts _ _ _ _ _ _ w c.from-place.result p c.index_mut.result.now c.load_connect.new.self
+            (search rules)
             (search rules) c.index_mut.ensures.value shows.parts (connect_loaded (w.process p))
             (c.load_connect.ensures w.numbers (columns w p));
         good = load_connect_law w p shows.good can;

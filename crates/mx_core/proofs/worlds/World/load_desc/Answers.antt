@@ -18,8 +18,10 @@ returns-in-Ok c w shows =
     } in (
       can,
       record {
-        parts = loaded_parts _ _ _ _ _ _ w c.from-place.result p c.index_mut.result.now c.load_desc.new.self (search rules)
-            (search rules) c.index_mut.ensures.value shows.parts c.args.segno c.args.asked (c.in-Ok.ensures w.numbers (columns w p));
+        parts = loaded_parts _ _ _ _ _ _ w c.from-place.result p c.index_mut.result.now c.load_desc.new.self
+            (search rules)
+            (search rules) c.index_mut.ensures.value shows.parts c.args.segno c.args.asked
+            (c.in-Ok.ensures w.numbers (columns w p));
         good = load_desc_law w p c.args.segno c.args.asked shows.good can;
       },
     )
@@ -30,7 +32,8 @@ returns-in-Err c w shows =
     let m = c.args.self.now in (
       tt,
       record {
-        parts = same_parts _ _ _ _ _ _ w c.from-place.result p c.index_mut.result.now c.load_desc.new.self (search rules)
+        parts = same_parts _ _ _ _ _ _ w c.from-place.result p c.index_mut.result.now c.load_desc.new.self
+            (search rules)
             (search rules) c.index_mut.ensures.value shows.parts (c.in-Err.ensures w.numbers (columns w p));
         good = shows.good;
       },

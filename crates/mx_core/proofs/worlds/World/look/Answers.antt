@@ -23,7 +23,8 @@ returns c w shows =
     } in (
       can,
       record {
-        parts = process_parts _ _ _ _ _ _ w c.from-place.result p c.index_mut.result.now c.keep_look.new.self (search rules)
+        parts = process_parts _ _ _ _ _ _ w c.from-place.result p c.index_mut.result.now c.keep_look.new.self
+            (search rules)
             (search rules) c.index_mut.ensures.value shows.parts (record (w.process p) { look = (w.process p).flag })
             (c.keep_look.ensures w.numbers (columns w p));
         good = look_law w p shows.good can;

@@ -1,6 +1,5 @@
-use Rattle.std.proofs.Common.{◌≡◌, ℕ, Bool, true, List, length, refl, ap, sym, ◌∙◌, subst, arith, rules}
+use Rattle.std.proofs.Common.{ℕ, true, refl, subst}
 use Rattle.std.specs.Prelude.{◌&&◌, not}
-use Rattle.mx_reads.specs.Held.{Held}
 use Rattle.mx_core.specs.Opening.{is_covered}
 use Rattle.mx_core.specs.Pages.{page_of}
 use Rattle.mx_core.specs.Shows.{Lists}

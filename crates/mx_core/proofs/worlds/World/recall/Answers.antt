@@ -15,7 +15,8 @@ returns-in-Ok c w shows =
     c.index.ensures shows.parts.shows in
     let t = seat_shown m.seats.items w c.from-place.result p c.index-2.result.now (search rules) (search rules)
     c.index-2.ensures shows.parts.shows in
-    let at = sym (ap (λ (o : Process). recalled c.args.segno o.memory) t.process) ∙ sym c.recall.ensures ∙ c.in-Some.is in
+    let at = sym (ap (λ (o : Process). recalled c.args.segno o.memory) t.process) ∙ sym c.recall.ensures
+    ∙ c.in-Some.is in
     let can : CanRecall w p c.args.segno = record {
       range = process_is _ w p shows.parts.same (search rules) (search rules);
       ready = sym (ap (λ (o : Process). o.stage) s.process) ∙ (search rules);
@@ -23,8 +24,10 @@ returns-in-Ok c w shows =
     } in (
       can,
       record {
-        parts = recalled_parts _ _ _ _ _ _ w c.from-place.result p c.index_mut.result.now c.judge.new.self (search rules)
-            (search rules) c.index_mut.ensures.value shows.parts c.args.segno c.args.asked c.in-Some.triple at (c.in-Ok.ensures w.numbers (columns w p));
+        parts = recalled_parts _ _ _ _ _ _ w c.from-place.result p c.index_mut.result.now c.judge.new.self
+            (search rules)
+            (search rules) c.index_mut.ensures.value shows.parts c.args.segno c.args.asked c.in-Some.triple at
+            (c.in-Ok.ensures w.numbers (columns w p));
         good = recall_law w p c.args.segno c.args.asked shows.good can;
       },
     )

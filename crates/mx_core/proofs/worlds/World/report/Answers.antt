@@ -17,7 +17,8 @@ returns c w shows =
     } in (
       can,
       record {
-        parts = reported_parts _ _ _ _ _ _ w c.from-place.result p c.index_mut.result.now c.report.new.self (search rules)
+        parts = reported_parts _ _ _ _ _ _ w c.from-place.result p c.index_mut.result.now c.report.new.self
+            (search rules)
             (search rules) c.index_mut.ensures.value shows.parts (max (w.reported p) c.args.length)
             (c.report.ensures w.numbers (columns w p));
         good = report_law w p c.args.length shows.good can;

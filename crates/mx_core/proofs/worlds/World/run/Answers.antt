@@ -3,7 +3,6 @@ use Rattle.std.specs.Result.{MatchResult}
 use Rattle.mx_core.specs.Running.{StopsAt}
 use Rattle.mx_core.specs.Shows.{Shows}
 use Rattle.mx_core.specs.Steps.{CanAll, after_all}
-use Rattle.mx_core.specs.World.{World}
 use Rattle.mx_core.specs.declared.steps.Step.{Step}
 use Rattle.mx_core.specs.declared.steps.StepError.{StepError}
 use Rattle.mx_core.proofs.Runs.{can_more, after_more, take_next, split_next, found_here}
@@ -21,7 +20,8 @@ returns-in_err-step c w shows =
     let so_far = c.loop-step.invariant w shows in
     let h = c.in_err-step.ensures (after_all w (take i steps)) so_far.1 in
     let e : c.from_residual.result ≡ Err c.in_err-step.field-0.0 = search rules in
-    subst (λ (r : Result _ StepError). MatchResult r (λ done. CanAll w steps × Shows c.step.new.self (after_all w steps))
+    subst (λ (r : Result _ StepError). MatchResult r
+    (λ done. CanAll w steps × Shows c.step.new.self (after_all w steps))
     (λ why. StopsAt w steps why c.step.new.self)) (sym e)
     (record {
       made = take i steps;

@@ -15,7 +15,11 @@ returns-in_default c w shows =
     let t = seat_shown m.seats.items w c.from-place.result p c.index-2.result.now (search rules) (search rules)
     c.index-2.ensures shows.parts.shows in
     let pair : IsPair w p c.args.segno =
-    record { process = process_is _ w p shows.parts.same (search rules) (search rules); number = let e = s.numbers in search rules } in (
+    record {
+      process = process_is _ w p shows.parts.same (search rules) (search rules);
+      number = let e = s.numbers in
+          search rules;
+    } in (
       inr (
         pair,
         inr (
@@ -37,7 +41,11 @@ returns c w shows =
     let n = c.args.segno in
     let at = c.in-Some.ensures w.numbers (columns w p) t in
     let can : CanSettle w p c.args.segno = record {
-      range = record { process = process_is _ w p shows.parts.same (search rules) (search rules); number = let e = s.numbers in search rules };
+      range = record {
+        process = process_is _ w p shows.parts.same (search rules)
+            (search rules);
+        number = let e = s.numbers in search rules;
+      };
       rest = resting_is _ w shows.parts.same (search rules);
       fault = record { by = c.in-Some.by; at = at };
     } in (

@@ -15,7 +15,11 @@ returns-then-not-is_changed c w shows =
     let t = seat_shown m.seats.items w c.from-place.result p c.index-2.result.now (search rules) (search rules)
     c.index-2.ensures shows.parts.shows in
     let pair : IsPair w p c.args.segno =
-    record { process = process_is _ w p shows.parts.same (search rules) (search rules); number = let e = s.numbers in search rules } in (
+    record {
+      process = process_is _ w p shows.parts.same (search rules) (search rules);
+      number = let e = s.numbers in
+          search rules;
+    } in (
       inr (
         pair,
         inr (
@@ -35,14 +39,19 @@ returns c w shows =
     let t = seat_shown m.seats.items w c.from-place.result p c.index-2.result.now (search rules) (search rules)
     c.index-2.ensures shows.parts.shows in
     let can : CanStrike w p c.args.segno = record {
-      range = record { process = process_is _ w p shows.parts.same (search rules) (search rules); number = let e = s.numbers in search rules };
+      range = record {
+        process = process_is _ w p shows.parts.same (search rules)
+            (search rules);
+        number = let e = s.numbers in search rules;
+      };
       pending = pending_is _ w shows.parts.same (search rules);
       changed = (c.is_changed.ensures w.numbers (columns w p) t).0 (search rules);
     } in (
       can,
       record {
         parts = strike_parts _ _ _ _ _ _ w c.from-place.result p c.index_mut.result.now c.strike.new.self (search rules)
-            (search rules) c.index_mut.ensures.value shows.parts c.args.segno (c.strike.ensures w.numbers (columns w p));
+            (search rules) c.index_mut.ensures.value shows.parts c.args.segno
+            (c.strike.ensures w.numbers (columns w p));
         good = strike_law w p c.args.segno shows.good can;
       },
     )
