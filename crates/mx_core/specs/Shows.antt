@@ -1,4 +1,5 @@
--- What a running world shows of a world: all but the history of tables and entries, and which numbers are known settled.
+-- What a running world shows of a world: all but the history of tables and entries, and which numbers are known
+-- settled.
 use Rattle.std.specs.Prelude.{◌≡◌, ℕ, ◌<◌, Bool, List, length, Option, Some, None, slice_get}
 use Rattle.mx_sdw.specs.Descriptors.{Descriptor}
 use Rattle.mx_reads.specs.Held.{Held}

@@ -1,20 +1,18 @@
 //! Each cause, at a step that also fails conditions that come after it.
 
 use super::{
-    are_refused, data, entry, event, load, make, open, opened, recall, refusal, ring, set,
+    are_made, are_refused, data, entry, event, load, open, opened, recall, refusal, ring, set,
     take_access, word,
 };
 use mx_core::{Cause, DescList, Step};
 use mx_sdw::{Desc, Op};
 use std::test::Fail;
 
-// At rest, with both processes outside: page 20 is covered, and page 30 was cleared, so it is not ready.
+// At rest, with both processes outside: page 20 is covered.
 #[test]
 fn a_step_at_rest_is_refused(rt: HostRuntime) -> Result<(), Fail> {
-    let alloc = rt.alloc();
-    let mut world = opened(alloc)?;
     let four = ring()?;
-    make(&mut world, &[Step::Clear { cell: 1920 }])?;
+    let mut world = opened(rt.alloc())?;
     let (process, segno) = (2, 8);
     let supervisors = [
         // Number 128 of process 3 is neither struck nor pending.
@@ -41,14 +39,8 @@ fn a_step_at_rest_is_refused(rt: HostRuntime) -> Result<(), Fail> {
             Step::LoadConnect { process },
             Cause::NotEntering { process },
         ),
-        (
-            load(four, process, 9, Op::Read),
-            Cause::NotReady { process },
-        ),
-        (
-            recall(four, process, 9, Op::Read),
-            Cause::NotReady { process },
-        ),
+        (load(four, 2, 9, Op::Read), Cause::NotReady { process }),
+        (recall(four, 2, 9, Op::Read), Cause::NotReady { process }),
         (Step::LoadCell { process }, Cause::NoHold),
         (Step::Leave { process }, Cause::Outside { process }),
         (Step::Join { process, note: 0 }, Cause::NoNote),
@@ -57,41 +49,41 @@ fn a_step_at_rest_is_refused(rt: HostRuntime) -> Result<(), Fail> {
     Ok(())
 }
 
+// Page 20 is covered, so its cells are not clean; page 30 was cleared, so it is not ready.
 #[test]
 fn an_entry_is_refused(rt: HostRuntime) -> Result<(), Fail> {
-    let alloc = rt.alloc();
-    let mut world = opened(alloc)?;
-    make(&mut world, &[Step::Clear { cell: 1920 }])?;
-    for (page, given, cause) in [
-        (30, Some(20), Cause::NotClear { page: 20 }),
-        (30, None, Cause::NotGiven { page: 30 }),
-        (30, Some(1024), Cause::Range),
-        (1024, Some(30), Cause::Range),
-    ] {
-        let step = entry(alloc, 1, 10, data(true, page)?, given)?;
-        assert_eq!(rt; refusal(&mut world, &step), Some(cause));
-    }
     let value = word(1)?;
-    let store = Step::StoreCell { process: 1, value };
-    assert_eq!(rt; refusal(&mut world, &store), Some(Cause::NoHold));
+    let (inside, beyond) = (data(true, 30)?, data(true, 1024)?);
+    let steps = [
+        (
+            entry(rt.alloc(), 1, 10, inside, Some(20))?,
+            Cause::NotClear { page: 20 },
+        ),
+        (
+            entry(rt.alloc(), 1, 10, inside, None)?,
+            Cause::NotGiven { page: 30 },
+        ),
+        (entry(rt.alloc(), 1, 10, inside, Some(1024))?, Cause::Range),
+        (entry(rt.alloc(), 1, 10, beyond, Some(30))?, Cause::Range),
+        (Step::StoreCell { process: 1, value }, Cause::NoHold),
+    ];
+    let mut world = opened(rt.alloc())?;
+    assert_eq!(rt; are_made(&mut world, &[Step::Clear { cell: 1920 }]), true);
+    assert_eq!(rt; are_refused(&mut world, &steps), true);
     Ok(())
 }
 
 // With an entry pending that takes write access from process 2, which is inside.
 #[test]
 fn a_step_in_between_is_refused(rt: HostRuntime) -> Result<(), Fail> {
-    let alloc = rt.alloc();
-    let mut world = opened(alloc)?;
-    let (four, process, segno) = (ring()?, 2, 8);
-    make(
-        &mut world,
-        &[Step::Enter { process }, Step::LoadConnect { process }],
-    )?;
-    make(&mut world, &[take_access(alloc)?])?;
-    assert_eq!(rt;
-        refusal(&mut world, &take_access(alloc)?),
-        Some(Cause::Pending)
-    );
+    let four = ring()?;
+    let taken = take_access(rt.alloc())?;
+    let mut world = opened(rt.alloc())?;
+    let (process, segno) = (2, 8);
+    let begin = [Step::Enter { process }, Step::LoadConnect { process }];
+    assert_eq!(rt; are_made(&mut world, &begin), true);
+    assert_eq!(rt; world.step(&taken), Ok(()));
+    assert_eq!(rt; refusal(&mut world, &taken), Some(Cause::Pending));
     let unstruck = Cause::Unstruck { process, segno };
     let refused = [
         (Step::Settle { process, segno: 9 }, Cause::Pending),
@@ -108,31 +100,25 @@ fn a_step_in_between_is_refused(rt: HostRuntime) -> Result<(), Fail> {
         ),
         (Step::Enter { process }, Cause::Inside { process }),
         (
-            recall(four, process, 9, Op::Read),
+            recall(four, 2, 9, Op::Read),
             Cause::NoRecall { process, segno: 9 },
         ),
     ];
     assert_eq!(rt; are_refused(&mut world, &refused), true);
-    make(
-        &mut world,
-        &[Step::Strike { process, segno }, Step::Connect { process }],
-    )?;
-    let inside = Cause::Inside { process };
-    assert_eq!(rt;
-        refusal(&mut world, &Step::Acknowledge { process }),
-        Some(inside)
-    );
-    let unacknowledged = Cause::Unacknowledged { process };
-    assert_eq!(rt; refusal(&mut world, &Step::Answer), Some(unacknowledged));
-    make(&mut world, &[Step::Look { process }])?;
-    assert_eq!(rt;
-        refusal(&mut world, &Step::Acknowledge { process }),
-        Some(inside)
-    );
-    make(&mut world, &[Step::Leave { process }])?;
+    let told = [Step::Strike { process, segno }, Step::Connect { process }];
+    assert_eq!(rt; are_made(&mut world, &told), true);
+    let looked = [
+        (Step::Acknowledge { process }, Cause::Inside { process }),
+        (Step::Answer, Cause::Unacknowledged { process }),
+    ];
+    assert_eq!(rt; are_refused(&mut world, &looked), true);
+    assert_eq!(rt; are_made(&mut world, &[Step::Look { process }]), true);
+    assert_eq!(rt; are_refused(&mut world, &looked), true);
+    assert_eq!(rt; are_made(&mut world, &[Step::Leave { process }]), true);
     let outside = Cause::Outside { process };
     assert_eq!(rt; refusal(&mut world, &Step::Look { process }), Some(outside));
-    make(&mut world, &[Step::Acknowledge { process }, Step::Answer])?;
+    let end = [Step::Acknowledge { process }, Step::Answer];
+    assert_eq!(rt; are_made(&mut world, &end), true);
     assert_eq!(rt; event(&world, 2, 0), None);
     Ok(())
 }
@@ -140,15 +126,15 @@ fn a_step_in_between_is_refused(rt: HostRuntime) -> Result<(), Fail> {
 // A full journal: the limit comes before all that an entry asks besides its range.
 #[test]
 fn a_full_journal_takes_no_entry(rt: HostRuntime) -> Result<(), Fail> {
-    let alloc = rt.alloc();
-    let mut table = DescList::new(alloc, 2, 128)?;
-    set(&mut table, 2, 8, data(true, 20)?)?;
+    let full = entry(rt.alloc(), 2, 8, Desc::gone(), Some(20))?;
+    let beyond = entry(rt.alloc(), 3, 8, Desc::gone(), Some(20))?;
+    let desc = data(true, 20)?;
+    let mut table = DescList::new(rt.alloc(), 2, 128)?;
+    set(&mut table, 2, 8, desc)?;
     assert_eq!(rt; table.may_open(2, 262_144), false);
     assert_eq!(rt; table.may_open(3, 3), false);
-    let mut world = open(alloc, 262_143, &table)?;
-    let full = entry(alloc, 2, 8, Desc::gone(), Some(20))?;
+    let mut world = open(rt.alloc(), 262_143, &table)?;
     assert_eq!(rt; refusal(&mut world, &full), Some(Cause::Limit));
-    let beyond = entry(alloc, 3, 8, Desc::gone(), Some(20))?;
     assert_eq!(rt; refusal(&mut world, &beyond), Some(Cause::Range));
     Ok(())
 }

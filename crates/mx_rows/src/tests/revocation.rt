@@ -1,29 +1,24 @@
 //! A revocation told by a word: process 1 takes write access from process 2, whose word is struck, connected,
 //! acknowledged, answered and settled while both run.
 
-use super::{event, floor, load, make, opened, refusal, ring, take_access, word};
+use super::{are_made, event, floor, load, opened, refusal, ring, take_access, word};
 use mx_core::{Cause, Outcome, Step};
 use mx_sdw::{Denial, Op};
 use std::test::Fail;
 
 #[test]
 fn a_revocation_is_told_by_a_word(rt: HostRuntime) -> Result<(), Fail> {
-    let alloc = rt.alloc();
-    let mut world = opened(alloc)?;
-    make(&mut world, &[take_access(alloc)?])?;
-    let unstruck = Cause::Unstruck {
-        process: 2,
-        segno: 8,
-    };
-    assert_eq!(rt; refusal(&mut world, &Step::Answer), Some(unstruck));
     let (four, one) = (ring()?, word(1)?);
+    let taken = take_access(rt.alloc())?;
+    let mut world = opened(rt.alloc())?;
+    assert_eq!(rt; are_made(&mut world, &[taken]), true);
+    let (process, segno) = (2, 8);
+    let unstruck = Cause::Unstruck { process, segno };
+    assert_eq!(rt; refusal(&mut world, &Step::Answer), Some(unstruck));
     let steps = [
-        Step::Strike {
-            process: 2,
-            segno: 8,
-        },
-        Step::Connect { process: 2 },
-        Step::Acknowledge { process: 2 },
+        Step::Strike { process, segno },
+        Step::Connect { process },
+        Step::Acknowledge { process },
         Step::Answer,
         Step::Split,
         Step::Join {
@@ -38,38 +33,39 @@ fn a_revocation_is_told_by_a_word(rt: HostRuntime) -> Result<(), Fail> {
             value: one,
         },
         Step::Leave { process: 1 },
-        Step::Enter { process: 2 },
-        Step::LoadConnect { process: 2 },
+        Step::Enter { process },
+        Step::LoadConnect { process },
         load(four, 2, 9, Op::Read),
-        Step::LoadCell { process: 2 },
-        Step::Leave { process: 2 },
-        Step::Enter { process: 2 },
-        Step::LoadConnect { process: 2 },
+        Step::LoadCell { process },
+        Step::Leave { process },
+        Step::Enter { process },
+        Step::LoadConnect { process },
         load(four, 2, 8, Op::Write),
-        Step::Leave { process: 2 },
-        Step::Settle {
-            process: 2,
-            segno: 8,
-        },
-        Step::Enter { process: 2 },
-        Step::LoadConnect { process: 2 },
+        Step::Leave { process },
+        Step::Settle { process, segno },
+        Step::Enter { process },
+        Step::LoadConnect { process },
         load(four, 2, 8, Op::Write),
-        Step::Leave { process: 2 },
+        Step::Leave { process },
     ];
-    make(&mut world, &steps)?;
+    assert_eq!(rt; are_made(&mut world, &steps), true);
     let stored = Outcome::Written { value: one };
-    assert_eq!(rt; event(&world, 1, 0), Some((9, 4, Some(stored))));
-    assert_eq!(rt; event(&world, 1, 1), None);
     let read = Outcome::Read {
         value: one,
         writer: 1,
         stamp: 4,
     };
-    assert_eq!(rt; event(&world, 2, 0), Some((9, 3, Some(read))));
-    assert_eq!(rt; event(&world, 2, 1), Some((8, 4, None)));
     let denied = Outcome::Denied(Denial::NotWritable);
-    assert_eq!(rt; event(&world, 2, 2), Some((8, 4, Some(denied))));
-    assert_eq!(rt; event(&world, 2, 3), None);
+    for (process, place, want) in [
+        (1, 0, Some((9, 4, Some(stored)))),
+        (1, 1, None),
+        (2, 0, Some((9, 3, Some(read)))),
+        (2, 1, Some((8, 4, None))),
+        (2, 2, Some((8, 4, Some(denied)))),
+        (2, 3, None),
+    ] {
+        assert_eq!(rt; event(&world, process, place), want);
+    }
     assert_eq!(rt; floor(&world, 1), Some(4));
     assert_eq!(rt; floor(&world, 2), Some(4));
     assert_eq!(rt; world.answered(), 4);
