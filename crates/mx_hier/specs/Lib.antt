@@ -20,6 +20,7 @@ pub mod Status
 pub mod List
 pub mod ChangeWorkingDirectory
 pub mod Initiate
+pub mod Find
 pub mod Connected
 pub mod Sound
 pub mod Strangers

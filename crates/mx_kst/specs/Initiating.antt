@@ -66,13 +66,17 @@ pub record Initiated : Type 0 where
   pub known : Known
   pub after : KnownSegments
 
-abbrev pub initiate : KnownSegments → ℕ → ℕ → Option (List ℕ) → Option PlainSection → Result Initiated KstError
-initiate k uid ring name section =
+abbrev pub initiated : KnownSegments → ℕ → ℕ → Option (List ℕ) → Option PlainSection → Initiated
+initiated k uid ring name section =
     let known : Known = known_as k.lots uid section in
-    unless (refusal k uid ring name (is_some section)) (record {
+    record {
       known = known;
       after = record { lots = lots_with k.lots known uid section; names = with_name k.names ring name known.segno };
-    })
+    }
+
+abbrev pub initiate : KnownSegments → ℕ → ℕ → Option (List ℕ) → Option PlainSection → Result Initiated KstError
+initiate k uid ring name section =
+    unless (refusal k uid ring name (is_some section)) (initiated k uid ring name section)
 
 -- a call's answer, with what the process knows then
 abbrev pub outcome : Result Known KstError → KnownSegments → Result Initiated KstError

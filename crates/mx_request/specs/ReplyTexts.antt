@@ -1,5 +1,5 @@
 -- The replies, each as the text that the journal has of it.
-use Rattle.std.specs.Prelude.{ℕ, Bool, true, false, List, [], ◌∷◌, codes}
+use Rattle.std.specs.Prelude.{ℕ, Bool, true, false, List, [], ◌∷◌, Option, None, Some, codes}
 use Rattle.std.specs.Fmt.{decimal}
 use Rattle.mx_name.specs.Paths.{path_text}
 use Rattle.mx_sdw.specs.Octal.{octal}
@@ -16,6 +16,11 @@ abbrev pub fresh_text : Bool → List ℕ
 fresh_text true = codes "new"
 fresh_text false = codes "old"
 
+-- the linkage section that was made with it
+abbrev pub linkage_fields : Option ℕ → List (List ℕ)
+linkage_fields None = []
+linkage_fields (Some segno) = codes "linkage" ∷ octal segno ∷ []
+
 abbrev pub status_fields : said.Status → List (List ℕ)
 status_fields (Segment words brackets modes) =
     codes "segment" ∷ codes "words" ∷ decimal words
@@ -31,7 +36,8 @@ reply_fields Done = codes "ok" ∷ []
 reply_fields (Refused why) = codes "refused" ∷ decimal (refusal_number why) ∷ refusal_text why ∷ []
 reply_fields (Status status) = status_fields status
 reply_fields (Names names) = codes "names" ∷ names
-reply_fields (Segno known) = codes "segno" ∷ octal known.segno ∷ fresh_text known.fresh ∷ []
+reply_fields (Segno known) =
+    codes "segno" ∷ octal known.segno ∷ fresh_text known.fresh ∷ linkage_fields known.linkage
 
 abbrev pub reply_text : Reply → List ℕ
 reply_text reply = line_of (reply_fields reply)

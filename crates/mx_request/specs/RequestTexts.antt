@@ -1,16 +1,32 @@
 -- The requests, each as its line in a script and in the journal.
-use Rattle.std.specs.Prelude.{ℕ, Bool, true, ◌&&◌, nat_le, nat_eq, List, [], ◌∷◌, map, length, is_none, codes}
+use Rattle.std.specs.Prelude.{ℕ, Bool, true, ◌&&◌, nat_le, nat_eq, List, [], ◌∷◌, map, length, Option, None, Some, is_none, codes}
 use Rattle.std.specs.Fmt.{decimal}
 use Rattle.std.specs.List.{list_all}
 use Rattle.mx_name.specs.Names.{name_fault}
 use Rattle.mx_name.specs.Pathnames.{pathname_fault}
+use Rattle.mx_name.specs.Paths.{path_text}
 use Rattle.mx_name.specs.Identifiers.{PlainAclId, acl_id_text, id_fault}
+use Rattle.mx_sdw.specs.Octal.{octal}
 use Rattle.mx_acl.specs.Modes.{modes_text}
+use Rattle.mx_search.specs.declared.rules.Rule.{Rule}
+use Rattle.mx_search.specs.declared.rules.Rule.TheVariants.{InitiatedSegments, ReferencingDir, WorkingDir, Directory}
 use Rattle.mx_request.specs.declared.requests.Request.{Request}
-use Rattle.mx_request.specs.declared.requests.Request.TheVariants.{CreateDir, CreateSeg, CreateLink, Rename, Delete, SetAcl, DelAcl, SetBrackets, SetDirBrackets, Status, List as ListNames, ChangeWdir, Initiate, Logout}
+use Rattle.mx_request.specs.declared.requests.Request.TheVariants.{CreateDir, CreateSeg, CreateLink, Rename, Delete, SetAcl, DelAcl, SetBrackets, SetDirBrackets, Status, List as ListNames, ChangeWdir, SetRules, Initiate, Terminate, Logout}
 use Rattle.mx_request.specs.Fields.{line_of, ring_text}
 
--- the fields of a request's line: WORDS is decimal, a ring one digit
+-- a search rule: a directory is given by its path from the root
+abbrev pub rule_text : Rule → List ℕ
+rule_text InitiatedSegments = codes "initiated_segments"
+rule_text ReferencingDir = codes "referencing_dir"
+rule_text WorkingDir = codes "working_dir"
+rule_text (Directory path) = path_text path
+
+-- a reference name, where one is given
+abbrev pub name_fields : Option (List ℕ) → List (List ℕ)
+name_fields None = []
+name_fields (Some name) = name ∷ []
+
+-- the fields of a request's line: WORDS is decimal, a ring one digit, a segment number octal
 abbrev pub request_fields : Request → List (List ℕ)
 request_fields (CreateDir path d1 d2) = codes "create_dir" ∷ path ∷ ring_text d1 ∷ ring_text d2 ∷ []
 request_fields (CreateSeg path words brackets) = codes "create_seg" ∷ path ∷ decimal words ∷ map ring_text brackets
@@ -24,14 +40,16 @@ request_fields (SetDirBrackets path d1 d2) = codes "set_dir_brackets" ∷ path �
 request_fields (Status path) = codes "status" ∷ path ∷ []
 request_fields (ListNames path) = codes "list" ∷ path ∷ []
 request_fields (ChangeWdir path) = codes "change_wdir" ∷ path ∷ []
-request_fields (Initiate path) = codes "initiate" ∷ path ∷ []
+request_fields (SetRules rules) = codes "set_rules" ∷ map rule_text rules
+request_fields (Initiate path name) = codes "initiate" ∷ path ∷ name_fields name
+request_fields (Terminate segno) = codes "terminate" ∷ octal segno ∷ []
 request_fields Logout = codes "logout" ∷ []
 
 abbrev pub request_text : Request → List ℕ
 request_text request = line_of (request_fields request)
 
 -- What a line may say: pathnames, names and identifiers of their grammar, rings to 7, three brackets (in any order),
--- and WORDS of at most five digits.
+-- WORDS of at most five digits, segment numbers to octal 7777, and 1 to 16 search rules.
 abbrev pub is_pathname : List ℕ → Bool
 is_pathname path = is_none (pathname_fault path)
 
@@ -47,6 +65,25 @@ is_ring ring = nat_le ring 7
 abbrev pub are_brackets : List ℕ → Bool
 are_brackets brackets = nat_eq (length brackets) 3 && list_all is_ring brackets
 
+abbrev pub is_name_or_none : Option (List ℕ) → Bool
+is_name_or_none None = true
+is_name_or_none (Some name) = is_name name
+
+abbrev pub is_segno : ℕ → Bool
+is_segno segno = nat_le segno 4095
+
+abbrev pub is_path : List (List ℕ) → Bool
+is_path path = nat_le (length (path_text path)) 168 && list_all is_name path
+
+abbrev pub is_rule : Rule → Bool
+is_rule InitiatedSegments = true
+is_rule ReferencingDir = true
+is_rule WorkingDir = true
+is_rule (Directory path) = is_path path
+
+abbrev pub are_rules : List Rule → Bool
+are_rules rules = nat_le 1 (length rules) && (nat_le (length rules) 16 && list_all is_rule rules)
+
 abbrev pub fits_request : Request → Bool
 fits_request (CreateDir path d1 d2) = is_pathname path && (is_ring d1 && is_ring d2)
 fits_request (CreateSeg path words brackets) = is_pathname path && (nat_le words 99999 && are_brackets brackets)
@@ -60,5 +97,7 @@ fits_request (SetDirBrackets path d1 d2) = is_pathname path && (is_ring d1 && is
 fits_request (Status path) = is_pathname path
 fits_request (ListNames path) = is_pathname path
 fits_request (ChangeWdir path) = is_pathname path
-fits_request (Initiate path) = is_pathname path
+fits_request (SetRules rules) = are_rules rules
+fits_request (Initiate path name) = is_pathname path && is_name_or_none name
+fits_request (Terminate segno) = is_segno segno
 fits_request Logout = true

@@ -4,7 +4,7 @@ use Rattle.std.specs.Prelude.{◌≡◌, ◌-◌, ◌<◌, ◌≤◌, ℕ, ◌+�
 use Rattle.std.specs.List.{list_all, sum_by}
 use Rattle.mx_name.specs.Principals.{PlainPrincipal}
 use Rattle.mx_request.specs.declared.requests.Request.{Request}
-use Rattle.mx_request.specs.declared.requests.Request.TheVariants.{CreateDir, CreateSeg, CreateLink, Rename, Delete, SetAcl, DelAcl, SetBrackets, SetDirBrackets, Status, List as ListNames, ChangeWdir, Initiate, Logout}
+use Rattle.mx_request.specs.declared.requests.Request.TheVariants.{CreateDir, CreateSeg, CreateLink, Rename, Delete, SetAcl, DelAcl, SetBrackets, SetDirBrackets, Status, List as ListNames, ChangeWdir, SetRules, Initiate, Terminate, Logout}
 use Rattle.mx_request.specs.Classes.{class_of}
 use Rattle.mx_request.specs.declared.classes.RequestClass.{RequestClass}
 use Rattle.mx_request.specs.declared.classes.RequestClass.TheVariants.{OfPath, OfProcess, OfSupervisor}
@@ -30,7 +30,7 @@ outline version history setup principals scripts = record {
   scripts = scripts;
 }
 
--- WORDS has at most five digits; the types bound all other parts of a request
+-- WORDS has at most five digits, and a segment number four octal ones; the types bound all other parts of a request
 abbrev pub is_short : Request → Bool
 is_short (CreateDir path d1 d2) = true
 is_short (CreateSeg path words brackets) = nat_le words 99999
@@ -44,7 +44,9 @@ is_short (SetDirBrackets path d1 d2) = true
 is_short (Status path) = true
 is_short (ListNames path) = true
 is_short (ChangeWdir path) = true
-is_short (Initiate path) = true
+is_short (SetRules rules) = true
+is_short (Initiate path name) = true
+is_short (Terminate segno) = nat_le segno 4095
 is_short Logout = true
 
 -- the setup makes requests on paths

@@ -4,7 +4,7 @@ use Rattle.std.specs.List.{AllPairs}
 use Rattle.mx_core.specs.declared.changes.Change.{Change}
 use Rattle.mx_sdw.specs.Admissible.{IsAdmissible}
 use Rattle.mx_sdw.specs.declared.descriptors.Desc.{Desc}
-use Rattle.mx_state.specs.Numbers.{last_segno}
+use Rattle.mx_kst.specs.Lots.{last_number}
 use Rattle.mx_state.specs.Plain.{Plain}
 use Rattle.mx_state.specs.Table.{descriptor}
 
@@ -27,5 +27,5 @@ pub record AreChanges (old new : Plain) (changes : List Change) : Type 0 where
 pub record IsBounded (c : Change) : Type 0 where
   pub first : 1 ≤ c.process
   pub last : c.process ≤ 15
-  pub number : c.segno ≤ last_segno
+  pub number : c.segno ≤ last_number
   pub admissible : IsAdmissible c.desc

@@ -2,17 +2,25 @@
 use Rattle.std.specs.Prelude.{◌≡◌, ℕ, ◌*◌, ◌≤◌, false, List, [], ◌∷◌, length, map}
 use Rattle.mx_name.specs.Principals.{PlainPrincipal}
 use Rattle.mx_hier.specs.Opening as hierarchy
+use Rattle.mx_kst.specs.KnownSegments.{at_first}
 use Rattle.mx_request.specs.Classes.{class_of}
 use Rattle.mx_request.specs.declared.classes.RequestClass.TheVariants.{OfPath}
 use Rattle.mx_request.specs.declared.requests.Request.{Request}
+use Rattle.mx_search.specs.Rules.{opening_rules}
 use Rattle.mx_state.specs.declared.journal.Entry.{Entry}
 use Rattle.mx_state.specs.declared.states.ProcessState.{ProcessState}
 use Rattle.mx_state.specs.Plain.{Plain}
 use Rattle.mx_state.specs.Requests.{plain}
 
--- a process at the start knows its stacks alone, and works in the root
+-- a process at the start works in the root, with the rules of every process, and knows its stacks alone
 abbrev pub fresh : PlainPrincipal → ProcessState
-fresh who = record { principal = who; working_directory = []; known = []; ended = false }
+fresh who = record {
+  principal = who;
+  working_directory = [];
+  rules = opening_rules;
+  known = at_first;
+  ended = false;
+}
 
 -- the state before any entry: the first pages are those of the stacks, eight for each process
 abbrev pub opening : List PlainPrincipal → Plain

@@ -1,30 +1,33 @@
--- `change_wdir PATH`, `initiate PATH` and `logout`: the requests on a process's own state.
-use Rattle.std.specs.Prelude.{ℕ, nat_lt, true, false, List, [], ◌∷◌, ◌++◌, Option, Some, None, Result, Ok, Err, if◌then◌else◌}
+-- `initiate PATH [NAME]` and `terminate S`: the requests on what a process knows.
+use Rattle.std.specs.Prelude.{ℕ, Bool, false, List, [], ◌∷◌, Option, Some, None, Result, Ok, Err}
+use Rattle.mx_hier.specs.Rules.{first_of, onward, unless}
 use Rattle.mx_hier.specs.declared.refusals.Refusal.{Refusal}
-use Rattle.mx_hier.specs.declared.refusals.Refusal.TheVariants.{KstFull}
+use Rattle.mx_hier.specs.declared.refusals.Refusal.TheVariants.{NameDup, KstFull, UnknownSegno}
+use Rattle.mx_kst.specs.Initiating.{Initiated, is_taken, is_full, initiated}
+use Rattle.mx_kst.specs.KnownSegments.{KnownSegments}
 use Rattle.mx_request.specs.declared.replies.Reply.TheVariants.{Done, Refused, Segno}
 use Rattle.mx_state.specs.declared.states.ProcessState.{ProcessState}
-use Rattle.mx_state.specs.Numbers.{last_segno, segno_of, next_segno}
 use Rattle.mx_state.specs.Plain.{Plain, Answer, answer, with_process}
 
--- `initiate`: a known segment keeps its number, and another gets the next one, up to the last
-abbrev pub known_as : Plain → ℕ → ProcessState → ℕ → Option ℕ → Answer
-known_as s p process uid (Some segno) = answer (Segno (record { segno = segno; fresh = false })) s
-known_as s p process uid None =
-    if nat_lt last_segno (next_segno process.known) then answer (Refused KstFull) s
-    else answer (Segno (record { segno = next_segno process.known; fresh = true }))
-    (with_process s p (record process { known = process.known ++ uid ∷ [] }))
+-- the name stands in the ring for another number; the segment is not known, and no number is left
+abbrev pub initiate_refusals : KnownSegments → ℕ → ℕ → Option (List ℕ) → List (Bool × Refusal)
+initiate_refusals known uid ring name =
+    (is_taken known uid ring name, NameDup) ∷ (is_full known uid false, KstFull) ∷ []
 
--- by the uid of the segment at the path, or why there is none
-abbrev pub initiate : Plain → ℕ → ProcessState → Result ℕ Refusal → Answer
-initiate s p process (Ok uid) = known_as s p process uid (segno_of process.known uid)
-initiate s p process (Err why) = answer (Refused why) s
+-- how the segment is known then; no segment has a linkage section yet
+abbrev pub known_then : KnownSegments → ℕ → Option (List ℕ) → ℕ → Result Initiated Refusal
+known_then known ring name uid =
+    unless (first_of (initiate_refusals known uid ring name)) (initiated known uid ring name None)
 
--- `change_wdir`: the working directory becomes the resolved path, or is refused
-abbrev pub change_wdir : Plain → ℕ → ProcessState → Result (List (List ℕ)) Refusal → Answer
-change_wdir s p process (Ok path) = answer Done (with_process s p (record process { working_directory = path }))
-change_wdir s p process (Err why) = answer (Refused why) s
+abbrev pub given : Plain → ℕ → ProcessState → Result Initiated Refusal → Answer
+given s p process (Ok known) = answer (Segno known.known) (with_process s p (record process { known = known.after }))
+given s p process (Err why) = answer (Refused why) s
 
--- `logout`: the process has ended; its known segments stay as they were
-abbrev pub logout : Plain → ℕ → ProcessState → Answer
-logout s p process = answer Done (with_process s p (record process { ended = true }))
+-- `initiate`, by the uid of the segment at the path, or why there is none
+abbrev pub initiate : Plain → ℕ → ℕ → ProcessState → Option (List ℕ) → Result ℕ Refusal → Answer
+initiate s p ring process name segment = given s p process (onward segment (known_then process.known ring name))
+
+-- `terminate`, by what is known without the number, unless that is not the number of a known segment
+abbrev pub terminate : Plain → ℕ → ProcessState → Option KnownSegments → Answer
+terminate s p process (Some known) = answer Done (with_process s p (record process { known = known }))
+terminate s p process None = answer (Refused UnknownSegno) s

@@ -6,7 +6,7 @@ use Rattle.mx_request.specs.declared.classes.RequestClass.TheVariants.{OfPath}
 use Rattle.mx_request.specs.declared.requests.Request.{Request}
 use Rattle.mx_request.specs.declared.replies.Reply.TheVariants.{Refused}
 use Rattle.mx_sdw.specs.Descriptors.{unknown_desc}
-use Rattle.mx_state.specs.Numbers.{last_segno}
+use Rattle.mx_kst.specs.Lots.{last_number}
 use Rattle.mx_state.specs.Plain.{Plain}
 use Rattle.mx_state.specs.Requests.{plain}
 use Rattle.mx_state.specs.Table.{descriptor}
@@ -23,4 +23,4 @@ PathLaw = (s : Plain) (p ring : ℕ) (request : Request) → class_of request �
 
 -- no process knows a number beyond the last
 abbrev pub UnknownLaw : Type 0
-UnknownLaw = (s : Plain) (p segno : ℕ) → last_segno < segno → descriptor s p segno ≡ unknown_desc
+UnknownLaw = (s : Plain) (p segno : ℕ) → last_number < segno → descriptor s p segno ≡ unknown_desc

@@ -2,6 +2,7 @@ pub mod Plain
 pub mod Askers
 pub mod Numbers
 pub mod Knowing
+pub mod OwnState
 pub mod Requests
 pub mod Table
 pub mod Changes

@@ -15,12 +15,14 @@ use Rattle.mx_hier.specs.SetBrackets.{set_brackets}
 use Rattle.mx_hier.specs.SetDirectoryBrackets.{set_dir_brackets}
 use Rattle.mx_hier.specs.Status.{status}
 use Rattle.mx_hier.specs.declared.refusals.Refusal.{Refusal}
+use Rattle.mx_kst.specs.Terminating as kst
 use Rattle.mx_request.specs.declared.requests.Request.{Request}
 use Rattle.mx_request.specs.declared.requests.Request.TheVariants as ask
 use Rattle.mx_request.specs.declared.replies.Reply.{Reply}
 use Rattle.mx_request.specs.declared.replies.Reply.TheVariants as reply
 use Rattle.mx_state.specs.Askers.{caller, on_path, on_process}
-use Rattle.mx_state.specs.Knowing.{initiate, change_wdir, logout}
+use Rattle.mx_state.specs.Knowing.{initiate, terminate}
+use Rattle.mx_state.specs.OwnState.{change_wdir, set_rules, logout}
 use Rattle.mx_state.specs.Plain.{Plain, Answer, answer}
 
 -- a request that changes the hierarchy is answered `ok`, or refused
@@ -58,6 +60,9 @@ plain s p ring (ask.List path) =
     on_path s p ring (λ who. told s reply.Names (list s.hierarchy who path))
 plain s p ring (ask.ChangeWdir path) =
     on_process s p (λ process. change_wdir s p process (directory s.hierarchy (caller process ring) path))
-plain s p ring (ask.Initiate path) =
-    on_process s p (λ process. initiate s p process (segment s.hierarchy (caller process ring) path))
+plain s p ring (ask.SetRules rules) = on_process s p (λ process. set_rules s p process rules)
+plain s p ring (ask.Initiate path name) =
+    on_process s p (λ process. initiate s p ring process name (segment s.hierarchy (caller process ring) path))
+plain s p ring (ask.Terminate segno) =
+    on_process s p (λ process. terminate s p process (kst.terminate process.known segno))
 plain s p ring ask.Logout = on_process s p (λ process. logout s p process)

@@ -1,15 +1,17 @@
 -- What is true of every state that the program reaches. Only the model of `State` cites this.
-use Rattle.std.specs.Prelude.{◌≡◌, ℕ, ◌+◌, ◌<◌, ◌≤◌, List, [], length, slice_get, Some}
+use Rattle.std.specs.Prelude.{◌≡◌, ℕ, ◌<◌, ◌≤◌, List, [], length, slice_get, Some}
 use Rattle.mx_name.specs.Principals.{PlainPrincipal}
+use Rattle.mx_kst.specs.declared.lots.Lot.TheVariants.{Branch}
+use Rattle.mx_kst.specs.KnownSegments as kst
+use Rattle.mx_kst.specs.Lots.{lot_of}
 use Rattle.mx_state.specs.declared.states.ProcessState.{ProcessState}
 use Rattle.mx_state.specs.Askers.{initializer}
-use Rattle.mx_state.specs.Numbers.{first_given, segno_of}
 use Rattle.mx_state.specs.Plain.{Plain}
 
--- a process knows only what was made, and each segment under the number of its place
+-- a process's table is sound, and it knows only what was made
 pub record IsSoundProcess (next : ℕ) (process : ProcessState) : Type 0 where
-  pub made : (i uid : ℕ) → slice_get process.known i ≡ Some uid → uid < next
-  pub once : (i uid : ℕ) → slice_get process.known i ≡ Some uid → segno_of process.known uid ≡ Some (first_given + i)
+  pub known : kst.IsSound process.known
+  pub made : (n uid : ℕ) → lot_of process.known.lots n ≡ Branch uid → uid < next
 
 pub record IsSound (s : Plain) : Type 0 where
   pub process_count : length s.processes ≤ 15

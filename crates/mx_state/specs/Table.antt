@@ -4,24 +4,28 @@ use Rattle.mx_sdw.specs.Descriptors.{unknown_desc, segment_desc}
 use Rattle.mx_sdw.specs.declared.descriptors.Desc.{Desc}
 use Rattle.mx_hier.specs.Branches.{Hierarchy}
 use Rattle.mx_hier.specs.Connected.{desc_of}
+use Rattle.mx_kst.specs.declared.lots.Lot.{Lot}
+use Rattle.mx_kst.specs.declared.lots.Lot.TheVariants.{Free, Stack, Branch, Linkage}
 use Rattle.mx_state.specs.declared.states.ProcessState.{ProcessState}
-use Rattle.mx_state.specs.Numbers.{Stands, Nothing, Stack, Branch, stands_for}
+use Rattle.mx_state.specs.Numbers.{stands_for}
 use Rattle.mx_state.specs.Plain.{Plain, process_at}
 
 -- the stack of a ring of process p: one page, to read and write in that ring
 abbrev pub stack_desc : ℕ → ℕ → Desc
 stack_desc p ring = segment_desc (record { r1 = ring; r2 = ring; r3 = ring }) true false true 0 (8 * (p - 1) + ring) 64
 
--- of a branch it is what its access list gives the principal, and gone where it was deleted
-abbrev pub standing_desc : Hierarchy → ℕ → ProcessState → Stands → Desc
-standing_desc h p process Nothing = unknown_desc
+-- of a segment it is what its access list gives the principal, and gone where it was deleted; a linkage section is to
+-- read and write within its brackets
+abbrev pub standing_desc : Hierarchy → ℕ → ProcessState → Lot → Desc
+standing_desc h p process Free = unknown_desc
 standing_desc h p process (Stack ring) = stack_desc p ring
 standing_desc h p process (Branch uid) = desc_of h uid process.principal
+standing_desc h p process (Linkage of page brackets words) = segment_desc brackets true false true 0 page words
 
 -- where there is no process, every number is unknown
 abbrev pub process_desc : Hierarchy → ℕ → Option ProcessState → ℕ → Desc
 process_desc h p None segno = unknown_desc
-process_desc h p (Some process) segno = standing_desc h p process (stands_for process.known segno)
+process_desc h p (Some process) segno = standing_desc h p process (stands_for process.known.lots segno)
 
 abbrev pub descriptor : Plain → ℕ → ℕ → Desc
 descriptor s p segno = process_desc s.hierarchy p (process_at s.processes p) segno
