@@ -3,3 +3,4 @@ pub mod NameLaws
 pub mod SoundLaws
 pub mod InitiateLaws
 pub mod TerminateLaws
+pub mod IndexLaws

@@ -11,7 +11,7 @@ use Rattle.mx_kst.specs.Names.{RingNames, no_names}
 use Rattle.mx_kst.specs.KnownSegments.{KnownSegments, IsSound, at_first}
 use Rattle.mx_kst.proofs.LotLaws.{stands, first_place}
 
-no_segment : (rings : List ℕ) (n uid : ℕ) → get_or (map Stack rings) n Free ≡ Branch uid → ⊥
+pub no_segment : (rings : List ℕ) (n uid : ℕ) → get_or (map Stack rings) n Free ≡ Branch uid → ⊥
 no_segment [] n uid e = cc
 no_segment (ring ∷ rings) zero uid e = cc
 no_segment (ring ∷ rings) (suc n) uid e = no_segment rings n uid e

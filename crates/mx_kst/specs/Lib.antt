@@ -4,3 +4,4 @@ pub mod Names
 pub mod KnownSegments
 pub mod Initiating
 pub mod Terminating
+pub mod Index

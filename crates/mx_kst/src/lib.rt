@@ -10,6 +10,7 @@
 mod laws;
 mod lots;
 mod names;
+mod numbers;
 mod sections;
 mod segments;
 #[cfg(test)]

@@ -1,7 +1,7 @@
 //! What a segment number stands for.
 ghost use Rattle.std.specs.Prelude.{◌≡◌, ◌+◌, ◌≤◌, ◌<◌, true, length, is_some, IfOk, IfSome};
 ghost use Rattle.std.specs.Vec.{vec_len, vec_capacity};
-ghost use Rattle.mx_kst.specs.Lots.{last_number, stacks, lot_of, number_of, is_branch, is_segment, is_section_of};
+ghost use Rattle.mx_kst.specs.Lots.{last_number, stacks, lot_of, is_section_of};
 ghost use Rattle.mx_kst.specs.Sections.{IsWithinPage};
 ghost use Rattle.mx_kst.specs.Initiating.{numbers_needed, lots_with};
 ghost use Rattle.mx_kst.specs.Terminating.{lot_without, lots_without};
@@ -41,18 +41,6 @@ pub enum Lot {
 }
 
 impl Lot {
-    pub(crate) fn is_branch(&self) -> bool
-        ensures { result ≡ is_branch self.now }
-    {
-        matches!(self, Lot::Branch { .. })
-    }
-
-    fn is_segment(&self, uid: u32) -> bool
-        ensures { result ≡ is_segment uid self.now }
-    {
-        matches!(self, Lot::Branch { uid: other } if *other == uid)
-    }
-
     fn is_section_of(&self, segno: u16) -> bool
         ensures { result ≡ is_section_of segno self.now }
     {
@@ -102,26 +90,6 @@ pub(crate) fn lot_of(lots: &[Lot], segno: u16) -> Lot
         Some(lot) => *lot,
         None => Lot::Free,
     }
-}
-
-/// The number of a segment.
-pub(crate) fn number_of(lots: &[Lot], uid: u32) -> Option<u16>
-    requires { length lots.now ≤ last_number + 1 }
-    ensures { result ≡ number_of lots.now uid }
-{
-    let place = place_of(lots, uid)?;
-    Some(place as u16)
-}
-
-fn place_of(lots: &[Lot], uid: u32) -> Option<usize>
-    ensures place { result ≡ number_of lots.now uid }
-    ensures bound { IfSome result (λ place. place < length lots.now) }
-{
-    lots.iter().position(
-        |lot: &Lot| -> bool
-            ensures { result ≡ is_segment uid lot.now }
-        { lot.is_segment(uid) },
-    )
 }
 
 /// Adds the lots of a segment that gets its number now, and of its linkage section. Takes no memory.

@@ -7,7 +7,9 @@ ghost use Rattle.mx_kst.specs.Names.{named};
 
 use crate::lots::{self, LAST_NUMBER, Lot};
 use crate::names::{self, Names};
+use crate::numbers;
 use crate::sections::Section;
+use indexmap::IndexMap;
 use mx_name::EntryName;
 use mx_sdw::Ring;
 use std::alloc::{AllocError, Global};
@@ -63,12 +65,16 @@ pub struct Kst {
     lots: Vec<Lot>,
     /// By ring.
     names: Vec<Names>,
+    /// By uid, those of the segments that are known; with room for all that are left.
+    numbers: IndexMap<u32, u16>,
 }
 
 impl Model for Kst {
-    ghost use Rattle.std.specs.Prelude.{◌<◌};
+    ghost use Rattle.std.specs.Prelude.{◌==◌, ◌<◌, ◌≤◌};
     ghost use Rattle.std.specs.Vec.{vec_capacity};
-    ghost use Rattle.mx_kst.specs.Lots.{last_number};
+    ghost use Rattle.indexmap.specs.IndexMap.{get, spare};
+    ghost use Rattle.mx_kst.specs.Index.{Indexes};
+    ghost use Rattle.mx_kst.specs.Lots.{last_number, numbers_left};
     ghost use Rattle.mx_kst.specs.KnownSegments.{KnownSegments, IsSound};
 
     ghost Value = { KnownSegments };
@@ -76,7 +82,8 @@ impl Model for Kst {
     ghost view = { λ a. record { lots = a.lots.items; names = a.names.items } };
 
     ghost invariant = { λ a. IsSound (record { lots = a.lots.items; names = a.names.items })
-        × (last_number < vec_capacity a.lots) };
+        × (last_number < vec_capacity a.lots)
+        × Indexes (get ◌==◌ a.numbers) a.lots.items × (numbers_left a.lots.items ≤ spare a.numbers) };
 }
 
 impl Kst {
@@ -90,7 +97,12 @@ impl Kst {
     {
         let lots = lots::first_lots(alloc)?;
         let names = names::no_names(alloc)?;
-        Ok(Kst { lots, names })
+        let numbers = IndexMap::with_capacity(alloc, usize::from(LAST_NUMBER) + 1)?;
+        Ok(Kst {
+            lots,
+            names,
+            numbers,
+        })
     }
 
     /// Why `initiate` would refuse a segment in a ring under a name, if one is given, and with a linkage section, if
@@ -136,6 +148,7 @@ impl Kst {
         let known = self.known_as(uid, &section);
         names::add_name(&mut self.names, ring, name, known.segno)?;
         lots::add_lots(&mut self.lots, &known, uid, section);
+        numbers::add_number(&mut self.numbers, &known, uid);
         Ok(known)
     }
 
@@ -146,11 +159,12 @@ impl Kst {
         ensures refused { OnErr result (terminate self.old segno ≡ None) }
         ensures err { OnErr result (self.new ≡ self.old) }
     {
-        if !lots::lot_of(&self.lots, segno).is_branch() {
+        let Lot::Branch { uid } = lots::lot_of(&self.lots, segno) else {
             return Err(UnknownSegno);
-        }
+        };
         lots::free(&mut self.lots, segno);
         names::forget(&mut self.names, segno);
+        numbers::take_number(&mut self.numbers, uid);
         Ok(())
     }
 
@@ -163,13 +177,13 @@ impl Kst {
         names::named(&self.names, ring, name)
     }
 
-    /// The number of a segment. Takes no memory.
+    /// The number of a segment, found by one look-up. Takes no memory.
     pub fn by_uid(&self, uid: u32) -> Option<u16>
         ensures value { result ≡ number_of self.now.lots uid }
         ensures only { (n : ℕ) → (result ≡ Some n) ↔ (lot_of self.now.lots n ≡ Lot.Branch uid) }
         ensures sound { IsSound self.now }
     {
-        lots::number_of(&self.lots, uid)
+        self.numbers.get(&uid).copied()
     }
 
     /// What a number stands for. Takes no memory.

@@ -1,23 +1,29 @@
 -- Laws of lines: a request that fits is read back from its line, so that no two have one line.
-use Rattle.std.proofs.Common.{◌≡◌, ℕ, nat_le, true, ◌&&◌, List, ◌∷◌, ◌++◌, map, Option, Some, None, Result, Ok, Err, IfOk, codes, refl, ap, sym, ◌∙◌}
+use Rattle.std.proofs.Common.{◌≡◌, ℕ, ◌≤◌, nat_le, length, arith, true, ◌&&◌, List, ◌∷◌, ◌++◌, map, Option, Some, None, Result, Ok, Err, IfOk, codes, refl, ap, sym, ◌∙◌}
+use Rattle.std.proofs.lemmas.Bool.Decides.{nat_tests}
 use Rattle.std.specs.Fmt.{decimal}
+use Rattle.std.specs.List.{list_all}
 use Rattle.mx_name.proofs.TextLaws.{all_free, name_again}
 use Rattle.mx_name.specs.Identifiers.{PlainAclId, acl_id_text}
 use Rattle.mx_name.specs.Names.{is_name_byte, name_fault}
 use Rattle.mx_acl.proofs.ModesLaws.{modes_again}
 use Rattle.mx_acl.specs.Modes.{modes_text}
 use Rattle.mx_acl.specs.declared.modes.Modes.{Modes}
+use Rattle.mx_sdw.specs.Octal.{octal}
+use Rattle.mx_search.specs.Rules.{rules_of}
+use Rattle.mx_search.specs.declared.rules.Rule.{Rule}
 use Rattle.mx_request.specs.declared.requests.Request.{Request}
-use Rattle.mx_request.specs.declared.requests.Request.TheVariants.{CreateDir, CreateSeg, CreateLink, Rename, Delete, SetAcl, DelAcl, SetBrackets, SetDirBrackets, Status, List as ListNames, ChangeWdir, Initiate, Logout}
+use Rattle.mx_request.specs.declared.requests.Request.TheVariants.{CreateDir, CreateSeg, CreateLink, Rename, Delete, SetAcl, DelAcl, SetBrackets, SetDirBrackets, Status, List as ListNames, ChangeWdir, SetRules, Initiate, Terminate, Logout}
 use Rattle.mx_request.specs.declared.reading.kinds.Kind.{Kind}
-use Rattle.mx_request.specs.declared.reading.kinds.Kind.TheVariants.{CreateDir as OfCreateDir, CreateSeg as OfCreateSeg, CreateLink as OfCreateLink, Rename as OfRename, Delete as OfDelete, SetAcl as OfSetAcl, DelAcl as OfDelAcl, SetBrackets as OfSetBrackets, SetDirBrackets as OfSetDirBrackets, Status as OfStatus, List as OfList, ChangeWdir as OfChangeWdir, Initiate as OfInitiate}
+use Rattle.mx_request.specs.declared.reading.kinds.Kind.TheVariants.{CreateDir as OfCreateDir, CreateSeg as OfCreateSeg, CreateLink as OfCreateLink, Rename as OfRename, Delete as OfDelete, SetAcl as OfSetAcl, DelAcl as OfDelAcl, SetBrackets as OfSetBrackets, SetDirBrackets as OfSetDirBrackets, Status as OfStatus, List as OfList, ChangeWdir as OfChangeWdir, SetRules as OfSetRules, Initiate as OfInitiate, Terminate as OfTerminate}
 use Rattle.mx_request.specs.Fields.{line_of, ring_text}
 use Rattle.mx_request.specs.Kinds.{kind_word}
-use Rattle.mx_request.specs.Reading.{create_dir_at, create_seg_at, create_link_at, rename_at, set_acl_at, del_acl_at, set_brackets_at, set_dir_brackets_at, fields_at, request_at}
-use Rattle.mx_request.specs.RequestTexts.{request_text, is_pathname, is_name, is_identifier, is_ring, are_brackets, fits_request}
+use Rattle.mx_request.specs.Reading.{create_dir_at, create_seg_at, create_link_at, rename_at, set_acl_at, del_acl_at, set_brackets_at, set_dir_brackets_at, set_rules_at, initiate_at, terminate_at, fields_at, request_at}
+use Rattle.mx_request.specs.RequestTexts.{request_text, rule_text, name_fields, is_pathname, is_name, is_name_or_none, is_identifier, is_ring, is_rule, are_brackets, are_rules, fits_request}
 use Rattle.mx_request.proofs.StepLaws.{both, some_is}
 use Rattle.mx_name.proofs.CutLaws.{cut_again}
-use Rattle.mx_request.proofs.FieldLaws.{words_again, words_free, ring_again, ring_free, brackets_again, brackets_behind}
+use Rattle.mx_request.proofs.FieldLaws.{words_again, words_free, ring_again, ring_free, brackets_again, brackets_behind, segno_again}
+use Rattle.mx_request.proofs.RuleLaws.{cut_none, rules_again, rules_behind}
 use Rattle.mx_request.proofs.KindLaws.{kind_again, kind_bytes, kind_not_logout}
 use Rattle.mx_request.proofs.TakenLaws.{faultless, path_again, path_free, id_again, id_free, request_takes}
 
@@ -109,6 +115,28 @@ set_dir_brackets_again path d1 d2 e =
       path_again path f.0,
     ) refl
 
+set_rules_again : (rules : List Rule) → fits_request (SetRules rules) ≡ true → request_at (request_text (SetRules rules)) ≡ Some (SetRules rules)
+set_rules_again rules e =
+    let f = both (nat_le 1 (length rules)) (nat_le (length rules) 16 && list_all is_rule rules) e in
+    let g = both (nat_le (length rules) 16) (list_all is_rule rules) f.1 in
+    let some : 1 ≤ length rules = at_most 1 (length rules) f.0 in
+    ap request_at (rules_behind (codes "set_rules") rules some)
+    ∙ by_kind OfSetRules (line_of (map rule_text rules))
+    ∙ rw (rules_again 16 rules some (at_most (length rules) 16 g.0) g.1, f.0, g.0) refl
+  where
+    at_most : (a b : ℕ) → nat_le a b ≡ true → a ≤ b
+    at_most a b e = grind (arith, nat_tests)
+
+initiate_again : (path : List ℕ) (name : Option (List ℕ)) → fits_request (Initiate path name) ≡ true
+    → request_at (request_text (Initiate path name)) ≡ Some (Initiate path name)
+initiate_again path None e =
+    let f = both (is_pathname path) true e in
+    by_kind OfInitiate path ∙ rw (cut_none 32 path (path_free path f.0), path_again path f.0) refl
+initiate_again path (Some name) e =
+    let f = both (is_pathname path) (is_name name) e in
+    by_kind OfInitiate (path ++ 32 ∷ name)
+    ∙ rw (cut_again 32 path name (path_free path f.0), name_again name (faultless (name_fault name) f.1), path_again path f.0) refl
+
 logout_again : request_at (codes "logout") ≡ Some Logout
 unfolding request_at
 logout_again = refl
@@ -127,7 +155,9 @@ request_again (SetDirBrackets path d1 d2) e = by_kind OfSetDirBrackets _ ∙ set
 request_again (Status path) e = by_kind OfStatus path ∙ rw (path_again path e) refl
 request_again (ListNames path) e = by_kind OfList path ∙ rw (path_again path e) refl
 request_again (ChangeWdir path) e = by_kind OfChangeWdir path ∙ rw (path_again path e) refl
-request_again (Initiate path) e = by_kind OfInitiate path ∙ rw (path_again path e) refl
+request_again (SetRules rules) e = set_rules_again rules e
+request_again (Initiate path name) e = initiate_again path name e
+request_again (Terminate segno) e = by_kind OfTerminate (octal segno) ∙ rw (segno_again segno e) refl
 request_again Logout e = logout_again
 
 -- two requests that fit and have one line are the same

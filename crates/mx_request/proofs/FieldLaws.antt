@@ -7,13 +7,14 @@ use Rattle.std.specs.Fmt.{decimal}
 use Rattle.std.specs.List.{list_all}
 use Rattle.mx_name.proofs.TextLaws.{all_free}
 use Rattle.mx_name.specs.Names.{is_free}
-use Rattle.mx_sdw.specs.Octal.{begins_number, is_octal_digit}
+use Rattle.mx_sdw.proofs.OctalLaws.{octal_has_digits, octal_number_takes, octal_number_below, octal_number_fits}
+use Rattle.mx_sdw.specs.Octal.{begins_number, is_octal_digit, octal, octal_number}
 use Rattle.mx_request.proofs.StepLaws.{both, some_is, bind_some, when_some}
 use Rattle.mx_name.proofs.CutLaws.{cut_takes, cut_again}
 use Rattle.mx_name.specs.Cuts.{cut_at}
 use Rattle.mx_request.specs.Fields.{line_of, ring_text}
 use Rattle.mx_request.specs.Reading.{is_digit, decimal_after, decimal_number, ring_at, brackets_at}
-use Rattle.mx_request.specs.RequestTexts.{is_ring, are_brackets}
+use Rattle.mx_request.specs.RequestTexts.{is_ring, is_segno, are_brackets}
 
 -- decimal numbers
 digit_range : (c : ℕ) → is_digit c ≡ true → (48 ≤ c) × (c ≤ 57)
@@ -115,6 +116,21 @@ ring_free byte r other e = all_free is_digit byte (ring_text r) other (rw (digit
   where
     digit : (r : ℕ) → nat_le r 7 ≡ true → is_digit (48 + r) ≡ true
     digit r e = grind (arith, nat_tests)
+
+-- segment numbers
+pub segno_takes : (text : List ℕ) (n : ℕ) → octal_number 4 text ≡ Some n → (octal n ≡ text) × (is_segno n ≡ true)
+segno_takes text n e =
+    let below : n < 8 ^ 4 = octal_number_below 4 text n e in
+    (sym (octal_number_takes 4 text n e).0, at_most_test n 4095 (omega arith))
+
+pub segno_again : (n : ℕ) → is_segno n ≡ true → octal_number 4 (octal n) ≡ Some n
+segno_again n e = let below : n ≤ 4095 = at_most n 4095 e in octal_number_fits 4 n (omega arith) (omega arith)
+
+pub segno_free : (byte n : ℕ) → is_digit byte ≡ false → is_free byte (octal n) ≡ true
+segno_free byte n other = all_free is_octal_digit byte (octal n) (no_octal byte other) (octal_has_digits n)
+  where
+    no_octal : (c : ℕ) → is_digit c ≡ false → is_octal_digit c ≡ false
+    no_octal c e = grind (arith, nat_tests)
 
 -- three rings
 pub record IsBrackets (text rings : List ℕ) : Type 0 where

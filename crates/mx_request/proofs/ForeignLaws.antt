@@ -1,5 +1,5 @@
 -- Laws of bytes that no line has, such as the newline.
-use Rattle.std.proofs.Common.{◌≡◌, ℕ, ◌==◌, nat_le, nat_eq, ltb, true, false, ◌&&◌, List, [], ◌∷◌, ◌++◌, map, length, codes, refl, ◌∙◌}
+use Rattle.std.proofs.Common.{◌≡◌, ℕ, ◌==◌, nat_le, nat_eq, ltb, true, false, ◌&&◌, List, [], ◌∷◌, ◌++◌, map, length, Option, Some, None, codes, refl, ◌∙◌}
 use Rattle.std.proofs.lemmas.List.Folds.{list_all-append}
 use Rattle.std.specs.List.{list_all}
 use Rattle.mx_name.proofs.TextLaws.{all_free, name_is_free, pathname_is_free, acl_id_is_free}
@@ -8,16 +8,18 @@ use Rattle.mx_name.specs.Names.{is_free, is_name_byte, name_fault}
 use Rattle.mx_name.specs.Pathnames.{pathname_fault, is_pathname_byte}
 use Rattle.mx_name.specs.Principals.{is_principal_byte}
 use Rattle.mx_acl.proofs.ModesLaws.{modes_is_free}
+use Rattle.mx_search.specs.declared.rules.Rule.{Rule}
 use Rattle.mx_request.specs.declared.requests.Request.{Request}
-use Rattle.mx_request.specs.declared.requests.Request.TheVariants.{CreateDir, CreateSeg, CreateLink, Rename, Delete, SetAcl, DelAcl, SetBrackets, SetDirBrackets, Status, List as ListNames, ChangeWdir, Initiate, Logout}
+use Rattle.mx_request.specs.declared.requests.Request.TheVariants.{CreateDir, CreateSeg, CreateLink, Rename, Delete, SetAcl, DelAcl, SetBrackets, SetDirBrackets, Status, List as ListNames, ChangeWdir, SetRules, Initiate, Terminate, Logout}
 use Rattle.mx_request.specs.declared.reading.kinds.Kind.{Kind}
-use Rattle.mx_request.specs.declared.reading.kinds.Kind.TheVariants.{CreateDir as OfCreateDir, CreateSeg as OfCreateSeg, CreateLink as OfCreateLink, Rename as OfRename, Delete as OfDelete, SetAcl as OfSetAcl, DelAcl as OfDelAcl, SetBrackets as OfSetBrackets, SetDirBrackets as OfSetDirBrackets, Status as OfStatus, List as OfList, ChangeWdir as OfChangeWdir, Initiate as OfInitiate}
+use Rattle.mx_request.specs.declared.reading.kinds.Kind.TheVariants.{CreateDir as OfCreateDir, CreateSeg as OfCreateSeg, CreateLink as OfCreateLink, Rename as OfRename, Delete as OfDelete, SetAcl as OfSetAcl, DelAcl as OfDelAcl, SetBrackets as OfSetBrackets, SetDirBrackets as OfSetDirBrackets, Status as OfStatus, List as OfList, ChangeWdir as OfChangeWdir, SetRules as OfSetRules, Initiate as OfInitiate, Terminate as OfTerminate}
 use Rattle.mx_request.specs.Fields.{line_of, ring_text}
 use Rattle.mx_request.specs.Kinds.{kind_word}
 use Rattle.mx_request.specs.Reading.{is_digit}
-use Rattle.mx_request.specs.RequestTexts.{request_text, request_fields, is_pathname, is_name, is_identifier, is_ring, are_brackets, fits_request}
+use Rattle.mx_request.specs.RequestTexts.{request_text, request_fields, rule_text, name_fields, is_pathname, is_name, is_name_or_none, is_identifier, is_ring, is_rule, are_brackets, fits_request}
 use Rattle.mx_request.proofs.StepLaws.{both, both_hold}
-use Rattle.mx_request.proofs.FieldLaws.{words_free, ring_free}
+use Rattle.mx_request.proofs.FieldLaws.{words_free, ring_free, segno_free}
+use Rattle.mx_request.proofs.RuleLaws.{rule_free}
 use Rattle.mx_request.proofs.KindLaws.{kind_bytes}
 use Rattle.mx_request.proofs.TakenLaws.{faultless}
 
@@ -61,6 +63,16 @@ word_free byte foreign kind = all_free is_name_byte byte (kind_word kind) foreig
 id_fields : (byte : ℕ) → IsForeign byte → (id : PlainAclId) → is_identifier id ≡ true → is_free byte (acl_id_text id) ≡ true
 id_fields byte foreign id e = acl_id_is_free byte id foreign.no_component foreign.no_dot foreign.no_star (faultless (id_fault id) e)
 
+rules_free : (byte : ℕ) → IsForeign byte → (rules : List Rule) → list_all is_rule rules ≡ true → list_all (is_free byte) (map rule_text rules) ≡ true
+rules_free byte foreign [] e = refl
+rules_free byte foreign (rule ∷ rules) e =
+    let f = both (is_rule rule) (list_all is_rule rules) e in
+    both_hold _ _ (rule_free byte rule foreign.no_name foreign.no_pathname f.0) (rules_free byte foreign rules f.1)
+
+name_free : (byte : ℕ) → IsForeign byte → (name : Option (List ℕ)) → is_name_or_none name ≡ true → list_all (is_free byte) (name_fields name) ≡ true
+name_free byte foreign None e = refl
+name_free byte foreign (Some name) e = both_hold _ _ (name_is_free byte name foreign.no_name (faultless (name_fault name) e)) refl
+
 fields_free : (byte : ℕ) → IsForeign byte → (request : Request) → fits_request request ≡ true → list_all (is_free byte) (request_fields request) ≡ true
 fields_free byte foreign (CreateDir path d1 d2) e =
     let f = both (is_pathname path) (is_ring d1 && is_ring d2) e in
@@ -101,7 +113,15 @@ fields_free byte foreign (SetDirBrackets path d1 d2) e =
 fields_free byte foreign (Status path) e = both_hold _ _ (word_free byte foreign OfStatus) (both_hold _ _ (path_fields byte foreign path e) refl)
 fields_free byte foreign (ListNames path) e = both_hold _ _ (word_free byte foreign OfList) (both_hold _ _ (path_fields byte foreign path e) refl)
 fields_free byte foreign (ChangeWdir path) e = both_hold _ _ (word_free byte foreign OfChangeWdir) (both_hold _ _ (path_fields byte foreign path e) refl)
-fields_free byte foreign (Initiate path) e = both_hold _ _ (word_free byte foreign OfInitiate) (both_hold _ _ (path_fields byte foreign path e) refl)
+fields_free byte foreign (SetRules rules) e =
+    let f = both (nat_le 1 (length rules)) (nat_le (length rules) 16 && list_all is_rule rules) e in
+    let g = both (nat_le (length rules) 16) (list_all is_rule rules) f.1 in
+    both_hold _ _ (word_free byte foreign OfSetRules) (rules_free byte foreign rules g.1)
+fields_free byte foreign (Initiate path name) e =
+    let f = both (is_pathname path) (is_name_or_none name) e in
+    both_hold _ _ (word_free byte foreign OfInitiate) (both_hold _ _ (path_fields byte foreign path f.0) (name_free byte foreign name f.1))
+fields_free byte foreign (Terminate segno) e =
+    both_hold _ _ (word_free byte foreign OfTerminate) (both_hold _ _ (segno_free byte segno foreign.no_digit) refl)
 fields_free byte foreign Logout e = both_hold _ _ (all_free is_name_byte byte (codes "logout") foreign.no_name refl) refl
 
 pub request_free : (byte : ℕ) → IsForeign byte → (request : Request) → fits_request request ≡ true → is_free byte (request_text request) ≡ true

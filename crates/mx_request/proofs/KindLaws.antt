@@ -4,7 +4,7 @@ use Rattle.std.specs.List.{find, list_all}
 use Rattle.std.specs.Cmp.Lexicographic.{pointwise, same_text}
 use Rattle.mx_name.specs.Names.{is_name_byte}
 use Rattle.mx_request.specs.declared.reading.kinds.Kind.{Kind}
-use Rattle.mx_request.specs.declared.reading.kinds.Kind.TheVariants.{CreateDir, CreateSeg, CreateLink, Rename, Delete, SetAcl, DelAcl, SetBrackets, SetDirBrackets, Status, List as ListNames, ChangeWdir, Initiate}
+use Rattle.mx_request.specs.declared.reading.kinds.Kind.TheVariants.{CreateDir, CreateSeg, CreateLink, Rename, Delete, SetAcl, DelAcl, SetBrackets, SetDirBrackets, Status, List as ListNames, ChangeWdir, SetRules, Initiate, Terminate}
 use Rattle.mx_request.specs.Kinds.{kind_of, kind_word, all_kinds}
 use Rattle.mx_request.proofs.StepLaws.{some_is}
 
@@ -33,7 +33,9 @@ kind_again SetDirBrackets = refl
 kind_again Status = refl
 kind_again ListNames = refl
 kind_again ChangeWdir = refl
+kind_again SetRules = refl
 kind_again Initiate = refl
+kind_again Terminate = refl
 
 pub kind_bytes : (kind : Kind) → list_all is_name_byte (kind_word kind) ≡ true
 kind_bytes CreateDir = refl
@@ -48,7 +50,9 @@ kind_bytes SetDirBrackets = refl
 kind_bytes Status = refl
 kind_bytes ListNames = refl
 kind_bytes ChangeWdir = refl
+kind_bytes SetRules = refl
 kind_bytes Initiate = refl
+kind_bytes Terminate = refl
 
 pub kind_not_logout : (kind : Kind) (text : List ℕ) → pointwise ◌==◌ (kind_word kind ++ 32 ∷ text) (codes "logout") ≡ false
 kind_not_logout CreateDir text = refl
@@ -63,4 +67,6 @@ kind_not_logout SetDirBrackets text = refl
 kind_not_logout Status text = refl
 kind_not_logout ListNames text = refl
 kind_not_logout ChangeWdir text = refl
+kind_not_logout SetRules text = refl
 kind_not_logout Initiate text = refl
+kind_not_logout Terminate text = refl

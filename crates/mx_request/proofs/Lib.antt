@@ -1,5 +1,6 @@
 pub mod StepLaws
 pub mod FieldLaws
+pub mod RuleLaws
 pub mod KindLaws
 pub mod ClassLaws
 pub mod TakenLaws

@@ -1,25 +1,31 @@
 -- Laws of lines: what a line is read as spells that line.
-use Rattle.std.proofs.Common.{◌≡◌, ℕ, ◌==◌, Bool, true, false, cond, List, ◌∷◌, ◌++◌, map, Option, Some, None, is_none, codes, refl, ap, sym, ◌∙◌, subst}
+use Rattle.std.proofs.Common.{◌≡◌, ℕ, ◌<◌, ◌^◌, nat_le, length, arith, ◌==◌, ◌&&◌, Bool, true, false, cond, List, ◌∷◌, ◌++◌, map, Option, Some, None, is_none, codes, refl, ap, sym, ◌∙◌, subst}
 use Rattle.std.specs.Fmt.{decimal}
+use Rattle.std.specs.List.{list_all}
 use Rattle.std.specs.Cmp.Lexicographic.{pointwise, same_text}
 use Rattle.mx_name.proofs.TextLaws.{name_takes, pathname_takes, pathname_again, pathname_is_free, acl_id_takes, acl_id_again, acl_id_is_free}
 use Rattle.mx_name.specs.Identifiers.{PlainAclId, acl_id_of, acl_id_text, id_fault}
 use Rattle.mx_name.specs.Names.{is_free, name_fault, name_of}
 use Rattle.mx_name.specs.Pathnames.{pathname_fault, pathname_of}
+use Rattle.mx_sdw.proofs.OctalLaws.{octal_number_takes, octal_number_below}
+use Rattle.mx_sdw.specs.Octal.{octal, octal_number}
 use Rattle.mx_acl.proofs.ModesLaws.{modes_takes}
 use Rattle.mx_acl.specs.Modes.{modes_text, modes_of_text}
+use Rattle.mx_search.specs.Rules.{rules_of}
+use Rattle.mx_search.specs.declared.rules.Rule.{Rule}
 use Rattle.mx_request.specs.declared.requests.Request.{Request}
-use Rattle.mx_request.specs.declared.requests.Request.TheVariants.{Delete, Status, List as ListNames, ChangeWdir, Initiate, Logout}
+use Rattle.mx_request.specs.declared.requests.Request.TheVariants.{Delete, Status, List as ListNames, ChangeWdir, SetRules, Initiate, Terminate, Logout}
 use Rattle.mx_request.specs.declared.reading.kinds.Kind.{Kind}
-use Rattle.mx_request.specs.declared.reading.kinds.Kind.TheVariants.{CreateDir as OfCreateDir, CreateSeg as OfCreateSeg, CreateLink as OfCreateLink, Rename as OfRename, Delete as OfDelete, SetAcl as OfSetAcl, DelAcl as OfDelAcl, SetBrackets as OfSetBrackets, SetDirBrackets as OfSetDirBrackets, Status as OfStatus, List as OfList, ChangeWdir as OfChangeWdir, Initiate as OfInitiate}
+use Rattle.mx_request.specs.declared.reading.kinds.Kind.TheVariants.{CreateDir as OfCreateDir, CreateSeg as OfCreateSeg, CreateLink as OfCreateLink, Rename as OfRename, Delete as OfDelete, SetAcl as OfSetAcl, DelAcl as OfDelAcl, SetBrackets as OfSetBrackets, SetDirBrackets as OfSetDirBrackets, Status as OfStatus, List as OfList, ChangeWdir as OfChangeWdir, SetRules as OfSetRules, Initiate as OfInitiate, Terminate as OfTerminate}
 use Rattle.mx_name.specs.Cuts.{cut_at}
 use Rattle.mx_request.specs.Fields.{line_of, ring_text}
 use Rattle.mx_request.specs.Kinds.{kind_of, kind_word}
-use Rattle.mx_request.specs.Reading.{decimal_number, ring_at, brackets_at, create_dir_at, create_seg_at, create_link_at, rename_at, delete_at, set_acl_at, del_acl_at, set_brackets_at, set_dir_brackets_at, status_at, list_at, change_wdir_at, initiate_at, fields_at, worded_at, request_at}
-use Rattle.mx_request.specs.RequestTexts.{request_text, is_pathname, is_identifier, fits_request}
-use Rattle.mx_request.proofs.StepLaws.{both_hold, some_is, bind_some}
+use Rattle.mx_request.specs.Reading.{decimal_number, ring_at, brackets_at, create_dir_at, create_seg_at, create_link_at, rename_at, delete_at, set_acl_at, del_acl_at, set_brackets_at, set_dir_brackets_at, status_at, list_at, change_wdir_at, rules_at, set_rules_at, initiate_by, initiate_at, terminate_at, fields_at, worded_at, request_at}
+use Rattle.mx_request.specs.RequestTexts.{request_text, rule_text, is_pathname, is_identifier, is_rule, is_segno, are_rules, fits_request}
+use Rattle.mx_request.proofs.StepLaws.{both, both_hold, some_is, bind_some, when_some}
 use Rattle.mx_name.proofs.CutLaws.{cut_takes}
-use Rattle.mx_request.proofs.FieldLaws.{words_takes, ring_takes, brackets_takes}
+use Rattle.mx_request.proofs.FieldLaws.{words_takes, ring_takes, brackets_takes, segno_takes}
+use Rattle.mx_request.proofs.RuleLaws.{AreText, rules_take}
 use Rattle.mx_request.proofs.KindLaws.{kind_takes}
 
 -- a line spells a request that fits
@@ -207,8 +213,52 @@ list_takes text request e = alone_takes (codes "list") ListNames (λ path. refl)
 change_wdir_takes : (text : List ℕ) (request : Request) → change_wdir_at text ≡ Some request → IsLine (codes "change_wdir" ++ 32 ∷ text) request
 change_wdir_takes text request e = alone_takes (codes "change_wdir") ChangeWdir (λ path. refl) (λ path. refl) text request (bind_some (pathname_of text) _ request e)
 
+set_rules_takes : (text : List ℕ) (request : Request) → set_rules_at text ≡ Some request → IsLine (codes "set_rules" ++ 32 ∷ text) request
+set_rules_takes text request e =
+    let given = bind_some (rules_at 16 text) _ request e in
+    let made = bind_some (rules_of given.0) _ request given.2 in
+    let count = when_some (nat_le 1 (length given.0) && nat_le (length given.0) 16) given.0 made.0 made.1 in
+    let are = rules_take 16 text given.0 given.1 in
+    subst (IsLine (codes "set_rules" ++ 32 ∷ text)) (ap SetRules count.1 ∙ some_is _ _ made.2) (line given.0 are count.0)
+  where
+    line : (rules : List Rule) → AreText text rules → nat_le 1 (length rules) && nat_le (length rules) 16 ≡ true
+        → IsLine (codes "set_rules" ++ 32 ∷ text) (SetRules rules)
+    line rules are count =
+        let f = both (nat_le 1 (length rules)) (nat_le (length rules) 16) count in
+        record {
+          spelled = are.behind (codes "set_rules") ∙ ap (λ xs. codes "set_rules" ++ 32 ∷ xs) are.spelled;
+          fits = both_hold (nat_le 1 (length rules)) (nat_le (length rules) 16 && list_all is_rule rules) f.0
+              (both_hold (nat_le (length rules) 16) (list_all is_rule rules) f.1 are.fit);
+        }
+
 initiate_takes : (text : List ℕ) (request : Request) → initiate_at text ≡ Some request → IsLine (codes "initiate" ++ 32 ∷ text) request
-initiate_takes text request e = alone_takes (codes "initiate") Initiate (λ path. refl) (λ path. refl) text request (bind_some (pathname_of text) _ request e)
+initiate_takes text request e = by_cut (cut_at 32 text) refl e
+  where
+    by_cut : (o : Option (List ℕ × List ℕ)) → cut_at 32 text ≡ o → initiate_by text o ≡ Some request → IsLine (codes "initiate" ++ 32 ∷ text) request
+    by_cut None c e =
+        alone_takes (codes "initiate") (λ path. Initiate path None) (λ path. refl) (λ path. and_true (is_pathname path)) text request
+        (bind_some (pathname_of text) _ request e)
+      where
+        and_true : (b : Bool) → b && true ≡ b
+        and_true true = refl
+        and_true false = refl
+    by_cut (Some p) c e =
+        let name = bind_some (name_of p.1) _ request e in
+        let path = bind_some (pathname_of p.0) _ request name.2 in
+        let a = path_takes p.0 path.0 path.1 in
+        let b = name_takes p.1 name.0 name.1 in
+        subst (IsLine (codes "initiate" ++ 32 ∷ text)) (some_is _ _ path.2)
+        (record {
+          spelled = two_parts (codes "initiate") path.0 name.0 text p.0 p.1 (cut_takes 32 text p c).0 a.0 b.0;
+          fits = both_hold _ _ a.1 (no_fault (name_fault name.0) b.1);
+        })
+
+terminate_takes : (text : List ℕ) (request : Request) → terminate_at text ≡ Some request → IsLine (codes "terminate" ++ 32 ∷ text) request
+terminate_takes text request e =
+    let segno = bind_some (octal_number 4 text) _ request e in
+    let a = segno_takes text segno.0 segno.1 in
+    subst (IsLine (codes "terminate" ++ 32 ∷ text)) (some_is _ _ segno.2)
+    (record { spelled = ap (λ xs. codes "terminate" ++ 32 ∷ xs) a.0; fits = a.1 })
 
 fields_takes : (kind : Kind) (text : List ℕ) (request : Request) → fields_at kind text ≡ Some request → IsLine (kind_word kind ++ 32 ∷ text) request
 fields_takes OfCreateDir text request e = create_dir_takes text request e
@@ -223,7 +273,9 @@ fields_takes OfSetDirBrackets text request e = set_dir_brackets_takes text reque
 fields_takes OfStatus text request e = status_takes text request e
 fields_takes OfList text request e = list_takes text request e
 fields_takes OfChangeWdir text request e = change_wdir_takes text request e
+fields_takes OfSetRules text request e = set_rules_takes text request e
 fields_takes OfInitiate text request e = initiate_takes text request e
+fields_takes OfTerminate text request e = terminate_takes text request e
 
 word_takes : (line : List ℕ) (request : Request) (p : List ℕ × List ℕ) → cut_at 32 line ≡ Some p
     → (kind : Kind) × (kind_of p.0 ≡ Some kind) × (fields_at kind p.1 ≡ Some request) → IsLine line request

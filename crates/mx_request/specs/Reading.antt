@@ -1,17 +1,22 @@
 -- Helpers that only private contracts cite: what a line is read as, by its first word, and the fields of each kind.
-use Rattle.std.specs.Prelude.{ℕ, ◌+◌, ◌-◌, ◌*◌, ◌==◌, nat_le, nat_lt, Bool, ◌&&◌, List, [], ◌∷◌, length, Option, None, Some, codes, if◌then◌else◌}
+use Rattle.std.specs.Prelude.{ℕ, zero, suc, ◌+◌, ◌-◌, ◌*◌, ◌==◌, nat_le, nat_lt, Bool, ◌&&◌, List, [], ◌∷◌, ◌++◌, length, Option, None, Some, codes, if◌then◌else◌}
 use Rattle.std.specs.List.{list_all}
 use Rattle.std.specs.Cmp.Lexicographic.{pointwise}
+use Rattle.std.specs.Result.{result_ok}
 use Rattle.mx_name.specs.Cuts.{cut_at}
 use Rattle.mx_name.specs.Names.{name_of}
-use Rattle.mx_name.specs.Pathnames.{pathname_of}
+use Rattle.mx_name.specs.Pathnames.{is_absolute, pathname_of}
+use Rattle.mx_name.specs.Paths.{resolution}
 use Rattle.mx_name.specs.Identifiers.{acl_id_of}
-use Rattle.mx_sdw.specs.Octal.{begins_number, is_octal_digit}
+use Rattle.mx_sdw.specs.Octal.{begins_number, is_octal_digit, octal_number}
 use Rattle.mx_acl.specs.Modes.{modes_of_text}
+use Rattle.mx_search.specs.Rules.{rules_of}
+use Rattle.mx_search.specs.declared.rules.Rule.{Rule}
+use Rattle.mx_search.specs.declared.rules.Rule.TheVariants.{InitiatedSegments, ReferencingDir, WorkingDir, Directory}
 use Rattle.mx_request.specs.declared.requests.Request.{Request}
-use Rattle.mx_request.specs.declared.requests.Request.TheVariants.{CreateDir, CreateSeg, CreateLink, Rename, Delete, SetAcl, DelAcl, SetBrackets, SetDirBrackets, Status, List as ListNames, ChangeWdir, Initiate, Logout}
+use Rattle.mx_request.specs.declared.requests.Request.TheVariants.{CreateDir, CreateSeg, CreateLink, Rename, Delete, SetAcl, DelAcl, SetBrackets, SetDirBrackets, Status, List as ListNames, ChangeWdir, SetRules, Initiate, Terminate, Logout}
 use Rattle.mx_request.specs.declared.reading.kinds.Kind.{Kind}
-use Rattle.mx_request.specs.declared.reading.kinds.Kind.TheVariants.{CreateDir as OfCreateDir, CreateSeg as OfCreateSeg, CreateLink as OfCreateLink, Rename as OfRename, Delete as OfDelete, SetAcl as OfSetAcl, DelAcl as OfDelAcl, SetBrackets as OfSetBrackets, SetDirBrackets as OfSetDirBrackets, Status as OfStatus, List as OfList, ChangeWdir as OfChangeWdir, Initiate as OfInitiate}
+use Rattle.mx_request.specs.declared.reading.kinds.Kind.TheVariants.{CreateDir as OfCreateDir, CreateSeg as OfCreateSeg, CreateLink as OfCreateLink, Rename as OfRename, Delete as OfDelete, SetAcl as OfSetAcl, DelAcl as OfDelAcl, SetBrackets as OfSetBrackets, SetDirBrackets as OfSetDirBrackets, Status as OfStatus, List as OfList, ChangeWdir as OfChangeWdir, SetRules as OfSetRules, Initiate as OfInitiate, Terminate as OfTerminate}
 use Rattle.mx_request.specs.Kinds.{kind_of}
 use Rattle.mx_request.specs.Steps.{◌>>=◌, when}
 
@@ -119,8 +124,48 @@ list_at text = pathname_of text >>= λ path. Some (ListNames path)
 abbrev pub change_wdir_at : List ℕ → Option Request
 change_wdir_at text = pathname_of text >>= λ path. Some (ChangeWdir path)
 
+-- an absolute pathname, as its path
+abbrev pub directory_at : List ℕ → Option Rule
+directory_at text =
+    when (is_absolute text) text >>= λ text.
+    pathname_of text >>= λ pathname.
+    result_ok (resolution [] pathname) >>= λ path.
+    Some (Directory path)
+
+abbrev pub rule_at : List ℕ → Option Rule
+rule_at text =
+    if pointwise ◌==◌ text (codes "initiated_segments") then Some InitiatedSegments
+    else (if pointwise ◌==◌ text (codes "referencing_dir") then Some ReferencingDir
+    else (if pointwise ◌==◌ text (codes "working_dir") then Some WorkingDir
+    else directory_at text))
+
+-- rules, with a blank between each two, and at most so many
+abbrev pub rules_by : List ℕ → Option (List ℕ × List ℕ) → (List ℕ → Option (List Rule)) → Option (List Rule)
+rules_by text None more = rule_at text >>= λ rule. Some (rule ∷ [])
+rules_by text (Some p) more = rule_at p.0 >>= λ rule. more p.1 >>= λ rules. Some (rule ∷ rules)
+
+unfoldable pub rules_at : ℕ → List ℕ → Option (List Rule)
+rules_at zero text = None
+rules_at (suc left) text = rules_by text (cut_at 32 text) (rules_at left)
+
+-- these rules, and then those
+abbrev pub rules_after : List Rule → Option (List Rule) → Option (List Rule)
+rules_after first more = more >>= λ rules. Some (first ++ rules)
+
+abbrev pub set_rules_at : List ℕ → Option Request
+set_rules_at text = rules_at 16 text >>= λ rules. rules_of rules >>= λ rules. Some (SetRules rules)
+
+-- with a name behind the pathname, or without
+abbrev pub initiate_by : List ℕ → Option (List ℕ × List ℕ) → Option Request
+initiate_by text None = pathname_of text >>= λ path. Some (Initiate path None)
+initiate_by text (Some p) =
+    name_of p.1 >>= λ name. pathname_of p.0 >>= λ path. Some (Initiate path (Some name))
+
 abbrev pub initiate_at : List ℕ → Option Request
-initiate_at text = pathname_of text >>= λ path. Some (Initiate path)
+initiate_at text = initiate_by text (cut_at 32 text)
+
+abbrev pub terminate_at : List ℕ → Option Request
+terminate_at text = octal_number 4 text >>= λ segno. Some (Terminate segno)
 
 -- the fields of a line of each kind
 abbrev pub fields_at : Kind → List ℕ → Option Request
@@ -136,7 +181,9 @@ fields_at OfSetDirBrackets text = set_dir_brackets_at text
 fields_at OfStatus text = status_at text
 fields_at OfList text = list_at text
 fields_at OfChangeWdir text = change_wdir_at text
+fields_at OfSetRules text = set_rules_at text
 fields_at OfInitiate text = initiate_at text
+fields_at OfTerminate text = terminate_at text
 
 -- a line with a word and fields
 abbrev pub worded_at : List ℕ → Option Request

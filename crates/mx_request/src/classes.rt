@@ -35,7 +35,9 @@ impl Request {
             Request::Status { .. } => RequestClass::OfPath,
             Request::List { .. } => RequestClass::OfPath,
             Request::ChangeWdir { .. } => RequestClass::OfProcess,
+            Request::SetRules { .. } => RequestClass::OfProcess,
             Request::Initiate { .. } => RequestClass::OfProcess,
+            Request::Terminate { .. } => RequestClass::OfProcess,
             Request::Logout => RequestClass::OfProcess,
         }
     }

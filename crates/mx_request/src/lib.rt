@@ -2,7 +2,7 @@
 //!
 //! A request is written as its line in a session's script, and so it stands in the journal. [`Request::read`] gives the
 //! request that a line spells, and `append_to` the line; each is the other's inverse. A reply has one text. Stands on
-//! names, access lists and the hierarchy's replies.
+//! names, access lists, search rules, and the replies of the hierarchy and of known segment tables.
 #![tactic(auto)]
 
 mod classes;
@@ -14,7 +14,8 @@ mod writing;
 
 pub use classes::RequestClass;
 pub use laws::{each_request_has_its_own_line, the_first_word_tells_who_asks};
-pub use replies::{Known, Reply};
+pub use mx_kst::Known;
+pub use replies::Reply;
 pub use requests::{Request, Requests};
 
 #[cfg(test)]
@@ -61,6 +62,11 @@ list >";
 
     const PROCESS_REQUESTS: &[u8] = b"change_wdir >udd
 initiate math(2)
+initiate >a math
+set_rules initiated_segments
+set_rules >a working_dir > referencing_dir >a>b
+terminate 0
+terminate 7777
 logout";
 
     #[test]
@@ -105,6 +111,24 @@ set_acl >a *.*.* rs
 set_acl >a *.*.*\x20
 set_acl >a *.* r
 logout\x20
+set_rules
+set_rules\x20
+set_rules working_dir\x20
+set_rules working_dir  >
+set_rules a
+set_rules <
+set_rules >a>
+set_rules > > > > > > > > > > > > > > > > >
+initiate
+initiate >a\x20
+initiate >a b c
+initiate >a >b
+initiate >a a_name_of_more_than_32_characters
+terminate
+terminate 08
+terminate 00
+terminate 10000
+terminate 10 11
 end";
 
     #[test]
@@ -130,6 +154,7 @@ end";
             (Reply::Done, b"ok".as_slice()),
             (Reply::Refused(Refusal::NoEntry), b"refused 2 noentry"),
             (known(8, true), b"segno 10 new"),
+            (linked(8, 9), b"segno 10 new linkage 11"),
             (known(0o177, false), b"segno 177 old"),
         ] {
             assert!(rt; is_text(alloc, &reply, text)?);
@@ -161,7 +186,19 @@ end";
     }
 
     fn known(segno: u16, fresh: bool) -> Reply {
-        Reply::Segno(Known { segno, fresh })
+        Reply::Segno(Known {
+            segno,
+            fresh,
+            linkage: None,
+        })
+    }
+
+    fn linked(segno: u16, linkage: u16) -> Reply {
+        Reply::Segno(Known {
+            segno,
+            fresh: true,
+            linkage: Some(linkage),
+        })
     }
 
     fn segment() -> Result<Reply, Fail> {

@@ -1,16 +1,21 @@
 //! What a line is read as.
 
-ghost use Rattle.std.specs.Prelude.{◌≡◌, IfOk};
-ghost use Rattle.mx_request.specs.Reading.{create_dir_at, create_seg_at, create_link_at, rename_at, delete_at, set_acl_at, del_acl_at, set_brackets_at, set_dir_brackets_at, status_at, list_at, change_wdir_at, initiate_at, fields_at, request_at};
+ghost use Rattle.std.specs.Prelude.{◌≡◌, None, IfOk};
+ghost use Rattle.mx_request.specs.Reading.{create_dir_at, create_seg_at, create_link_at, rename_at, delete_at, set_acl_at, del_acl_at, set_brackets_at, set_dir_brackets_at, status_at, list_at, change_wdir_at, set_rules_at, initiate_by, initiate_at, terminate_at, fields_at, request_at};
 
 mod fields;
 mod kinds;
+mod rules;
 
 use crate::requests::Request;
 use fields::{read_brackets, read_id, read_name, read_path, read_ring, read_words};
 use kinds::Kind;
 use mx_acl::Modes;
+use mx_list::Sequence;
 use mx_name::cut;
+use mx_sdw::read_octal_number;
+use mx_search::Rules;
+use rules::read_rules;
 use std::alloc::{AllocError, Global};
 
 #[tactic(auto, unfolding(crate::specs::Reading::request_at))]
@@ -46,7 +51,9 @@ fn read_fields(alloc: Global, kind: Kind, fields: &[u8]) -> Result<Option<Reques
         Kind::Status => read_status(alloc, fields),
         Kind::List => read_list(alloc, fields),
         Kind::ChangeWdir => read_change_wdir(alloc, fields),
+        Kind::SetRules => read_set_rules(alloc, fields),
         Kind::Initiate => read_initiate(alloc, fields),
+        Kind::Terminate => Ok(read_terminate(fields)),
     }
 }
 
@@ -242,11 +249,54 @@ fn read_change_wdir(alloc: Global, path: &[u8]) -> Result<Option<Request>, Alloc
     Ok(Some(Request::ChangeWdir { path }))
 }
 
-fn read_initiate(alloc: Global, path: &[u8]) -> Result<Option<Request>, AllocError>
-    ensures { IfOk result (λ request. request ≡ initiate_at path.now) }
+/// `RULE ...`
+fn read_set_rules(alloc: Global, fields: &[u8]) -> Result<Option<Request>, AllocError>
+    ensures { IfOk result (λ request. request ≡ set_rules_at fields.now) }
+{
+    let Some(rules) = read_rules(alloc, fields)? else {
+        return Ok(None);
+    };
+    match Rules::new(Sequence::of(rules)) {
+        Some(rules) => Ok(Some(Request::SetRules { rules })),
+        None => Ok(None),
+    }
+}
+
+/// `PATH [NAME]`
+fn read_initiate(alloc: Global, fields: &[u8]) -> Result<Option<Request>, AllocError>
+    ensures { IfOk result (λ request. request ≡ initiate_at fields.now) }
+{
+    let Some((path, name)) = cut(b' ', fields) else {
+        return read_unnamed(alloc, fields);
+    };
+    let Some(name) = read_name(name) else {
+        return Ok(None);
+    };
+    let Some(path) = read_path(alloc, path)? else {
+        return Ok(None);
+    };
+    Ok(Some(Request::Initiate {
+        path,
+        name: Some(name),
+    }))
+}
+
+/// `PATH` alone
+fn read_unnamed(alloc: Global, path: &[u8]) -> Result<Option<Request>, AllocError>
+    ensures { IfOk result (λ request. request ≡ initiate_by path.now None) }
 {
     let Some(path) = read_path(alloc, path)? else {
         return Ok(None);
     };
-    Ok(Some(Request::Initiate { path }))
+    Ok(Some(Request::Initiate { path, name: None }))
+}
+
+/// `S`
+fn read_terminate(segno: &[u8]) -> Option<Request>
+    ensures { result ≡ terminate_at segno.now }
+{
+    let segno = read_octal_number(segno, 4)?;
+    Some(Request::Terminate {
+        segno: segno as u16,
+    })
 }

@@ -5,14 +5,8 @@ ghost use Rattle.mx_request.specs.ReplyTexts.{reply_text};
 
 use crate::writing::push_reply;
 use mx_hier::{Names, Refusal, Status};
+use mx_kst::Known;
 use std::alloc::AllocError;
-
-/// The segment number of an initiated segment, and whether this request made it known.
-#[derive(Clone, Copy, Debug, PartialEq, Eq)]
-pub struct Known {
-    pub segno: u16,
-    pub fresh: bool,
-}
 
 /// The reply to a request. `Done` is printed `ok`.
 #[derive(Debug, Drop, PartialEq, Eq)]

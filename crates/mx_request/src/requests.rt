@@ -9,6 +9,7 @@ use crate::writing::push_request;
 use mx_acl::Modes;
 use mx_list::Sequence;
 use mx_name::{AclId, EntryName, Pathname};
+use mx_search::Rules;
 use mx_sdw::Ring;
 use std::alloc::{AllocError, Global};
 
@@ -75,9 +76,19 @@ pub enum Request {
     ChangeWdir {
         path: Pathname,
     },
-    /// `initiate PATH`: make a segment known to the process.
+    /// `set_rules RULE ...`: make these the search rules of the process.
+    SetRules {
+        rules: Rules,
+    },
+    /// `initiate PATH [NAME]`: make a segment known to the process, with a reference name in its ring where one is
+    /// given.
     Initiate {
         path: Pathname,
+        name: Option<EntryName>,
+    },
+    /// `terminate S`: take a known segment's number and names away.
+    Terminate {
+        segno: u16,
     },
     /// `logout`: end the process.
     Logout,
@@ -88,7 +99,8 @@ pub type Requests = Sequence<Request>;
 
 impl Request {
     /// The request whose line this is, without its newline; `None` exactly where no request has this line. WORDS is
-    /// decimal with at most five digits, a ring one digit; the fields have exactly one blank between each two.
+    /// decimal with at most five digits, a ring one digit, a segment number octal up to 7777; there are 1 to 16 search
+    /// rules; the fields have exactly one blank between each two.
     pub fn read(alloc: Global, line: &[u8]) -> Result<Option<Request>, AllocError>
         ensures found { (request : RequestValue) → result ≡ Ok (Some request)
             → (request_text request ≡ line.now) × (fits_request request ≡ true) }
@@ -113,7 +125,7 @@ impl Request {
         }
     }
 
-    /// Another such request, which takes memory for its pathnames alone.
+    /// Another such request, which takes memory for its pathnames and search rules alone.
     pub fn copy(&self) -> Result<Request, AllocError>
         ensures { IfOk result (λ request. request ≡ self.now) }
     {
@@ -166,7 +178,14 @@ impl Request {
             Request::Status { path } => Ok(Request::Status { path: path.copy()? }),
             Request::List { path } => Ok(Request::List { path: path.copy()? }),
             Request::ChangeWdir { path } => Ok(Request::ChangeWdir { path: path.copy()? }),
-            Request::Initiate { path } => Ok(Request::Initiate { path: path.copy()? }),
+            Request::SetRules { rules } => Ok(Request::SetRules {
+                rules: rules.copy()?,
+            }),
+            Request::Initiate { path, name } => {
+                let path = path.copy()?;
+                Ok(Request::Initiate { path, name: *name })
+            }
+            Request::Terminate { segno } => Ok(Request::Terminate { segno: *segno }),
             Request::Logout => Ok(Request::Logout),
         }
     }

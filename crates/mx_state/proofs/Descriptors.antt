@@ -9,14 +9,16 @@ use Rattle.mx_sdw.specs.Admissible.{IsAdmissible}
 use Rattle.mx_sdw.specs.Descriptors.{Descriptor, unknown_desc}
 use Rattle.mx_hier.specs.Connected.{desc_for}
 use Rattle.mx_hier.specs.Branches.{Hierarchy}
+use Rattle.mx_kst.specs.declared.lots.Lot.{Lot}
+use Rattle.mx_kst.specs.declared.lots.Lot.TheVariants.{Free, Stack, Branch, Linkage}
 use Rattle.mx_state.specs.declared.states.ProcessState.{ProcessState}
 use Rattle.mx_state.specs.Changes.{change, AreChanges, IsBefore, IsBounded}
-use Rattle.mx_state.specs.Numbers.{Stands, Nothing, Stack, Branch, stands_for}
+use Rattle.mx_state.specs.Numbers.{stands_for}
 use Rattle.mx_state.specs.Plain.{Plain, process_at}
 use Rattle.mx_state.specs.Sound.{IsSound}
 use Rattle.mx_state.specs.Table.{descriptor, process_desc, standing_desc}
 use Rattle.mx_state.proofs.Lists.{Contains-one, nothing_contained, AllPairs-one, AllPairs-none}
-use Rattle.mx_state.proofs.NumberLaws.{nothing_beyond, place_of}
+use Rattle.mx_state.proofs.NumberLaws.{nothing_beyond, branch_at}
 use Rattle.mx_state.proofs.SegmentLaws.{IsAsBefore, Nothing as NoUid}
 
 pub process_at_place : (processes : List ProcessState) (p : ℕ) → 1 ≤ p → process_at processes p ≡ slice_get processes (p - 1)
@@ -41,7 +43,7 @@ is_there processes p process e = by_zero (cases_eq p 0)
 
 -- the descriptor of a process that is there
 pub descriptor_at : (s : Plain) (p n : ℕ) (process : ProcessState) → process_at s.processes p ≡ Some process
-    → descriptor s p n ≡ standing_desc s.hierarchy p process (stands_for process.known n)
+    → descriptor s p n ≡ standing_desc s.hierarchy p process (stands_for process.known.lots n)
 descriptor_at s p n process e = ap (λ o. process_desc s.hierarchy p o n) e
 
 pub unknown_beyond : (s : Plain) (p n : ℕ) → 127 < n → descriptor s p n ≡ unknown_desc
@@ -49,7 +51,7 @@ unknown_beyond s p n beyond = by_process (process_at s.processes p)
   where
     by_process : (o : Option ProcessState) → process_desc s.hierarchy p o n ≡ unknown_desc
     by_process None = refl
-    by_process (Some process) = ap (standing_desc s.hierarchy p process) (nothing_beyond process.known n beyond)
+    by_process (Some process) = ap (standing_desc s.hierarchy p process) (nothing_beyond process.known.lots n beyond)
 
 unknown_of_nobody : (s : Plain) (p n : ℕ) → process_at s.processes p ≡ None → descriptor s p n ≡ unknown_desc
 unknown_of_nobody s p n e = ap (λ o. process_desc s.hierarchy p o n) e
@@ -75,23 +77,23 @@ nothing_told s (c ∷ changes) are =
 
 -- the same processes, and another hierarchy in which the segments stand as before but some
 pub same_unless : (but : ℕ → Type 0) (s : Plain) (h : Hierarchy) (p n : ℕ) → IsSound s → IsAsBefore but s.hierarchy h
-    → ((process : ProcessState) (uid : ℕ) → process_at s.processes p ≡ Some process → stands_for process.known n ≡ Branch uid → but uid → ⊥)
+    → ((process : ProcessState) (uid : ℕ) → process_at s.processes p ≡ Some process → stands_for process.known.lots n ≡ Branch uid → but uid → ⊥)
     → descriptor s p n ≡ descriptor (record s { hierarchy = h }) p n
 same_unless but s h p n sound before apart = by_process (process_at s.processes p) refl
   where
-    by_standing : (process : ProcessState) → process_at s.processes p ≡ Some process → (x : Stands) → stands_for process.known n ≡ x
+    by_standing : (process : ProcessState) → process_at s.processes p ≡ Some process → (x : Lot) → stands_for process.known.lots n ≡ x
         → standing_desc s.hierarchy p process x ≡ standing_desc h p process x
-    by_standing process e Nothing f = refl
+    by_standing process e Free f = refl
     by_standing process e (Stack ring) f = refl
     by_standing process e (Branch uid) f =
         let there = is_there s.processes p process e in
-        let place = place_of process.known n uid f in
         ap (desc_for process.principal)
-        (sym (before.same uid ((sound.processes (p - 1) process there.place).made (n - 8) uid place.there) (apart process uid e f)))
+        (sym (before.same uid ((sound.processes (p - 1) process there.place).made n uid (branch_at process.known.lots n uid f)) (apart process uid e f)))
+    by_standing process e (Linkage of page brackets words) f = refl
 
     by_process : (o : Option ProcessState) → process_at s.processes p ≡ o → process_desc s.hierarchy p o n ≡ process_desc h p o n
     by_process None e = refl
-    by_process (Some process) e = by_standing process e (stands_for process.known n) refl
+    by_process (Some process) e = by_standing process e (stands_for process.known.lots n) refl
 
 pub quiet : (s : Plain) (h : Hierarchy) → IsSound s → IsAsBefore NoUid s.hierarchy h → AreChanges s (record s { hierarchy = h }) []
 quiet s h sound before =
@@ -103,7 +105,7 @@ grown_is_sound but s h sound before = record {
   process_count = sound.process_count;
   processes = λ i process e.
       let own = sound.processes i process e in
-      record { made = λ k uid f. omega (arith, own.made k uid f, before.next); once = own.once };
+      record { known = own.known; made = λ k uid f. omega (arith, own.made k uid f, before.next) };
 }
 
 same_change : (p q n m : ℕ) (d e : Descriptor) → p ≡ q → n ≡ m → d ≡ e → change p n d ≡ change q m e

@@ -1,5 +1,5 @@
 -- What a request leaves, by the definitions alone.
-use Rattle.std.proofs.Common.{◌≡◌, ℕ, Bool, true, false, cond, ltb, List, [], ◌∷◌, ◌++◌, Option, Some, None, Result, Ok, Err, refl, ap, sym, ◌∙◌, subst}
+use Rattle.std.proofs.Common.{◌≡◌, ℕ, List, [], Option, Some, None, Result, Ok, Err, refl, ap, sym, ◌∙◌, subst}
 use Rattle.mx_hier.specs.Branches.{Hierarchy}
 use Rattle.mx_hier.specs.Callers.{Caller}
 use Rattle.mx_hier.specs.ChangeWorkingDirectory.{directory}
@@ -16,7 +16,10 @@ use Rattle.mx_hier.specs.SetBrackets.{set_brackets}
 use Rattle.mx_hier.specs.SetDirectoryBrackets.{set_dir_brackets}
 use Rattle.mx_hier.specs.Status.{status}
 use Rattle.mx_hier.specs.declared.refusals.Refusal.{Refusal}
-use Rattle.mx_hier.specs.declared.refusals.Refusal.TheVariants.{KstFull}
+use Rattle.mx_hier.specs.Rules.{onward}
+use Rattle.mx_kst.specs.Initiating.{Initiated}
+use Rattle.mx_kst.specs.KnownSegments.{KnownSegments}
+use Rattle.mx_kst.specs.Terminating as kst
 use Rattle.mx_request.specs.declared.requests.Request.{Request}
 use Rattle.mx_request.specs.declared.requests.Request.TheVariants as ask
 use Rattle.mx_request.specs.declared.replies.Reply.{Reply}
@@ -25,9 +28,9 @@ use Rattle.mx_state.specs.declared.applied.Applied.{Applied}
 use Rattle.mx_state.specs.declared.states.ProcessState.{ProcessState}
 use Rattle.mx_state.specs.Askers.{Asker, Initializer, Process, Nobody, asker, initial_caller, caller, answered_caller, answered_process}
 use Rattle.mx_state.specs.Changes.{AreChanges}
-use Rattle.mx_state.specs.Knowing.{known_as, initiate, change_wdir, logout}
+use Rattle.mx_state.specs.Knowing.{known_then, given, initiate, terminate}
+use Rattle.mx_state.specs.OwnState.{change_wdir, set_rules, logout}
 use Rattle.mx_state.specs.Laws.{RefusalLaw, PathLaw}
-use Rattle.mx_state.specs.Numbers.{last_segno, next_segno, segno_of}
 use Rattle.mx_state.specs.Plain.{Plain, Answer, answer, with_process}
 use Rattle.mx_state.specs.Requests.{changed, told, plain}
 use Rattle.mx_state.specs.Serving.{Serves}
@@ -58,22 +61,13 @@ told_still : {A : Type 0} (s : Plain) (as_reply : A → Reply) (meant : Result A
 told_still s as_reply (Ok value) = λ why e. refl
 told_still s as_reply (Err other) = λ why e. refl
 
-initiate_still : (s : Plain) (p : ℕ) (process : ProcessState) (meant : Result ℕ Refusal) → IsStill s (initiate s p process meant)
-initiate_still s p process (Err other) = λ why e. refl
-initiate_still s p process (Ok uid) = by_number (segno_of process.known uid)
-  where
-    by_room : (full : Bool) (known : Answer) → ((why : Refusal) → known.reply ≡ reply.Refused why → ⊥)
-        → IsStill s (cond full (answer (reply.Refused KstFull) s) known)
-    by_room true known granted = λ why e. refl
-    by_room false known granted = λ why e. absurd (granted why e)
+given_still : (s : Plain) (p : ℕ) (process : ProcessState) (meant : Result Initiated Refusal) → IsStill s (given s p process meant)
+given_still s p process (Err other) = λ why e. refl
+given_still s p process (Ok known) = λ why e. cc
 
-    by_number : (o : Option ℕ) → IsStill s (known_as s p process uid o)
-    by_number (Some segno) = λ why e. refl
-    by_number None =
-        by_room (ltb last_segno (next_segno process.known))
-        (answer (reply.Segno (record { segno = next_segno process.known; fresh = true }))
-        (with_process s p (record process { known = process.known ++ uid ∷ [] })))
-        (λ why e. cc)
+terminate_still : (s : Plain) (p : ℕ) (process : ProcessState) (meant : Option KnownSegments) → IsStill s (terminate s p process meant)
+terminate_still s p process None = λ why e. refl
+terminate_still s p process (Some known) = λ why e. cc
 
 change_wdir_still : (s : Plain) (p : ℕ) (process : ProcessState) (meant : Result (List (List ℕ)) Refusal) → IsStill s (change_wdir s p process meant)
 change_wdir_still s p process (Err other) = λ why e. refl
@@ -104,9 +98,16 @@ refusal_leaves s p ring (ask.List path) = told_answer_still s p ring reply.Names
 refusal_leaves s p ring (ask.ChangeWdir path) =
     process_still s (asker s.processes p) (λ process. change_wdir s p process (directory s.hierarchy (caller process ring) path))
     (λ process. change_wdir_still s p process (directory s.hierarchy (caller process ring) path))
-refusal_leaves s p ring (ask.Initiate path) =
-    process_still s (asker s.processes p) (λ process. initiate s p process (segment s.hierarchy (caller process ring) path))
-    (λ process. initiate_still s p process (segment s.hierarchy (caller process ring) path))
+refusal_leaves s p ring (ask.SetRules rules) =
+    process_still s (asker s.processes p) (λ process. set_rules s p process rules) (λ process why e. cc)
+refusal_leaves s p ring (ask.Initiate path name) =
+    process_still s (asker s.processes p)
+    (λ process. initiate s p ring process name (segment s.hierarchy (caller process ring) path))
+    (λ process. given_still s p process
+    (onward (segment s.hierarchy (caller process ring) path) (known_then process.known ring name)))
+refusal_leaves s p ring (ask.Terminate segno) =
+    process_still s (asker s.processes p) (λ process. terminate s p process (kst.terminate process.known segno))
+    (λ process. terminate_still s p process (kst.terminate process.known segno))
 refusal_leaves s p ring ask.Logout = process_still s (asker s.processes p) (logout s p) (λ process why e. cc)
 
 -- a request on a path leaves the processes
@@ -147,7 +148,9 @@ path_request_leaves s p ring (ask.SetDirBrackets path d1 d2) e = change_leaves s
 path_request_leaves s p ring (ask.Status path) e = asking_leaves s p ring reply.Status (λ who. status s.hierarchy who path)
 path_request_leaves s p ring (ask.List path) e = asking_leaves s p ring reply.Names (λ who. list s.hierarchy who path)
 path_request_leaves s p ring (ask.ChangeWdir path) e = cc
-path_request_leaves s p ring (ask.Initiate path) e = cc
+path_request_leaves s p ring (ask.SetRules rules) e = cc
+path_request_leaves s p ring (ask.Initiate path name) e = cc
+path_request_leaves s p ring (ask.Terminate segno) e = cc
 path_request_leaves s p ring ask.Logout e = cc
 
 -- so a request that was refused has left the state, and changed no descriptor

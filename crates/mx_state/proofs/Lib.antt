@@ -1,5 +1,4 @@
 pub mod Lists
-pub mod UidLaws
 pub mod NumberLaws
 pub mod OpeningLaws
 pub mod SegmentLaws

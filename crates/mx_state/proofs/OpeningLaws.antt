@@ -2,7 +2,11 @@
 use Rattle.std.proofs.Common.{◌≡◌, ◌≤◌, ℕ, zero, suc, List, [], ◌∷◌, length, map, Some, subst, slice_get, arith}
 use Rattle.std.proofs.lemmas.List.{length-map}
 use Rattle.mx_name.specs.Principals.{PlainPrincipal}
+use Rattle.std.specs.List.{range_with_len}
 use Rattle.mx_hier.specs.Branches.{Hierarchy}
+use Rattle.mx_kst.proofs.SoundLaws.{no_segment, sound_first}
+use Rattle.mx_kst.specs.Lots.{stacks}
+use Rattle.mx_kst.specs.Names.{no_names}
 use Rattle.mx_state.specs.declared.states.ProcessState.{ProcessState}
 use Rattle.mx_state.specs.History.{fresh}
 use Rattle.mx_state.specs.Sound.{IsSound, IsSoundProcess}
@@ -12,7 +16,10 @@ fresh_is_sound : (next : ℕ) (principals : List PlainPrincipal) (i : ℕ) (proc
 fresh_is_sound next [] i process e = cc
 fresh_is_sound next (who ∷ others) zero process e =
     let same : fresh who ≡ process = cc in
-    subst (IsSoundProcess next) same (record { made = λ i uid h. cc; once = λ i uid h. cc })
+    subst (IsSoundProcess next) same (record {
+      known = sound_first stacks no_names refl refl;
+      made = λ n uid h. absurd (no_segment (range_with_len 0 8) n uid h);
+    })
 fresh_is_sound next (who ∷ others) (suc i) process e = fresh_is_sound next others i process e
 
 pub opened_is_sound : (h : Hierarchy) (principals : List PlainPrincipal) (processes : List ProcessState) → length principals ≤ 15

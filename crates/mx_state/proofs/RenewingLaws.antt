@@ -10,17 +10,21 @@ use Rattle.mx_sdw.proofs.SameLaws.{descs_are, descs_apart}
 use Rattle.mx_sdw.specs.Descriptors.{Descriptor}
 use Rattle.mx_sdw.specs.Same.{same_desc}
 use Rattle.mx_hier.specs.Branches.{Hierarchy}
+use Rattle.mx_kst.proofs.SoundLaws.{number_is}
+use Rattle.mx_kst.specs.declared.lots.Lot.{Lot}
+use Rattle.mx_kst.specs.declared.lots.Lot.TheVariants.{Free, Stack, Branch, Linkage}
+use Rattle.mx_kst.specs.Lots.{number_of}
 use Rattle.mx_state.specs.declared.states.ProcessState.{ProcessState}
 use Rattle.mx_state.specs.Changes.{change, AreChanges, IsBefore}
-use Rattle.mx_state.specs.Numbers.{Stands, Nothing, Stack, Branch, segno_of, stands_for}
+use Rattle.mx_state.specs.Numbers.{stands_for}
 use Rattle.mx_state.specs.Plain.{Plain, process_at}
-use Rattle.mx_state.specs.Renewing.{held_by, held_from, renewed_as, renewed}
+use Rattle.mx_state.specs.Renewing.{held_by, held_from, held_two, renewed_as, renewed}
 use Rattle.mx_state.specs.Sound.{IsSound}
 use Rattle.mx_state.specs.Table.{descriptor}
 use Rattle.mx_state.proofs.AnswerLaws.{plain_state, one_is_admissible}
 use Rattle.mx_state.proofs.Descriptors.{is_there, same_unless}
-use Rattle.mx_state.proofs.Lists.{Contains-first, Contains-cases, nothing_contained, AllPairs-none}
-use Rattle.mx_state.proofs.NumberLaws.{place_of}
+use Rattle.mx_state.proofs.Lists.{Contains-first, Contains-one, Contains-cases, nothing_contained, AllPairs-one, AllPairs-none}
+use Rattle.mx_state.proofs.NumberLaws.{branch_at}
 use Rattle.mx_state.proofs.SegmentLaws.{IsAsBefore, Only}
 
 -- where a held descriptor comes from
@@ -29,7 +33,7 @@ record IsHeld (s : Plain) (first : ℕ) (processes : List ProcessState) (uid : �
   process : ProcessState
   number : c.process ≡ place + first
   there : slice_get processes place ≡ Some process
-  segno : segno_of process.known uid ≡ Some c.segno
+  segno : number_of process.known.lots uid ≡ Some c.segno
   desc : c.desc ≡ descriptor s c.process c.segno
 
 later_held : (s : Plain) (first : ℕ) (x : ProcessState) (xs : List ProcessState) (uid : ℕ) (c : Change) → IsHeld s (first + 1) xs uid c → IsHeld s first (x ∷ xs) uid c
@@ -39,9 +43,9 @@ later_held s first x xs uid c h =
 is_held : (s : Plain) (first : ℕ) (processes : List ProcessState) (uid : ℕ) (c : Change) → Contains (held_from s first processes uid) c
     → IsHeld s first processes uid c
 is_held s first [] uid c h = absurd (nothing_contained c h)
-is_held s first (x ∷ xs) uid c h = by_number (segno_of x.known uid) refl h (is_held s (first + 1) xs uid c)
+is_held s first (x ∷ xs) uid c h = by_number (number_of x.known.lots uid) refl h (is_held s (first + 1) xs uid c)
   where
-    by_number : (o : Option ℕ) → segno_of x.known uid ≡ o → Contains (held_by s first o (held_from s (first + 1) xs uid)) c
+    by_number : (o : Option ℕ) → number_of x.known.lots uid ≡ o → Contains (held_by s first o (held_from s (first + 1) xs uid)) c
         → (Contains (held_from s (first + 1) xs uid) c → IsHeld s (first + 1) xs uid c) → IsHeld s first (x ∷ xs) uid c
     by_number None t k later = later_held s first x xs uid c (later k)
     by_number (Some n) t k later =
@@ -55,16 +59,16 @@ held_has s p None changes c h = h
 held_has s p (Some n) changes c h = Contains-append_right (change p n (descriptor s p n) ∷ []) changes c h
 
 all_held : (s : Plain) (first : ℕ) (processes : List ProcessState) (uid place p n : ℕ) (process : ProcessState) → p ≡ place + first
-    → slice_get processes place ≡ Some process → segno_of process.known uid ≡ Some n
+    → slice_get processes place ≡ Some process → number_of process.known.lots uid ≡ Some n
     → Contains (held_from s first processes uid) (change p n (descriptor s p n))
 all_held s first [] uid place p n process number there e = cc
 all_held s first (x ∷ xs) uid zero p n process number there e =
     let same : process ≡ x = cc in
     let at : p ≡ first = omega arith in
-    let here : segno_of x.known uid ≡ Some n = rw (← same) e in
+    let here : number_of x.known.lots uid ≡ Some n = rw (← same) e in
     rw (here, at) (Contains-first (change first n (descriptor s first n)) (held_from s (first + 1) xs uid))
 all_held s first (x ∷ xs) uid (suc place) p n process number there e =
-    held_has s first (segno_of x.known uid) (held_from s (first + 1) xs uid) (change p n (descriptor s p n))
+    held_has s first (number_of x.known.lots uid) (held_from s (first + 1) xs uid) (change p n (descriptor s p n))
     (all_held s (first + 1) xs uid place p n process (omega arith) there e)
 
 -- what is renewed was held, and is another now
@@ -115,7 +119,7 @@ all_renewed t (x ∷ xs) p n d h differs =
 -- they are in order
 in_order : (s t : Plain) (first : ℕ) (processes : List ProcessState) (uid : ℕ) → AllPairs IsBefore (renewed t (held_from s first processes uid))
 in_order s t first [] uid = AllPairs-none IsBefore
-in_order s t first (x ∷ xs) uid = by_number (segno_of x.known uid) (in_order s t (first + 1) xs uid)
+in_order s t first (x ∷ xs) uid = by_number (number_of x.known.lots uid) (in_order s t (first + 1) xs uid)
   where
     by_test : (b : Bool) (n : ℕ) → AllPairs IsBefore (renewed t (held_from s (first + 1) xs uid))
         → AllPairs IsBefore (cond b (renewed t (held_from s (first + 1) xs uid))
@@ -140,25 +144,27 @@ in_order s t first (x ∷ xs) uid = by_number (segno_of x.known uid) (in_order s
 record KnowsAs (s : Plain) (p n uid : ℕ) : Type 0 where
   process : ProcessState
   there : process_at s.processes p ≡ Some process
-  stands : stands_for process.known n ≡ Branch uid
+  stands : stands_for process.known.lots n ≡ Branch uid
 
 abbrev IsApart : Plain → ℕ → ℕ → ℕ → Type 0
-IsApart s p n uid = (process : ProcessState) (other : ℕ) → process_at s.processes p ≡ Some process → stands_for process.known n ≡ Branch other
+IsApart s p n uid = (process : ProcessState) (other : ℕ) → process_at s.processes p ≡ Some process → stands_for process.known.lots n ≡ Branch other
     → Only uid other → ⊥
 
 known_or_apart : (s : Plain) (p n uid : ℕ) → KnowsAs s p n uid ⊎ IsApart s p n uid
 known_or_apart s p n uid = by_process (process_at s.processes p) refl
   where
-    again : (process other : ProcessState) (x : Stands) (own : ℕ) → process_at s.processes p ≡ Some process → process_at s.processes p ≡ Some other
-        → stands_for process.known n ≡ x → stands_for other.known n ≡ Branch own → x ≡ Branch own
+    again : (process other : ProcessState) (x : Lot) (own : ℕ) → process_at s.processes p ≡ Some process → process_at s.processes p ≡ Some other
+        → stands_for process.known.lots n ≡ x → stands_for other.known.lots n ≡ Branch own → x ≡ Branch own
     again process other x own e f g k =
         let same : process ≡ other = cc in
         sym g ∙ rw same k
 
-    by_standing : (process : ProcessState) → process_at s.processes p ≡ Some process → (x : Stands) → stands_for process.known n ≡ x
+    by_standing : (process : ProcessState) → process_at s.processes p ≡ Some process → (x : Lot) → stands_for process.known.lots n ≡ x
         → KnowsAs s p n uid ⊎ IsApart s p n uid
-    by_standing process e Nothing g = inr (λ other own f k same. let z = again process other Nothing own e f g k in cc)
+    by_standing process e Free g = inr (λ other own f k same. let z = again process other Free own e f g k in cc)
     by_standing process e (Stack ring) g = inr (λ other own f k same. let z = again process other (Stack ring) own e f g k in cc)
+    by_standing process e (Linkage of page brackets words) g =
+        inr (λ other own f k same. let z = again process other (Linkage of page brackets words) own e f g k in cc)
     by_standing process e (Branch v) g =
         elim (cases_eq v uid) [
           | inl same ↦ inl (record { process = process; there = e; stands = g ∙ ap (λ u. Branch u) same })
@@ -170,13 +176,35 @@ known_or_apart s p n uid = by_process (process_at s.processes p) refl
 
     by_process : (o : Option ProcessState) → process_at s.processes p ≡ o → KnowsAs s p n uid ⊎ IsApart s p n uid
     by_process None e = inr (λ other own f k same. let z = sym e ∙ f in cc)
-    by_process (Some process) e = by_standing process e (stands_for process.known n) refl
+    by_process (Some process) e = by_standing process e (stands_for process.known.lots n) refl
+
+-- the descriptors of some numbers are held, and all others are as before
+module _ (s t : Plain) (held : List Change) (is : (c : Change) → Contains held c → c.desc ≡ descriptor s c.process c.segno)
+    (all : (p n : ℕ) → (Contains held (change p n (descriptor s p n))) ⊎ (descriptor s p n ≡ descriptor t p n)) where
+  pub renewed_each : (p n : ℕ) (d : Descriptor) → Contains (renewed t held) (change p n d) → (descriptor t p n ≡ d) × (descriptor s p n ≢ d)
+  renewed_each p n d c =
+      let r = is_renewed t held (change p n d) c in
+      let P : Change → Type 0 = λ c. (descriptor t c.process c.segno ≡ c.desc) × (descriptor s c.process c.segno ≢ c.desc) in
+      subst P r.is (
+        refl,
+        (λ same. descs_apart r.old.desc (descriptor t r.old.process r.old.segno) r.differs (is r.old r.there ∙ same)),
+      )
+
+  pub renewed_all : (p n : ℕ) → descriptor s p n ≢ descriptor t p n → Contains (renewed t held) (change p n (descriptor t p n))
+  renewed_all p n differ = by_test (same_desc (descriptor s p n) (descriptor t p n)) refl (all p n)
+    where
+      by_test : (same : Bool) → same_desc (descriptor s p n) (descriptor t p n) ≡ same
+          → (Contains held (change p n (descriptor s p n))) ⊎ (descriptor s p n ≡ descriptor t p n)
+          → Contains (renewed t held) (change p n (descriptor t p n))
+      by_test true e stood = absurd (differ (descs_are (descriptor s p n) (descriptor t p n) e))
+      by_test false e (inl there) = all_renewed t held p n (descriptor s p n) there e
+      by_test false e (inr same) = absurd (differ same)
 
 renewing_changes : (s : Plain) (h : Hierarchy) (uid : ℕ) → IsSound s → IsAsBefore (Only uid) s.hierarchy h
     → AreChanges s (record s { hierarchy = h }) (renewed (record s { hierarchy = h }) (held_from s 1 s.processes uid))
 renewing_changes s h uid sound before = record {
-  each = λ p n d c. each_one p n d (is_renewed t held (change p n d) c);
-  all = λ p n differ. by_test p n differ (same_desc (descriptor s p n) (descriptor t p n)) refl;
+  each = renewed_each s t held is_old held_or_same;
+  all = renewed_all s t held is_old held_or_same;
   ordered = in_order s t 1 s.processes uid;
 }
   where
@@ -186,40 +214,27 @@ renewing_changes s h uid sound before = record {
     held : List Change
     held = held_from s 1 s.processes uid
 
-    each_one : (p n : ℕ) (d : Descriptor) → IsRenewed t held (change p n d) → (descriptor t p n ≡ d) × (descriptor s p n ≢ d)
-    each_one p n d r =
-        let own = is_held s 1 s.processes uid r.old r.there in
-        let P : Change → Type 0 = λ c. (descriptor t c.process c.segno ≡ c.desc) × (descriptor s c.process c.segno ≢ c.desc) in
-        subst P r.is (
-          refl,
-          (λ same. descs_apart r.old.desc (descriptor t r.old.process r.old.segno) r.differs (own.desc ∙ same)),
-        )
+    is_old : (c : Change) → Contains held c → c.desc ≡ descriptor s c.process c.segno
+    is_old c there = (is_held s 1 s.processes uid c there).desc
 
     -- the segment's number in a process that knows it
-    own_number : (p n : ℕ) (process : ProcessState) → process_at s.processes p ≡ Some process → stands_for process.known n ≡ Branch uid
-        → segno_of process.known uid ≡ Some n
+    own_number : (p n : ℕ) (process : ProcessState) → process_at s.processes p ≡ Some process → stands_for process.known.lots n ≡ Branch uid
+        → number_of process.known.lots uid ≡ Some n
     own_number p n process e stands =
         let there = is_there s.processes p process e in
-        let place = place_of process.known n uid stands in
-        let number : 8 + (n - 8) ≡ n = omega (arith, place.low) in
-        (sound.processes (p - 1) process there.place).once (n - 8) uid place.there ∙ ap (λ k. Some k) number
+        (number_is process.known (sound.processes (p - 1) process there.place).known uid n).1 (branch_at process.known.lots n uid stands)
 
-    was_held : (p n : ℕ) (process : ProcessState) → process_at s.processes p ≡ Some process → stands_for process.known n ≡ Branch uid
+    was_held : (p n : ℕ) (process : ProcessState) → process_at s.processes p ≡ Some process → stands_for process.known.lots n ≡ Branch uid
         → Contains held (change p n (descriptor s p n))
     was_held p n process e stands =
         let there = is_there s.processes p process e in
         all_held s 1 s.processes uid (p - 1) p n process (omega (arith, there.low)) there.place (own_number p n process e stands)
 
-    by_known : (p n : ℕ) → descriptor s p n ≢ descriptor t p n → same_desc (descriptor s p n) (descriptor t p n) ≡ false
-        → KnowsAs s p n uid ⊎ IsApart s p n uid → Contains (renewed t held) (change p n (descriptor t p n))
-    by_known p n differ e (inl knows) =
-        all_renewed t held p n (descriptor s p n) (was_held p n knows.process knows.there knows.stands) e
-    by_known p n differ e (inr apart) = absurd (differ (same_unless (Only uid) s h p n sound before apart))
-
-    by_test : (p n : ℕ) → descriptor s p n ≢ descriptor t p n → (same : Bool) → same_desc (descriptor s p n) (descriptor t p n) ≡ same
-        → Contains (renewed t held) (change p n (descriptor t p n))
-    by_test p n differ true e = absurd (differ (descs_are (descriptor s p n) (descriptor t p n) e))
-    by_test p n differ false e = by_known p n differ e (known_or_apart s p n uid)
+    held_or_same : (p n : ℕ) → (Contains held (change p n (descriptor s p n))) ⊎ (descriptor s p n ≡ descriptor t p n)
+    held_or_same p n = elim (known_or_apart s p n uid) [
+      | inl knows ↦ inl (was_held p n knows.process knows.there knows.stands)
+      | inr apart ↦ inr (same_unless (Only uid) s h p n sound before apart)
+    ]
 
 -- the same as the program's steps
 pub renewed_are : (h k : Hierarchy) (processes : List ProcessState) (uid : ℕ) (held changes : List Change) → IsSound (plain_state h processes)
@@ -227,6 +242,56 @@ pub renewed_are : (h k : Hierarchy) (processes : List ProcessState) (uid : ℕ) 
     → AreChanges (plain_state h processes) (plain_state k processes) changes
 renewed_are h k processes uid held changes sound before first then =
     rw (then, first) (renewing_changes (plain_state h processes) k uid sound before)
+
+-- two numbers of a process
+pub renewing_two : (s t : Plain) (p segno : ℕ)
+    → ((q m : ℕ) → ((q ≡ p) × ((m ≡ segno) ⊎ (m ≡ segno + 1)) → ⊥) → descriptor s q m ≡ descriptor t q m)
+    → AreChanges s t (renewed t (held_two s p segno))
+renewing_two s t p segno others = record {
+  each = renewed_each s t (held_two s p segno) is_old held_or_same;
+  all = renewed_all s t (held_two s p segno) is_old held_or_same;
+  ordered = ordered (same_desc (descriptor s p segno) (descriptor t p segno))
+      (same_desc (descriptor s p (segno + 1)) (descriptor t p (segno + 1)));
+}
+  where
+    own : Change
+    own = change p segno (descriptor s p segno)
+
+    next : Change
+    next = change p (segno + 1) (descriptor s p (segno + 1))
+
+    is_old : (c : Change) → Contains (held_two s p segno) c → c.desc ≡ descriptor s c.process c.segno
+    is_old c there = elim (Contains-cases own (next ∷ []) c there) [
+      | inl same ↦ subst (λ (c : Change). c.desc ≡ descriptor s c.process c.segno) same refl
+      | inr rest ↦ subst (λ (c : Change). c.desc ≡ descriptor s c.process c.segno) (Contains-one next c rest) refl
+    ]
+
+    in_next : Contains (held_two s p segno) next
+    in_next = Contains-append_right (own ∷ []) (next ∷ []) next (Contains-first next [])
+
+    held_or_same : (q m : ℕ) → (Contains (held_two s p segno) (change q m (descriptor s q m))) ⊎ (descriptor s q m ≡ descriptor t q m)
+    held_or_same q m = by_place (cases_eq q p) (cases_eq m segno) (cases_eq m (segno + 1))
+      where
+        by_place : (q ≡ p) ⊎ (q ≡ p → ⊥) → (m ≡ segno) ⊎ (m ≡ segno → ⊥) → (m ≡ segno + 1) ⊎ (m ≡ segno + 1 → ⊥)
+            → (Contains (held_two s p segno) (change q m (descriptor s q m))) ⊎ (descriptor s q m ≡ descriptor t q m)
+        by_place (inr other) at then = inr (others q m (λ both. other both.0))
+        by_place (inl same) (inl at) then = inl (rw (same, at) (Contains-first own (next ∷ [])))
+        by_place (inl same) (inr apart) (inl at) = inl (rw (same, at) in_next)
+        by_place (inl same) (inr apart) (inr beyond) = inr (others q m (λ both. elim both.1 [ inl a ↦ apart a | inr b ↦ beyond b ]))
+
+    ordered : (a b : Bool) → AllPairs IsBefore (cond a (cond b [] (change p (segno + 1) (descriptor t p (segno + 1)) ∷ []))
+        (change p segno (descriptor t p segno) ∷ cond b [] (change p (segno + 1) (descriptor t p (segno + 1)) ∷ [])))
+    ordered true true = AllPairs-none IsBefore
+    ordered true false = AllPairs-one IsBefore _
+    ordered false true = AllPairs-one IsBefore _
+    ordered false false =
+        AllPairs-cons IsBefore (change p segno (descriptor t p segno)) (change p (segno + 1) (descriptor t p (segno + 1)) ∷ [])
+        (λ k e l. let c = get_or (change p (segno + 1) (descriptor t p (segno + 1)) ∷ []) k e in
+        subst (IsBefore (change p segno (descriptor t p segno)))
+        (Contains-one (change p (segno + 1) (descriptor t p (segno + 1))) c
+        (Contains-get_or (change p (segno + 1) (descriptor t p (segno + 1)) ∷ []) k e l))
+        (inr (refl, omega arith)))
+        (AllPairs-one IsBefore _)
 
 -- a list of changes to admissible descriptors, with one more
 pub push_admissible : (changes : List Change) (c : Change) → All (λ c. IsAdmissible c.desc) changes → IsAdmissible c.desc

@@ -11,5 +11,6 @@ pub mod Serving
 pub mod Laws
 pub mod Sound
 pub mod Calling
+pub mod Known
 pub mod Replies
 pub mod Renewing

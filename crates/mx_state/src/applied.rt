@@ -7,7 +7,7 @@ use mx_request::Reply;
 use std::alloc::Global;
 
 /// What a request came to: its reply, and exactly the descriptors that it changed, in order of process and segment
-/// number, at most one of each process.
+/// number.
 #[derive(Debug, Drop)]
 pub struct Applied {
     pub reply: Reply,

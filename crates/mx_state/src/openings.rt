@@ -5,8 +5,9 @@ ghost use Rattle.mx_state.specs.Askers.{initializer};
 ghost use Rattle.mx_state.specs.History.{fresh};
 
 use crate::states::ProcessState;
-use crate::uids::Uids;
+use mx_kst::Kst;
 use mx_name::{Path, Principal};
+use mx_search::Rules;
 use std::alloc::{AllocError, Global};
 
 /// The principal of the initializer.
@@ -19,7 +20,8 @@ pub(crate) fn make_initializer() -> Principal
     who
 }
 
-/// The processes of these principals, which know their stacks alone and work in the root.
+/// The processes of these principals, which work in the root, with the rules of every process, and know their stacks
+/// alone.
 pub(crate) fn fresh_processes(
     alloc: Global,
     principals: &[Principal],
@@ -28,12 +30,21 @@ pub(crate) fn fresh_processes(
 {
     let mut processes = Vec::new(alloc);
     for principal in principals {
-        processes.push(ProcessState {
-            principal: *principal,
-            working_directory: Path::root(alloc),
-            known: Uids::new(alloc),
-            ended: false,
-        })?;
+        processes.push(fresh_process(alloc, principal)?)?;
     }
     Ok(processes)
+}
+
+fn fresh_process(alloc: Global, principal: &Principal) -> Result<ProcessState, AllocError>
+    ensures { IfOk result (λ process. process ≡ fresh principal.now) }
+{
+    let rules = Rules::opening(alloc)?;
+    let known = Kst::new(alloc)?;
+    Ok(ProcessState {
+        principal: *principal,
+        working_directory: Path::root(alloc),
+        rules,
+        known,
+        ended: false,
+    })
 }

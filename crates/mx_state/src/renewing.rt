@@ -1,9 +1,9 @@
-//! The descriptors of one segment, held before a request and renewed after it.
+//! Descriptors held before a request and renewed after it.
 
-ghost use Rattle.std.specs.Prelude.{◌≡◌, ◌≤◌, [], length, vec_capacity, IfOk};
+ghost use Rattle.std.specs.Prelude.{◌≡◌, ◌≤◌, ◌<◌, [], length, vec_capacity, IfOk};
 ghost use Rattle.std.specs.List.{All};
 ghost use Rattle.mx_sdw.specs.Admissible.{IsAdmissible};
-ghost use Rattle.mx_state.specs.Renewing.{held_from, renewed};
+ghost use Rattle.mx_state.specs.Renewing.{held_from, held_two, renewed};
 
 use crate::states::ProcessState;
 use crate::tables::descriptor;
@@ -25,7 +25,7 @@ pub(crate) fn held(
     let mut held = Vec::new(alloc);
     let mut p: u8 = 1;
     for process in processes {
-        if let Some(segno) = process.known.segno_of(uid) {
+        if let Some(segno) = process.known.by_uid(uid) {
             let desc = descriptor(hier, processes, p, segno);
             held.extend_from_slice(&[Change {
                 process: p,
@@ -36,6 +36,33 @@ pub(crate) fn held(
         p += 1;
     }
     Ok(held)
+}
+
+/// The descriptors of a number of a process and of the next, which may be its linkage section's.
+pub(crate) fn held_two(
+    alloc: Global,
+    hier: &Hier,
+    processes: &[ProcessState],
+    p: u8,
+    segno: u16,
+) -> Result<Vec<Change>, AllocError>
+    requires few { length processes.now ≤ 15 }
+    requires low { segno < 65535 }
+    ensures { IfOk result (λ held. held.items
+        ≡ held_two (record { hierarchy = hier.now; processes = processes.now }) p segno) }
+{
+    vec![in alloc;
+        Change {
+            process: p,
+            segno,
+            desc: descriptor(hier, processes, p, segno),
+        },
+        Change {
+            process: p,
+            segno: segno + 1,
+            desc: descriptor(hier, processes, p, segno + 1),
+        },
+    ]
 }
 
 /// Those of the held descriptors that are others now, as they are now. Takes no memory but the room that is given.

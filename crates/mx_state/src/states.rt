@@ -13,21 +13,23 @@ ghost use Rattle.mx_state.specs.Table.{descriptor};
 use crate::applied::Applied;
 use crate::openings::{fresh_processes, make_initializer};
 use crate::tables::descriptor;
-use crate::uids::Uids;
 use mx_hier::Hier;
+use mx_kst::Kst;
 use mx_name::{Path, Principal};
 use mx_request::Request;
 use mx_sdw::{Desc, Ring};
+use mx_search::Rules;
 use std::alloc::{AllocError, Global};
 use std::marker::Model;
 
-/// A process: its principal, its working directory, the uids of its known segments, the first at segment number 8, and
-/// whether it has ended.
+/// A process: its principal, its working directory, its search rules, its known segment table, and whether it has
+/// ended.
 #[derive(Debug, Drop)]
 pub struct ProcessState {
     pub principal: Principal,
     pub working_directory: Path,
-    pub known: Uids,
+    pub rules: Rules,
+    pub known: Kst,
     pub ended: bool,
 }
 
@@ -124,7 +126,11 @@ impl State {
             Request::Status { path } => self.status(alloc, p, ring, path),
             Request::List { path } => self.list(alloc, p, ring, path),
             Request::ChangeWdir { path } => self.change_wdir(alloc, p, ring, path),
-            Request::Initiate { path } => self.initiate(alloc, p, ring, path),
+            Request::SetRules { rules } => self.set_rules(alloc, p, ring, rules),
+            Request::Initiate { path, name } => {
+                self.initiate(alloc, p, ring, path, name.as_ref())
+            }
+            Request::Terminate { segno } => self.terminate(alloc, p, ring, *segno),
             Request::Logout => Ok(self.logout(alloc, p, ring)),
         }
     }

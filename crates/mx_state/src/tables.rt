@@ -1,13 +1,15 @@
-//! Descriptors of segments and stacks.
+//! Descriptors of segments, stacks and linkage sections.
 
-ghost use Rattle.std.specs.Prelude.{◌≡◌, ◌≤◌, ◌<◌, length};
+ghost use Rattle.std.specs.Prelude.{◌≡◌, ◌≤◌, ◌<◌, true, false, length};
+ghost use Rattle.mx_kst.specs.Sections.{IsWithinPage};
 ghost use Rattle.mx_sdw.specs.Admissible.{IsAdmissible};
+ghost use Rattle.mx_sdw.specs.Descriptors.{segment_desc};
 ghost use Rattle.mx_state.specs.Table.{stack_desc, descriptor};
 
 use crate::callers::process_at;
 use crate::states::ProcessState;
-use crate::uids::{FIRST_GIVEN, LAST_SEGNO};
 use mx_hier::Hier;
+use mx_kst::{LAST_NUMBER, Lot};
 use mx_sdw::{Brackets, Desc, Ring};
 
 /// The descriptor that process `p` has of a segment number.
@@ -19,32 +21,44 @@ pub(crate) fn descriptor(hier: &Hier, processes: &[ProcessState], p: u8, segno: 
     let Some(process) = process_at(processes, p) else {
         return Desc::unknown();
     };
-    if segno < FIRST_GIVEN {
-        return stack_desc(p, segno as u8);
-    }
-    if segno > LAST_SEGNO {
+    if segno > LAST_NUMBER {
         return Desc::unknown();
     }
-    match process.known.get(usize::from(segno - FIRST_GIVEN)) {
-        None => Desc::unknown(),
-        Some(uid) => hier.desc_of(uid, &process.principal),
+    match process.known.lot(segno) {
+        Lot::Free => Desc::unknown(),
+        Lot::Stack(ring) => stack_desc(p, ring),
+        Lot::Branch { uid } => hier.desc_of(uid, &process.principal),
+        Lot::Linkage {
+            of: _,
+            page,
+            brackets,
+            words,
+        } => linkage_desc(page, brackets, words),
     }
 }
 
-/// The descriptor of the stack of ring `n` of process `p`: one page for each ring of each process, from page 0 on.
-fn stack_desc(p: u8, n: u8) -> Desc
+/// The descriptor of the stack of a ring of process `p`: one page for each ring of each process, from page 0 on.
+fn stack_desc(p: u8, ring: Ring) -> Desc
     requires first { 1 ≤ p }
     requires last { p ≤ 15 }
-    requires ring { n < 8 }
-    ensures value { result ≡ stack_desc p n }
+    ensures value { result ≡ stack_desc p ring }
     ensures admissible { IsAdmissible result }
 {
-    let Some(ring) = Ring::new(n) else {
-        unreachable!()
-    };
     let Some(brackets) = Brackets::new(ring, ring, ring) else {
         unreachable!()
     };
-    let page = 8 * u16::from(p - 1) + u16::from(n);
+    let page = 8 * u16::from(p - 1) + u16::from(ring.number());
     Desc::segment(brackets, true, false, true, 0, page, 64)
+}
+
+/// The descriptor of a linkage section.
+#[tactic(auto, using(crate::proofs::SectionLaws::section_admissible))]
+fn linkage_desc(page: u16, brackets: Brackets, words: u16) -> Desc
+    requires { IsWithinPage page words }
+    ensures value { result ≡ segment_desc brackets true false true 0 page words }
+    ensures admissible { IsAdmissible result }
+{
+    // These are called for their clauses: the brackets are in order, and the last is at most 7.
+    let (_order, _last) = (brackets.r2(), brackets.r3().number());
+    Desc::segment(brackets, true, false, true, 0, page, words)
 }

@@ -20,10 +20,12 @@ pub(crate) enum Kind {
     Status,
     List,
     ChangeWdir,
+    SetRules,
     Initiate,
+    Terminate,
 }
 
-const ALL: [Kind; 13] = [
+const ALL: [Kind; 15] = [
     Kind::CreateDir,
     Kind::CreateSeg,
     Kind::CreateLink,
@@ -36,7 +38,9 @@ const ALL: [Kind; 13] = [
     Kind::Status,
     Kind::List,
     Kind::ChangeWdir,
+    Kind::SetRules,
     Kind::Initiate,
+    Kind::Terminate,
 ];
 
 impl Kind {
@@ -63,7 +67,9 @@ impl Kind {
             Kind::Status => "status",
             Kind::List => "list",
             Kind::ChangeWdir => "change_wdir",
+            Kind::SetRules => "set_rules",
             Kind::Initiate => "initiate",
+            Kind::Terminate => "terminate",
         }
     }
 }

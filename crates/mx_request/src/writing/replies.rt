@@ -1,19 +1,21 @@
 //! The text of a reply.
 
-ghost use Rattle.std.specs.Prelude.{◌≡◌, ◌++◌, [], ◌∷◌, OnOk, OnErr};
+ghost use Rattle.std.specs.Prelude.{◌≡◌, ◌++◌, [], ◌∷◌, Some, codes, OnOk, OnErr};
 ghost use Rattle.std.specs.Fmt.{decimal};
+ghost use Rattle.mx_sdw.specs.Octal.{octal};
 ghost use Rattle.mx_acl.specs.Modes.{modes_text};
 ghost use Rattle.mx_hier.specs.declared.asking.Status.TheVariants.{Segment, Directory, Link};
 ghost use Rattle.mx_request.specs.declared.replies.Reply.TheVariants.{Refused, Names as Listed, Segno};
 ghost use Rattle.mx_request.specs.Fields.{line_of, ring_text};
 ghost use Rattle.mx_request.specs.Growth.{IsGrown, blank_before};
-ghost use Rattle.mx_request.specs.ReplyTexts.{status_fields, reply_text};
+ghost use Rattle.mx_request.specs.ReplyTexts.{fresh_text, linkage_fields, status_fields, reply_text};
 
 use super::fields::{push_field, push_number, push_ring, push_rings};
-use crate::replies::{Known, Reply};
+use crate::replies::Reply;
 use mx_acl::Modes;
 use mx_hier::{Names, Refusal, Status};
 use mx_name::Path;
+use mx_kst::Known;
 use mx_sdw::{Brackets, Ring, write_octal};
 use std::alloc::AllocError;
 
@@ -133,7 +135,27 @@ fn push_known(out: &mut Vec<u8>, known: &Known) -> Result<(), AllocError>
     ensures ok { OnOk result (out.new.items ≡ out.old.items ++ reply_text (Segno known.now)) }
     ensures err { OnErr result (IsGrown out.old.items out.new.items) }
 {
+    push_number_known(out, known)?;
+    match known.linkage {
+        Some(segno) => push_linkage(out, segno),
+        None => Ok(()),
+    }
+}
+
+fn push_number_known(out: &mut Vec<u8>, known: &Known) -> Result<(), AllocError>
+    ensures ok { OnOk result (out.new.items
+        ≡ out.old.items ++ line_of (codes "segno" ∷ octal known.now.segno ∷ fresh_text known.now.fresh ∷ [])) }
+    ensures err { OnErr result (IsGrown out.old.items out.new.items) }
+{
     out.extend_from_slice(b"segno ")?;
     write_octal(out, u64::from(known.segno))?;
     out.extend_from_slice(if known.fresh { b" new" } else { b" old" })
+}
+
+fn push_linkage(out: &mut Vec<u8>, segno: u16) -> Result<(), AllocError>
+    ensures ok { OnOk result (out.new.items ≡ out.old.items ++ blank_before (linkage_fields (Some segno))) }
+    ensures err { OnErr result (IsGrown out.old.items out.new.items) }
+{
+    out.extend_from_slice(b" linkage ")?;
+    write_octal(out, u64::from(segno))
 }

@@ -2,17 +2,20 @@
 
 ghost use Rattle.std.specs.Prelude.{◌≡◌, ◌++◌, [], ◌∷◌, map, OnOk, OnErr};
 ghost use Rattle.std.specs.Fmt.{decimal};
+ghost use Rattle.std.specs.Option.{option_copied};
 ghost use Rattle.mx_name.specs.Identifiers.{acl_id_text};
+ghost use Rattle.mx_sdw.specs.Octal.{octal};
 ghost use Rattle.mx_acl.specs.Modes.{modes_text};
 ghost use Rattle.mx_request.specs.Fields.{line_of, ring_text};
-ghost use Rattle.mx_request.specs.Growth.{IsGrown};
-ghost use Rattle.mx_request.specs.RequestTexts.{request_text};
+ghost use Rattle.mx_request.specs.Growth.{IsGrown, blank_before};
+ghost use Rattle.mx_request.specs.RequestTexts.{name_fields, request_text, rule_text};
 
 use super::fields::{push_field, push_number, push_ring, push_rings};
 use crate::requests::Request;
 use mx_acl::Modes;
 use mx_name::{AclId, EntryName, Pathname};
-use mx_sdw::Ring;
+use mx_sdw::{Ring, write_octal};
+use mx_search::Rule;
 use std::alloc::AllocError;
 
 /// Adds the line of a request.
@@ -41,7 +44,9 @@ pub(crate) fn push_request(out: &mut Vec<u8>, request: &Request) -> Result<(), A
         Request::Status { path } => push_path(out, b"status", path),
         Request::List { path } => push_path(out, b"list", path),
         Request::ChangeWdir { path } => push_path(out, b"change_wdir", path),
-        Request::Initiate { path } => push_path(out, b"initiate", path),
+        Request::SetRules { rules } => push_rules(out, b"set_rules", rules.items()),
+        Request::Initiate { path, name } => push_named(out, b"initiate", path, name.as_ref()),
+        Request::Terminate { segno } => push_segno(out, b"terminate", *segno),
         Request::Logout => out.extend_from_slice(b"logout"),
     }
 }
@@ -53,6 +58,70 @@ fn push_path(out: &mut Vec<u8>, word: &[u8], path: &Pathname) -> Result<(), Allo
 {
     out.extend_from_slice(word)?;
     push_field(out, path.bytes())
+}
+
+/// `WORD PATH [NAME]`
+fn push_named(
+    out: &mut Vec<u8>,
+    word: &[u8],
+    path: &Pathname,
+    name: Option<&EntryName>,
+) -> Result<(), AllocError>
+    ensures ok { OnOk result (out.new.items
+        ≡ out.old.items ++ line_of (word.now ∷ path.now ∷ name_fields (option_copied name.entry))) }
+    ensures err { OnErr result (IsGrown out.old.items out.new.items) }
+{
+    match name {
+        Some(name) => push_name(out, word, path, name),
+        None => push_path(out, word, path),
+    }
+}
+
+/// `WORD RULE ...`
+#[tactic(auto, using(crate::proofs::GrowthLaws::word_grows))]
+fn push_rules(out: &mut Vec<u8>, word: &[u8], rules: &[Rule]) -> Result<(), AllocError>
+    ensures ok { OnOk result (out.new.items ≡ out.old.items ++ line_of (word.now ∷ map rule_text rules.now)) }
+    ensures err { OnErr result (IsGrown out.old.items out.new.items) }
+{
+    out.extend_from_slice(word)?;
+    push_each_rule(out, rules)
+}
+
+/// The rules with a blank before each.
+fn push_each_rule(out: &mut Vec<u8>, rules: &[Rule]) -> Result<(), AllocError>
+    ensures ok { OnOk result (out.new.items ≡ out.old.items ++ blank_before (map rule_text rules.now)) }
+    ensures err { OnErr result (IsGrown out.old.items out.new.items) }
+{
+    for rule in rules {
+        push_rule(out, rule)?;
+    }
+    Ok(())
+}
+
+/// A rule with a blank before it.
+fn push_rule(out: &mut Vec<u8>, rule: &Rule) -> Result<(), AllocError>
+    ensures ok { OnOk result (out.new.items ≡ out.old.items ++ 32 ∷ rule_text rule.now) }
+    ensures err { OnErr result (IsGrown out.old.items out.new.items) }
+{
+    match rule {
+        Rule::InitiatedSegments => push_field(out, b"initiated_segments"),
+        Rule::ReferencingDir => push_field(out, b"referencing_dir"),
+        Rule::WorkingDir => push_field(out, b"working_dir"),
+        Rule::Directory(path) => {
+            out.extend_from_slice(b" ")?;
+            path.append_to(out)
+        }
+    }
+}
+
+/// `WORD S`
+fn push_segno(out: &mut Vec<u8>, word: &[u8], segno: u16) -> Result<(), AllocError>
+    ensures ok { OnOk result (out.new.items ≡ out.old.items ++ line_of (word.now ∷ octal segno ∷ [])) }
+    ensures err { OnErr result (IsGrown out.old.items out.new.items) }
+{
+    out.extend_from_slice(word)?;
+    out.extend_from_slice(b" ")?;
+    write_octal(out, u64::from(segno))
 }
 
 /// `WORD PATH TARGET`

@@ -1,13 +1,23 @@
-use Rattle.std.proofs.Common.{sym, ap, subst, ◌∙◌, List}
-use Rattle.mx_kst.specs.declared.lots.Lot.{Lot}
+use Rattle.std.proofs.Common.{◌≡◌, ℕ, ◌==◌, sym, ap, subst, ◌∙◌}
+use Rattle.indexmap.specs.IndexMap.{get}
 use Rattle.mx_kst.specs.Lots.{number_of}
 use Rattle.mx_kst.specs.KnownSegments.{KnownSegments, IsSound}
+use Rattle.mx_kst.proofs.IndexLaws.{number_by}
 use Rattle.mx_kst.proofs.SoundLaws.{number_is}
 use Rattle.mx_kst.proofs.segments.Kst.by_uid.Goals as goal
+
+is : (c : goal.After-copied) → c.copied.result ≡ number_of c.args.self.now.lots c.args.uid
+is c =
+    let k : KnownSegments = record { lots = c.self.inside.lots.items; names = c.self.inside.names.items } in
+    c.copied.ensures ∙ c.get.ensures.value
+    ∙ number_by k (get ◌==◌ c.self.inside.numbers) c.args.uid c.self.invariant.0 c.self.invariant.2
+    ∙ ap (λ (s : KnownSegments). number_of s.lots c.args.uid) c.self.view_is
+
+pub returns-clause-value : goal.returns-clause-value
+returns-clause-value c = is c
 
 pub returns-clause-only : goal.returns-clause-only
 returns-clause-only c = λ n.
     let sound = subst IsSound c.self.view_is c.self.invariant.0 in
     let law = number_is c.args.self.now sound c.args.uid n in
-    let is = c.number_of.ensures ∙ ap (λ (xs : List Lot). number_of xs c.args.uid) (c.deref.ensures.value ∙ ap (λ (k : KnownSegments). k.lots) c.self.view_is) in
-    (λ e. law.0 (sym is ∙ e), λ p. is ∙ law.1 p)
+    (λ e. law.0 (sym (is c) ∙ e), λ p. is c ∙ law.1 p)

@@ -1,10 +1,14 @@
-use Rattle.std.proofs.Common.{◌≡◌, true, List, is_some, None, rules, arith, ap, sym, ◌∙◌}
+use Rattle.std.proofs.Common.{◌≡◌, ◌≤◌, ◌==◌, subst, true, List, is_some, None, rules, arith, ap, sym, ◌∙◌}
 use Rattle.std.specs.Option.{option_copied}
 use Rattle.std.proofs.lemmas.List.{with_items_is}
+use Rattle.indexmap.specs.IndexMap.{get, spare}
+use Rattle.mx_kst.specs.declared.lots.Lot.{Lot}
 use Rattle.mx_kst.specs.declared.segments.Known.{Known}
 use Rattle.mx_kst.specs.Names.{RingNames}
 use Rattle.mx_kst.specs.Initiating.{refusal, known_as, lots_with, with_name}
 use Rattle.mx_kst.specs.KnownSegments.{KnownSegments}
+use Rattle.mx_kst.specs.Lots.{numbers_left}
+use Rattle.mx_kst.proofs.IndexLaws.{initiated_index, room_after}
 use Rattle.mx_kst.proofs.InitiateLaws.{not_full, sound_after}
 use Rattle.mx_kst.proofs.segments.Kst.initiate.Goals as goal
 
@@ -22,4 +26,10 @@ invariant_of-self-2 c =
     ∙ c.in_ok-add_name.ensures.ok
     ∙ ap (λ (x : Known). with_name c.deref_mut.result.now c.args.ring name x.segno) known
     ∙ ap (λ (xs : List RingNames). with_name xs c.args.ring name (known_as k.lots c.args.uid c.args.section).segno) c.deref_mut.ensures.value in
-    (sound_after k c.args.uid c.args.ring name c.args.section _ _ c.self.invariant.0 room fits lots names, omega (arith, c.add_lots.ensures.room))
+    (
+      sound_after k c.args.uid c.args.ring name c.args.section _ _ c.self.invariant.0 room fits lots names,
+      omega (arith, c.add_lots.ensures.room),
+      initiated_index (get ◌==◌ c.self.inside.numbers) _ k.lots _ c.args.uid c.args.section c.known_as-known.result c.self.invariant.2 known lots c.add_number.ensures.numbers,
+      subst (λ (xs : List Lot). numbers_left xs ≤ spare c.add_number.new.numbers) (sym c.add_lots.ensures.lots)
+          (room_after k.lots c.known_as-known.result c.args.uid c.args.section (spare c.self.inside.numbers) _ c.self.invariant.3 c.add_number.ensures.room),
+    )
