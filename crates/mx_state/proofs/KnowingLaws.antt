@@ -4,7 +4,7 @@ use Rattle.std.specs.List.{All}
 use Rattle.std.proofs.lemmas.Bool.{cases_eq, cases_lt, ne_eqb, ltb-false, true≢false}
 use Rattle.std.proofs.lemmas.List.{get_or_append_left, get_or_past}
 use Rattle.mx_core.specs.declared.changes.Change.{Change}
-use Rattle.mx_name.specs.Answers as name
+use Rattle.mx_name.specs.Answers as reply
 use Rattle.mx_name.specs.Principals.{PlainPrincipal}
 use Rattle.mx_sdw.specs.Admissible.{IsAdmissible}
 use Rattle.mx_sdw.specs.Descriptors.{Descriptor, unknown_desc}
@@ -48,6 +48,7 @@ use Rattle.mx_state.specs.Sound.{IsSound, IsSoundProcess, HoldsSound}
 use Rattle.mx_state.specs.Table.{descriptor, standing_desc}
 use Rattle.mx_state.proofs.AnswerLaws.{plain_state, nothing_is_bounded}
 use Rattle.mx_state.proofs.Descriptors.{process_at_place, descriptor_at, nothing_changes, one_changes, changes_are_bounded}
+use Rattle.mx_state.proofs.Lists.{set_again}
 use Rattle.mx_state.proofs.NumberLaws.{stands_within}
 use Rattle.mx_state.proofs.ProcessLaws.{in_place, replaced_is_sound, there_again, others_stay, kept_changes, to_process}
 use Rattle.mx_state.proofs.RenewingLaws.{renewing_two}
@@ -56,20 +57,25 @@ use Rattle.mx_state.proofs.RenewingLaws.{renewing_two}
 abbrev pub knower : ProcessState → KnownSegments → ProcessState
 knower process k = record process { known = k }
 
+-- a process whose table is as it was
+pub as_before : (processes : List ProcessState) (i : ℕ) (process now : ProcessState) (k : KnownSegments) → now ≡ process → k ≡ now.known
+    → slice_get processes i ≡ Some process → slice_set processes i (knower now k) ≡ processes
+as_before processes i process now k same e there = rw (e, same) (set_again processes i process there)
+
 -- what the table's answer means
 module _ (k : KnownSegments) (uid ring : ℕ) (name : Option (List ℕ)) where
-  meant_by : (a b : Bool) → Result Initiated Refusal
+  abbrev pub meant_by : (a b : Bool) → Result Initiated Refusal
   meant_by a b = unless (cond a (Some NameDup) (cond b (Some KstFull) None)) (initiated k uid ring name None)
 
-  asked_by : (a b : Bool) → Result Initiated KstError
-  asked_by a b = name.unless (cond a (Some error.NameDup) (cond b (Some error.Full) None)) (initiated k uid ring name None)
+  abbrev pub asked_by : (a b : Bool) → Result Initiated KstError
+  asked_by a b = reply.unless (cond a (Some error.NameDup) (cond b (Some error.Full) None)) (initiated k uid ring name None)
 
   pub is_known : (known : Known) (after : KnownSegments)
-      → name.Answers error.Memory (kst.initiate k uid ring name None) (Ok (record { known = known; after = after }))
+      → reply.Answers error.Memory (kst.initiate k uid ring name None) (Ok (record { known = known; after = after }))
       → known_then k ring name uid ≡ Ok (record { known = known; after = after })
   is_known known after answers = by_tests (is_taken k uid ring name) (is_full k uid false) answers
     where
-      by_tests : (a b : Bool) → name.Answers error.Memory (asked_by a b) (Ok (record { known = known; after = after }))
+      by_tests : (a b : Bool) → reply.Answers error.Memory (asked_by a b) (Ok (record { known = known; after = after }))
           → meant_by a b ≡ Ok (record { known = known; after = after })
       by_tests true b (inl e) = absurd (cc)
       by_tests false true (inl e) = absurd (cc)
@@ -77,19 +83,19 @@ module _ (k : KnownSegments) (uid ring : ℕ) (name : Option (List ℕ)) where
           let same : record { known = known; after = after } ≡ initiated k uid ring name None = cc in ap Ok (sym same)
       by_tests a b (inr e) = let f = e.0 in absurd (cc)
 
-  pub is_taken_name : name.Answers error.Memory (kst.initiate k uid ring name None) (Err error.NameDup) → known_then k ring name uid ≡ Err NameDup
+  pub is_taken_name : reply.Answers error.Memory (kst.initiate k uid ring name None) (Err error.NameDup) → known_then k ring name uid ≡ Err NameDup
   is_taken_name answers = by_tests (is_taken k uid ring name) (is_full k uid false) answers
     where
-      by_tests : (a b : Bool) → name.Answers error.Memory (asked_by a b) (Err error.NameDup) → meant_by a b ≡ Err NameDup
+      by_tests : (a b : Bool) → reply.Answers error.Memory (asked_by a b) (Err error.NameDup) → meant_by a b ≡ Err NameDup
       by_tests true b (inl e) = refl
       by_tests false true (inl e) = absurd (cc)
       by_tests false false (inl e) = absurd (cc)
       by_tests a b (inr e) = let f = e.0 in absurd (cc)
 
-  pub is_full_table : name.Answers error.Memory (kst.initiate k uid ring name None) (Err error.Full) → known_then k ring name uid ≡ Err KstFull
+  pub is_full_table : reply.Answers error.Memory (kst.initiate k uid ring name None) (Err error.Full) → known_then k ring name uid ≡ Err KstFull
   is_full_table answers = by_tests (is_taken k uid ring name) (is_full k uid false) answers
     where
-      by_tests : (a b : Bool) → name.Answers error.Memory (asked_by a b) (Err error.Full) → meant_by a b ≡ Err KstFull
+      by_tests : (a b : Bool) → reply.Answers error.Memory (asked_by a b) (Err error.Full) → meant_by a b ≡ Err KstFull
       by_tests true b (inl e) = absurd (cc)
       by_tests false true (inl e) = refl
       by_tests false false (inl e) = absurd (cc)
@@ -177,7 +183,7 @@ lots_apart lots uid m apart = elim (cases_lt m (length lots)) [
 -- a segment that is new changes the descriptor of the number that it gets, and one that is known changes none
 module _ (s : Plain) (p i : ℕ) (process : ProcessState) (uid : ℕ) (own : Segment) (first : 1 ≤ p) (here : p - 1 ≡ i)
     (e : slice_get s.processes i ≡ Some process) (there : segment_at s.hierarchy uid ≡ Some own) where
-  desc : Descriptor
+  abbrev pub desc : Descriptor
   desc = desc_of s.hierarchy uid process.principal
 
   fresh_changes : (names : List RingNames) → length process.known.lots ≤ 127

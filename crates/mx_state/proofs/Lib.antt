@@ -1,9 +1,11 @@
 pub mod Lists
 pub mod NumberLaws
+pub mod SectionLaws
 pub mod OpeningLaws
 pub mod SegmentLaws
 pub mod Descriptors
 pub mod AnswerLaws
 pub mod ProcessLaws
 pub mod RenewingLaws
+pub mod KnowingLaws
 pub mod LeavingLaws

@@ -1,5 +1,5 @@
 -- What stands in a list after a write and after a push, and lists of one item.
-use Rattle.std.proofs.Common.{◌≡◌, ◌⊎◌, ◌<◌, ℕ, zero, suc, List, [], ◌∷◌, ◌++◌, length, Some, inl, inr, refl, ap, slice_set, slice_get, arith}
+use Rattle.std.proofs.Common.{◌≡◌, ◌⊎◌, ◌<◌, ℕ, zero, suc, List, [], ◌∷◌, ◌++◌, length, Some, inl, inr, refl, ap, sym, slice_set, slice_get, slice_index_or, arith}
 use Rattle.std.specs.List.{Contains, AllPairs}
 
 pub slice_get-set : {X : Type 0} (xs : List X) (k i : ℕ) (y x : X) → slice_get (slice_set xs k y) i ≡ Some x
@@ -67,3 +67,14 @@ pub some_in : {X : Type 0} (xs : List X) (i : ℕ) → i < length xs → (x : X)
 some_in [] i l = absurd (omega arith)
 some_in (x ∷ xs) zero l = (x, refl)
 some_in (x ∷ xs) (suc i) l = some_in xs i (omega arith)
+
+-- what is read at a place, and written there again
+pub index_is : {X : Type 0} (xs : List X) (k : ℕ) (x d : X) → slice_get xs k ≡ Some x → slice_index_or xs k d ≡ x
+index_is [] k x d e = cc
+index_is (y ∷ ys) zero x d e = cc
+index_is (y ∷ ys) (suc k) x d e = index_is ys k x d e
+
+pub set_again : {X : Type 0} (xs : List X) (k : ℕ) (x : X) → slice_get xs k ≡ Some x → slice_set xs k x ≡ xs
+set_again [] k x e = cc
+set_again (y ∷ ys) zero x e = let same : y ≡ x = cc in ap (λ z. z ∷ ys) (sym same)
+set_again (y ∷ ys) (suc k) x e = ap (λ zs. y ∷ zs) (set_again ys k x e)

@@ -1,5 +1,5 @@
 -- The state before any entry is sound.
-use Rattle.std.proofs.Common.{◌≡◌, ◌≤◌, ℕ, zero, suc, List, [], ◌∷◌, length, map, Some, subst, slice_get, arith}
+use Rattle.std.proofs.Common.{◌≡◌, ◌≤◌, ℕ, zero, suc, List, [], ◌∷◌, length, map, Some, refl, subst, slice_get, arith}
 use Rattle.std.proofs.lemmas.List.{length-map}
 use Rattle.mx_name.specs.Principals.{PlainPrincipal}
 use Rattle.std.specs.List.{range_with_len}

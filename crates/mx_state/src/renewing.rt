@@ -51,18 +51,18 @@ pub(crate) fn held_two(
     ensures { IfOk result (λ held. held.items
         ≡ held_two (record { hierarchy = hier.now; processes = processes.now }) p segno) }
 {
-    vec![in alloc;
-        Change {
-            process: p,
-            segno,
-            desc: descriptor(hier, processes, p, segno),
-        },
-        Change {
-            process: p,
-            segno: segno + 1,
-            desc: descriptor(hier, processes, p, segno + 1),
-        },
-    ]
+    let own = Change {
+        process: p,
+        segno,
+        desc: descriptor(hier, processes, p, segno),
+    };
+    let next = Change {
+        process: p,
+        segno: segno + 1,
+        desc: descriptor(hier, processes, p, segno + 1),
+    };
+    let held = vec![in alloc; own, next]?;
+    Ok(held)
 }
 
 /// Those of the held descriptors that are others now, as they are now. Takes no memory but the room that is given.

@@ -3,7 +3,7 @@ use Rattle.mx_hier.specs.ChangeWorkingDirectory.{directory}
 use Rattle.mx_request.specs.declared.requests.Request.TheVariants as ask
 use Rattle.mx_request.specs.declared.replies.Reply.TheVariants.{Done}
 use Rattle.mx_state.specs.Askers.{caller}
-use Rattle.mx_state.specs.Knowing.{change_wdir}
+use Rattle.mx_state.specs.OwnState.{change_wdir}
 use Rattle.mx_state.proofs.AnswerLaws.{plain_state, of_old}
 use Rattle.mx_state.proofs.ProcessLaws.{kept_holds, kept_serves}
 use Rattle.mx_state.proofs.states.State.change_wdir.Goals as goal

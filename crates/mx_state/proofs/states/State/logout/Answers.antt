@@ -1,7 +1,7 @@
 use Rattle.std.proofs.Common.{◌-◌, ◌<◌, length, true, refl, arith}
 use Rattle.mx_request.specs.declared.requests.Request.TheVariants as ask
 use Rattle.mx_request.specs.declared.replies.Reply.TheVariants.{Done}
-use Rattle.mx_state.specs.Knowing.{logout}
+use Rattle.mx_state.specs.OwnState.{logout}
 use Rattle.mx_state.proofs.AnswerLaws.{plain_state, of_old}
 use Rattle.mx_state.proofs.ProcessLaws.{kept_holds, kept_serves}
 use Rattle.mx_state.proofs.states.State.logout.Goals as goal
