@@ -13,9 +13,9 @@ use Rattle.mx_sdw.specs.Octal.{octal}
 use Rattle.mx_search.specs.Rules.{rules_of}
 use Rattle.mx_search.specs.declared.rules.Rule.{Rule}
 use Rattle.mx_request.specs.declared.requests.Request.{Request}
-use Rattle.mx_request.specs.declared.requests.Request.TheVariants.{CreateDir, CreateSeg, CreateLink, Rename, Delete, SetAcl, DelAcl, SetBrackets, SetDirBrackets, Status, List as ListNames, ChangeWdir, SetRules, Initiate, Terminate, Logout}
+use Rattle.mx_request.specs.declared.requests.Request.TheVariants.{CreateDir, CreateSeg, CreateLink, Rename, Delete, SetAcl, DelAcl, SetBrackets, SetDirBrackets, Status, List as ListNames, ChangeWdir, SetRules, Initiate, Link, Terminate, Logout}
 use Rattle.mx_request.specs.declared.reading.kinds.Kind.{Kind}
-use Rattle.mx_request.specs.declared.reading.kinds.Kind.TheVariants.{CreateDir as OfCreateDir, CreateSeg as OfCreateSeg, CreateLink as OfCreateLink, Rename as OfRename, Delete as OfDelete, SetAcl as OfSetAcl, DelAcl as OfDelAcl, SetBrackets as OfSetBrackets, SetDirBrackets as OfSetDirBrackets, Status as OfStatus, List as OfList, ChangeWdir as OfChangeWdir, SetRules as OfSetRules, Initiate as OfInitiate, Terminate as OfTerminate}
+use Rattle.mx_request.specs.declared.reading.kinds.Kind.TheVariants.{CreateDir as OfCreateDir, CreateSeg as OfCreateSeg, CreateLink as OfCreateLink, Rename as OfRename, Delete as OfDelete, SetAcl as OfSetAcl, DelAcl as OfDelAcl, SetBrackets as OfSetBrackets, SetDirBrackets as OfSetDirBrackets, Status as OfStatus, List as OfList, ChangeWdir as OfChangeWdir, SetRules as OfSetRules, Initiate as OfInitiate, Link as OfLink, Terminate as OfTerminate}
 use Rattle.mx_request.specs.Fields.{line_of, ring_text}
 use Rattle.mx_request.specs.Kinds.{kind_word}
 use Rattle.mx_request.specs.Reading.{create_dir_at, create_seg_at, create_link_at, rename_at, set_acl_at, del_acl_at, set_brackets_at, set_dir_brackets_at, set_rules_at, initiate_at, terminate_at, fields_at, request_at}
@@ -24,6 +24,7 @@ use Rattle.mx_request.proofs.StepLaws.{both, some_is}
 use Rattle.mx_name.proofs.CutLaws.{cut_again}
 use Rattle.mx_request.proofs.FieldLaws.{words_again, words_free, ring_again, ring_free, brackets_again, brackets_behind, segno_again}
 use Rattle.mx_request.proofs.RuleLaws.{cut_none, rules_again, rules_behind}
+use Rattle.mx_request.proofs.AddressLaws.{link_again}
 use Rattle.mx_request.proofs.KindLaws.{kind_again, kind_bytes, kind_not_logout}
 use Rattle.mx_request.proofs.TakenLaws.{faultless, path_again, path_free, id_again, id_free, request_takes}
 
@@ -158,6 +159,7 @@ request_again (ChangeWdir path) e = by_kind OfChangeWdir path ∙ rw (path_again
 request_again (SetRules rules) e = set_rules_again rules e
 request_again (Initiate path name) e = initiate_again path name e
 request_again (Terminate segno) e = by_kind OfTerminate (octal segno) ∙ rw (segno_again segno e) refl
+request_again (Link segno word) e = by_kind OfLink _ ∙ link_again segno word e
 request_again Logout e = logout_again
 
 -- two requests that fit and have one line are the same

@@ -2,7 +2,7 @@
 use Rattle.std.proofs.Common.{◌≡◌, ℕ, List, [], ◌∷◌, get_or, refl, subst, arith}
 use Rattle.std.specs.List.{Contains}
 use Rattle.mx_request.specs.declared.requests.Request.{Request}
-use Rattle.mx_request.specs.declared.requests.Request.TheVariants.{CreateDir, CreateSeg, CreateLink, Rename, Delete, SetAcl, DelAcl, SetBrackets, SetDirBrackets, Status, List as ListNames, ChangeWdir, SetRules, Initiate, Terminate, Logout}
+use Rattle.mx_request.specs.declared.requests.Request.TheVariants.{CreateDir, CreateSeg, CreateLink, Rename, Delete, SetAcl, DelAcl, SetBrackets, SetDirBrackets, Status, List as ListNames, ChangeWdir, SetRules, Initiate, Link, Terminate, Logout}
 use Rattle.mx_request.specs.Classes.{class_of, words_of}
 use Rattle.mx_request.specs.RequestTexts.{request_fields}
 
@@ -23,6 +23,7 @@ first_word (SetRules rules) = (1, omega arith, refl)
 first_word (Initiate path name) = (2, omega arith, refl)
 first_word (Terminate segno) = (3, omega arith, refl)
 first_word Logout = (4, omega arith, refl)
+first_word (Link segno word) = (0, omega arith, refl)
 
 -- the first word of a request's line is among those of its class
 pub word_of_class : (request : Request) (word : List ℕ) (fields : List (List ℕ)) → request_fields request ≡ word ∷ fields

@@ -10,9 +10,10 @@ use Rattle.mx_name.specs.Principals.{is_principal_byte}
 use Rattle.mx_acl.proofs.ModesLaws.{modes_is_free}
 use Rattle.mx_search.specs.declared.rules.Rule.{Rule}
 use Rattle.mx_request.specs.declared.requests.Request.{Request}
-use Rattle.mx_request.specs.declared.requests.Request.TheVariants.{CreateDir, CreateSeg, CreateLink, Rename, Delete, SetAcl, DelAcl, SetBrackets, SetDirBrackets, Status, List as ListNames, ChangeWdir, SetRules, Initiate, Terminate, Logout}
+use Rattle.mx_request.specs.declared.requests.Request.TheVariants.{CreateDir, CreateSeg, CreateLink, Rename, Delete, SetAcl, DelAcl, SetBrackets, SetDirBrackets, Status, List as ListNames, ChangeWdir, SetRules, Initiate, Link, Terminate, Logout}
 use Rattle.mx_request.specs.declared.reading.kinds.Kind.{Kind}
-use Rattle.mx_request.specs.declared.reading.kinds.Kind.TheVariants.{CreateDir as OfCreateDir, CreateSeg as OfCreateSeg, CreateLink as OfCreateLink, Rename as OfRename, Delete as OfDelete, SetAcl as OfSetAcl, DelAcl as OfDelAcl, SetBrackets as OfSetBrackets, SetDirBrackets as OfSetDirBrackets, Status as OfStatus, List as OfList, ChangeWdir as OfChangeWdir, SetRules as OfSetRules, Initiate as OfInitiate, Terminate as OfTerminate}
+use Rattle.mx_request.specs.declared.reading.kinds.Kind.TheVariants.{CreateDir as OfCreateDir, CreateSeg as OfCreateSeg, CreateLink as OfCreateLink, Rename as OfRename, Delete as OfDelete, SetAcl as OfSetAcl, DelAcl as OfDelAcl, SetBrackets as OfSetBrackets, SetDirBrackets as OfSetDirBrackets, Status as OfStatus, List as OfList, ChangeWdir as OfChangeWdir, SetRules as OfSetRules, Initiate as OfInitiate, Link as OfLink, Terminate as OfTerminate}
+use Rattle.mx_sdw.specs.Octal.{is_octal_digit}
 use Rattle.mx_request.specs.Fields.{line_of, ring_text}
 use Rattle.mx_request.specs.Kinds.{kind_word}
 use Rattle.mx_request.specs.Reading.{is_digit}
@@ -20,6 +21,7 @@ use Rattle.mx_request.specs.RequestTexts.{request_text, request_fields, rule_tex
 use Rattle.mx_request.proofs.StepLaws.{both, both_hold}
 use Rattle.mx_request.proofs.FieldLaws.{words_free, ring_free, segno_free}
 use Rattle.mx_request.proofs.RuleLaws.{rule_free}
+use Rattle.mx_request.proofs.AddressLaws.{address_free}
 use Rattle.mx_request.proofs.KindLaws.{kind_bytes}
 use Rattle.mx_request.proofs.TakenLaws.{faultless}
 
@@ -29,6 +31,8 @@ pub record IsForeign (byte : ℕ) : Type 0 where
   pub no_pathname : is_pathname_byte byte ≡ false
   pub no_component : is_principal_byte byte ≡ false
   pub no_digit : is_digit byte ≡ false
+  pub no_octal_digit : is_octal_digit byte ≡ false
+  pub no_bar : (124 == byte) ≡ false
   pub no_letter : ltb 96 byte ≡ false
   pub no_dot : (46 == byte) ≡ false
   pub no_star : (42 == byte) ≡ false
@@ -122,6 +126,9 @@ fields_free byte foreign (Initiate path name) e =
     both_hold _ _ (word_free byte foreign OfInitiate) (both_hold _ _ (path_fields byte foreign path f.0) (name_free byte foreign name f.1))
 fields_free byte foreign (Terminate segno) e =
     both_hold _ _ (word_free byte foreign OfTerminate) (both_hold _ _ (segno_free byte segno foreign.no_digit) refl)
+fields_free byte foreign (Link segno word) e =
+    both_hold _ _ (word_free byte foreign OfLink)
+    (both_hold _ _ (address_free byte segno word foreign.no_octal_digit foreign.no_bar) refl)
 fields_free byte foreign Logout e = both_hold _ _ (all_free is_name_byte byte (codes "logout") foreign.no_name refl) refl
 
 pub request_free : (byte : ℕ) → IsForeign byte → (request : Request) → fits_request request ≡ true → is_free byte (request_text request) ≡ true
@@ -136,6 +143,8 @@ newline_free request e = request_free 10 newline request e
       no_pathname = refl;
       no_component = refl;
       no_digit = refl;
+      no_octal_digit = refl;
+      no_bar = refl;
       no_letter = refl;
       no_dot = refl;
       no_star = refl;

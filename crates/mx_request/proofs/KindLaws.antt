@@ -4,7 +4,7 @@ use Rattle.std.specs.List.{find, list_all}
 use Rattle.std.specs.Cmp.Lexicographic.{pointwise, same_text}
 use Rattle.mx_name.specs.Names.{is_name_byte}
 use Rattle.mx_request.specs.declared.reading.kinds.Kind.{Kind}
-use Rattle.mx_request.specs.declared.reading.kinds.Kind.TheVariants.{CreateDir, CreateSeg, CreateLink, Rename, Delete, SetAcl, DelAcl, SetBrackets, SetDirBrackets, Status, List as ListNames, ChangeWdir, SetRules, Initiate, Terminate}
+use Rattle.mx_request.specs.declared.reading.kinds.Kind.TheVariants.{CreateDir, CreateSeg, CreateLink, Rename, Delete, SetAcl, DelAcl, SetBrackets, SetDirBrackets, Status, List as ListNames, ChangeWdir, SetRules, Initiate, Link, Terminate}
 use Rattle.mx_request.specs.Kinds.{kind_of, kind_word, all_kinds}
 use Rattle.mx_request.proofs.StepLaws.{some_is}
 
@@ -36,6 +36,7 @@ kind_again ChangeWdir = refl
 kind_again SetRules = refl
 kind_again Initiate = refl
 kind_again Terminate = refl
+kind_again Link = refl
 
 pub kind_bytes : (kind : Kind) → list_all is_name_byte (kind_word kind) ≡ true
 kind_bytes CreateDir = refl
@@ -53,6 +54,7 @@ kind_bytes ChangeWdir = refl
 kind_bytes SetRules = refl
 kind_bytes Initiate = refl
 kind_bytes Terminate = refl
+kind_bytes Link = refl
 
 pub kind_not_logout : (kind : Kind) (text : List ℕ) → pointwise ◌==◌ (kind_word kind ++ 32 ∷ text) (codes "logout") ≡ false
 kind_not_logout CreateDir text = refl
@@ -70,3 +72,4 @@ kind_not_logout ChangeWdir text = refl
 kind_not_logout SetRules text = refl
 kind_not_logout Initiate text = refl
 kind_not_logout Terminate text = refl
+kind_not_logout Link text = refl

@@ -1,6 +1,7 @@
 pub mod StepLaws
 pub mod FieldLaws
 pub mod RuleLaws
+pub mod AddressLaws
 pub mod KindLaws
 pub mod ClassLaws
 pub mod TakenLaws

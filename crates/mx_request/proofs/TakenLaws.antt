@@ -14,18 +14,19 @@ use Rattle.mx_acl.specs.Modes.{modes_text, modes_of_text}
 use Rattle.mx_search.specs.Rules.{rules_of}
 use Rattle.mx_search.specs.declared.rules.Rule.{Rule}
 use Rattle.mx_request.specs.declared.requests.Request.{Request}
-use Rattle.mx_request.specs.declared.requests.Request.TheVariants.{Delete, Status, List as ListNames, ChangeWdir, SetRules, Initiate, Terminate, Logout}
+use Rattle.mx_request.specs.declared.requests.Request.TheVariants.{Delete, Status, List as ListNames, ChangeWdir, SetRules, Initiate, Link, Terminate, Logout}
 use Rattle.mx_request.specs.declared.reading.kinds.Kind.{Kind}
-use Rattle.mx_request.specs.declared.reading.kinds.Kind.TheVariants.{CreateDir as OfCreateDir, CreateSeg as OfCreateSeg, CreateLink as OfCreateLink, Rename as OfRename, Delete as OfDelete, SetAcl as OfSetAcl, DelAcl as OfDelAcl, SetBrackets as OfSetBrackets, SetDirBrackets as OfSetDirBrackets, Status as OfStatus, List as OfList, ChangeWdir as OfChangeWdir, SetRules as OfSetRules, Initiate as OfInitiate, Terminate as OfTerminate}
+use Rattle.mx_request.specs.declared.reading.kinds.Kind.TheVariants.{CreateDir as OfCreateDir, CreateSeg as OfCreateSeg, CreateLink as OfCreateLink, Rename as OfRename, Delete as OfDelete, SetAcl as OfSetAcl, DelAcl as OfDelAcl, SetBrackets as OfSetBrackets, SetDirBrackets as OfSetDirBrackets, Status as OfStatus, List as OfList, ChangeWdir as OfChangeWdir, SetRules as OfSetRules, Initiate as OfInitiate, Link as OfLink, Terminate as OfTerminate}
 use Rattle.mx_name.specs.Cuts.{cut_at}
 use Rattle.mx_request.specs.Fields.{line_of, ring_text}
 use Rattle.mx_request.specs.Kinds.{kind_of, kind_word}
-use Rattle.mx_request.specs.Reading.{decimal_number, ring_at, brackets_at, create_dir_at, create_seg_at, create_link_at, rename_at, delete_at, set_acl_at, del_acl_at, set_brackets_at, set_dir_brackets_at, status_at, list_at, change_wdir_at, rules_at, set_rules_at, initiate_by, initiate_at, terminate_at, fields_at, worded_at, request_at}
+use Rattle.mx_request.specs.Reading.{decimal_number, ring_at, brackets_at, create_dir_at, create_seg_at, create_link_at, rename_at, delete_at, set_acl_at, del_acl_at, set_brackets_at, set_dir_brackets_at, status_at, list_at, change_wdir_at, rules_at, set_rules_at, initiate_by, initiate_at, link_at, terminate_at, fields_at, worded_at, request_at}
 use Rattle.mx_request.specs.RequestTexts.{request_text, rule_text, is_pathname, is_identifier, is_rule, is_segno, are_rules, fits_request}
 use Rattle.mx_request.proofs.StepLaws.{both, both_hold, some_is, bind_some, when_some}
 use Rattle.mx_name.proofs.CutLaws.{cut_takes}
 use Rattle.mx_request.proofs.FieldLaws.{words_takes, ring_takes, brackets_takes, segno_takes}
 use Rattle.mx_request.proofs.RuleLaws.{AreText, rules_take}
+use Rattle.mx_request.proofs.AddressLaws.{link_reads}
 use Rattle.mx_request.proofs.KindLaws.{kind_takes}
 
 -- a line spells a request that fits
@@ -260,6 +261,12 @@ terminate_takes text request e =
     subst (IsLine (codes "terminate" ++ 32 ∷ text)) (some_is _ _ segno.2)
     (record { spelled = ap (λ xs. codes "terminate" ++ 32 ∷ xs) a.0; fits = a.1 })
 
+link_takes : (text : List ℕ) (request : Request) → link_at text ≡ Some request → IsLine (codes "link" ++ 32 ∷ text) request
+link_takes text request e =
+    let a = link_reads text request e in
+    subst (IsLine (codes "link" ++ 32 ∷ text)) a.is
+    (record { spelled = ap (λ xs. codes "link" ++ 32 ∷ xs) a.spelled; fits = a.fits })
+
 fields_takes : (kind : Kind) (text : List ℕ) (request : Request) → fields_at kind text ≡ Some request → IsLine (kind_word kind ++ 32 ∷ text) request
 fields_takes OfCreateDir text request e = create_dir_takes text request e
 fields_takes OfCreateSeg text request e = create_seg_takes text request e
@@ -276,6 +283,7 @@ fields_takes OfChangeWdir text request e = change_wdir_takes text request e
 fields_takes OfSetRules text request e = set_rules_takes text request e
 fields_takes OfInitiate text request e = initiate_takes text request e
 fields_takes OfTerminate text request e = terminate_takes text request e
+fields_takes OfLink text request e = link_takes text request e
 
 word_takes : (line : List ℕ) (request : Request) (p : List ℕ × List ℕ) → cut_at 32 line ≡ Some p
     → (kind : Kind) × (kind_of p.0 ≡ Some kind) × (fields_at kind p.1 ≡ Some request) → IsLine line request

@@ -3,7 +3,7 @@ use Rattle.std.specs.Prelude.{ℕ, List, [], ◌∷◌, codes}
 use Rattle.mx_request.specs.declared.classes.RequestClass.{RequestClass}
 use Rattle.mx_request.specs.declared.classes.RequestClass.TheVariants.{OfPath, OfProcess, OfSupervisor}
 use Rattle.mx_request.specs.declared.requests.Request.{Request}
-use Rattle.mx_request.specs.declared.requests.Request.TheVariants.{CreateDir, CreateSeg, CreateLink, Rename, Delete, SetAcl, DelAcl, SetBrackets, SetDirBrackets, Status, List as ListNames, ChangeWdir, SetRules, Initiate, Terminate, Logout}
+use Rattle.mx_request.specs.declared.requests.Request.TheVariants.{CreateDir, CreateSeg, CreateLink, Rename, Delete, SetAcl, DelAcl, SetBrackets, SetDirBrackets, Status, List as ListNames, ChangeWdir, SetRules, Initiate, Link, Terminate, Logout}
 
 abbrev pub class_of : Request → RequestClass
 class_of (CreateDir path d1 d2) = OfPath
@@ -21,6 +21,7 @@ class_of (ChangeWdir path) = OfProcess
 class_of (SetRules rules) = OfProcess
 class_of (Initiate path name) = OfProcess
 class_of (Terminate segno) = OfProcess
+class_of (Link segno word) = OfSupervisor
 class_of Logout = OfProcess
 
 -- the same by the first words of their lines
@@ -30,4 +31,4 @@ words_of OfPath =
     ∷ codes "del_acl" ∷ codes "set_brackets" ∷ codes "set_dir_brackets" ∷ codes "status" ∷ codes "list" ∷ []
 words_of OfProcess =
     codes "change_wdir" ∷ codes "set_rules" ∷ codes "initiate" ∷ codes "terminate" ∷ codes "logout" ∷ []
-words_of OfSupervisor = []
+words_of OfSupervisor = codes "link" ∷ []

@@ -14,9 +14,9 @@ use Rattle.mx_search.specs.Rules.{rules_of}
 use Rattle.mx_search.specs.declared.rules.Rule.{Rule}
 use Rattle.mx_search.specs.declared.rules.Rule.TheVariants.{InitiatedSegments, ReferencingDir, WorkingDir, Directory}
 use Rattle.mx_request.specs.declared.requests.Request.{Request}
-use Rattle.mx_request.specs.declared.requests.Request.TheVariants.{CreateDir, CreateSeg, CreateLink, Rename, Delete, SetAcl, DelAcl, SetBrackets, SetDirBrackets, Status, List as ListNames, ChangeWdir, SetRules, Initiate, Terminate, Logout}
+use Rattle.mx_request.specs.declared.requests.Request.TheVariants.{CreateDir, CreateSeg, CreateLink, Rename, Delete, SetAcl, DelAcl, SetBrackets, SetDirBrackets, Status, List as ListNames, ChangeWdir, SetRules, Initiate, Link, Terminate, Logout}
 use Rattle.mx_request.specs.declared.reading.kinds.Kind.{Kind}
-use Rattle.mx_request.specs.declared.reading.kinds.Kind.TheVariants.{CreateDir as OfCreateDir, CreateSeg as OfCreateSeg, CreateLink as OfCreateLink, Rename as OfRename, Delete as OfDelete, SetAcl as OfSetAcl, DelAcl as OfDelAcl, SetBrackets as OfSetBrackets, SetDirBrackets as OfSetDirBrackets, Status as OfStatus, List as OfList, ChangeWdir as OfChangeWdir, SetRules as OfSetRules, Initiate as OfInitiate, Terminate as OfTerminate}
+use Rattle.mx_request.specs.declared.reading.kinds.Kind.TheVariants.{CreateDir as OfCreateDir, CreateSeg as OfCreateSeg, CreateLink as OfCreateLink, Rename as OfRename, Delete as OfDelete, SetAcl as OfSetAcl, DelAcl as OfDelAcl, SetBrackets as OfSetBrackets, SetDirBrackets as OfSetDirBrackets, Status as OfStatus, List as OfList, ChangeWdir as OfChangeWdir, SetRules as OfSetRules, Initiate as OfInitiate, Link as OfLink, Terminate as OfTerminate}
 use Rattle.mx_request.specs.Kinds.{kind_of}
 use Rattle.mx_request.specs.Steps.{◌>>=◌, when}
 
@@ -167,6 +167,13 @@ initiate_at text = initiate_by text (cut_at 32 text)
 abbrev pub terminate_at : List ℕ → Option Request
 terminate_at text = octal_number 4 text >>= λ segno. Some (Terminate segno)
 
+abbrev pub link_at : List ℕ → Option Request
+link_at text =
+    cut_at 124 text >>= λ p.
+    octal_number 4 p.0 >>= λ segno.
+    octal_number 5 p.1 >>= λ word.
+    when (nat_le word 16383) (Link segno word)
+
 -- the fields of a line of each kind
 abbrev pub fields_at : Kind → List ℕ → Option Request
 fields_at OfCreateDir text = create_dir_at text
@@ -184,6 +191,7 @@ fields_at OfChangeWdir text = change_wdir_at text
 fields_at OfSetRules text = set_rules_at text
 fields_at OfInitiate text = initiate_at text
 fields_at OfTerminate text = terminate_at text
+fields_at OfLink text = link_at text
 
 -- a line with a word and fields
 abbrev pub worded_at : List ℕ → Option Request

@@ -11,8 +11,8 @@ use Rattle.mx_acl.specs.Modes.{modes_text}
 use Rattle.mx_search.specs.declared.rules.Rule.{Rule}
 use Rattle.mx_search.specs.declared.rules.Rule.TheVariants.{InitiatedSegments, ReferencingDir, WorkingDir, Directory}
 use Rattle.mx_request.specs.declared.requests.Request.{Request}
-use Rattle.mx_request.specs.declared.requests.Request.TheVariants.{CreateDir, CreateSeg, CreateLink, Rename, Delete, SetAcl, DelAcl, SetBrackets, SetDirBrackets, Status, List as ListNames, ChangeWdir, SetRules, Initiate, Terminate, Logout}
-use Rattle.mx_request.specs.Fields.{line_of, ring_text}
+use Rattle.mx_request.specs.declared.requests.Request.TheVariants.{CreateDir, CreateSeg, CreateLink, Rename, Delete, SetAcl, DelAcl, SetBrackets, SetDirBrackets, Status, List as ListNames, ChangeWdir, SetRules, Initiate, Link, Terminate, Logout}
+use Rattle.mx_request.specs.Fields.{line_of, ring_text, address_text}
 
 -- a search rule: a directory is given by its path from the root
 abbrev pub rule_text : Rule → List ℕ
@@ -43,13 +43,14 @@ request_fields (ChangeWdir path) = codes "change_wdir" ∷ path ∷ []
 request_fields (SetRules rules) = codes "set_rules" ∷ map rule_text rules
 request_fields (Initiate path name) = codes "initiate" ∷ path ∷ name_fields name
 request_fields (Terminate segno) = codes "terminate" ∷ octal segno ∷ []
+request_fields (Link segno word) = codes "link" ∷ address_text segno word ∷ []
 request_fields Logout = codes "logout" ∷ []
 
 abbrev pub request_text : Request → List ℕ
 request_text request = line_of (request_fields request)
 
 -- What a line may say: pathnames, names and identifiers of their grammar, rings to 7, three brackets (in any order),
--- WORDS of at most five digits, segment numbers to octal 7777, and 1 to 16 search rules.
+-- WORDS of at most five digits, segment numbers to octal 7777, addresses to octal 7777|37777, and 1 to 16 search rules.
 abbrev pub is_pathname : List ℕ → Bool
 is_pathname path = is_none (pathname_fault path)
 
@@ -84,6 +85,9 @@ is_rule (Directory path) = is_path path
 abbrev pub are_rules : List Rule → Bool
 are_rules rules = nat_le 1 (length rules) && (nat_le (length rules) 16 && list_all is_rule rules)
 
+abbrev pub is_word_address : ℕ → ℕ → Bool
+is_word_address segno word = nat_le segno 4095 && nat_le word 16383
+
 abbrev pub fits_request : Request → Bool
 fits_request (CreateDir path d1 d2) = is_pathname path && (is_ring d1 && is_ring d2)
 fits_request (CreateSeg path words brackets) = is_pathname path && (nat_le words 99999 && are_brackets brackets)
@@ -100,4 +104,5 @@ fits_request (ChangeWdir path) = is_pathname path
 fits_request (SetRules rules) = are_rules rules
 fits_request (Initiate path name) = is_pathname path && is_name_or_none name
 fits_request (Terminate segno) = is_segno segno
+fits_request (Link segno word) = is_word_address segno word
 fits_request Logout = true

@@ -13,7 +13,7 @@ pub enum RequestClass {
     OfPath,
     /// On the state of a process: the process alone makes it.
     OfProcess,
-    /// Entered by the supervisor for a process; no line of a session asks for it. No request yet.
+    /// Entered for a process on the way of another line; no line of a session asks for it.
     OfSupervisor,
 }
 
@@ -38,6 +38,7 @@ impl Request {
             Request::SetRules { .. } => RequestClass::OfProcess,
             Request::Initiate { .. } => RequestClass::OfProcess,
             Request::Terminate { .. } => RequestClass::OfProcess,
+            Request::Link { .. } => RequestClass::OfSupervisor,
             Request::Logout => RequestClass::OfProcess,
         }
     }

@@ -1,7 +1,7 @@
 //! What a line is read as.
 
 ghost use Rattle.std.specs.Prelude.{◌≡◌, None, IfOk};
-ghost use Rattle.mx_request.specs.Reading.{create_dir_at, create_seg_at, create_link_at, rename_at, delete_at, set_acl_at, del_acl_at, set_brackets_at, set_dir_brackets_at, status_at, list_at, change_wdir_at, set_rules_at, initiate_by, initiate_at, terminate_at, fields_at, request_at};
+ghost use Rattle.mx_request.specs.Reading.{create_dir_at, create_seg_at, create_link_at, rename_at, delete_at, set_acl_at, del_acl_at, set_brackets_at, set_dir_brackets_at, status_at, list_at, change_wdir_at, set_rules_at, initiate_by, initiate_at, link_at, terminate_at, fields_at, request_at};
 
 mod fields;
 mod kinds;
@@ -54,6 +54,7 @@ fn read_fields(alloc: Global, kind: Kind, fields: &[u8]) -> Result<Option<Reques
         Kind::SetRules => read_set_rules(alloc, fields),
         Kind::Initiate => read_initiate(alloc, fields),
         Kind::Terminate => Ok(read_terminate(fields)),
+        Kind::Link => Ok(read_link(fields)),
     }
 }
 
@@ -299,4 +300,21 @@ fn read_terminate(segno: &[u8]) -> Option<Request>
     Some(Request::Terminate {
         segno: segno as u16,
     })
+}
+
+/// `S|W`
+fn read_link(fields: &[u8]) -> Option<Request>
+    ensures { result ≡ link_at fields.now }
+{
+    let (segno, word) = cut(b'|', fields)?;
+    let segno = read_octal_number(segno, 4)?;
+    let word = read_octal_number(word, 5)?;
+    if word <= 0o37777 {
+        Some(Request::Link {
+            segno: segno as u16,
+            word: word as u16,
+        })
+    } else {
+        None
+    }
 }

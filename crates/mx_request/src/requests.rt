@@ -90,6 +90,12 @@ pub enum Request {
     Terminate {
         segno: u16,
     },
+    /// `link S|W`: snap the link of this word. No line of a session asks for it: a process makes it where it meets a
+    /// link word.
+    Link {
+        segno: u16,
+        word: u16,
+    },
     /// `logout`: end the process.
     Logout,
 }
@@ -99,8 +105,8 @@ pub type Requests = Sequence<Request>;
 
 impl Request {
     /// The request whose line this is, without its newline; `None` exactly where no request has this line. WORDS is
-    /// decimal with at most five digits, a ring one digit, a segment number octal up to 7777; there are 1 to 16 search
-    /// rules; the fields have exactly one blank between each two.
+    /// decimal with at most five digits, a ring one digit, a segment number octal up to 7777, an address octal up to
+    /// 7777|37777; there are 1 to 16 search rules; the fields have exactly one blank between each two.
     pub fn read(alloc: Global, line: &[u8]) -> Result<Option<Request>, AllocError>
         ensures found { (request : RequestValue) → result ≡ Ok (Some request)
             → (request_text request ≡ line.now) × (fits_request request ≡ true) }
@@ -186,6 +192,10 @@ impl Request {
                 Ok(Request::Initiate { path, name: *name })
             }
             Request::Terminate { segno } => Ok(Request::Terminate { segno: *segno }),
+            Request::Link { segno, word } => Ok(Request::Link {
+                segno: *segno,
+                word: *word,
+            }),
             Request::Logout => Ok(Request::Logout),
         }
     }

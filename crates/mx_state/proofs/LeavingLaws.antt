@@ -28,7 +28,7 @@ use Rattle.mx_state.specs.declared.applied.Applied.{Applied}
 use Rattle.mx_state.specs.declared.states.ProcessState.{ProcessState}
 use Rattle.mx_state.specs.Askers.{Asker, Initializer, Process, Nobody, asker, initial_caller, caller, answered_caller, answered_process}
 use Rattle.mx_state.specs.Changes.{AreChanges}
-use Rattle.mx_state.specs.Knowing.{known_then, given, initiate, terminate}
+use Rattle.mx_state.specs.Knowing.{known_then, given, initiate, link, terminate}
 use Rattle.mx_state.specs.OwnState.{change_wdir, set_rules, logout}
 use Rattle.mx_state.specs.Laws.{RefusalLaw, PathLaw}
 use Rattle.mx_state.specs.Plain.{Plain, Answer, answer, with_process}
@@ -108,6 +108,7 @@ refusal_leaves s p ring (ask.Initiate path name) =
 refusal_leaves s p ring (ask.Terminate segno) =
     process_still s (asker s.processes p) (λ process. terminate s p process (kst.terminate process.known segno))
     (λ process. terminate_still s p process (kst.terminate process.known segno))
+refusal_leaves s p ring (ask.Link segno word) = process_still s (asker s.processes p) (λ process. link s) (λ process why e. refl)
 refusal_leaves s p ring ask.Logout = process_still s (asker s.processes p) (logout s p) (λ process why e. cc)
 
 -- a request on a path leaves the processes
@@ -151,6 +152,7 @@ path_request_leaves s p ring (ask.ChangeWdir path) e = cc
 path_request_leaves s p ring (ask.SetRules rules) e = cc
 path_request_leaves s p ring (ask.Initiate path name) e = cc
 path_request_leaves s p ring (ask.Terminate segno) e = cc
+path_request_leaves s p ring (ask.Link segno word) e = cc
 path_request_leaves s p ring ask.Logout e = cc
 
 -- so a request that was refused has left the state, and changed no descriptor

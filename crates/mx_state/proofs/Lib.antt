@@ -6,6 +6,7 @@ pub mod SegmentLaws
 pub mod Descriptors
 pub mod AnswerLaws
 pub mod ProcessLaws
+pub mod LinkLaws
 pub mod RenewingLaws
 pub mod KnowingLaws
 pub mod LeavingLaws

@@ -1,8 +1,8 @@
--- `initiate PATH [NAME]` and `terminate S`: the requests on what a process knows.
+-- `initiate PATH [NAME]`, `terminate S` and `link S|W`: the requests on what a process knows.
 use Rattle.std.specs.Prelude.{ℕ, Bool, false, List, [], ◌∷◌, Option, Some, None, Result, Ok, Err}
 use Rattle.mx_hier.specs.Rules.{first_of, onward, unless}
 use Rattle.mx_hier.specs.declared.refusals.Refusal.{Refusal}
-use Rattle.mx_hier.specs.declared.refusals.Refusal.TheVariants.{NameDup, KstFull, UnknownSegno}
+use Rattle.mx_hier.specs.declared.refusals.Refusal.TheVariants.{NameDup, KstFull, NotLinkage, UnknownSegno}
 use Rattle.mx_kst.specs.Initiating.{Initiated, is_taken, is_full, initiated}
 use Rattle.mx_kst.specs.KnownSegments.{KnownSegments}
 use Rattle.mx_request.specs.declared.replies.Reply.TheVariants.{Done, Refused, Segno}
@@ -31,3 +31,7 @@ initiate s p ring process name segment = given s p process (onward segment (know
 abbrev pub terminate : Plain → ℕ → ProcessState → Option KnownSegments → Answer
 terminate s p process (Some known) = answer Done (with_process s p (record process { known = known }))
 terminate s p process None = answer (Refused UnknownSegno) s
+
+-- `link`: a process has no linkage section yet
+abbrev pub link : Plain → Answer
+link s = answer (Refused NotLinkage) s

@@ -21,7 +21,7 @@ use Rattle.mx_request.specs.declared.requests.Request.TheVariants as ask
 use Rattle.mx_request.specs.declared.replies.Reply.{Reply}
 use Rattle.mx_request.specs.declared.replies.Reply.TheVariants as reply
 use Rattle.mx_state.specs.Askers.{caller, on_path, on_process}
-use Rattle.mx_state.specs.Knowing.{initiate, terminate}
+use Rattle.mx_state.specs.Knowing.{initiate, link, terminate}
 use Rattle.mx_state.specs.OwnState.{change_wdir, set_rules, logout}
 use Rattle.mx_state.specs.Plain.{Plain, Answer, answer}
 
@@ -65,4 +65,5 @@ plain s p ring (ask.Initiate path name) =
     on_process s p (λ process. initiate s p ring process name (segment s.hierarchy (caller process ring) path))
 plain s p ring (ask.Terminate segno) =
     on_process s p (λ process. terminate s p process (kst.terminate process.known segno))
+plain s p ring (ask.Link segno word) = on_process s p (λ process. link s)
 plain s p ring ask.Logout = on_process s p (λ process. logout s p process)

@@ -93,6 +93,16 @@ impl State {
             changes,
         })
     }
+
+    /// Snaps a link: refused, as a process has no linkage section yet.
+    #[tactic(auto, using(crate::proofs::LinkLaws::link_serves))]
+    pub(crate) fn link(&self, alloc: Global, p: u8, ring: Ring, segno: u16, word: u16) -> Applied
+        requires some { 1 ≤ p }
+        requires process { p ≤ length self.now.processes }
+        ensures { Serves self.now self.now (plain self.now p ring (ask.Link segno word)) result }
+    {
+        Applied::unchanged(alloc, Reply::Refused(Refusal::NotLinkage))
+    }
 }
 
 // Makes a segment known to the process in a place, or tells why not.

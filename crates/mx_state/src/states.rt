@@ -131,6 +131,7 @@ impl State {
                 self.initiate(alloc, p, ring, path, name.as_ref())
             }
             Request::Terminate { segno } => self.terminate(alloc, p, ring, *segno),
+            Request::Link { segno, word } => Ok(self.link(alloc, p, ring, *segno, *word)),
             Request::Logout => Ok(self.logout(alloc, p, ring)),
         }
     }

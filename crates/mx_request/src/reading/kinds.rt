@@ -23,9 +23,10 @@ pub(crate) enum Kind {
     SetRules,
     Initiate,
     Terminate,
+    Link,
 }
 
-const ALL: [Kind; 15] = [
+const ALL: [Kind; 16] = [
     Kind::CreateDir,
     Kind::CreateSeg,
     Kind::CreateLink,
@@ -41,6 +42,7 @@ const ALL: [Kind; 15] = [
     Kind::SetRules,
     Kind::Initiate,
     Kind::Terminate,
+    Kind::Link,
 ];
 
 impl Kind {
@@ -70,6 +72,7 @@ impl Kind {
             Kind::SetRules => "set_rules",
             Kind::Initiate => "initiate",
             Kind::Terminate => "terminate",
+            Kind::Link => "link",
         }
     }
 }

@@ -6,7 +6,7 @@ ghost use Rattle.std.specs.Option.{option_copied};
 ghost use Rattle.mx_name.specs.Identifiers.{acl_id_text};
 ghost use Rattle.mx_sdw.specs.Octal.{octal};
 ghost use Rattle.mx_acl.specs.Modes.{modes_text};
-ghost use Rattle.mx_request.specs.Fields.{line_of, ring_text};
+ghost use Rattle.mx_request.specs.Fields.{line_of, ring_text, address_text};
 ghost use Rattle.mx_request.specs.Growth.{IsGrown, blank_before};
 ghost use Rattle.mx_request.specs.RequestTexts.{name_fields, request_text, rule_text};
 
@@ -47,6 +47,7 @@ pub(crate) fn push_request(out: &mut Vec<u8>, request: &Request) -> Result<(), A
         Request::SetRules { rules } => push_rules(out, b"set_rules", rules.items()),
         Request::Initiate { path, name } => push_named(out, b"initiate", path, name.as_ref()),
         Request::Terminate { segno } => push_segno(out, b"terminate", *segno),
+        Request::Link { segno, word } => push_address(out, b"link", *segno, *word),
         Request::Logout => out.extend_from_slice(b"logout"),
     }
 }
@@ -228,4 +229,16 @@ fn push_id(out: &mut Vec<u8>, word: &[u8], path: &Pathname, id: &AclId) -> Resul
     push_path(out, word, path)?;
     out.extend_from_slice(b" ")?;
     id.append_to(out)
+}
+
+/// `WORD S|W`
+fn push_address(out: &mut Vec<u8>, label: &[u8], segno: u16, word: u16) -> Result<(), AllocError>
+    ensures ok { OnOk result (out.new.items ≡ out.old.items ++ line_of (label.now ∷ address_text segno word ∷ [])) }
+    ensures err { OnErr result (IsGrown out.old.items out.new.items) }
+{
+    out.extend_from_slice(label)?;
+    out.extend_from_slice(b" ")?;
+    write_octal(out, u64::from(segno))?;
+    out.extend_from_slice(b"|")?;
+    write_octal(out, u64::from(word))
 }
