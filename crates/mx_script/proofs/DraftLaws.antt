@@ -10,14 +10,14 @@ use Rattle.mx_request.specs.Steps.{◌>>=◌}
 use Rattle.mx_request.specs.Classes.{class_of}
 use Rattle.mx_request.specs.RequestTexts.{fits_request, is_pathname, are_brackets}
 use Rattle.mx_request.specs.declared.requests.Request.{Request}
-use Rattle.mx_request.specs.declared.requests.Request.TheVariants.{CreateDir, CreateSeg, CreateLink, Rename, Delete, SetAcl, DelAcl, SetBrackets, SetDirBrackets, Status, List as ListNames, ChangeWdir, Initiate, Logout}
-use Rattle.mx_script.specs.Drafts.{setup_step, script_step, step, one_process}
+use Rattle.mx_request.specs.declared.requests.Request.TheVariants.{CreateDir, CreateSeg, CreateLink, Rename, Delete, SetAcl, DelAcl, SetBrackets, SetDirBrackets, Status, List as ListNames, ChangeWdir, Initiate, Link, Logout}
+use Rattle.mx_script.specs.Drafts.{setup_step, may_stand, script_on, script_step, step, one_process}
 use Rattle.mx_script.specs.FirstBadLine.{BeginsText}
 use Rattle.mx_script.specs.Progress.{rows_so_far, texts_so_far, goes_before, is_sound, run}
 use Rattle.mx_script.specs.Sessions.{Outline, outline, is_session, is_short, is_for_setup, is_setup_request, is_for_script, is_script_line, is_logout, is_last, ends, is_script}
 use Rattle.mx_script.specs.SessionTexts.{rows_of, row_text, asked, fits, fits_line}
 use Rattle.mx_script.specs.declared.lines.Line.{Line}
-use Rattle.mx_script.specs.declared.lines.Line.TheVariants.{Ask, Set, Lda, Sta}
+use Rattle.mx_script.specs.declared.lines.Line.TheVariants.{Ask, Set, Epp, Lda, Sta, Spri}
 use Rattle.mx_script.specs.declared.reading.drafts.Draft.{Draft}
 use Rattle.mx_script.specs.declared.reading.drafts.Draft.TheVariants.{Empty, Headed, Running, LoggedOut, Ended}
 use Rattle.mx_script.specs.declared.rows.Row.{Row}
@@ -42,29 +42,24 @@ short_request (Status path) e = refl
 short_request (ListNames path) e = refl
 short_request (ChangeWdir path) e = refl
 short_request (Initiate path) e = refl
+short_request (Link segno word) e = refl
 short_request Logout e = refl
 
-script_request : (request : Request) → is_for_script (class_of request) ≡ true
-script_request (CreateDir path d1 d2) = refl
-script_request (CreateSeg path words brackets) = refl
-script_request (CreateLink path target) = refl
-script_request (Rename path name) = refl
-script_request (Delete path) = refl
-script_request (SetAcl path id modes) = refl
-script_request (DelAcl path id) = refl
-script_request (SetBrackets path brackets) = refl
-script_request (SetDirBrackets path d1 d2) = refl
-script_request (Status path) = refl
-script_request (ListNames path) = refl
-script_request (ChangeWdir path) = refl
-script_request (Initiate path) = refl
-script_request Logout = refl
+script_line : (line : Line) → fits_line line ≡ true → may_stand line ≡ true → is_script_line line ≡ true
+script_line (Ask request) e m = both_hold _ _ m (short_request request e)
+script_line (Set word) e m = refl
+script_line (Epp n operand) e m = e
+script_line (Lda operand) e m = e
+script_line (Sta operand) e m = e
+script_line (Spri n operand) e m = e
 
-script_line : (line : Line) → fits_line line ≡ true → is_script_line line ≡ true
-script_line (Ask request) e = both_hold _ _ (script_request request) (short_request request e)
-script_line (Set word) e = refl
-script_line (Lda operand) e = e
-script_line (Sta operand) e = e
+stands : (line : Line) → is_script_line line ≡ true → may_stand line ≡ true
+stands (Ask request) e = (both (is_for_script (class_of request)) (is_short request) e).0
+stands (Set word) e = refl
+stands (Epp n operand) e = refl
+stands (Lda operand) e = refl
+stands (Sta operand) e = refl
+stands (Spri n operand) e = refl
 
 -- a script line by line
 lines_before : (lines : List Line) → list_all goes_before lines ≡ true → list_all is_script_line lines ≡ true
@@ -108,27 +103,31 @@ setup_adds setup (Ask request) after s f e =
           ∙ both_hold _ _ s (both_hold _ _ (both_hold _ _ found.0 (short_request request f)) refl);
     })
 setup_adds setup (Set word) after s f e = absurd (none_is_some after e)
+setup_adds setup (Epp n operand) after s f e = absurd (none_is_some after e)
 setup_adds setup (Lda operand) after s f e = absurd (none_is_some after e)
 setup_adds setup (Sta operand) after s f e = absurd (none_is_some after e)
+setup_adds setup (Spri n operand) after s f e = absurd (none_is_some after e)
 
 script_adds : (setup : List Request) (principal : PlainPrincipal) (script : List Line) (line : Line) (after : Draft)
     → is_sound (Running setup principal script) ≡ true → fits_line line ≡ true
-    → Some (script_step setup principal script line) ≡ Some after → Adds (Running setup principal script) (row.Line line) after
-script_adds setup principal script line after s f e = by_test (is_logout line) refl (some_is _ _ e)
+    → script_step setup principal script line ≡ Some after → Adds (Running setup principal script) (row.Line line) after
+script_adds setup principal script line after s f e =
+    let found = when_some (may_stand line) (script_on setup principal script line) after e in
+    by_test found.0 (is_logout line) refl found.1
   where
-    by_test : (test : Bool) → is_logout line ≡ test
+    by_test : may_stand line ≡ true → (test : Bool) → is_logout line ≡ test
         → cond test (LoggedOut setup principal (script ++ line ∷ [])) (Running setup principal (script ++ line ∷ [])) ≡ after
         → Adds (Running setup principal script) (row.Line line) after
-    by_test true t e =
+    by_test m true t e =
         let g = both (list_all is_setup_request setup) (list_all goes_before script) s in
         subst (Adds (Running setup principal script) (row.Line line)) e
         (record {
           rows = longer (row.Header ∷ map asked setup) principal script line;
-          sound = both_hold _ _ g.0 (logged_out script line g.1 (script_line line f) t);
+          sound = both_hold _ _ g.0 (logged_out script line g.1 (script_line line f m) t);
         })
-    by_test false t e =
+    by_test m false t e =
         let g = both (list_all is_setup_request setup) (list_all goes_before script) s in
-        let before : goes_before line ≡ true = both_hold _ _ (script_line line f) (ap not t) in
+        let before : goes_before line ≡ true = both_hold _ _ (script_line line f m) (ap not t) in
         subst (Adds (Running setup principal script) (row.Line line)) e
         (record {
           rows = longer (row.Header ∷ map asked setup) principal script line;
@@ -171,25 +170,27 @@ run_setup done (request ∷ setup) rest e =
     = rw g.0 refl in
     once ∙ run_setup (done ++ request ∷ []) setup rest f.1 ∙ ap (λ s. run rest (Headed s)) (append_assoc done (request ∷ []) setup)
 
-run_script : (setup : List Request) (principal : PlainPrincipal) (done script : List Line) (rest : List Row) → ends script ≡ true
+run_script : (setup : List Request) (principal : PlainPrincipal) (done script : List Line) (rest : List Row)
+    → list_all is_script_line script ≡ true → ends script ≡ true
     → run (map row.Line script ++ rest) (Running setup principal done) ≡ run rest (LoggedOut setup principal (done ++ script))
-run_script setup principal done [] rest e = cc
-run_script setup principal done (line ∷ lines) rest e =
-    by_test (is_logout line) refl e (run_script setup principal (done ++ line ∷ []) lines rest)
+run_script setup principal done [] rest s e = cc
+run_script setup principal done (line ∷ lines) rest s e =
+    let f = both (is_script_line line) (list_all is_script_line lines) s in
+    by_test (stands line f.0) (is_logout line) refl e (run_script setup principal (done ++ line ∷ []) lines rest f.1)
   where
     all : (lines : List Line) → is_last lines ≡ true → lines ≡ []
     all [] e = refl
     all (line ∷ lines) e = cc
 
-    by_test : (test : Bool) → is_logout line ≡ test → cond test (is_last lines) (ends lines) ≡ true
+    by_test : may_stand line ≡ true → (test : Bool) → is_logout line ≡ test → cond test (is_last lines) (ends lines) ≡ true
         → (ends lines ≡ true → run (map row.Line lines ++ rest) (Running setup principal (done ++ line ∷ []))
         ≡ run rest (LoggedOut setup principal (done ++ line ∷ [] ++ lines)))
         → run (map row.Line (line ∷ lines) ++ rest) (Running setup principal done) ≡ run rest (LoggedOut setup principal (done ++ line ∷ lines))
-    by_test true t e on = rw (all lines e, t) refl
-    by_test false t e on =
+    by_test m true t e on = rw (all lines e, m, t) refl
+    by_test m false t e on =
         let once : run (map row.Line (line ∷ lines) ++ rest) (Running setup principal done)
         ≡ run (map row.Line lines ++ rest) (Running setup principal (done ++ line ∷ []))
-        = rw t refl in
+        = rw (m, t) refl in
         once ∙ on e ∙ ap (λ script. run rest (LoggedOut setup principal script)) (append_assoc done (line ∷ []) lines)
 
 in_order : (setup : List Request) (principal : PlainPrincipal) (script : List Line)
@@ -202,11 +203,12 @@ in_order setup principal script =
     regroup xs ys zs = rw append-nil (append_assoc xs ys zs)
 
 pub run_session : (setup : List Request) (principal : PlainPrincipal) (script : List Line) → list_all is_setup_request setup ≡ true
-    → ends script ≡ true → run (rows_of (one_process setup principal script)) Empty ≡ Some (Ended setup principal script)
-run_session setup principal script s e =
+    → list_all is_script_line script ≡ true → ends script ≡ true
+    → run (rows_of (one_process setup principal script)) Empty ≡ Some (Ended setup principal script)
+run_session setup principal script s l e =
     ap (λ rows. run rows Empty) (in_order setup principal script)
     ∙ run_setup [] setup (row.Process principal ∷ (map row.Line script ++ row.End ∷ [])) s
-    ∙ run_script setup principal [] script (row.End ∷ []) e
+    ∙ run_script setup principal [] script (row.End ∷ []) l e
 
 -- the parts of a session
 never_both : (test : Bool) → test && false ≡ true → ⊥

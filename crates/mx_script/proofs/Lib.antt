@@ -1,5 +1,6 @@
 pub mod FrontLaws
 pub mod FieldLaws
+pub mod OperandLaws
 pub mod RowLaws
 pub mod DraftLaws
 pub mod ReadingLaws

@@ -124,6 +124,7 @@ whole_of x e =
       runs =
           ap (λ x. run (rows_of x) Empty) one.same
           ∙ run_session one.setup one.principal one.script one.sets_up
+          (both (list_all is_script_line one.script) (ends one.script) one.runs).0
           (both (list_all is_script_line one.script) (ends one.script) one.runs).1;
       done = there ∙ ap Some (sym one.same);
     }

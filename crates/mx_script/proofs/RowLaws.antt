@@ -5,21 +5,22 @@ use Rattle.mx_name.proofs.TextLaws.{principal_takes, principal_again, principal_
 use Rattle.mx_name.specs.Names.{is_free}
 use Rattle.mx_name.specs.Principals.{components_fault, principal_of, principal_text}
 use Rattle.mx_request.specs.declared.requests.Request.{Request}
-use Rattle.mx_request.specs.declared.requests.Request.TheVariants.{CreateDir, CreateSeg, CreateLink, Rename, Delete, SetAcl, DelAcl, SetBrackets, SetDirBrackets, Status, List as ListNames, ChangeWdir, Initiate, Logout}
+use Rattle.mx_request.specs.declared.requests.Request.TheVariants.{CreateDir, CreateSeg, CreateLink, Rename, Delete, SetAcl, DelAcl, SetBrackets, SetDirBrackets, Status, List as ListNames, ChangeWdir, Initiate, Link, Logout}
 use Rattle.mx_request.proofs.StepLaws.{some_is, bind_some, same_bytes}
 use Rattle.mx_request.proofs.TakenLaws.{no_fault, faultless}
 use Rattle.mx_script.proofs.FrontLaws.{after_takes}
-use Rattle.mx_script.proofs.FieldLaws.{operand_takes, operand_again, operand_free, word_takes, word_again, word_free}
+use Rattle.mx_script.proofs.FieldLaws.{word_takes, word_again, word_free}
+use Rattle.mx_script.proofs.OperandLaws.{operand_takes, operand_again, operand_free, register_operand_takes, register_operand_again, register_operand_free}
 use Rattle.mx_request.proofs.AgainLaws.{one_request}
 use Rattle.mx_request.proofs.ForeignLaws.{newline_free}
 use Rattle.mx_request.specs.Steps.{◌>>=◌}
-use Rattle.mx_script.specs.Fronts.{after}
-use Rattle.mx_script.specs.Fields.{operand_at, word_at}
-use Rattle.mx_script.specs.Reading.{IsRow, read_or, set_at, lda_at, sta_at, memory_at, memory_row, plain_at, principal_row, process_at}
+use Rattle.mx_script.specs.Fronts.{after, read_or}
+use Rattle.mx_script.specs.Fields.{operand_at, register_operand_at, word_at}
+use Rattle.mx_script.specs.Reading.{IsRow, set_at, epp_at, lda_at, sta_at, spri_at, memory_at, memory_row, plain_at, principal_row, process_at}
 use Rattle.mx_request.specs.RequestTexts.{request_text, fits_request}
 use Rattle.mx_script.specs.SessionTexts.{row_text, line_text, fits, fits_line}
 use Rattle.mx_script.specs.declared.lines.Line.{Line}
-use Rattle.mx_script.specs.declared.lines.Line.TheVariants.{Ask, Set, Lda, Sta}
+use Rattle.mx_script.specs.declared.lines.Line.TheVariants.{Ask, Set, Epp, Lda, Sta, Spri}
 use Rattle.mx_script.specs.declared.rows.Row.{Row}
 use Rattle.mx_script.specs.declared.rows.Row.TheVariants as row
 
@@ -34,6 +35,20 @@ set_takes text line e =
     let f = word_takes text word.0 word.1 in
     subst (IsLine (codes "set " ++ text)) (some_is _ _ word.2)
     (record { spelled = ap (λ xs. codes "set " ++ xs) f.0; fits = f.1 })
+
+epp_takes : (text : List ℕ) (line : Line) → epp_at text ≡ Some line → IsLine (codes "epp " ++ text) line
+epp_takes text line e =
+    let p = bind_some (register_operand_at text) _ line e in
+    let f = register_operand_takes text p.0 p.1 in
+    subst (IsLine (codes "epp " ++ text)) (some_is _ _ p.2)
+    (record { spelled = ap (λ xs. codes "epp " ++ xs) f.spelled; fits = f.fits })
+
+spri_takes : (text : List ℕ) (line : Line) → spri_at text ≡ Some line → IsLine (codes "spri " ++ text) line
+spri_takes text line e =
+    let p = bind_some (register_operand_at text) _ line e in
+    let f = register_operand_takes text p.0 p.1 in
+    subst (IsLine (codes "spri " ++ text)) (some_is _ _ p.2)
+    (record { spelled = ap (λ xs. codes "spri " ++ xs) f.spelled; fits = f.fits })
 
 lda_takes : (text : List ℕ) (line : Line) → lda_at text ≡ Some line → IsLine (codes "lda " ++ text) line
 lda_takes text line e =
@@ -65,8 +80,10 @@ memory_takes : (text : List ℕ) (line : Line) → memory_at text ≡ Some line 
 unfolding memory_at
 memory_takes text line e =
     read_or_takes IsLine (codes "set ") text set_at _ line (λ rest. set_takes rest line)
+    (read_or_takes IsLine (codes "epp ") text epp_at _ line (λ rest. epp_takes rest line)
     (read_or_takes IsLine (codes "lda ") text lda_at _ line (λ rest. lda_takes rest line)
-    (read_or_takes IsLine (codes "sta ") text sta_at None line (λ rest. sta_takes rest line) (λ e. cc))) e
+    (read_or_takes IsLine (codes "sta ") text sta_at _ line (λ rest. sta_takes rest line)
+    (read_or_takes IsLine (codes "spri ") text spri_at None line (λ rest. spri_takes rest line) (λ e. cc))))) e
 
 memory_row_takes : (text : List ℕ) (r : Row) → memory_row text ≡ Some r → IsRow text r
 memory_row_takes text r e =
@@ -120,6 +137,14 @@ set_front : (rest : List ℕ) → plain_at (codes "set " ++ rest) ≡ (set_at re
 unfolding plain_at memory_at after
 set_front rest = refl
 
+epp_front : (rest : List ℕ) → plain_at (codes "epp " ++ rest) ≡ (epp_at rest >>= λ line. Some (row.Line line))
+unfolding plain_at memory_at after
+epp_front rest = refl
+
+spri_front : (rest : List ℕ) → plain_at (codes "spri " ++ rest) ≡ (spri_at rest >>= λ line. Some (row.Line line))
+unfolding plain_at memory_at after
+spri_front rest = refl
+
 lda_front : (rest : List ℕ) → plain_at (codes "lda " ++ rest) ≡ (lda_at rest >>= λ line. Some (row.Line line))
 unfolding plain_at memory_at after
 lda_front rest = refl
@@ -143,6 +168,7 @@ plain_request (Status path) = refl
 plain_request (ListNames path) = refl
 plain_request (ChangeWdir path) = refl
 plain_request (Initiate path) = refl
+plain_request (Link segno word) = refl
 plain_request Logout = refl
 
 process_request : (request : Request) → process_at (request_text request) ≡ None
@@ -160,6 +186,7 @@ process_request (Status path) = refl
 process_request (ListNames path) = refl
 process_request (ChangeWdir path) = refl
 process_request (Initiate path) = refl
+process_request (Link segno word) = refl
 process_request Logout = refl
 
 pub plain_again : (r : Row) → fits r ≡ true → plain_at (row_text r) ≡ plain_part r
@@ -169,8 +196,10 @@ plain_again row.End e = refl
 plain_again (row.Process who) e = refl
 plain_again (row.Line (Ask request)) e = plain_request request
 plain_again (row.Line (Set word)) e = set_front _ ∙ rw (word_again word e) refl
+plain_again (row.Line (Epp n operand)) e = epp_front _ ∙ rw (register_operand_again n operand e) refl
 plain_again (row.Line (Lda operand)) e = lda_front _ ∙ rw (operand_again operand e) refl
 plain_again (row.Line (Sta operand)) e = sta_front _ ∙ rw (operand_again operand e) refl
+plain_again (row.Line (Spri n operand)) e = spri_front _ ∙ rw (register_operand_again n operand e) refl
 
 process_front : (rest : List ℕ) → process_at (codes "process " ++ rest) ≡ principal_row rest
 unfolding process_at after
@@ -184,8 +213,10 @@ process_again (row.Process who) e =
     process_front (principal_text who) ∙ rw (principal_again who (faultless (components_fault who) e)) refl
 process_again (row.Line (Ask request)) e = process_request request
 process_again (row.Line (Set word)) e = refl
+process_again (row.Line (Epp n operand)) e = refl
 process_again (row.Line (Lda operand)) e = refl
 process_again (row.Line (Sta operand)) e = refl
+process_again (row.Line (Spri n operand)) e = refl
 
 -- a text is that of one row at most
 plain_is : (r found : Row) → plain_part r ≡ Some found → found ≡ r
@@ -194,8 +225,10 @@ plain_is row.End found e = sym (some_is _ _ e)
 plain_is (row.Process who) found e = cc
 plain_is (row.Line (Ask request)) found e = cc
 plain_is (row.Line (Set word)) found e = sym (some_is _ _ e)
+plain_is (row.Line (Epp n operand)) found e = sym (some_is _ _ e)
 plain_is (row.Line (Lda operand)) found e = sym (some_is _ _ e)
 plain_is (row.Line (Sta operand)) found e = sym (some_is _ _ e)
+plain_is (row.Line (Spri n operand)) found e = sym (some_is _ _ e)
 
 process_is : (r found : Row) → process_part r ≡ Some found → found ≡ r
 process_is (row.Process who) found e = sym (some_is _ _ e)
@@ -220,8 +253,10 @@ asks text r p q is =
     by_kind (row.Process who) e f = cc
     by_kind (row.Line (Ask request)) e f = (request, refl)
     by_kind (row.Line (Set word)) e f = cc
+    by_kind (row.Line (Epp n operand)) e f = cc
     by_kind (row.Line (Lda operand)) e f = cc
     by_kind (row.Line (Sta operand)) e f = cc
+    by_kind (row.Line (Spri n operand)) e f = cc
 
 pub request_row_alone : (text : List ℕ) (request : Request) (r : Row) → plain_at text ≡ None → process_at text ≡ None
     → request_text request ≡ text → fits_request request ≡ true → IsRow text r → row.Line (Ask request) ≡ r
@@ -241,8 +276,10 @@ no_request_row text r p q none is =
 line_free : (line : Line) → fits_line line ≡ true → is_free 10 (line_text line) ≡ true
 line_free (Ask request) e = newline_free request e
 line_free (Set word) e = word_free word
+line_free (Epp n operand) e = register_operand_free n operand
 line_free (Lda operand) e = operand_free operand
 line_free (Sta operand) e = operand_free operand
+line_free (Spri n operand) e = register_operand_free n operand
 
 pub row_free : (r : Row) → fits r ≡ true → is_free 10 (row_text r) ≡ true
 row_free row.Header e = refl

@@ -9,7 +9,7 @@ use Rattle.mx_script.specs.Progress.{run}
 use Rattle.mx_script.specs.Reading.{IsRow}
 use Rattle.mx_script.specs.Sessions.{Outline}
 use Rattle.mx_script.specs.SessionTexts.{rows_of, row_text, fits, lines_text, IsText}
-use Rattle.mx_script.specs.declared.lines.Line.TheVariants.{Ask, Set, Lda, Sta}
+use Rattle.mx_script.specs.declared.lines.Line.TheVariants.{Ask, Set, Epp, Lda, Sta, Spri}
 use Rattle.mx_script.specs.declared.reading.drafts.Draft.TheVariants.{Empty}
 use Rattle.mx_script.specs.declared.rows.Row.{Row}
 use Rattle.mx_script.specs.declared.rows.Row.TheVariants as row
@@ -24,6 +24,10 @@ one_row (row.Line (Ask request)) s f is =
     (process_again (row.Line (Ask request)) f) refl f is
 one_row (row.Line (Set word)) s f is =
     plain_alone (row_text (row.Line (Set word))) (row.Line (Set word)) s (plain_again (row.Line (Set word)) f) is
+one_row (row.Line (Epp n operand)) s f is =
+    plain_alone (row_text (row.Line (Epp n operand))) (row.Line (Epp n operand)) s (plain_again (row.Line (Epp n operand)) f) is
+one_row (row.Line (Spri n operand)) s f is =
+    plain_alone (row_text (row.Line (Spri n operand))) (row.Line (Spri n operand)) s (plain_again (row.Line (Spri n operand)) f) is
 one_row (row.Line (Lda operand)) s f is =
     plain_alone (row_text (row.Line (Lda operand))) (row.Line (Lda operand)) s (plain_again (row.Line (Lda operand)) f) is
 one_row (row.Line (Sta operand)) s f is =

@@ -1,13 +1,13 @@
 -- Helpers that only private contracts cite: what the lines read so far say.
-use Rattle.std.specs.Prelude.{◌≡◌, ℕ, ◌<◌, ◌-◌, ◌^◌, List, [], ◌∷◌, ◌++◌, Option, None, Some, if◌then◌else◌}
+use Rattle.std.specs.Prelude.{◌≡◌, ℕ, ◌<◌, ◌-◌, ◌^◌, Bool, true, List, [], ◌∷◌, ◌++◌, Option, None, Some, if◌then◌else◌}
 use Rattle.mx_name.specs.Principals.{PlainPrincipal}
 use Rattle.mx_request.specs.declared.requests.Request.{Request}
 use Rattle.mx_request.specs.Classes.{class_of}
 use Rattle.mx_request.specs.Steps.{when}
 use Rattle.mx_script.specs.Reading.{IsRow}
-use Rattle.mx_script.specs.Sessions.{Outline, outline, session_of, line_count, is_for_setup, is_logout}
+use Rattle.mx_script.specs.Sessions.{Outline, outline, session_of, line_count, is_for_setup, is_for_script, is_logout}
 use Rattle.mx_script.specs.declared.lines.Line.{Line}
-use Rattle.mx_script.specs.declared.lines.Line.TheVariants.{Ask}
+use Rattle.mx_script.specs.declared.lines.Line.TheVariants.{Ask, Set, Epp, Lda, Sta, Spri}
 use Rattle.mx_script.specs.declared.reading.drafts.Draft.{Draft}
 use Rattle.mx_script.specs.declared.reading.drafts.Draft.TheVariants.{Empty, Headed, Running, LoggedOut, Ended}
 use Rattle.mx_script.specs.declared.rows.Row.{Row}
@@ -18,17 +18,29 @@ abbrev pub setup_step : List Request → Line → Option Draft
 setup_step setup (Ask request) = when (is_for_setup (class_of request)) (Headed (setup ++ request ∷ []))
 setup_step setup _ = None
 
--- a script goes on with any line, up to its logout
-abbrev pub script_step : List Request → PlainPrincipal → List Line → Line → Draft
-script_step setup principal script line =
+-- a line of a script: of the requests, those that a script asks for
+abbrev pub may_stand : Line → Bool
+may_stand (Ask request) = is_for_script (class_of request)
+may_stand (Set word) = true
+may_stand (Epp n operand) = true
+may_stand (Lda operand) = true
+may_stand (Sta operand) = true
+may_stand (Spri n operand) = true
+
+abbrev pub script_on : List Request → PlainPrincipal → List Line → Line → Draft
+script_on setup principal script line =
     if is_logout line then LoggedOut setup principal (script ++ line ∷ []) else Running setup principal (script ++ line ∷ [])
+
+-- a script goes on with a line of its own, up to its logout
+abbrev pub script_step : List Request → PlainPrincipal → List Line → Line → Option Draft
+script_step setup principal script line = when (may_stand line) (script_on setup principal script line)
 
 -- the draft after one more row, if it can stand there
 abbrev pub step : Draft → Row → Option Draft
 step Empty row.Header = Some (Headed [])
 step (Headed setup) (row.Line line) = setup_step setup line
 step (Headed setup) (row.Process principal) = Some (Running setup principal [])
-step (Running setup principal script) (row.Line line) = Some (script_step setup principal script line)
+step (Running setup principal script) (row.Line line) = script_step setup principal script line
 step (LoggedOut setup principal script) row.End = Some (Ended setup principal script)
 step _ _ = None
 

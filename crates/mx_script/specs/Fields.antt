@@ -1,22 +1,63 @@
 -- Helpers that only private contracts cite: what each field of a line is read as.
-use Rattle.std.specs.Prelude.{ℕ, nat_le, List, Option}
+use Rattle.std.specs.Prelude.{ℕ, nat_le, ◌==◌, Bool, true, false, List, [], ◌∷◌, Option, None, Some, codes}
+use Rattle.std.specs.Cmp.Lexicographic.{pointwise}
 use Rattle.mx_sdw.specs.Octal.{octal_number}
 use Rattle.mx_sdw.specs.Words.{word_of}
-use Rattle.mx_script.specs.declared.lines.Base.TheVariants.{Segment}
+use Rattle.mx_script.specs.declared.lines.Base.{Base}
+use Rattle.mx_script.specs.declared.lines.Base.TheVariants.{Segment, Register}
 use Rattle.mx_script.specs.declared.lines.Operand.{Operand}
 use Rattle.mx_name.specs.Cuts.{cut_at}
 use Rattle.mx_request.specs.Steps.{◌>>=◌, when}
+use Rattle.mx_script.specs.Fronts.{after, read_or}
 
-abbrev pub segment_word : ℕ → ℕ → Operand
-segment_word segno word = record { base = Segment segno; word = word }
+abbrev pub operand : Base → ℕ → Bool → Operand
+operand base word indirect = record { base = base; word = word; indirect = indirect }
 
--- `S|W`
+-- a pointer register's number is one octal digit
+abbrev pub register_at : List ℕ → Option ℕ
+register_at text = octal_number 1 text
+
+abbrev pub register_base : List ℕ → Option Base
+register_base text = register_at text >>= λ n. Some (Register n)
+
+abbrev pub segment_base : List ℕ → Option Base
+segment_base text = octal_number 4 text >>= λ segno. Some (Segment segno)
+
+-- `S` or `prN`
+unfoldable pub base_at : List ℕ → Option Base
+base_at text = read_or (after (codes "pr") text) register_base (segment_base text)
+
+-- a word number
+abbrev pub word_number_at : List ℕ → Option ℕ
+word_number_at text = octal_number 5 text >>= λ word. when (nat_le word 16383) word
+
+-- what stands behind a comma
+abbrev pub star_at : List ℕ → Option Bool
+star_at text = when (pointwise ◌==◌ text (codes "*")) true
+
+-- `W`, or `W,*` where the word is indirect
+abbrev pub offset_of : List ℕ → Option (List ℕ × List ℕ) → Option (ℕ × Bool)
+offset_of text None = word_number_at text >>= λ word. Some (word, false)
+offset_of text (Some p) = word_number_at p.0 >>= λ word. star_at p.1 >>= λ indirect. Some (word, indirect)
+
+abbrev pub offset_at : List ℕ → Option (ℕ × Bool)
+offset_at text = offset_of text (cut_at 44 text)
+
+-- `S|W` or `prN|W`, each with `,*` or without
 abbrev pub operand_at : List ℕ → Option Operand
 operand_at text =
     cut_at 124 text >>= λ p.
-    octal_number 4 p.0 >>= λ segno.
-    octal_number 5 p.1 >>= λ word.
-    when (nat_le word 16383) (segment_word segno word)
+    base_at p.0 >>= λ base.
+    offset_at p.1 >>= λ o.
+    Some (operand base o.0 o.1)
+
+-- `N OPERAND`
+abbrev pub register_operand_at : List ℕ → Option (ℕ × Operand)
+register_operand_at text =
+    cut_at 32 text >>= λ p.
+    register_at p.0 >>= λ n.
+    operand_at p.1 >>= λ o.
+    Some (n, o)
 
 abbrev pub word_at : List ℕ → Option ℕ
 word_at text = octal_number 12 text >>= λ n. word_of n

@@ -3,11 +3,11 @@ use Rattle.std.specs.Prelude.{◌≡◌, ℕ, ◌==◌, true, List, Option, None
 use Rattle.std.specs.Cmp.Lexicographic.{pointwise}
 use Rattle.mx_name.specs.Principals.{principal_of}
 use Rattle.mx_request.specs.Steps.{◌>>=◌}
-use Rattle.mx_script.specs.Fronts.{after}
-use Rattle.mx_script.specs.Fields.{operand_at, word_at}
+use Rattle.mx_script.specs.Fronts.{after, read_or}
+use Rattle.mx_script.specs.Fields.{operand_at, register_operand_at, word_at}
 use Rattle.mx_script.specs.SessionTexts.{row_text, fits}
 use Rattle.mx_script.specs.declared.lines.Line.{Line}
-use Rattle.mx_script.specs.declared.lines.Line.TheVariants.{Set, Lda, Sta}
+use Rattle.mx_script.specs.declared.lines.Line.TheVariants.{Set, Epp, Lda, Sta, Spri}
 use Rattle.mx_script.specs.declared.rows.Row.{Row}
 use Rattle.mx_script.specs.declared.rows.Row.TheVariants as row
 
@@ -16,13 +16,11 @@ pub record IsRow (text : List ℕ) (r : Row) : Type 0 where
   pub spelled : row_text r ≡ text
   pub fits : fits r ≡ true
 
--- what is read of what follows a front, or else another reading
-abbrev pub read_or : {A : Type 0} → Option (List ℕ) → (List ℕ → Option A) → Option A → Option A
-read_or None read other = other
-read_or (Some rest) read other = read rest
-
 abbrev pub set_at : List ℕ → Option Line
 set_at text = word_at text >>= λ word. Some (Set word)
+
+abbrev pub epp_at : List ℕ → Option Line
+epp_at text = register_operand_at text >>= λ p. Some (Epp p.0 p.1)
 
 abbrev pub lda_at : List ℕ → Option Line
 lda_at text = operand_at text >>= λ operand. Some (Lda operand)
@@ -30,12 +28,17 @@ lda_at text = operand_at text >>= λ operand. Some (Lda operand)
 abbrev pub sta_at : List ℕ → Option Line
 sta_at text = operand_at text >>= λ operand. Some (Sta operand)
 
+abbrev pub spri_at : List ℕ → Option Line
+spri_at text = register_operand_at text >>= λ p. Some (Spri p.0 p.1)
+
 -- a memory line, by its front
 unfoldable pub memory_at : List ℕ → Option Line
 memory_at text =
     read_or (after (codes "set ") text) set_at
+    (read_or (after (codes "epp ") text) epp_at
     (read_or (after (codes "lda ") text) lda_at
-    (read_or (after (codes "sta ") text) sta_at None))
+    (read_or (after (codes "sta ") text) sta_at
+    (read_or (after (codes "spri ") text) spri_at None))))
 
 abbrev pub memory_row : List ℕ → Option Row
 memory_row text = memory_at text >>= λ line. Some (row.Line line)

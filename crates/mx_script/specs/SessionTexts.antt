@@ -1,34 +1,43 @@
 -- The session text: what a session's lines are, in order, and how each is written.
-use Rattle.std.specs.Prelude.{◌≡◌, ◌^◌, ℕ, nat_lt, Bool, true, List, [], ◌∷◌, ◌++◌, map, is_none, codes}
+use Rattle.std.specs.Prelude.{◌≡◌, ◌^◌, ℕ, nat_lt, Bool, true, false, ◌&&◌, List, [], ◌∷◌, ◌++◌, map, is_none, codes}
 use Rattle.std.specs.List.{list_all}
 use Rattle.mx_name.specs.Principals.{PlainPrincipal, components_fault, principal_text}
 use Rattle.mx_sdw.specs.Octal.{octal}
 use Rattle.mx_request.specs.declared.requests.Request.{Request}
 use Rattle.mx_request.specs.RequestTexts.{request_text, fits_request}
-use Rattle.mx_script.specs.Sessions.{Outline, is_session, is_address}
+use Rattle.mx_script.specs.Sessions.{Outline, is_session, is_register, is_address}
 use Rattle.mx_script.specs.declared.lines.Base.{Base}
-use Rattle.mx_script.specs.declared.lines.Base.TheVariants.{Segment}
+use Rattle.mx_script.specs.declared.lines.Base.TheVariants.{Segment, Register}
 use Rattle.mx_script.specs.declared.lines.Line.{Line}
-use Rattle.mx_script.specs.declared.lines.Line.TheVariants.{Ask, Set, Lda, Sta}
+use Rattle.mx_script.specs.declared.lines.Line.TheVariants.{Ask, Set, Epp, Lda, Sta, Spri}
 use Rattle.mx_script.specs.declared.lines.Operand.{Operand}
 use Rattle.mx_script.specs.declared.rows.Row.{Row}
 use Rattle.mx_script.specs.declared.rows.Row.TheVariants as row
 
-abbrev pub segno_of : Base → ℕ
-segno_of (Segment segno) = segno
+-- `S`, in octal, or `prN`
+abbrev pub base_text : Base → List ℕ
+base_text (Segment segno) = octal segno
+base_text (Register n) = codes "pr" ++ octal n
 
--- `S|W`, in octal
-abbrev pub address_text : ℕ → ℕ → List ℕ
-address_text segno word = octal segno ++ codes "|" ++ octal word
+abbrev pub indirect_text : Bool → List ℕ
+indirect_text true = codes ",*"
+indirect_text false = []
 
+-- `W`, in octal, and `,*` where the word is indirect
+abbrev pub offset_text : ℕ → Bool → List ℕ
+offset_text word indirect = octal word ++ indirect_text indirect
+
+-- `S|W` or `prN|W`, with `,*` or without
 abbrev pub operand_text : Operand → List ℕ
-operand_text operand = address_text (segno_of operand.base) operand.word
+operand_text operand = base_text operand.base ++ codes "|" ++ offset_text operand.word operand.indirect
 
 abbrev pub line_text : Line → List ℕ
 line_text (Ask request) = request_text request
 line_text (Set word) = codes "set " ++ octal word
+line_text (Epp n operand) = codes "epp " ++ octal n ++ codes " " ++ operand_text operand
 line_text (Lda operand) = codes "lda " ++ operand_text operand
 line_text (Sta operand) = codes "sta " ++ operand_text operand
+line_text (Spri n operand) = codes "spri " ++ octal n ++ codes " " ++ operand_text operand
 
 abbrev pub row_text : Row → List ℕ
 row_text row.Header = codes "multics 1"
@@ -59,8 +68,10 @@ lines_text (line ∷ lines) = line ++ 10 ∷ lines_text lines
 abbrev pub fits_line : Line → Bool
 fits_line (Ask request) = fits_request request
 fits_line (Set word) = nat_lt word (2 ^ 36)
+fits_line (Epp n operand) = is_register n && is_address operand
 fits_line (Lda operand) = is_address operand
 fits_line (Sta operand) = is_address operand
+fits_line (Spri n operand) = is_register n && is_address operand
 
 abbrev pub fits : Row → Bool
 fits row.Header = true

@@ -4,14 +4,14 @@ use Rattle.std.specs.Prelude.{◌≡◌, ◌-◌, ◌<◌, ◌≤◌, ℕ, ◌+�
 use Rattle.std.specs.List.{list_all, sum_by}
 use Rattle.mx_name.specs.Principals.{PlainPrincipal}
 use Rattle.mx_request.specs.declared.requests.Request.{Request}
-use Rattle.mx_request.specs.declared.requests.Request.TheVariants.{CreateDir, CreateSeg, CreateLink, Rename, Delete, SetAcl, DelAcl, SetBrackets, SetDirBrackets, Status, List as ListNames, ChangeWdir, SetRules, Initiate, Terminate, Logout}
+use Rattle.mx_request.specs.declared.requests.Request.TheVariants.{CreateDir, CreateSeg, CreateLink, Rename, Delete, SetAcl, DelAcl, SetBrackets, SetDirBrackets, Status, List as ListNames, ChangeWdir, SetRules, Initiate, Link, Terminate, Logout}
 use Rattle.mx_request.specs.Classes.{class_of}
 use Rattle.mx_request.specs.declared.classes.RequestClass.{RequestClass}
 use Rattle.mx_request.specs.declared.classes.RequestClass.TheVariants.{OfPath, OfProcess, OfSupervisor}
 use Rattle.mx_script.specs.declared.lines.Base.{Base}
-use Rattle.mx_script.specs.declared.lines.Base.TheVariants.{Segment}
+use Rattle.mx_script.specs.declared.lines.Base.TheVariants.{Segment, Register}
 use Rattle.mx_script.specs.declared.lines.Line.{Line}
-use Rattle.mx_script.specs.declared.lines.Line.TheVariants.{Ask, Set, Lda, Sta}
+use Rattle.mx_script.specs.declared.lines.Line.TheVariants.{Ask, Set, Epp, Lda, Sta, Spri}
 use Rattle.mx_script.specs.declared.lines.Operand.{Operand}
 
 pub record Outline : Type 0 where
@@ -47,6 +47,7 @@ is_short (ChangeWdir path) = true
 is_short (SetRules rules) = true
 is_short (Initiate path name) = true
 is_short (Terminate segno) = nat_le segno 4095
+is_short (Link segno word) = true
 is_short Logout = true
 
 -- the setup makes requests on paths
@@ -65,20 +66,27 @@ is_for_script OfPath = true
 is_for_script OfProcess = true
 is_for_script OfSupervisor = false
 
+-- the pointer registers are PR0 to PR7
+abbrev pub is_register : ℕ → Bool
+is_register n = nat_le n 7
+
 -- a segment number has at most four octal digits
-abbrev pub is_segno : Base → Bool
-is_segno (Segment segno) = nat_le segno 4095
+abbrev pub is_base : Base → Bool
+is_base (Segment segno) = nat_le segno 4095
+is_base (Register n) = is_register n
 
 -- a word number has at most five, of which the first is at most 3
 abbrev pub is_address : Operand → Bool
-is_address operand = is_segno operand.base && nat_le operand.word 16383
+is_address operand = is_base operand.base && nat_le operand.word 16383
 
 -- what a script may say
 abbrev pub is_script_line : Line → Bool
 is_script_line (Ask request) = is_for_script (class_of request) && is_short request
 is_script_line (Set word) = true
+is_script_line (Epp n operand) = is_register n && is_address operand
 is_script_line (Lda operand) = is_address operand
 is_script_line (Sta operand) = is_address operand
+is_script_line (Spri n operand) = is_register n && is_address operand
 
 abbrev pub is_logout : Line → Bool
 is_logout (Ask Logout) = true

@@ -1,6 +1,7 @@
 //! Sessions and their texts: from the bytes to the session, or to the number of the first bad line.
 //!
 //! A session is a setup of path requests, and for each process its principal and its script; this version has one process.
+//! An operand begins at a segment number or at a pointer register, and may be indirect.
 //! [`Session::new`] makes a session of parts exactly where they are those of one. [`read_session`] gives the one session that
 //! has a text, and for a text of no session the first bad line: the line after the greatest number of leading whole lines that
 //! begin the text of some session. Stands on `mx_request` for the requests and their lines.
@@ -78,6 +79,42 @@ mod tests {
                 Some(3),
             ),
             (b"multics 1\nprocess A.B.a\nset 01\nlogout\nend\n", Some(3)),
+            (
+                b"multics 1\nprocess A.B.a\nlda pr7|37777,*\nlogout\nend\n",
+                None,
+            ),
+            (
+                b"multics 1\nprocess A.B.a\nlda pr8|0\nlogout\nend\n",
+                Some(3),
+            ),
+            (
+                b"multics 1\nprocess A.B.a\nsta pr|0\nlogout\nend\n",
+                Some(3),
+            ),
+            (
+                b"multics 1\nprocess A.B.a\nlda 10|0,\nlogout\nend\n",
+                Some(3),
+            ),
+            (
+                b"multics 1\nprocess A.B.a\nlda 10|0,**\nlogout\nend\n",
+                Some(3),
+            ),
+            (
+                b"multics 1\nprocess A.B.a\nepp 8 10|0\nlogout\nend\n",
+                Some(3),
+            ),
+            (
+                b"multics 1\nprocess A.B.a\nspri 00 10|0\nlogout\nend\n",
+                Some(3),
+            ),
+            (
+                b"multics 1\nprocess A.B.a\nlink 10|0\nlogout\nend\n",
+                Some(3),
+            ),
+            (
+                b"multics 1\nlink 10|0\nprocess A.B.a\nlogout\nend\n",
+                Some(2),
+            ),
             (b"multics 1\nprocess A.B.a\nlogout \nend\n", Some(3)),
         ] {
             assert_eq!(rt; first_bad_line(alloc, text)?, want, "{text:?}");
@@ -90,14 +127,20 @@ mod tests {
         match line {
             Line::Ask(_) => (b'a', 0),
             Line::Set { word } => (b's', word.value()),
+            Line::Epp { n, operand } => (b'e', u64::from(*n) << 60 | address(operand)),
             Line::Lda { operand } => (b'l', address(operand)),
             Line::Sta { operand } => (b't', address(operand)),
+            Line::Spri { n, operand } => (b'p', u64::from(*n) << 60 | address(operand)),
         }
     }
 
     fn address(operand: &Operand) -> u64 {
-        let Base::Segment(segno) = operand.base;
-        u64::from(segno) << 32 | u64::from(operand.word)
+        let base = match operand.base {
+            Base::Segment(segno) => u64::from(segno),
+            Base::Register(n) => 0o10000 + u64::from(n),
+        };
+        let mark = if operand.indirect { 1 } else { 0 };
+        base << 32 | u64::from(operand.word) << 1 | mark
     }
 
     #[test]
@@ -105,7 +148,7 @@ mod tests {
         let alloc = rt.alloc();
         let session = read_session(
             alloc,
-            b"multics 1\ncreate_seg >a 64 4 4 4\nset_acl >a Jones.Faculty.a rw\nprocess Jones.Faculty.a\ninitiate >a\nset 52\nsta 10|5\nlda 10|6\nlogout\nend\n",
+            b"multics 1\ncreate_seg >a 64 4 4 4\nset_acl >a Jones.Faculty.a rw\nprocess Jones.Faculty.a\ninitiate >a\nset 52\nsta 10|5\nlda 10|6\nepp 7 pr3|17,*\nspri 0 10|5,*\nlogout\nend\n",
         )?;
         assert_eq!(rt; session.version(), 1);
         assert_eq!(rt; session.limit(), 262_143);
@@ -114,8 +157,10 @@ mod tests {
         let want = [
             (b'a', 0),
             (b's', 0o52),
-            (b't', 8 << 32 | 5),
-            (b'l', 8 << 32 | 6),
+            (b't', 8 << 32 | 5 << 1),
+            (b'l', 8 << 32 | 6 << 1),
+            (b'e', 7 << 60 | 0o10003 << 32 | 0o17 << 1 | 1),
+            (b'p', 8 << 32 | 5 << 1 | 1),
             (b'a', 0),
         ];
         for script in session.scripts().items() {

@@ -8,17 +8,20 @@ use mx_sdw::Word;
 use std::alloc::{AllocError, Global};
 use std::marker::Model;
 
-/// Where an operand's address begins: at a segment number.
+/// Where an operand's address begins: at a segment number up to octal 7777, or where pointer register 0 to 7 points.
 #[derive(Clone, Copy, Debug, PartialEq, Eq)]
 pub enum Base {
     Segment(u16),
+    Register(u8),
 }
 
-/// The address `S|W` of a word: segment number S up to octal 7777, word number W up to octal 37777.
+/// The address of a word, `S|W` or `prN|W`, with word number W up to octal 37777, and with `,*` where an indirect word
+/// stands there.
 #[derive(Clone, Copy, Debug, PartialEq, Eq)]
 pub struct Operand {
     pub base: Base,
     pub word: u16,
+    pub indirect: bool,
 }
 
 /// A request on the heap, so that a line takes no more room than a memory line needs.
@@ -59,17 +62,21 @@ impl BoxedRequest {
     }
 }
 
-/// One line of a script. A memory line stands for one operation on the accumulator A.
+/// One line of a script. A memory line stands for one operation on the accumulator A or on pointer register N, 0 to 7.
 #[derive(Debug, Drop)]
 pub enum Line {
     /// A supervisor call.
     Ask(BoxedRequest),
     /// `set WORD`: A becomes this word.
     Set { word: Word },
-    /// `lda S|W`: A becomes the word read.
+    /// `epp N OPERAND`: pointer register N becomes the effective pointer.
+    Epp { n: u8, operand: Operand },
+    /// `lda OPERAND`: A becomes the word read.
     Lda { operand: Operand },
-    /// `sta S|W`: A is stored.
+    /// `sta OPERAND`: A is stored.
     Sta { operand: Operand },
+    /// `spri N OPERAND`: pointer register N is stored.
+    Spri { n: u8, operand: Operand },
 }
 
 /// The lines of one process, the last of which is its `logout`.

@@ -2,7 +2,8 @@
 
 ghost use Rattle.std.specs.Prelude.{◌≡◌, ◌&&◌};
 ghost use Rattle.std.specs.List.{list_all};
-ghost use Rattle.mx_script.specs.Sessions.{is_short, is_for_setup, is_for_script, is_setup_request, are_scripts, are_processes, is_count, is_limit, is_script, is_script_line, ends, is_logout, is_address};
+ghost use Rattle.mx_script.specs.Sessions.{is_short, is_for_setup, is_for_script, is_setup_request, are_scripts, are_processes, is_count, is_limit, is_script, is_script_line, ends, is_logout, is_register, is_base, is_address};
+ghost use Rattle.mx_script.specs.Drafts.{may_stand};
 
 use crate::lines::{Base, Line, Operand, Script};
 use mx_name::Principal;
@@ -55,6 +56,7 @@ fn is_short(request: &Request) -> bool
         | Request::List { .. }
         | Request::ChangeWdir { .. }
         | Request::Initiate { .. }
+        | Request::Link { .. }
         | Request::Logout => true,
     }
 }
@@ -142,8 +144,24 @@ fn is_script_line(line: &Line) -> bool
             is_for_script(request.class()) && is_short(request)
         }
         Line::Set { .. } => true,
+        Line::Epp { n, operand } => is_register(*n) && is_address(operand),
         Line::Lda { operand } => is_address(operand),
         Line::Sta { operand } => is_address(operand),
+        Line::Spri { n, operand } => is_register(*n) && is_address(operand),
+    }
+}
+
+/// Whether a script may hold the line.
+pub(crate) fn may_stand(line: &Line) -> bool
+    ensures { result ≡ may_stand line.now }
+{
+    match line {
+        Line::Ask(request) => is_for_script(request.request().class()),
+        Line::Set { .. } => true,
+        Line::Epp { .. } => true,
+        Line::Lda { .. } => true,
+        Line::Sta { .. } => true,
+        Line::Spri { .. } => true,
     }
 }
 
@@ -152,13 +170,31 @@ pub(crate) fn is_logout(line: &Line) -> bool
 {
     match line {
         Line::Ask(request) => matches!(request.request(), Request::Logout),
-        Line::Set { .. } | Line::Lda { .. } | Line::Sta { .. } => false,
+        Line::Set { .. }
+        | Line::Epp { .. }
+        | Line::Lda { .. }
+        | Line::Sta { .. }
+        | Line::Spri { .. } => false,
     }
 }
 
 fn is_address(operand: &Operand) -> bool
     ensures { result ≡ is_address operand.now }
 {
-    let Base::Segment(segno) = operand.base;
-    segno <= 0o7777 && operand.word <= 0o37777
+    is_base(&operand.base) && operand.word <= 0o37777
+}
+
+fn is_base(base: &Base) -> bool
+    ensures { result ≡ is_base base.now }
+{
+    match base {
+        Base::Segment(segno) => *segno <= 0o7777,
+        Base::Register(n) => is_register(*n),
+    }
+}
+
+fn is_register(n: u8) -> bool
+    ensures { result ≡ is_register n }
+{
+    n <= 7
 }

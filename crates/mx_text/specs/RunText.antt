@@ -14,9 +14,9 @@ use Rattle.mx_legal.specs.declared.transcripts.Event2.{Event2}
 use Rattle.mx_legal.specs.declared.transcripts.Event2.TheVariants.{Core, Entry}
 use Rattle.mx_legal.specs.declared.transcripts.Result2.{Result2}
 use Rattle.mx_legal.specs.declared.transcripts.Result2.TheVariants as result
+use Rattle.mx_request.specs.Fields.{address_text}
 use Rattle.mx_request.specs.ReplyTexts.{reply_text}
 use Rattle.mx_request.specs.RequestTexts.{request_text}
-use Rattle.mx_script.specs.SessionTexts.{address_text}
 use Rattle.mx_legal.specs.Transcripts.{Step}
 
 -- `NUMBER PROCESS RING REQUEST = REPLY`, and a newline

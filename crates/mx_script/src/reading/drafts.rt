@@ -5,7 +5,7 @@ ghost use Rattle.mx_script.specs.Sessions.{session_of, line_count, is_logout};
 ghost use Rattle.mx_script.specs.Drafts.{setup_step, script_step, step, Follows, one_process, finished, IsCountable};
 
 use crate::lines::{Line, Script};
-use crate::outlines::{is_for_setup, is_logout};
+use crate::outlines::{is_for_setup, is_logout, may_stand};
 use crate::reading::lines::read_row;
 use crate::rows::Row;
 use crate::sessions::Session;
@@ -123,8 +123,10 @@ fn with_request(mut setup: Requests, line: Line) -> Result<Option<Draft>, AllocE
             }
         }
         Line::Set { .. } => Ok(None),
+        Line::Epp { .. } => Ok(None),
         Line::Lda { .. } => Ok(None),
         Line::Sta { .. } => Ok(None),
+        Line::Spri { .. } => Ok(None),
     }
 }
 
@@ -138,7 +140,7 @@ fn went_on(
 {
     match row {
         Row::Header => Ok(None),
-        Row::Line(line) => Ok(Some(with_line(setup, principal, script, line)?)),
+        Row::Line(line) => with_line(setup, principal, script, line),
         Row::Process(_) => Ok(None),
         Row::End => Ok(None),
     }
@@ -149,15 +151,18 @@ fn with_line(
     principal: Principal,
     mut script: Script,
     line: Line,
-) -> Result<Draft, AllocError>
+) -> Result<Option<Draft>, AllocError>
     ensures { IfOk result (λ draft. draft ≡ script_step setup principal script line) }
 {
+    if !may_stand(&line) {
+        return Ok(None);
+    }
     let last = is_logout(&line);
     script.push(line)?;
     if last {
-        Ok(Draft::LoggedOut(setup, principal, script))
+        Ok(Some(Draft::LoggedOut(setup, principal, script)))
     } else {
-        Ok(Draft::Running(setup, principal, script))
+        Ok(Some(Draft::Running(setup, principal, script)))
     }
 }
 

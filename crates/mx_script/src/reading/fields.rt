@@ -2,9 +2,10 @@
 
 ghost use Rattle.std.specs.Prelude.{◌≡◌};
 ghost use Rattle.mx_name.specs.Principals.{principal_of};
-ghost use Rattle.mx_script.specs.Fields.{operand_at, word_at};
+ghost use Rattle.mx_script.specs.Fields.{register_at, register_base, segment_base, base_at, word_number_at, star_at, offset_at, operand_at, register_operand_at, word_at};
 
 use crate::lines::{Base, Operand};
+use crate::reading::cutting::after;
 use mx_name::{Principal, cut};
 use mx_sdw::{Word, read_octal_number};
 
@@ -21,18 +22,97 @@ pub(crate) fn read_word(text: &[u8]) -> Option<Word>
     Word::new(read_octal_number(text, 12)?)
 }
 
-/// The address `S|W`, in octal.
+/// `S|W` or `prN|W`, in octal, each with `,*` or without.
 pub(crate) fn read_operand(text: &[u8]) -> Option<Operand>
     ensures { result ≡ operand_at text.now }
 {
-    let (segno, word) = cut(b'|', text)?;
-    let segno = read_octal_number(segno, 4)?;
-    let word = read_octal_number(word, 5)?;
+    let (base, offset) = cut(b'|', text)?;
+    let base = read_base(base)?;
+    let (word, indirect) = read_offset(offset)?;
+    Some(Operand {
+        base,
+        word,
+        indirect,
+    })
+}
+
+/// `N OPERAND`
+pub(crate) fn read_register_operand(text: &[u8]) -> Option<(u8, Operand)>
+    ensures { result ≡ register_operand_at text.now }
+{
+    let (n, operand) = cut(b' ', text)?;
+    let n = read_register(n)?;
+    let operand = read_operand(operand)?;
+    Some((n, operand))
+}
+
+// A pointer register's number, one octal digit.
+fn read_register(text: &[u8]) -> Option<u8>
+    ensures { result ≡ register_at text.now }
+{
+    let n = read_octal_number(text, 1)?;
+    Some(n as u8)
+}
+
+// `S` or `prN`
+#[tactic(auto, unfolding(crate::specs::Fields::base_at))]
+fn read_base(text: &[u8]) -> Option<Base>
+    ensures { result ≡ base_at text.now }
+{
+    if let Some(register) = after(b"pr", text) {
+        read_register_base(register)
+    } else {
+        read_segment_base(text)
+    }
+}
+
+fn read_register_base(text: &[u8]) -> Option<Base>
+    ensures { result ≡ register_base text.now }
+{
+    let n = read_register(text)?;
+    Some(Base::Register(n))
+}
+
+fn read_segment_base(text: &[u8]) -> Option<Base>
+    ensures { result ≡ segment_base text.now }
+{
+    let segno = read_octal_number(text, 4)?;
+    Some(Base::Segment(segno as u16))
+}
+
+// `W`, or `W,*` where the word is indirect.
+fn read_offset(text: &[u8]) -> Option<(u16, bool)>
+    ensures { result ≡ offset_at text.now }
+{
+    match cut(b',', text) {
+        Some((word, star)) => {
+            let word = read_word_number(word)?;
+            let indirect = read_star(star)?;
+            Some((word, indirect))
+        }
+        None => {
+            let word = read_word_number(text)?;
+            Some((word, false))
+        }
+    }
+}
+
+fn read_star(text: &[u8]) -> Option<bool>
+    ensures { result ≡ star_at text.now }
+{
+    if text == b"*".as_slice() {
+        Some(true)
+    } else {
+        None
+    }
+}
+
+fn read_word_number(text: &[u8]) -> Option<u16>
+    ensures { result ≡ word_number_at text.now }
+{
+    let word = read_octal_number(text, 5)?;
     if word <= 0o37777 {
-        Some(Operand {
-            base: Base::Segment(segno as u16),
-            word: word as u16,
-        })
+        Some(word as u16)
     } else {
         None
     }

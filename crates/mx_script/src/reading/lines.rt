@@ -1,12 +1,12 @@
 //! What a line of a session text says by itself.
 
 ghost use Rattle.std.specs.Prelude.{◌≡◌, IfOk, IfSome, Some};
-ghost use Rattle.mx_script.specs.Reading.{IsRow, set_at, lda_at, sta_at, memory_at, plain_at, process_at};
+ghost use Rattle.mx_script.specs.Reading.{IsRow, set_at, epp_at, lda_at, sta_at, spri_at, memory_at, plain_at, process_at};
 ghost use Rattle.mx_script.specs.declared.rows.Row.{Row};
 
 use crate::lines::{BoxedRequest, Line};
 use crate::reading::cutting::after;
-use crate::reading::fields::{read_operand, read_principal, read_word};
+use crate::reading::fields::{read_operand, read_principal, read_register_operand, read_word};
 use crate::rows::Row;
 use mx_request::Request;
 use std::alloc::{AllocError, Global};
@@ -59,10 +59,14 @@ fn read_memory(line: &[u8]) -> Option<Line>
 {
     if let Some(fields) = after(b"set ", line) {
         read_set(fields)
+    } else if let Some(fields) = after(b"epp ", line) {
+        read_epp(fields)
     } else if let Some(fields) = after(b"lda ", line) {
         read_lda(fields)
     } else if let Some(fields) = after(b"sta ", line) {
         read_sta(fields)
+    } else if let Some(fields) = after(b"spri ", line) {
+        read_spri(fields)
     } else {
         None
     }
@@ -73,6 +77,13 @@ fn read_set(fields: &[u8]) -> Option<Line>
 {
     let word = read_word(fields)?;
     Some(Line::Set { word })
+}
+
+fn read_epp(fields: &[u8]) -> Option<Line>
+    ensures { result ≡ epp_at fields.now }
+{
+    let (n, operand) = read_register_operand(fields)?;
+    Some(Line::Epp { n, operand })
 }
 
 fn read_lda(fields: &[u8]) -> Option<Line>
@@ -87,4 +98,11 @@ fn read_sta(fields: &[u8]) -> Option<Line>
 {
     let operand = read_operand(fields)?;
     Some(Line::Sta { operand })
+}
+
+fn read_spri(fields: &[u8]) -> Option<Line>
+    ensures { result ≡ spri_at fields.now }
+{
+    let (n, operand) = read_register_operand(fields)?;
+    Some(Line::Spri { n, operand })
 }

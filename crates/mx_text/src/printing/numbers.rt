@@ -2,7 +2,7 @@
 
 ghost use Rattle.std.specs.Prelude.{◌≡◌, ◌++◌, OnOk};
 ghost use Rattle.std.specs.Fmt.{decimal};
-ghost use Rattle.mx_script.specs.SessionTexts.{address_text};
+ghost use Rattle.mx_request.specs.Fields.{address_text};
 
 use itoa::Buffer;
 use mx_sdw::write_octal;
