@@ -1,14 +1,16 @@
 pub mod GoingOn
 pub mod Extending
 pub mod Outcomes
-mod Ends
+pub mod Ends
 pub mod RingLaws
 pub mod LegalLaws
+pub mod WalkLaws
 pub mod TraceLaws
 pub mod Growing
 pub mod Named
 mod AskLines
 mod SetupLaws
 mod WrongLineLaws
+mod PointerLineLaws
 mod WrongRuleLaws
 pub mod RecordedLaws

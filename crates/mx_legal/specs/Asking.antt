@@ -4,7 +4,7 @@ use Rattle.mx_call.specs.Registers.{Registers}
 use Rattle.mx_request.specs.declared.replies.Reply.{Reply}
 use Rattle.mx_request.specs.declared.replies.Reply.TheVariants as reply
 use Rattle.mx_script.specs.declared.lines.Line.{Line}
-use Rattle.mx_script.specs.declared.lines.Line.TheVariants.{Ask, Set, Lda, Sta}
+use Rattle.mx_script.specs.declared.lines.Line.TheVariants.{Ask, Set, Epp, Lda, Sta, Spri}
 use Rattle.mx_legal.specs.declared.transcripts.Result2.{Result2}
 use Rattle.mx_legal.specs.declared.transcripts.Result2.TheVariants as result
 use Rattle.mx_legal.specs.Attempts.{attempt}
@@ -25,12 +25,22 @@ result_of (reply.Status status) = result.Done
 result_of (reply.Names names) = result.Done
 result_of (reply.Segno known) = result.Done
 
--- after a reply; no other line calls
+-- a memory line calls to have a link snapped: where that is refused it ends so, and no other reply comes
+abbrev pub linked : Registers → Reply → Next
+linked g (reply.Refused why) = Ends result.Refused g
+linked g reply.Done = Nowhere
+linked g (reply.Status status) = Nowhere
+linked g (reply.Names names) = Nowhere
+linked g (reply.Segno known) = Nowhere
+
+-- after a reply
 abbrev pub answered : Registers → Line → Reply → Next
 answered g (Ask request) given = Ends (result_of given) g
 answered g (Set word) given = Nowhere
-answered g (Lda o) given = Nowhere
-answered g (Sta o) given = Nowhere
+answered g (Epp n o) given = linked g given
+answered g (Lda o) given = linked g given
+answered g (Sta o) given = linked g given
+answered g (Spri n o) given = linked g given
 
 -- what a line asks for, after what it has done so far
 abbrev pub next : Registers → Line → Course → Next

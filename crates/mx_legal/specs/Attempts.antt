@@ -1,21 +1,60 @@
 -- An attempt of a memory line: what it asks for next, from the registers at the line's start and what it has seen so
--- far: its one reference, at the target. After that it has ended.
-use Rattle.std.specs.Prelude.{List, [], ◌∷◌, Option, Some, None}
-use Rattle.mx_ptr.specs.Pointers.{PointerParts}
+-- far. It reads the indirect words of its operand, each where the words before it lead, and then does its own at the
+-- target.
+use Rattle.std.specs.Prelude.{ℕ, List, [], ◌∷◌, Option, Some, None}
+use Rattle.mx_sdw.specs.declared.denials.Denial.TheVariants.{NotPointer, IndirectLimit}
+use Rattle.mx_sdw.specs.declared.operations.Op.TheVariants.{Indirect}
+use Rattle.mx_ptr.specs.Pointers.{parts_of}
+use Rattle.mx_effring.specs.Chains as chains
+use Rattle.mx_effring.specs.Chains.{read_on}
+use Rattle.mx_effring.specs.Walks.{wanted, refuses}
+use Rattle.mx_effring.specs.declared.walks.Stuck.{Stuck}
+use Rattle.mx_effring.specs.declared.walks.Stuck.TheVariants as stuck
+use Rattle.mx_effring.specs.declared.walks.Want.{Want}
+use Rattle.mx_effring.specs.declared.walks.Want.TheVariants.{Word, Done}
 use Rattle.mx_call.specs.Registers.{Registers}
+use Rattle.mx_core.specs.declared.elements.Outcome.{Outcome}
+use Rattle.mx_core.specs.declared.elements.Outcome.TheVariants as outcome
+use Rattle.mx_request.specs.declared.requests.Request.TheVariants.{Link}
 use Rattle.mx_script.specs.declared.lines.Line.{Line}
+use Rattle.mx_legal.specs.declared.transcripts.Result2.TheVariants as result
 use Rattle.mx_legal.specs.Courses.{Judged}
-use Rattle.mx_legal.specs.Next.{Next, Nowhere}
-use Rattle.mx_legal.specs.Operands.{target_of}
+use Rattle.mx_legal.specs.Next.{Next, Asks, Calls, Ends, Nowhere}
+use Rattle.mx_legal.specs.Operands.{walk_of}
 use Rattle.mx_legal.specs.Targets.{at_target, after_target}
 
-abbrev pub along : Registers → Line → PointerParts → List Judged → Next
-along g line target [] = at_target g line target
-along g line target (j ∷ seen) = after_target g line target j.desc j.element.outcome
+abbrev pub wants : Registers → Line → Want → Next
+wants g line (Word segno word ring) =
+    Asks (record { op = Indirect; segno = segno; word = word; ring = ring; stores = None })
+wants g line (Done target) = at_target g line target
 
-abbrev pub attempting : Registers → Line → List Judged → Option PointerParts → Next
+-- a link is to be snapped first, by a call in the ring in which its word was read
+abbrev pub taken : Registers → ℕ → ℕ → ℕ → Option Stuck → Next → Next
+taken g segno word ring None onward = onward
+taken g segno word ring (Some stuck.Link) onward = Calls ring (Link segno word)
+taken g segno word ring (Some stuck.NotPointer) onward = Ends (result.Denied NotPointer) g
+taken g segno word ring (Some stuck.Limit) onward = Ends (result.Denied IndirectLimit) g
+
+-- an indirect word was read at this place, or denied; a pointer leads on
+abbrev pub after_word : Registers → chains.Operand → ℕ → ℕ → ℕ → Outcome → (ℕ → Next) → Next
+after_word g walk segno word ring (outcome.Read value writer stamp) onward =
+    taken g segno word ring (refuses walk value) (onward value)
+after_word g walk segno word ring (outcome.Denied denial) onward = Ends (result.Denied denial) g
+after_word _ _ _ _ _ _ _ = Nowhere
+
+abbrev pub after_seen : Registers → Line → chains.Operand → Judged → Want → (ℕ → Next) → Next
+after_seen g line walk j (Word segno word ring) onward = after_word g walk segno word ring j.element.outcome onward
+after_seen g line walk j (Done target) onward = after_target g line target j.desc j.element.outcome
+
+-- what comes after all this was seen, from this place of the walk on
+abbrev pub along : Registers → Line → chains.Operand → List Judged → Next
+along g line walk [] = wants g line (wanted walk)
+along g line walk (j ∷ seen) =
+    after_seen g line walk j (wanted walk) (λ value. along g line (read_on walk (parts_of value) j.desc.brackets.r1) seen)
+
+abbrev pub attempting : Registers → Line → List Judged → Option chains.Operand → Next
 attempting g line seen None = Nowhere
-attempting g line seen (Some target) = along g line target seen
+attempting g line seen (Some walk) = along g line walk seen
 
 abbrev pub attempt : Registers → Line → List Judged → Next
-attempt g line seen = attempting g line seen (target_of g line)
+attempt g line seen = attempting g line seen (walk_of g line)

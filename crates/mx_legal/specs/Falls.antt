@@ -19,6 +19,7 @@ use Rattle.mx_legal.specs.Transcripts.{Step}
 abbrev pub printed_ring : ℕ → Result2 → ℕ
 printed_ring ring result.Done = ring
 printed_ring ring (result.A word) = ring
+printed_ring ring (result.Pr n pointer) = ring
 printed_ring ring (result.Denied denial) = ring
 printed_ring ring result.Refused = ring
 printed_ring ring result.HistoryFull = ring

@@ -35,6 +35,7 @@ pub mod SoFar
 pub mod Standing
 -- wrong runs that are refused
 pub mod WrongLines
+pub mod PointerLines
 pub mod WrongPoints
 pub mod WrongReads
 pub mod WrongFalls

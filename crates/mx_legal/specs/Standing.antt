@@ -1,21 +1,29 @@
--- What a process knows of its own lines: it knows the descriptors of its own trace alone, its own front of the
--- journal and its floor.
-use Rattle.std.specs.Prelude.{◌≡◌, ℕ, ◌≤◌, nat_le, length, true, List, [], ◌∷◌, ◌++◌, Some, slice_get}
+-- For the loops: how a machine knows what its line asks for. It keeps the walk of mx_effring and not what was seen, and
+-- a process knows the descriptors of its own trace alone, its own front of the journal and its floor.
+use Rattle.std.specs.Prelude.{◌≡◌, ℕ, ◌≤◌, nat_le, length, true, List, [], ◌∷◌, ◌++◌, Some, None, slice_get}
 use Rattle.mx_sdw.specs.Descriptors.{Descriptor}
+use Rattle.mx_ptr.specs.Pointers.{parts_of}
+use Rattle.mx_effring.specs.Chains as chains
+use Rattle.mx_effring.specs.Chains.{read_on}
+use Rattle.mx_effring.specs.Walks.{wanted, refuses}
+use Rattle.mx_effring.specs.declared.walks.Want.TheVariants.{Word}
 use Rattle.mx_call.specs.Registers.{Registers}
 use Rattle.mx_script.specs.declared.lines.Line.{Line}
 use Rattle.mx_core.specs.declared.elements.Element.{Element}
 use Rattle.mx_core.specs.declared.elements.Event.TheVariants.{Seen}
+use Rattle.mx_core.specs.declared.elements.Outcome.TheVariants.{Read}
 use Rattle.mx_legal.specs.declared.transcripts.Event2.{Event2}
 use Rattle.mx_legal.specs.declared.transcripts.Event2.TheVariants.{Core}
 use Rattle.mx_legal.specs.declared.transcripts.Result2.TheVariants.{HistoryFull}
 use Rattle.mx_legal.specs.Asking.{next}
+use Rattle.mx_legal.specs.Attempts.{attempt, along}
 use Rattle.mx_legal.specs.Courses.{Course, Attempt, Judged, seen_in}
 use Rattle.mx_legal.specs.Elements.{IsJudged}
 use Rattle.mx_legal.specs.Lines.{IsSoFar, IsLine}
 use Rattle.mx_legal.specs.Next.{Reference, Asks}
 use Rattle.mx_legal.specs.Access.{descriptor_of}
 use Rattle.mx_legal.specs.Legal.{setting_of}
+use Rattle.mx_legal.specs.Operands.{walk_of}
 use Rattle.mx_legal.specs.Openings.{opening_registers}
 use Rattle.mx_legal.specs.Parts.{AreLines}
 use Rattle.mx_legal.specs.Scripts.{lines_of}
@@ -23,6 +31,22 @@ use Rattle.mx_legal.specs.Settings.{Setting}
 use Rattle.mx_legal.specs.Transcripts.{Step}
 use Rattle.mx_script.specs.Sessions.{Outline, limit_of}
 use Rattle.mx_state.specs.declared.journal.Entry as journaled
+
+-- after all this was seen an attempt goes on as the walk does from here
+abbrev pub IsWalked : Registers → Line → List Judged → chains.Operand → Type 0
+IsWalked g line seen walk = (more : List Judged) → attempt g line (seen ++ more) ≡ along g line walk more
+
+abbrev pub WalkBegunLaw : Type 0
+WalkBegunLaw = (g : Registers) (line : Line) (walk : chains.Operand) → walk_of g line ≡ Some walk
+    → IsWalked g line [] walk
+
+-- an indirect word was read and taken
+abbrev pub WalkLaw : Type 0
+WalkLaw = (g : Registers) (line : Line) (seen : List Judged) (walk : chains.Operand) (j : Judged)
+    (segno word ring value writer stamp : ℕ)
+    → IsWalked g line seen walk → wanted walk ≡ Word segno word ring → j.element.outcome ≡ Read value writer stamp
+    → refuses walk value ≡ None
+    → IsWalked g line (seen ++ j ∷ []) (read_on walk (parts_of value) j.desc.brackets.r1)
 
 -- these descriptors are those of a trace, which keeps one beside each element
 abbrev pub AgreesWith : (Element → Descriptor) → List Judged → Type 0

@@ -1,19 +1,28 @@
 -- What each memory line does at its target, the effective pointer: the reference that it makes there, and what the
 -- grant makes of the registers. One row a line.
+use Rattle.std.specs.Prelude.{ℕ, false, Option, Some, None, slice_get}
 use Rattle.mx_sdw.specs.Descriptors.{Descriptor}
 use Rattle.mx_sdw.specs.declared.operations.Op.TheVariants as op
-use Rattle.mx_ptr.specs.Pointers.{PointerParts}
+use Rattle.mx_ptr.specs.Pointers.{PointerParts, pointer_word}
+use Rattle.mx_call.specs.Loading.{loaded}
 use Rattle.mx_call.specs.Registers.{Registers}
 use Rattle.mx_core.specs.declared.elements.Outcome.{Outcome}
 use Rattle.mx_core.specs.declared.elements.Outcome.TheVariants as outcome
 use Rattle.mx_script.specs.declared.lines.Line.{Line}
-use Rattle.mx_script.specs.declared.lines.Line.TheVariants.{Ask, Set, Lda, Sta}
+use Rattle.mx_script.specs.declared.lines.Line.TheVariants.{Ask, Set, Epp, Lda, Sta, Spri}
 use Rattle.mx_legal.specs.declared.transcripts.Result2.TheVariants as result
 use Rattle.mx_legal.specs.Next.{Next, Asks, Ends, Nowhere, at_place, storing}
 
+-- a pointer register is stored without further indirection
+abbrev pub spri_at : PointerParts → Option PointerParts → Next
+spri_at target None = Nowhere
+spri_at target (Some p) = Asks (storing (pointer_word (record p { further = false })) target)
+
 abbrev pub at_target : Registers → Line → PointerParts → Next
+at_target g (Epp n o) target = Ends (result.Pr n target) (loaded g n target)
 at_target g (Lda o) target = Asks (at_place op.Read target)
 at_target g (Sta o) target = Asks (storing g.a target)
+at_target g (Spri n o) target = spri_at target (slice_get g.pr n)
 at_target g (Ask request) target = Nowhere
 at_target g (Set word) target = Nowhere
 
@@ -22,4 +31,5 @@ abbrev pub after_target : Registers → Line → PointerParts → Descriptor →
 after_target g line target d (outcome.Denied denial) = Ends (result.Denied denial) g
 after_target g (Lda o) target d (outcome.Read value writer stamp) = Ends (result.A value) (record g { a = value })
 after_target g (Sta o) target d (outcome.Written value) = Ends result.Done g
+after_target g (Spri n o) target d (outcome.Written value) = Ends result.Done g
 after_target _ _ _ _ _ = Nowhere

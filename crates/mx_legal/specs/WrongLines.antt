@@ -47,10 +47,10 @@ abbrev pub Never : Line → List Event2 → Result2 → Type 0
 Never l events ends = (after : Registers) → IsLine setting g l events ends after → ⊥
 
 abbrev pub lda : ℕ → Line
-lda word = line.Lda (record { base = Segment 8; word = word })
+lda word = line.Lda (record { base = Segment 8; word = word; indirect = false })
 
 abbrev pub sta : Line
-sta = line.Sta (record { base = Segment 8; word = 0 })
+sta = line.Sta (record { base = Segment 8; word = 0; indirect = false })
 
 -- what `lda 8|0` and `sta 8|0` rightly print
 abbrev pub read : Element

@@ -4,7 +4,8 @@ ghost use Rattle.mx_legal.specs.Printed.{EachReferenceLaw};
 ghost use Rattle.mx_legal.specs.Rings.{LineRingsLaw, RingsLaw, LegalRingsLaw};
 ghost use Rattle.mx_legal.specs.SetupLines.{SetupLinesLaw};
 ghost use Rattle.mx_legal.specs.SoFar.{ReferenceLaw, MissLaw, CallLaw, LineLaw, ExtendsLaw, GrownLaw, OneOutcomeLaw};
-ghost use Rattle.mx_legal.specs.Standing.{TraceLaw, PromiseLaw, FullLaw};
+ghost use Rattle.mx_legal.specs.Standing.{WalkBegunLaw, WalkLaw, TraceLaw, PromiseLaw, FullLaw};
+ghost use Rattle.mx_legal.specs.PointerLines.{RightPointers, WrongPointers};
 ghost use Rattle.mx_legal.specs.WrongFalls.{WrongFalls};
 ghost use Rattle.mx_legal.specs.WrongLines.{WrongReferences, WrongCalls, WrongScripts};
 ghost use Rattle.mx_legal.specs.WrongPoints.{WrongPoints};
@@ -46,6 +47,12 @@ pub fn each_reference_is_judged()
     ensures { EachReferenceLaw }
 {}
 
+/// A machine may keep the walk of an attempt in place of what the attempt saw.
+pub fn walk_law()
+    ensures begun { WalkBegunLaw }
+    ensures word { WalkLaw }
+{}
+
 /// A process knows its line at work over its own trace: one more element; and what it promises of all its lines is
 /// what a legal run asks.
 pub fn trace_law()
@@ -68,6 +75,8 @@ pub fn setup_lines_law()
 pub fn wrong_runs_are_refused()
     ensures references { WrongReferences }
     ensures calls { WrongCalls }
+    ensures right_pointers { RightPointers }
+    ensures pointers { WrongPointers }
     ensures scripts { WrongScripts }
     ensures points { WrongPoints }
     ensures reads { WrongReads }

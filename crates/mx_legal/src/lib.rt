@@ -5,9 +5,10 @@
 //! (`Reads`), the full journal (`FullJournal`), gated falls (`Falls`), and all of them together (`Legal`, one field a
 //! rule). The laws say how lines go on for whoever runs them (`SoFar`), what a process knows of its own lines
 //! (`Standing`), what the rules make of rings (`Rings`), of each printed reference (`Printed`) and of the setup
-//! (`SetupLines`), and that wrong runs are refused (`WrongLines`, `WrongPoints`, `WrongReads`, `WrongFalls`). The
+//! (`SetupLines`), and that wrong runs are refused (`WrongLines`, `PointerLines`, `WrongPoints`, `WrongReads`,
+//! `WrongFalls`). The
 //! crate has the types of transcripts, and small readers that machines and printers share. Stands on `mx_core`
-//! (references), `mx_call` (registers), `mx_state` (journal, history, descriptors), `mx_script` (sessions) and
+//! (references), `mx_effring` (the walk of an operand), `mx_call` (registers), `mx_state` (journal, history, descriptors), `mx_script` (sessions) and
 //! `mx_request`; takes no memory.
 #![tactic(auto)]
 
@@ -19,7 +20,7 @@ mod transcripts;
 pub use entries::entry_at;
 pub use laws::{
     each_reference_is_judged, event_law, extends_law, full_law, line_law, one_outcome_law,
-    rings_law, setup_lines_law, trace_law, wrong_runs_are_refused,
+    rings_law, setup_lines_law, trace_law, walk_law, wrong_runs_are_refused,
 };
 pub use mx_core::{Element, Event, Kind, Outcome};
 pub use numbering::{first_line, setup_entries};

@@ -7,6 +7,7 @@ ghost use Rattle.mx_legal.specs.Recorded.{IsStill};
 
 use mx_core::Event;
 use mx_list::Sequence;
+use mx_ptr::Pointer;
 use mx_request::Reply;
 use mx_sdw::{Denial, Word};
 use std::alloc::{AllocError, Global};
@@ -19,12 +20,13 @@ pub enum Event2 {
     Entry(u32),
 }
 
-/// How a line ended: done, with the accumulator's new value, with a reference denied, with its request refused, or with a
-/// request that found the journal at its limit and was not entered.
+/// How a line ended: done, with the accumulator's new value, with a pointer register's new value, with a reference
+/// denied, with a request refused, or with a request that found the journal at its limit and was not entered.
 #[derive(Clone, Copy, Debug, PartialEq, Eq)]
 pub enum Result2 {
     Done,
     A(Word),
+    Pr { n: u8, pointer: Pointer },
     Denied(Denial),
     Refused,
     HistoryFull,

@@ -1,25 +1,32 @@
 //! The processes of a bench: their registers, and what was recorded of them.
 
-ghost use Rattle.std.specs.Prelude.{◌≡◌, ◌<◌, ◌+◌, ◌^◌, [], ◌∷◌, ◌++◌, IfOk, IsTrue, OnOk, length};
+ghost use Rattle.std.specs.Prelude.{◌≡◌, ◌<◌, ◌+◌, ◌^◌, true, [], ◌∷◌, ◌++◌, IfOk, IsTrue, OnOk, Some, length};
+ghost use Rattle.mx_call.specs.Registers.{ArePackable};
 ghost use Rattle.mx_legal.specs.Openings.{opening_registers};
-ghost use Rattle.mx_script.specs.Sessions.{IsSession};
-ghost use Rattle.mx_proc.specs.Processes.{AreFresh, IsStill, HasRoom, IsCountable, HasEnded, HasRegisters, HasLines, events_in};
+ghost use Rattle.mx_script.specs.Sessions.{IsSession, is_address, is_script_line};
+ghost use Rattle.mx_proc.specs.Operands.{IsGoodProgress, IsLed, IsGoodAsked, AsksFor, walk_at};
+ghost use Rattle.mx_proc.specs.Processes.{AreFresh, IsStill, HasRoom, IsCountable, IsGoodAt, HasEnded, HasMoved, HasFed, HasRegisters, HasLines, HasAsked, IsLedAt, fed, events_in};
+ghost use Rattle.mx_proc.specs.declared.operands.Progress.TheVariants.{Before};
 
+use crate::benches::Stepped;
+use crate::operands::{Asked, Onward, Place, Progress, asks, feed, start};
 use mx_call::Regs;
+use mx_effring::Walk;
 use mx_legal::{Event2, Recording, Result2, Transcript, first_line};
-use mx_ptr::Pointer;
-use mx_script::Session;
+use mx_script::{Line, Operand, Session};
 use mx_sdw::{Ring, Word};
 use std::alloc::{AllocError, Global};
 use std::marker::Model;
+use std::mem;
 
-/// A process between two lines: the number of its first line in the session text, its registers, and what was recorded of
-/// the lines that it has done.
+/// A process: the number of its first line in the session text, its registers at the start of the line at work, what was
+/// recorded of its lines, and how far the operand of the line at work has come.
 #[derive(Drop)]
 pub(crate) struct Process {
     first: u32,
     registers: Regs,
     recording: Recording,
+    progress: Progress,
 }
 
 /// The processes 1, 2, .. of a session, counted from 0.
@@ -106,31 +113,13 @@ fn fresh_processes(alloc: Global, session: &Session) -> Result<Vec<Process>, All
     for (i, script) in scripts.iter().enumerate() {
         let process = Process {
             first: first_line(session, i as u8 + 1),
-            registers: opening_registers(),
+            registers: Regs::opening(),
             recording: Recording::with_room(alloc, script.items().len())?,
+            progress: Progress::Before,
         };
         processes.push(process)?;
     }
     Ok(processes)
-}
-
-// The registers of a process before its first line.
-fn opening_registers() -> Regs
-    ensures { result ≡ opening_registers 1 }
-{
-    let ring = Ring::new(4).unwrap();
-    let stack = Pointer {
-        ring,
-        segno: 4,
-        word: 0,
-        further: false,
-    };
-    Regs {
-        ring,
-        procedure: stack,
-        pr: [stack; 8],
-        a: Word::zero(),
-    }
 }
 
 fn registers_at(processes: &[Process], i: usize) -> Regs

@@ -9,6 +9,7 @@ use Rattle.mx_core.specs.declared.elements.Kind.{Kind}
 use Rattle.mx_core.specs.declared.elements.Kind.TheVariants as kind
 use Rattle.mx_core.specs.declared.elements.Outcome.{Outcome}
 use Rattle.mx_core.specs.declared.elements.Outcome.TheVariants as outcome
+use Rattle.mx_ptr.specs.Pointers.{PointerParts}
 use Rattle.mx_state.specs.declared.journal.Entry as journaled
 use Rattle.mx_legal.specs.declared.transcripts.Event2.{Event2}
 use Rattle.mx_legal.specs.declared.transcripts.Event2.TheVariants.{Core, Entry}
@@ -60,9 +61,14 @@ abbrev pub events_text : List Event2 → List ℕ
 events_text [] = []
 events_text (event ∷ events) = event_text event ++ events_text events
 
+-- `N RING S|W`: a pointer register and the pointer that it holds now
+abbrev pub register_text : ℕ → PointerParts → List ℕ
+register_text n p = decimal n ++ codes " " ++ decimal p.ring ++ codes " " ++ address_text p.segno p.word
+
 abbrev pub result_text : Result2 → List ℕ
 result_text result.Done = codes "done"
 result_text (result.A word) = codes "a " ++ octal word
+result_text (result.Pr n pointer) = codes "pr " ++ register_text n pointer
 result_text (result.Denied denial) = codes "denied " ++ denial_text denial
 result_text result.Refused = codes "refused"
 result_text result.HistoryFull = codes "history_full"

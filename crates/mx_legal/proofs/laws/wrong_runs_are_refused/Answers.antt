@@ -1,4 +1,5 @@
 use Rattle.mx_legal.proofs.WrongLineLaws.{wrong_references, wrong_calls, wrong_scripts}
+use Rattle.mx_legal.proofs.PointerLineLaws.{right_pointers, wrong_pointers}
 use Rattle.mx_legal.proofs.WrongRuleLaws.{wrong_points, wrong_reads, wrong_falls}
 use Rattle.mx_legal.proofs.laws.wrong_runs_are_refused.Goals as goal
 
@@ -6,6 +7,8 @@ pub returns : goal.returns
 returns c = record {
   references = wrong_references;
   calls = wrong_calls;
+  right_pointers = right_pointers;
+  pointers = wrong_pointers;
   scripts = wrong_scripts;
   points = wrong_points;
   reads = wrong_reads;
