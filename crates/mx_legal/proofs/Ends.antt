@@ -162,7 +162,6 @@ reply_ends g (reply.Status status) = done_ends g
 reply_ends g (reply.Names names) = done_ends g
 reply_ends g (reply.Segno known) = done_ends g
 
-
 link_ends : (g : Registers) (given : Reply) (ends : Result2) (now : Registers) → linked g given ≡ Ends ends now
     → IsEnded g ends now
 link_ends g (reply.Refused why) ends now e = same_end g g now result.Refused ends (refused_ends g) e

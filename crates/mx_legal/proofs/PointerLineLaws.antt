@@ -1,5 +1,5 @@
 -- The lines with pointers are right, by computation, and each wrong one is refused.
-use Rattle.std.proofs.Common.{◌≡◌, ℕ, true, false, List, [], ◌∷◌, ◌++◌, refl, subst, Option, None, Some, arith}
+use Rattle.std.proofs.Common.{◌≡◌, ℕ, nat_eq, ap, true, false, List, [], ◌∷◌, ◌++◌, refl, subst, Option, None, Some, arith}
 use Rattle.mx_sdw.specs.Judging.{judgement}
 use Rattle.mx_sdw.specs.declared.denials.Denial.TheVariants as denial
 use Rattle.mx_sdw.specs.declared.operations.Op.TheVariants as op
@@ -31,13 +31,6 @@ s = setting false
 
 abbrev j : Element → Judged
 j e = judged s e
-
--- a reference that a line asks for, read
-read_so : (l : Line) (seen : List Judged) (e : Element) (segno place ring value : ℕ)
-    → next g l (Attempt seen) ≡ Asks (record { op = op.Indirect; segno = segno; word = place; ring = ring; stores = None })
-    → IsJudged (record { op = op.Indirect; segno = segno; word = place; ring = ring; stores = None }) (s.descriptor e) e
-    → IsEvent s (next g l (Attempt seen)) (Attempt seen) (Core (Seen e)) (Attempt (seen ++ j e ∷ []))
-read_so l seen e segno place ring value asks right = record { asked = _; next = asks; right = right; leads = refl }
 
 abbrev indirect : ℕ → Reference
 indirect ring = record { op = op.Indirect; segno = 8; word = 0; ring = ring; stores = None }
@@ -83,9 +76,31 @@ eight_rounds : IsLine s g lda (Core (Seen circle) ∷ Core (Seen again) ∷ Core
     ∷ Core (Seen again) ∷ Core (Seen again) ∷ Core (Seen again) ∷ Core (Seen again) ∷ []) (result.Denied denial.IndirectLimit) g
 eight_rounds = record {
   course = Attempt (c ∷ a ∷ a ∷ a ∷ a ∷ a ∷ a ∷ a ∷ []);
-  so_far = (_, first_round, (_, round (c ∷ []) refl, (_, round (c ∷ a ∷ []) refl, (_, round (c ∷ a ∷ a ∷ []) refl,
-      (_, round (c ∷ a ∷ a ∷ a ∷ []) refl, (_, round (c ∷ a ∷ a ∷ a ∷ a ∷ []) refl,
-      (_, round (c ∷ a ∷ a ∷ a ∷ a ∷ a ∷ []) refl, (_, round (c ∷ a ∷ a ∷ a ∷ a ∷ a ∷ a ∷ []) refl, refl))))))));
+  so_far = (
+    _,
+    first_round,
+    (
+      _,
+      round (c ∷ []) refl,
+      (
+        _,
+        round (c ∷ a ∷ []) refl,
+        (
+          _,
+          round (c ∷ a ∷ a ∷ []) refl,
+          (
+            _,
+            round (c ∷ a ∷ a ∷ a ∷ []) refl,
+            (
+              _,
+              round (c ∷ a ∷ a ∷ a ∷ a ∷ []) refl,
+              (_, round (c ∷ a ∷ a ∷ a ∷ a ∷ a ∷ []) refl, (_, round (c ∷ a ∷ a ∷ a ∷ a ∷ a ∷ a ∷ []) refl, refl)),
+            ),
+          ),
+        ),
+      ),
+    ),
+  );
   end = (refl, refl);
 }
 
@@ -93,12 +108,20 @@ forged_ring : IsLine s g sta (Core (Seen forged) ∷ Core (Seen refused) ∷ [])
 unfolding judgement
 forged_ring = record {
   course = Attempt (j forged ∷ j refused ∷ []);
-  so_far = (_, first sta 150995619 refl, (_, record {
-    asked = record { op = op.Write; segno = 9; word = 5; ring = 4; stores = Some 5 };
-    next = refl;
-    right = record { kind = refl; segno = refl; word = refl; ring = refl; outcome = refl };
-    leads = refl;
-  }, refl));
+  so_far = (
+    _,
+    first sta 150995619 refl,
+    (
+      _,
+      record {
+        asked = record { op = op.Write; segno = 9; word = 5; ring = 4; stores = Some 5 };
+        next = refl;
+        right = record { kind = refl; segno = refl; word = refl; ring = refl; outcome = refl };
+        leads = refl;
+      },
+      refl,
+    ),
+  );
   end = (refl, refl);
 }
 
@@ -106,12 +129,16 @@ by_register : IsLine s g lda_register (Core (Seen read) ∷ []) (result.A 7) (re
 unfolding judgement
 by_register = record {
   course = Attempt (j read ∷ []);
-  so_far = (_, record {
-    asked = record { op = op.Read; segno = 9; word = 4; ring = 4; stores = None };
-    next = refl;
-    right = record { kind = refl; segno = refl; word = refl; ring = refl; outcome = tt };
-    leads = refl;
-  }, refl);
+  so_far = (
+    _,
+    record {
+      asked = record { op = op.Read; segno = 9; word = 4; ring = 4; stores = None };
+      next = refl;
+      right = record { kind = refl; segno = refl; word = refl; ring = refl; outcome = tt };
+      leads = refl;
+    },
+    refl,
+  );
   end = (refl, refl);
 }
 
@@ -119,12 +146,16 @@ spelled : IsLine s g spri (Core (Seen stored) ∷ []) result.Done g
 unfolding judgement
 spelled = record {
   course = Attempt (j stored ∷ []);
-  so_far = (_, record {
-    asked = record { op = op.Write; segno = 9; word = 0; ring = 1; stores = Some 159384227 };
-    next = refl;
-    right = record { kind = refl; segno = refl; word = refl; ring = refl; outcome = refl };
-    leads = refl;
-  }, refl);
+  so_far = (
+    _,
+    record {
+      asked = record { op = op.Write; segno = 9; word = 0; ring = 1; stores = Some 159384227 };
+      next = refl;
+      right = record { kind = refl; segno = refl; word = refl; ring = refl; outcome = refl };
+      leads = refl;
+    },
+    refl,
+  );
   end = (refl, refl);
 }
 
@@ -207,32 +238,48 @@ seen_forged = j forged ∷ []
 abbrev seen_link : List Judged
 seen_link = j link ∷ []
 
+written : IsJudged (record { op = op.Write; segno = 9; word = 0; ring = 1; stores = Some 159384227 })
+    (s.descriptor stored) (record stored { outcome = outcome.Written 75497507 }) → ⊥
+unfolding judgement
+written is =
+    let w : Some 159384227 ≡ Some 75497507 = is.outcome in
+    let z : 159384227 ≡ 75497507 = same_some 159384227 75497507 w in
+    let f : false ≡ true = ap (λ (n : ℕ). nat_eq n 75497507) z in
+    cc
+
+-- the write in the ring of the process, and the read of the word that the link would point to
+abbrev bold : Element
+bold = record refused { ring = 1; outcome = outcome.Written 5 }
+
+abbrev elsewhere : Element
+elsewhere = record read { segno = 0; word = 0 }
+
 pub wrong_pointers : WrongPointers
 wrong_pointers = record {
   believed = λ after is.
-      let rest = (peel sta [] (indirect 1) forged _ is.course refl is.so_far).1 in
-      let w : 1 ≡ 4 = (peel sta seen_forged writes (record refused { ring = 1; outcome = outcome.Written 5 }) [] is.course refl rest).0.ring in
+      let rest = (peel sta [] (indirect 1) forged (Core (Seen bold) ∷ []) is.course refl is.so_far).1 in
+      let w : 1 ≡ 4 = (peel sta seen_forged writes bold [] is.course refl rest).0.ring in
       omega arith;
   unread = λ after is.
       let w : kind.Write ≡ kind.Ind = (peel sta [] (indirect 1) refused [] is.course refl is.so_far).0.kind in cc;
   read_twice = λ after is.
-      let rest = (peel sta [] (indirect 1) forged _ is.course refl is.so_far).1 in
-      let w : kind.Ind ≡ kind.Write = (peel sta seen_forged writes forged _ is.course refl rest).0.kind in cc;
+      let rest = (peel sta [] (indirect 1) forged (Core (Seen forged) ∷ Core (Seen refused) ∷ []) is.course refl is.so_far).1 in
+      let w : kind.Ind ≡ kind.Write = (peel sta seen_forged writes forged (Core (Seen refused) ∷ []) is.course refl rest).0.kind in cc;
   link_taken = λ after is.
-      let rest = (peel lda [] (indirect 1) link _ is.course refl is.so_far).1 in
-      no_reference lda (Attempt seen_link) _ [] is.course 1 (Link 8 0) refl rest;
+      let rest = (peel lda [] (indirect 1) link (Core (Seen elsewhere) ∷ []) is.course refl is.so_far).1 in
+      no_reference lda (Attempt seen_link) elsewhere [] is.course 1 (Link 8 0) refl rest;
   other_link = λ after is.
-      let rest = (peel lda [] (indirect 1) link _ is.course refl is.so_far).1 in
+      let rest = (peel lda [] (indirect 1) link (Entry 2 ∷ []) is.course refl is.so_far).1 in
       let w : Calls 1 (Link 8 0) ≡ Calls 1 (Link 8 1) =
       (peel_call lda (Attempt seen_link) 2 (record no_link { request = Link 8 1 }) [] is.course refl rest).0 in
       let z : 0 ≡ 1 = same_link 8 8 0 1 (same_calls 1 1 (Link 8 0) (Link 8 1) w).1 in omega arith;
   other_ring = λ after is.
-      let rest = (peel lda [] (indirect 1) link _ is.course refl is.so_far).1 in
+      let rest = (peel lda [] (indirect 1) link (Entry 3 ∷ []) is.course refl is.so_far).1 in
       let w : Calls 1 (Link 8 0) ≡ Calls 4 (Link 8 0) =
       (peel_call lda (Attempt seen_link) 3 (record no_link { ring = 4 }) [] is.course refl rest).0 in
       let z : 1 ≡ 4 = (same_calls 1 4 (Link 8 0) (Link 8 0) w).0 in omega arith;
   not_refused = λ after is.
-      let rest = (peel lda [] (indirect 1) link _ is.course refl is.so_far).1 in
+      let rest = (peel lda [] (indirect 1) link (Entry 1 ∷ []) is.course refl is.so_far).1 in
       let last = (peel_call lda (Attempt seen_link) 1 no_link [] is.course refl rest).1 in
       let end : IsEnd s g (Ends result.Refused g) result.Done after =
       at_end after lda (Answer no_link) is.course result.Done last is.end in
@@ -261,9 +308,4 @@ wrong_pointers = record {
   current_ring = λ after is.
       let w : 1 ≡ 4 = (peel lda_register [] (record { op = op.Read; segno = 9; word = 4; ring = 4; stores = None })
       (record read { ring = 1 }) [] is.course refl is.so_far).0.ring in omega arith;
-} where
-  written : IsJudged (record { op = op.Write; segno = 9; word = 0; ring = 1; stores = Some 159384227 })
-      (s.descriptor stored) (record stored { outcome = outcome.Written 75497507 }) → ⊥
-  unfolding judgement
-  written is = let w : Some 159384227 ≡ Some 75497507 = is.outcome in
-      let z : 159384227 ≡ 75497507 = same_some 159384227 75497507 w in omega arith
+}

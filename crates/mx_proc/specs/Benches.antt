@@ -3,7 +3,7 @@ use Rattle.std.specs.Prelude.{◌≡◌, ℕ, suc, ◌≤◌, List, [], ◌∷�
 use Rattle.mx_legal.specs.Transcripts.{Step}
 use Rattle.mx_script.specs.Sessions.{Outline, IsSession}
 use Rattle.mx_sup.specs.Supervised.{Supervised}
-use Rattle.mx_proc.specs.Processes.{seat_in, AreIdle}
+use Rattle.mx_proc.specs.Processes.{seat_in, AreGood}
 use Rattle.mx_proc.specs.Running.{IsRunning}
 use Rattle.mx_proc.specs.Worlds.{World}
 use Rattle.mx_proc.specs.declared.memory.Contents.{Contents}
@@ -30,5 +30,5 @@ pub record IsKept (x : Outline) (s : Supervised) (whole : List (List Step)) (roo
   pub wide : length cells ≡ 65536
   pub one : length whole ≡ 1
   pub room_for : suc (length processes) ≤ room
-  pub idle : AreIdle x processes
+  pub good : AreGood x processes
   pub running : IsRunning (world_in x s whole cells processes)

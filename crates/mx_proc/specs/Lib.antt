@@ -1,3 +1,4 @@
+pub mod Operands
 pub mod Worlds
 pub mod Running
 pub mod Access
@@ -5,4 +6,5 @@ pub mod Processes
 pub mod Making
 pub mod Benches
 pub mod Stepping
+pub mod Asking
 pub mod Rounds

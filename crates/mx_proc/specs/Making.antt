@@ -1,10 +1,11 @@
 -- Helpers: a reference that was made at a target, on a descriptor and at a point.
-use Rattle.std.specs.Prelude.{◌≡◌, ℕ, List, length}
+use Rattle.std.specs.Prelude.{◌≡◌, ℕ, List, length, None, Result, Ok, Err}
 use Rattle.mx_call.specs.Registers.{Registers}
 use Rattle.mx_core.specs.declared.elements.Element.{Element}
 use Rattle.mx_core.specs.declared.elements.Kind.{Kind}
+use Rattle.mx_core.specs.declared.elements.Kind.TheVariants.{Ind}
 use Rattle.mx_core.specs.declared.elements.Outcome.{Outcome}
-use Rattle.mx_core.specs.declared.elements.Outcome.TheVariants.{Denied}
+use Rattle.mx_core.specs.declared.elements.Outcome.TheVariants.{Read, Denied}
 use Rattle.mx_legal.specs.Courses.{Judged}
 use Rattle.mx_legal.specs.Elements.{IsJudged}
 use Rattle.mx_legal.specs.Next.{Reference, Ends}
@@ -14,8 +15,11 @@ use Rattle.mx_ptr.specs.Pointers.{PointerParts}
 use Rattle.mx_script.specs.declared.lines.Line.{Line}
 use Rattle.mx_sdw.specs.Descriptors.{Descriptor}
 use Rattle.mx_sdw.specs.declared.denials.Denial.{Denial}
+use Rattle.mx_sdw.specs.declared.operations.Op.TheVariants as op
 use Rattle.mx_proc.specs.Access.{IsAccess}
 use Rattle.mx_proc.specs.declared.memory.Contents.{Contents}
+use Rattle.mx_proc.specs.declared.operands.Place.{Place}
+use Rattle.mx_proc.specs.declared.references.Looked.{Looked}
 use Rattle.mx_proc.specs.declared.references.Made.{Made}
 
 abbrev pub element : Kind → PointerParts → ℕ → Outcome → Element
@@ -34,6 +38,37 @@ denied kind target g point denial = record {
   ends = result.Denied denial;
   after = g;
 }
+
+-- an indirect word
+abbrev pub indirect : Place → ℕ → Outcome → Element
+indirect place point outcome = record {
+  kind = Ind;
+  segno = place.segno;
+  word = place.word;
+  ring = place.ring;
+  point = point;
+  outcome = outcome;
+}
+
+abbrev pub looks : Place → Reference
+looks place = record { op = op.Indirect; segno = place.segno; word = place.word; ring = place.ring; stores = None }
+
+-- the word that was read, or the denial
+pub record HasRead (value : ℕ) (came : Outcome) : Type 0 where
+  pub writer : ℕ
+  pub stamp : ℕ
+  pub is : came ≡ Read value writer stamp
+
+abbrev pub HasCome : Result ℕ Denial → Outcome → Type 0
+HasCome (Ok value) came = HasRead value came
+HasCome (Err denial) came = came ≡ Denied denial
+
+pub record IsLooked (place : Place) (d : Descriptor) (p point : ℕ) (cells : List Contents) (l : Looked) : Type 0 where
+  pub judged : IsJudged (looks place) d l.element
+  pub segno : l.element.segno ≡ place.segno
+  pub point_is : l.element.point ≡ point
+  pub access : length cells ≡ 65536 → IsAccess cells cells p (record { element = l.element; desc = d })
+  pub came : HasCome l.came l.element.outcome
 
 abbrev pub beside : Made → Descriptor → Judged
 beside m d = record { element = m.element; desc = d }

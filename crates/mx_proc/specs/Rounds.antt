@@ -1,16 +1,21 @@
--- Helpers: how many lines are left on a bench, and what a round of steps does.
-use Rattle.std.specs.Prelude.{◌≡◌, ◌⊎◌, ℕ, suc, ◌+◌, ◌<◌, List, [], ◌∷◌, length, Some, slice_get}
+-- Helpers: how many steps are left on a bench, at most, and what a round of steps does.
+use Rattle.std.specs.Prelude.{◌≡◌, ◌⊎◌, ℕ, suc, ◌+◌, ◌*◌, ◌<◌, List, [], ◌∷◌, length, Some, slice_get}
 use Rattle.mx_script.specs.Sessions.{Outline}
+use Rattle.mx_proc.specs.Operands.{steps_in}
 use Rattle.mx_proc.specs.Running.{left_of}
 use Rattle.mx_proc.specs.Worlds.{Seat, World}
 
--- the lines that are left to these processes, the first of which has this number
-abbrev pub lines_left : Outline → ℕ → List Seat → ℕ
-lines_left x p [] = 0
-lines_left x p (seat ∷ seats) = length (left_of x p seat) + lines_left x (suc p) seats
+-- the steps that are left to a process, at most: eleven a line, but for those made of the line at work
+abbrev pub steps_of : Outline → ℕ → Seat → ℕ
+steps_of x p seat = 11 * length (left_of x p seat) + steps_in seat.progress
+
+-- and to these processes, the first of which has this number
+abbrev pub steps_left : Outline → ℕ → List Seat → ℕ
+steps_left x p [] = 0
+steps_left x p (seat ∷ seats) = steps_of x p seat + steps_left x (suc p) seats
 
 abbrev pub all_left : World → ℕ
-all_left w = lines_left w.session 1 w.seats
+all_left w = steps_left w.session 1 w.seats
 
 -- a process, counted from 0, has no line left
 abbrev pub HasNone : World → ℕ → Type 0
@@ -20,7 +25,7 @@ HasNone w i = (seat : Seat) → slice_get w.seats i ≡ Some seat → left_of w.
 abbrev pub HaveEndedUpTo : World → ℕ → Type 0
 HaveEndedUpTo w count = (i : ℕ) (seat : Seat) → i < count → slice_get w.seats i ≡ Some seat → left_of w.session (suc i) seat ≡ []
 
--- so many processes were asked for a step: either lines were done, or these had none left and nothing was done
+-- so many processes were asked for a step: either steps were made, or these had no line left and nothing was done
 pub record IsAsked (start : World) (count : ℕ) (now : World) : Type 0 where
   pub session : now.session ≡ start.session
   pub seats : length now.seats ≡ length start.seats

@@ -1,6 +1,6 @@
 -- What is true of a bench, whatever has been stepped: all that a legal run asks, so far.
 use Rattle.std.specs.Prelude.{◌≡◌, ℕ, suc, List, [], ◌∷◌, drop, length, Some, slice_get}
-use Rattle.mx_legal.specs.Courses.{Attempt}
+use Rattle.mx_legal.specs.Courses.{Attempt, Judged}
 use Rattle.mx_legal.specs.Scripts.{lines_of}
 use Rattle.mx_script.specs.Sessions.{Outline}
 use Rattle.mx_script.specs.declared.lines.Line.{Line}
@@ -10,13 +10,20 @@ use Rattle.mx_ties.specs.BenchGoing.{IsBenched}
 use Rattle.mx_ties.specs.Closed.{followed}
 use Rattle.mx_ties.specs.Ran.{HasRun, IsSetUp}
 use Rattle.mx_ties.specs.Views.{Marked, View}
+use Rattle.mx_proc.specs.Operands.{IsPlaced}
 use Rattle.mx_proc.specs.Worlds.{Seat, World, held_in, always}
 
--- before these lines: the first of them is at work with no event so far; where none is left, the process has run
+-- a line is at work: its attempt has seen so much, and its operand has come so far
+pub record IsAtWork (x : Outline) (setup : List journaled.Entry) (p : ℕ) (seat : Seat) (number : ℕ) (line : Line)
+    (left : List (ℕ × Line)) (v : View) : Type 0 where
+  pub seen : List Judged
+  pub benched : IsBenched x setup p seat.steps number line left seat.registers seat.events (Attempt seen) v
+  pub placed : IsPlaced seat.registers line seen seat.progress
+
+-- before these lines: the first of them is at work; where none is left, the process has run
 abbrev pub IsBefore : Outline → List journaled.Entry → ℕ → Seat → List (ℕ × Line) → View → Type 0
 IsBefore x setup p seat [] v = HasRun x setup p seat.steps v
-IsBefore x setup p seat (next ∷ left) v =
-    IsBenched x setup p seat.steps next.0 next.1 left seat.registers [] (Attempt []) v
+IsBefore x setup p seat (next ∷ left) v = IsAtWork x setup p seat next.0 next.1 left v
 
 -- the lines of process p that are left after those done
 abbrev pub left_of : Outline → ℕ → Seat → List (ℕ × Line)

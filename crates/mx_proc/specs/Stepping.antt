@@ -1,13 +1,18 @@
 -- What a bench does: it opens after the setup, and steps one process at a time.
-use Rattle.std.specs.Prelude.{◌≡◌, ℕ, suc, ◌-◌, ◌≤◌, List, [], ◌∷◌, ◌++◌, length, Some, slice_get, slice_set}
+use Rattle.std.specs.Prelude.{◌≡◌, ℕ, suc, ◌-◌, ◌<◌, ◌≤◌, List, [], ◌∷◌, ◌++◌, length, Some, slice_get, slice_set}
 use Rattle.mx_legal.specs.Legal.{setup_entries}
 use Rattle.mx_legal.specs.Openings.{opening_registers}
 use Rattle.mx_legal.specs.Transcripts.{Step}
 use Rattle.mx_script.specs.Sessions.{Outline}
 use Rattle.mx_script.specs.declared.lines.Line.{Line}
 use Rattle.mx_state.specs.declared.journal.Entry as journaled
+use Rattle.mx_legal.specs.declared.transcripts.Event2.{Event2}
+use Rattle.mx_proc.specs.Operands.{steps_in}
 use Rattle.mx_proc.specs.Running.{left_of}
 use Rattle.mx_proc.specs.Worlds.{Seat, World}
+use Rattle.mx_proc.specs.declared.benches.Stepped.{Stepped}
+use Rattle.mx_proc.specs.declared.benches.Stepped.TheVariants as went
+use Rattle.mx_proc.specs.declared.operands.Progress.TheVariants.{Before}
 
 -- after the setup, before the first line of each process
 pub record IsOpening (x : Outline) (w : World) : Type 0 where
@@ -15,7 +20,7 @@ pub record IsOpening (x : Outline) (w : World) : Type 0 where
   pub journal : length w.journal ≡ setup_entries x
   pub count : length w.seats ≡ length x.principals
   pub each : (i : ℕ) (seat : Seat) → slice_get w.seats i ≡ Some seat
-      → seat ≡ record { registers = opening_registers (suc i); steps = [] }
+      → seat ≡ record { registers = opening_registers (suc i); steps = []; events = []; progress = Before }
 
 -- process p, counted from 1, has this seat
 abbrev pub IsSeat : World → ℕ → Seat → Type 0
@@ -40,6 +45,22 @@ pub record HasEnded (w : World) (p : ℕ) : Type 0 where
 abbrev pub HaveEnded : World → Type 0
 HaveEnded w = (i : ℕ) (seat : Seat) → slice_get w.seats i ≡ Some seat → left_of w.session (suc i) seat ≡ []
 
+-- Process p has gone on with its next line: the line has one event more, and is closer to its end. Nothing was entered,
+-- and no other process did anything.
+pub record HasMoved (old : World) (p : ℕ) (new : World) : Type 0 where
+  pub session : new.session ≡ old.session
+  pub set_up : new.set_up ≡ old.set_up
+  pub journal : new.journal ≡ old.journal
+  pub before : Seat
+  pub seated : IsSeat old p before
+  pub event : Event2
+  pub after : Seat
+  pub registers : after.registers ≡ before.registers
+  pub steps : after.steps ≡ before.steps
+  pub more : after.events ≡ before.events ++ event ∷ []
+  pub closer : steps_in after.progress < steps_in before.progress
+  pub seats : new.seats ≡ slice_set old.seats (p - 1) after
+
 -- Process p has done one line more: its next one. It made at most one entry, at the journal's end; no other process did
 -- anything.
 pub record HasStepped (old : World) (p : ℕ) (new : World) : Type 0 where
@@ -52,9 +73,20 @@ pub record HasStepped (old : World) (p : ℕ) (new : World) : Type 0 where
   pub at : left_of old.session p before ≡ line ∷ left
   pub step : Step
   pub number : step.0 ≡ line.0
+  pub more : List Event2
+  pub events : step.1 ≡ before.events ++ more
+  pub few : length more ≤ 1
   pub after : Seat
   pub done : after.steps ≡ before.steps ++ step ∷ []
+  pub idle : after.events ≡ []
+  pub fresh : after.progress ≡ Before
   pub seats : new.seats ≡ slice_set old.seats (p - 1) after
   pub entries : List journaled.Entry
   pub grown : new.journal ≡ old.journal ++ entries
   pub one : length entries ≤ 1
+
+-- what a step of a process that has a line left came to
+abbrev pub HasGone : World → ℕ → Stepped → World → Type 0
+HasGone old p went.More new = HasMoved old p new
+HasGone old p went.LineDone new = HasStepped old p new
+HasGone old p went.Ended new = ⊥

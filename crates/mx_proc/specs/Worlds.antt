@@ -2,16 +2,21 @@
 use Rattle.std.specs.Prelude.{ℕ, ◌==◌, Bool, true, false, List, slice_index_or}
 use Rattle.mx_call.specs.Registers.{Registers}
 use Rattle.mx_legal.specs.Transcripts.{Step}
+use Rattle.mx_legal.specs.declared.transcripts.Event2.{Event2}
 use Rattle.mx_reads.specs.Deeds.{CellUse}
 use Rattle.mx_reads.specs.Held.{Held}
 use Rattle.mx_script.specs.Sessions.{Outline}
 use Rattle.mx_state.specs.declared.journal.Entry as journaled
 use Rattle.mx_proc.specs.declared.memory.Contents.{Contents}
+use Rattle.mx_proc.specs.declared.operands.Progress.{Progress}
 
--- a process between two lines: its registers, and the lines that it has done
+-- a process: its registers at the start of the line at work, the lines that it has done, the events so far of the line
+-- at work, and how far its operand has come
 pub record Seat : Type 0 where
   pub registers : Registers
   pub steps : List Step
+  pub events : List Event2
+  pub progress : Progress
 
 -- the session, the journal, the initializer's part, the cells of the memory, and the processes 1, 2, .. in order
 pub record World : Type 0 where

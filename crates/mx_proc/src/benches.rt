@@ -2,22 +2,28 @@
 
 ghost use Rattle.std.specs.Prelude.{◌≡◌, ◌<◌, ◌≤◌, ◌↔◌, Ok, IfOk, OnOk, OnErr, IsTrue, IsFalse, MatchOption, Some, ◌+◌, ◌++◌, map, slice_get, vec_len, vec_capacity, length};
 ghost use Rattle.mx_legal.specs.Legal.{IsLegal, HasGatedFalls, HasSoundRegisters};
-ghost use Rattle.mx_proc.specs.Stepping.{IsOpening, IsAtLine, HasStepped, HasEnded, HaveEnded};
+ghost use Rattle.mx_proc.specs.Asking.{HasSeat, HasSeatWith, IsAsking, IsEnding, IsCalling, IsStoring};
+ghost use Rattle.mx_proc.specs.Operands.{operand_of};
+ghost use Rattle.mx_proc.specs.Stepping.{IsOpening, IsAtLine, HasMoved, HasStepped, HasGone, HasEnded, HaveEnded};
 ghost use Rattle.std.specs.Option.{option_map};
 ghost use Rattle.mx_proc.specs.Processes.{recorded_steps};
 ghost use Rattle.mx_proc.specs.Rounds.{HasNone, all_left};
 ghost use Rattle.mx_script.specs.declared.lines.Line.TheVariants as lines;
-ghost use Rattle.mx_proc.specs.declared.benches.Stepped.TheVariants.{Ended, LineDone};
+ghost use Rattle.mx_proc.specs.declared.benches.Stepped.TheVariants.{More, Ended, LineDone};
+ghost use Rattle.mx_proc.specs.declared.operands.Asked.TheVariants.{Target, First};
+ghost use Rattle.mx_proc.specs.declared.operands.Way.TheVariants as ways;
 
 use crate::memory::Memory;
+use crate::operands::{Asked, Place, Way, loaded, register_word};
 use crate::processes::{Process, Processes};
-use crate::references::{load, store, target_of};
+use crate::references::{load, look, store};
 use mx_call::Regs;
 use mx_legal::{Event, Event2, Result2, Transcript, Transcripts};
 use mx_list::Sequence;
+use mx_ptr::Pointer;
 use mx_request::Request;
 use mx_script::{Line, Operand, Script, Session};
-use mx_sdw::Word;
+use mx_sdw::{Ring, Word};
 use mx_state::Journal;
 use mx_sup::{EnterError, Supervisor};
 use std::alloc::{AllocError, Global};
@@ -26,7 +32,9 @@ use std::marker::Model;
 /// What a step of a process came to.
 #[derive(Clone, Copy, Debug, PartialEq, Eq)]
 pub enum Stepped {
-    /// A line ended with this step. Each line that is built has at most one element or entry, so each step ends one.
+    /// The line at work has one event more, and goes on.
+    More,
+    /// A line ended with this step.
     LineDone,
     /// The process had no line left; nothing was done.
     Ended,
@@ -76,22 +84,21 @@ impl<'a> Bench<'a> {
         })
     }
 
-    /// Makes one step of process `p`: one element with its access to a cell, or one entry, or a call that finds the journal
-    /// at its limit, or a line that needs neither. It costs no more for the last line of a script than for the first.
-    /// `Ended` comes exactly where the process has no line left. That and want of memory change nothing.
+    /// Makes one step of process `p`: one element with its access to a cell, or one entry, or a call that finds the
+    /// journal at its limit, or the whole of a line that needs neither. A step after which its line asks for nothing more
+    /// ends the line. It costs no more for the last line of a script than for the first. `Ended` comes exactly where the
+    /// process has no line left. That and want of memory change nothing.
     pub fn step(&mut self, alloc: Global, p: u8) -> Result<Stepped, AllocError>
         requires some { 1 ≤ p }
         requires process { p ≤ length self.old.session.principals }
         ensures ended { (result ≡ Ok Ended) ↔ HasEnded self.old p }
+        ensures more { result ≡ Ok More → HasMoved self.old p self.new }
         ensures done { result ≡ Ok LineDone → HasStepped self.old p self.new }
         ensures still { result ≡ Ok Ended → self.new ≡ self.old }
         ensures err { OnErr result (self.new ≡ self.old) }
     {
         match self.next_line(p) {
-            Some(line) => {
-                self.do_line(alloc, p, line)?;
-                Ok(Stepped::LineDone)
-            }
+            Some(line) => self.do_line(alloc, p, line),
             None => Ok(Stepped::Ended),
         }
     }
@@ -106,47 +113,225 @@ impl<'a> Bench<'a> {
         line_at(script_of(self.session, i), self.processes.lines(i))
     }
 
-    // The process does its next line.
-    fn do_line(&mut self, alloc: Global, p: u8, line: &Line) -> Result<(), AllocError>
+    // The process goes on with its next line.
+    fn do_line(&mut self, alloc: Global, p: u8, line: &Line) -> Result<Stepped, AllocError>
         requires { IsAtLine self.old p line.now }
-        ensures done { OnOk result (HasStepped self.old p self.new) }
+        ensures gone { IfOk result (λ stepped. HasGone self.old p stepped self.new) }
         ensures err { OnErr result (self.new ≡ self.old) }
     {
         match line {
-            Line::Ask(boxed) => self.call(alloc, p, boxed.request()),
-            Line::Set { word } => self.set(p, *word),
-            Line::Lda { operand } => self.load(p, operand),
-            Line::Sta { operand } => self.store(p, operand),
+            Line::Ask(boxed) => self.ask(alloc, p, line, boxed.request()),
+            Line::Set { word } => self.set(p, line, *word),
+            Line::Epp { n, operand } => self.epp(alloc, p, line, *n, operand),
+            Line::Lda { operand } => self.lda(alloc, p, line, operand),
+            Line::Sta { operand } => self.sta(alloc, p, line, operand),
+            Line::Spri { n, operand } => self.spri(alloc, p, line, *n, operand),
         }
     }
 
+    // A request is a call in the current ring.
+    fn ask(
+        &mut self,
+        alloc: Global,
+        p: u8,
+        line: &Line,
+        request: &Request,
+    ) -> Result<Stepped, AllocError>
+        requires at { IsAtLine self.old p line.now }
+        requires line { line.now ≡ lines.Ask request.now }
+        ensures gone { IfOk result (λ stepped. HasGone self.old p stepped self.new) }
+        ensures err { OnErr result (self.new ≡ self.old) }
+    {
+        let ring = self.registers(p).ring;
+        self.enter(alloc, p, line, ring, request)?;
+        Ok(Stepped::LineDone)
+    }
+
     // `set`: A becomes the word.
-    fn set(&mut self, p: u8, word: Word) -> Result<(), AllocError>
-        requires { IsAtLine self.old p (lines.Set word) }
+    fn set(&mut self, p: u8, line: &Line, word: Word) -> Result<Stepped, AllocError>
+        requires at { IsAtLine self.old p line.now }
+        requires line { line.now ≡ lines.Set word }
+        ensures gone { IfOk result (λ stepped. HasGone self.old p stepped self.new) }
+        ensures err { OnErr result (self.new ≡ self.old) }
+    {
+        let after = Regs {
+            a: word,
+            ..self.registers(p)
+        };
+        self.end(p, line, Result2::Done, &after)?;
+        Ok(Stepped::LineDone)
+    }
+
+    // `epp`: the pointer register becomes the effective pointer.
+    fn epp(
+        &mut self,
+        alloc: Global,
+        p: u8,
+        line: &Line,
+        n: u8,
+        operand: &Operand,
+    ) -> Result<Stepped, AllocError>
+        requires at { IsAtLine self.old p line.now }
+        requires line { line.now ≡ lines.Epp n operand.now }
+        ensures gone { IfOk result (λ stepped. HasGone self.old p stepped self.new) }
+        ensures err { OnErr result (self.new ≡ self.old) }
+    {
+        match self.asks(p, line, operand) {
+            Asked::Target(target) => {
+                let after = loaded(&self.registers(p), n, &target);
+                let ends = Result2::Pr { n, pointer: target };
+                self.end(p, line, ends, &after)?;
+                Ok(Stepped::LineDone)
+            }
+            Asked::First(way) => self.go(alloc, p, line, operand, way),
+        }
+    }
+
+    // `lda`: A becomes the word at the target.
+    fn lda(
+        &mut self,
+        alloc: Global,
+        p: u8,
+        line: &Line,
+        operand: &Operand,
+    ) -> Result<Stepped, AllocError>
+        requires at { IsAtLine self.old p line.now }
+        requires line { line.now ≡ lines.Lda operand.now }
+        ensures gone { IfOk result (λ stepped. HasGone self.old p stepped self.new) }
+        ensures err { OnErr result (self.new ≡ self.old) }
+    {
+        match self.asks(p, line, operand) {
+            Asked::Target(target) => {
+                self.load(p, line, operand, &target)?;
+                Ok(Stepped::LineDone)
+            }
+            Asked::First(way) => self.go(alloc, p, line, operand, way),
+        }
+    }
+
+    // `sta`: A is stored at the target.
+    fn sta(
+        &mut self,
+        alloc: Global,
+        p: u8,
+        line: &Line,
+        operand: &Operand,
+    ) -> Result<Stepped, AllocError>
+        requires at { IsAtLine self.old p line.now }
+        requires line { line.now ≡ lines.Sta operand.now }
+        ensures gone { IfOk result (λ stepped. HasGone self.old p stepped self.new) }
+        ensures err { OnErr result (self.new ≡ self.old) }
+    {
+        match self.asks(p, line, operand) {
+            Asked::Target(target) => {
+                let value = self.registers(p).a;
+                self.store(p, line, operand, &target, value)?;
+                Ok(Stepped::LineDone)
+            }
+            Asked::First(way) => self.go(alloc, p, line, operand, way),
+        }
+    }
+
+    // `spri`: the pointer register is stored at the target, without further indirection.
+    fn spri(
+        &mut self,
+        alloc: Global,
+        p: u8,
+        line: &Line,
+        n: u8,
+        operand: &Operand,
+    ) -> Result<Stepped, AllocError>
+        requires at { IsAtLine self.old p line.now }
+        requires line { line.now ≡ lines.Spri n operand.now }
+        ensures gone { IfOk result (λ stepped. HasGone self.old p stepped self.new) }
+        ensures err { OnErr result (self.new ≡ self.old) }
+    {
+        match self.asks(p, line, operand) {
+            Asked::Target(target) => {
+                let value = register_word(&self.registers(p), n);
+                self.store(p, line, operand, &target, value)?;
+                Ok(Stepped::LineDone)
+            }
+            Asked::First(way) => self.go(alloc, p, line, operand, way),
+        }
+    }
+
+    // What stands on the way of an operand: an indirect word is read, and a link is to be snapped first.
+    fn go(
+        &mut self,
+        alloc: Global,
+        p: u8,
+        line: &Line,
+        operand: &Operand,
+        way: Way,
+    ) -> Result<Stepped, AllocError>
+        requires at { IsAtLine self.old p line.now }
+        requires operand { operand_of line.now ≡ Some operand.now }
+        requires asked { IsAsking self.old p operand.now (First way) }
+        ensures gone { IfOk result (λ stepped. HasGone self.old p stepped self.new) }
+        ensures err { OnErr result (self.new ≡ self.old) }
+    {
+        match way {
+            Way::Word(place) => self.look(p, line, operand, place),
+            Way::Link(place) => {
+                let request = Request::Link {
+                    segno: place.segno,
+                    word: place.word,
+                };
+                self.enter(alloc, p, line, place.ring, &request)?;
+                Ok(Stepped::LineDone)
+            }
+        }
+    }
+
+    // What the operand of the line asks for.
+    fn asks(&self, p: u8, line: &Line, operand: &Operand) -> Asked
+        requires at { IsAtLine self.now p line.now }
+        requires operand { operand_of line.now ≡ Some operand.now }
+        ensures { IsAsking self.now p operand.now result }
+    {
+        self.processes.asks(usize::from(p) - 1, operand)
+    }
+
+    // The registers of a process at the start of the line at work.
+    fn registers(&self, p: u8) -> Regs
+        requires { HasSeat self.now p }
+        ensures { HasSeatWith self.now p result }
+    {
+        self.processes.registers(usize::from(p) - 1)
+    }
+
+    // A line that needs no event ends.
+    fn end(&mut self, p: u8, line: &Line, ends: Result2, after: &Regs) -> Result<(), AllocError>
+        requires at { IsAtLine self.old p line.now }
+        requires ends { IsEnding self.old p line.now ends after.now }
         ensures done { OnOk result (HasStepped self.old p self.new) }
         ensures err { OnErr result (self.new ≡ self.old) }
     {
         let i = usize::from(p) - 1;
-        let registers = self.processes.registers(i);
-        let after = Regs {
-            a: word,
-            ..registers
-        };
         self.processes.reserve(i)?;
-        self.processes.end_line(i, None, Result2::Done, &after);
+        self.processes.end_line(i, None, ends, after);
         Ok(())
     }
 
-    // A request: where the journal is at its limit it is not entered, and the line says so.
-    fn call(&mut self, alloc: Global, p: u8, request: &Request) -> Result<(), AllocError>
-        requires { IsAtLine self.old p (lines.Ask request.now) }
+    // A call: where the journal is at its limit it is not entered, and the line says so.
+    fn enter(
+        &mut self,
+        alloc: Global,
+        p: u8,
+        line: &Line,
+        ring: Ring,
+        request: &Request,
+    ) -> Result<(), AllocError>
+        requires at { IsAtLine self.old p line.now }
+        requires calls { IsCalling self.old p line.now ring request.now }
         ensures done { OnOk result (HasStepped self.old p self.new) }
         ensures err { OnErr result (self.new ≡ self.old) }
     {
         let i = usize::from(p) - 1;
         let registers = self.processes.registers(i);
         self.processes.reserve(i)?;
-        match self.supervisor.enter(alloc, p, registers.ring, request) {
+        match self.supervisor.enter(alloc, p, ring, request) {
             Ok(number) => {
                 let ends = Result2::of(self.supervisor.reply(number));
                 self.processes
@@ -162,38 +347,98 @@ impl<'a> Bench<'a> {
         }
     }
 
-    // `lda`: the word is read on the present access, and A becomes it.
-    fn load(&mut self, p: u8, operand: &Operand) -> Result<(), AllocError>
-        requires { IsAtLine self.old p (lines.Lda operand.now) }
+    // An indirect word is read on the present access, and leads on.
+    fn look(
+        &mut self,
+        p: u8,
+        line: &Line,
+        operand: &Operand,
+        place: Place,
+    ) -> Result<Stepped, AllocError>
+        requires at { IsAtLine self.old p line.now }
+        requires operand { operand_of line.now ≡ Some operand.now }
+        requires asked { IsAsking self.old p operand.now (First (ways.Word place)) }
+        ensures gone { IfOk result (λ stepped. HasGone self.old p stepped self.new) }
+        ensures err { OnErr result (self.new ≡ self.old) }
+    {
+        let i = usize::from(p) - 1;
+        let registers = self.processes.registers(i);
+        self.processes.reserve(i)?;
+        let desc = self.supervisor.descriptor(p, place.segno);
+        let point = self.supervisor.length();
+        let looked = look(&self.cells, &desc, &place, point);
+        let event = Event2::Core(Event::Seen(looked.element));
+        match looked.came {
+            Ok(value) => {
+                let r1 = desc.brackets().r1();
+                Ok(self
+                    .processes
+                    .feed(i, line, operand, place, value, r1, event))
+            }
+            Err(denial) => {
+                let ends = Result2::Denied(denial);
+                self.processes.end_line(i, Some(event), ends, &registers);
+                Ok(Stepped::LineDone)
+            }
+        }
+    }
+
+    // The word at the target is read on the present access, and A becomes it.
+    fn load(
+        &mut self,
+        p: u8,
+        line: &Line,
+        operand: &Operand,
+        target: &Pointer,
+    ) -> Result<(), AllocError>
+        requires at { IsAtLine self.old p line.now }
+        requires line { line.now ≡ lines.Lda operand.now }
+        requires asked { IsAsking self.old p operand.now (Target target.now) }
         ensures done { OnOk result (HasStepped self.old p self.new) }
         ensures err { OnErr result (self.new ≡ self.old) }
     {
         let i = usize::from(p) - 1;
         let registers = self.processes.registers(i);
         self.processes.reserve(i)?;
-        let target = target_of(operand, &registers);
         let desc = self.supervisor.descriptor(p, target.segno);
         let point = self.supervisor.length();
-        let made = load(&self.cells, &desc, &target, &registers, point);
+        let made = load(&self.cells, &desc, target, &registers, point);
         let event = Event2::Core(Event::Seen(made.element));
         self.processes
             .end_line(i, Some(event), made.ends, &made.after);
         Ok(())
     }
 
-    // `sta`: A is stored on the present access.
-    fn store(&mut self, p: u8, operand: &Operand) -> Result<(), AllocError>
-        requires { IsAtLine self.old p (lines.Sta operand.now) }
+    // A word is stored at the target on the present access.
+    fn store(
+        &mut self,
+        p: u8,
+        line: &Line,
+        operand: &Operand,
+        target: &Pointer,
+        value: Word,
+    ) -> Result<(), AllocError>
+        requires at { IsAtLine self.old p line.now }
+        requires operand { operand_of line.now ≡ Some operand.now }
+        requires asked { IsAsking self.old p operand.now (Target target.now) }
+        requires stores { IsStoring self.old p line.now target.now value }
         ensures done { OnOk result (HasStepped self.old p self.new) }
         ensures err { OnErr result (self.new ≡ self.old) }
     {
         let i = usize::from(p) - 1;
         let registers = self.processes.registers(i);
         self.processes.reserve(i)?;
-        let target = target_of(operand, &registers);
         let desc = self.supervisor.descriptor(p, target.segno);
         let point = self.supervisor.length();
-        let made = store(&mut self.cells, &desc, &target, &registers, p, point);
+        let made = store(
+            &mut self.cells,
+            &desc,
+            target,
+            value,
+            &registers,
+            p,
+            point,
+        );
         let event = Event2::Core(Event::Seen(made.element));
         self.processes
             .end_line(i, Some(event), made.ends, &made.after);

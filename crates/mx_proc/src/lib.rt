@@ -1,14 +1,15 @@
 //! Running a session: its processes on one bench, which makes one step of any of them.
 //!
-//! A [`Bench`] has the supervisor, the cells of the memory and each process's place in its script. [`Bench::step`] makes one
-//! element with its access to a cell, or one entry, or a call that finds the journal full, or a line that needs neither; the
-//! order of steps is whoever's who calls it. Its type says that the run so far keeps all that a legal run asks, so that
+//! A [`Bench`] has the supervisor, the cells of the memory, and each process's registers, its place in its script and in the
+//! walk of the line at work. [`Bench::step`] makes one element with its access to a cell, or one entry, or a call that finds
+//! the journal full, or a line that needs neither; the order of steps is whoever's who calls it. Its type says that the run so far keeps all that a legal run asks, so that
 //! [`Bench::finish`] hands out a legal run. [`run`] steps the processes in turn. Stands on `mx_sup` (the supervisor),
 //! `mx_script` (sessions), `mx_legal` (the rules of a run) and `mx_ties` (what keeps them step by step).
 #![tactic(auto)]
 
 mod benches;
 mod memory;
+mod operands;
 mod processes;
 mod references;
 mod running;

@@ -1,21 +1,20 @@
 //! References to memory: judged, made on the cells, and what they make of the registers.
 
 ghost use Rattle.std.specs.Prelude.{◌≡◌, ◌<◌, ℕ, length, IfOk};
-ghost use Rattle.mx_legal.specs.Operands.{operand_target};
 ghost use Rattle.mx_legal.specs.Next.{at_place, storing};
 ghost use Rattle.mx_script.specs.declared.lines.Operand.{Operand as PlainOperand};
 ghost use Rattle.mx_script.specs.declared.lines.Line.TheVariants as lines;
 ghost use Rattle.mx_sdw.specs.Admissible.{IsAdmissible};
 ghost use Rattle.mx_sdw.specs.Judging.{judgement};
 ghost use Rattle.mx_sdw.specs.declared.operations.Op.TheVariants as ops;
-ghost use Rattle.mx_proc.specs.Making.{IsMade, element, denied};
+ghost use Rattle.mx_proc.specs.Making.{IsMade, IsLooked, element, indirect, denied};
 
 use crate::memory::{Contents, Memory};
+use crate::operands::Place;
 use mx_call::Regs;
 use mx_legal::{Element, Kind, Outcome, Result2};
 use mx_ptr::Pointer;
-use mx_script::{Base, Operand};
-use mx_sdw::{Cell, Denial, Desc, Op, Ring, judge};
+use mx_sdw::{Cell, Denial, Desc, Op, Ring, Word, judge};
 
 /// A reference that was made: its element, and the result of its line and the registers after it.
 #[derive(Clone, Copy)]
@@ -25,16 +24,48 @@ pub(crate) struct Made {
     pub(crate) after: Regs,
 }
 
-/// Where an operand leads: to its effective pointer.
-pub(crate) fn target_of(operand: &Operand, registers: &Regs) -> Pointer
-    ensures { result ≡ operand_target registers.now operand.now }
+/// An indirect word that was read: its element, and the word, or why it was denied.
+#[derive(Clone, Copy)]
+pub(crate) struct Looked {
+    pub(crate) element: Element,
+    pub(crate) came: Result<Word, Denial>,
+}
+
+/// Reads the indirect word at a place, on this descriptor and at this point.
+pub(crate) fn look(cells: &Memory, desc: &Desc, place: &Place, point: u32) -> Looked
+    requires { IsAdmissible desc.now }
+    ensures { (p : ℕ) → IsLooked place.now desc.now p point cells.now result }
 {
-    let Base::Segment(segno) = operand.base;
-    Pointer {
-        ring: registers.ring,
-        segno,
-        word: operand.word,
-        further: false,
+    match ruling(desc, Op::Indirect, place.ring, place.word) {
+        Ok(cell) => {
+            let held = cells.contents(cell.0);
+            let outcome = Outcome::Read {
+                value: held.value,
+                writer: held.writer,
+                stamp: held.stamp,
+            };
+            Looked {
+                element: indirect(place, point, outcome),
+                came: Ok(held.value),
+            }
+        }
+        Err(denial) => Looked {
+            element: indirect(place, point, Outcome::Denied(denial)),
+            came: Err(denial),
+        },
+    }
+}
+
+fn indirect(place: &Place, point: u32, outcome: Outcome) -> Element
+    ensures { result ≡ indirect place.now point outcome }
+{
+    Element {
+        kind: Kind::Ind,
+        segno: place.segno,
+        word: place.word,
+        ring: place.ring,
+        point,
+        outcome,
     }
 }
 
@@ -70,22 +101,23 @@ pub(crate) fn load(
     }
 }
 
-/// Stores A at the target, on this descriptor and at this point, for process `p`.
+/// Stores a word at the target, on this descriptor and at this point, for process `p`.
 pub(crate) fn store(
     cells: &mut Memory,
     desc: &Desc,
     target: &Pointer,
+    value: Word,
     registers: &Regs,
     p: u8,
     point: u32,
 ) -> Made
     requires { IsAdmissible desc.now }
-    ensures made { (o : PlainOperand) → IsMade (lines.Sta o) (storing registers.now.a target.now) registers.now desc.now target.now p point cells.old cells.new result }
+    ensures sta { (o : PlainOperand) → IsMade (lines.Sta o) (storing value target.now) registers.now desc.now target.now p point cells.old cells.new result }
+    ensures spri { (n : ℕ) → (o : PlainOperand) → IsMade (lines.Spri n o) (storing value target.now) registers.now desc.now target.now p point cells.old cells.new result }
     ensures wide { length cells.new ≡ length cells.old }
 {
     match ruling(desc, Op::Write, target.ring, target.word) {
         Ok(cell) => {
-            let value = registers.a;
             cells.store(
                 cell.0,
                 Contents {
