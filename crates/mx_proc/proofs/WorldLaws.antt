@@ -1,5 +1,5 @@
--- What is true of a bench stays true as one process does one line more.
-use Rattle.std.proofs.Common.{◌≡◌, ◌≢◌, inl, inr, ℕ, suc, ◌<◌, ◌≤◌, ◌+◌, ◌==◌, nat_le, Bool, true, false, if◌then◌else◌, List, [], ◌∷◌, ◌++◌, map, drop, length, Some, refl, sym, ◌∙◌, ap, subst, arith, length-append, append_assoc}
+-- What is true of a bench stays true as one process makes a step.
+use Rattle.std.proofs.Common.{◌≡◌, ◌≢◌, inl, inr, ℕ, suc, ◌<◌, ◌≤◌, ◌+◌, ◌==◌, nat_le, Bool, true, false, if◌then◌else◌, List, [], ◌∷◌, ◌++◌, map, drop, length, Some, refl, sym, ◌∙◌, ap, subst, arith, length-append, append_assoc, append-nil}
 use Rattle.std.proofs.lemmas.Bool.{eqb-true}
 use Rattle.std.proofs.lemmas.List.{map-append}
 use Rattle.std.proofs.lemmas.Option.{slice_get_within}
@@ -10,11 +10,11 @@ use Rattle.mx_core.specs.declared.elements.Event.TheVariants.{Seen}
 use Rattle.mx_core.specs.declared.elements.Outcome.TheVariants.{Read}
 use Rattle.mx_sdw.specs.Descriptors.{Descriptor}
 use Rattle.mx_legal.specs.Access.{descriptor_of}
-use Rattle.mx_legal.specs.Asking.{next, result_of}
+use Rattle.mx_legal.specs.Asking.{next, answered, result_of}
 use Rattle.mx_legal.specs.Courses.{Course, Attempt, Answer, Judged}
 use Rattle.mx_legal.specs.Elements.{IsJudged}
 use Rattle.mx_legal.specs.Lines.{IsEnd}
-use Rattle.mx_legal.specs.Next.{Reference, Asks, Calls, Ends}
+use Rattle.mx_legal.specs.Next.{Next, Reference, Asks, Calls, Ends}
 use Rattle.mx_legal.specs.Scripts.{lines_of}
 use Rattle.mx_legal.specs.Standing.{own_setting}
 use Rattle.mx_legal.specs.declared.transcripts.Event2.{Event2}
@@ -24,7 +24,6 @@ use Rattle.mx_legal.specs.declared.transcripts.Result2.TheVariants as result
 use Rattle.mx_request.specs.declared.requests.Request.{Request}
 use Rattle.mx_script.specs.Sessions.{Outline, limit_of}
 use Rattle.mx_script.specs.declared.lines.Line.{Line}
-use Rattle.mx_script.specs.declared.lines.Line.TheVariants.{Ask}
 use Rattle.mx_state.specs.History.{opening, replay, IsRightEntry}
 use Rattle.mx_state.specs.declared.journal.Entry as journaled
 use Rattle.mx_reads.specs.Deeds.{Stores, Loads}
@@ -40,13 +39,30 @@ use Rattle.mx_proc.proofs.CellLaws.{stored_there, stored_only_there}
 use Rattle.mx_proc.proofs.RaisedLaws.{raise, raised, raised_bench}
 use Rattle.mx_proc.proofs.SeatLaws.{set_here, set_there, set_length, left_more}
 use Rattle.mx_proc.specs.Access.{IsAccess, stored}
-use Rattle.mx_proc.specs.Running.{IsBefore, left_of, IsRunning}
+use Rattle.mx_proc.specs.Operands.{IsPlaced}
+use Rattle.mx_proc.specs.Running.{IsAtWork, IsBefore, left_of, IsRunning}
 use Rattle.mx_proc.specs.Worlds.{Seat, World, held, held_in, contents_at, always}
 use Rattle.mx_proc.specs.declared.memory.Contents.{Contents}
+use Rattle.mx_proc.specs.declared.operands.Progress.{Progress}
+use Rattle.mx_proc.specs.declared.operands.Progress.TheVariants.{Before}
 
--- a seat after one line more
+-- a seat after one line more, which had these events more
 abbrev pub after_line : Seat → ℕ → List Event2 → Result2 → Registers → Seat
-after_line seat number events ends registers = record { registers = registers; steps = seat.steps ++ (number, events, ends) ∷ [] }
+after_line seat number events ends registers = record {
+  registers = registers;
+  steps = seat.steps ++ (number, seat.events ++ events, ends) ∷ [];
+  events = [];
+  progress = Before;
+}
+
+-- a seat whose line at work has one event more
+abbrev pub moved : Seat → Event2 → Progress → Seat
+moved seat event progress = record {
+  registers = seat.registers;
+  steps = seat.steps;
+  events = seat.events ++ event ∷ [];
+  progress = progress;
+}
 
 -- the process is at this line, and others are left
 pub record IsAt (w : World) (i : ℕ) (seat : Seat) (number : ℕ) (line : Line) (left : List (ℕ × Line)) : Type 0 where
@@ -74,23 +90,27 @@ put_other p v views u n = by_test (u == p) refl
 ended : (x : Outline) (setup : List journaled.Entry) (p : ℕ) (seat : Seat) (number : ℕ) (line : Line) (left : List (ℕ × Line))
     (events : List Event2) (course : Course) (ends : Result2) (after : Registers) (v : View)
     → ((d : Element → Descriptor) → IsEnd (own_setting x (followed setup v.history) v.floor p d) seat.registers (next seat.registers line course) ends after)
-    → IsBenched x setup p seat.steps number line left seat.registers events course v
+    → IsBenched x setup p seat.steps number line left seat.registers (seat.events ++ events) course v
     → IsBefore x setup p (after_line seat number events ends after) left v
 ended x setup p seat number line [] events course ends after v end r =
-    last_line_law x setup p seat.steps number line seat.registers after events course ends v (λ segno. limit_of x) end r
-ended x setup p seat number line (other ∷ left) events course ends after v end r =
-    line_step_law x setup p seat.steps number other.0 line other.1 left seat.registers after events course ends v (λ segno. limit_of x) end r
+    last_line_law x setup p seat.steps number line seat.registers after (seat.events ++ events) course ends v (λ segno. limit_of x) end r
+ended x setup p seat number line (other ∷ left) events course ends after v end r = record {
+  seen = [];
+  benched = line_step_law x setup p seat.steps number other.0 line other.1 left seat.registers after (seat.events ++ events) course ends v
+      (λ segno. limit_of x) end r;
+  placed = refl;
+}
 
--- before the line that is left
+-- at the line that is left
 at_line : (x : Outline) (setup : List journaled.Entry) (p : ℕ) (seat : Seat) (lines : List (ℕ × Line)) (number : ℕ) (line : Line) (left : List (ℕ × Line)) (v : View)
     → lines ≡ (number, line) ∷ left → IsBefore x setup p seat lines v
-    → IsBenched x setup p seat.steps number line left seat.registers [] (Attempt []) v
+    → IsAtWork x setup p seat number line left v
 at_line x setup p seat lines number line left v e is = subst (λ (l : List (ℕ × Line)). IsBefore x setup p seat l v) e is
 
 after_it : (x : Outline) (p : ℕ) (seat : Seat) (number : ℕ) (line : Line) (left : List (ℕ × Line)) (events : List Event2) (ends : Result2) (after : Registers)
     → left_of x p seat ≡ (number, line) ∷ left → left_of x p (after_line seat number events ends after) ≡ left
 after_it x p seat number line left events ends after e =
-    ap (λ n. drop n (lines_of x p)) (length-append seat.steps ((number, events, ends) ∷ []) ∙ one (length seat.steps))
+    ap (λ n. drop n (lines_of x p)) (length-append seat.steps ((number, seat.events ++ events, ends) ∷ []) ∙ one (length seat.steps))
     ∙ left_more (length seat.steps) (lines_of x p) (number, line) left e
   where
     one : (n : ℕ) → n + 1 ≡ suc n
@@ -141,26 +161,40 @@ each_after x setup seats views views' i seat before at others each own j s e = b
         subst (λ v. IsBefore x setup (suc j) s (left_of x (suc j) s) v) (sym (others (suc j) (apart j i n)))
         (each j s (sym (set_there seats i j seat n) ∙ e))
 
--- a line that needs neither element nor entry
-pub set_law : (w : World) (i : ℕ) (seat : Seat) (number : ℕ) (line : Line) (left : List (ℕ × Line)) (ends : Result2) (after : Registers)
-    → IsRunning w → IsAt w i seat number line left → next seat.registers line (Attempt []) ≡ Ends ends after
+-- whatever an attempt has seen, the line asks for this
+abbrev pub Asking : Seat → Line → Next → Type 0
+Asking seat line asks = (seen : List Judged) → IsPlaced seat.registers line seen seat.progress
+    → next seat.registers line (Attempt seen) ≡ asks
+
+no_more : (x : Outline) (setup : List journaled.Entry) (p : ℕ) (seat : Seat) (number : ℕ) (line : Line) (left : List (ℕ × Line))
+    (course : Course) (v : View) → IsBenched x setup p seat.steps number line left seat.registers seat.events course v
+    → IsBenched x setup p seat.steps number line left seat.registers (seat.events ++ []) course v
+no_more x setup p seat number line left course v r =
+    subst (λ (events : List Event2). IsBenched x setup p seat.steps number line left seat.registers events course v)
+    (sym (append-nil seat.events)) r
+
+-- a line that needs no further event
+pub end_law : (w : World) (i : ℕ) (seat : Seat) (number : ℕ) (line : Line) (left : List (ℕ × Line)) (ends : Result2) (after : Registers)
+    → IsRunning w → IsAt w i seat number line left → Asking seat line (Ends ends after)
     → IsRunning (stepped w i w.journal w.cells (after_line seat number [] ends after))
-set_law w i seat number line left ends after r a e = record {
-  setup = r.setup;
-  history = r.history;
-  views = r.views;
-  journal = r.journal;
-  bench = r.bench;
-  set_up = r.set_up;
-  count = set_length w.seats i (after_line seat number [] ends after) ∙ r.count;
-  each = each_after w.session r.setup w.seats r.views r.views i (after_line seat number [] ends after) seat a.seated
-      (λ u n. refl) r.each
-      (subst (λ (l : List (ℕ × Line)). IsBefore w.session r.setup (suc i) (after_line seat number [] ends after) l (r.views (suc i)))
-      (sym (after_it w.session (suc i) seat number line left [] ends after a.at))
-      (ended w.session r.setup (suc i) seat number line left [] (Attempt []) ends after (r.views (suc i))
-      (λ d. rw e (refl, refl))
-      (at_line w.session r.setup (suc i) seat (left_of w.session (suc i) seat) number line left (r.views (suc i)) a.at (r.each i seat a.seated))));
-}
+end_law w i seat number line left ends after r a asks =
+    let now = at_line w.session r.setup (suc i) seat (left_of w.session (suc i) seat) number line left (r.views (suc i)) a.at (r.each i seat a.seated) in
+    let e = asks now.seen now.placed in
+    record {
+      setup = r.setup;
+      history = r.history;
+      views = r.views;
+      journal = r.journal;
+      bench = r.bench;
+      set_up = r.set_up;
+      count = set_length w.seats i (after_line seat number [] ends after) ∙ r.count;
+      each = each_after w.session r.setup w.seats r.views r.views i (after_line seat number [] ends after) seat a.seated
+          (λ u n. refl) r.each
+          (subst (λ (l : List (ℕ × Line)). IsBefore w.session r.setup (suc i) (after_line seat number [] ends after) l (r.views (suc i)))
+          (sym (after_it w.session (suc i) seat number line left [] ends after a.at))
+          (ended w.session r.setup (suc i) seat number line left [] (Attempt now.seen) ends after (r.views (suc i))
+          (λ d. rw e (refl, refl)) (no_more w.session r.setup (suc i) seat number line left (Attempt now.seen) (r.views (suc i)) now.benched)));
+    }
 
 -- a process of the bench
 seated_within : (w : World) (i : ℕ) (seat : Seat) → IsRunning w → slice_get w.seats i ≡ Some seat → suc i ≤ length w.session.principals
@@ -187,11 +221,13 @@ floor_other p floor views u n = by_test (u == p) refl
     by_test false e = rw e refl
 
 pub full_law : (w : World) (i : ℕ) (seat : Seat) (number : ℕ) (line : Line) (left : List (ℕ × Line)) (ring : ℕ) (request : Request)
-    → IsRunning w → IsAt w i seat number line left → next seat.registers line (Attempt []) ≡ Calls ring request
+    → IsRunning w → IsAt w i seat number line left → Asking seat line (Calls ring request)
     → length w.journal ≡ limit_of w.session
     → IsRunning (stepped w i w.journal w.cells (after_line seat number [] result.HistoryFull seat.registers))
-full_law w i seat number line left ring request r a e full =
+full_law w i seat number line left ring request r a asks full =
     let p : ℕ = suc i in
+    let now = at_line w.session r.setup p seat (left_of w.session p seat) number line left (r.views p) a.at (r.each i seat a.seated) in
+    let e = asks now.seen now.placed in
     let most : ℕ = length (followed r.setup r.history) in
     let at_limit : most ≡ limit_of w.session = sym (ap length r.journal) ∙ full in
     let floors : ℕ → ℕ = full_floors p most r.views in
@@ -199,9 +235,8 @@ full_law w i seat number line left ring request r a e full =
     let low : (r.views p).floor ≤ most = (r.bench.closed.retired p (omega arith) within).floor in
     let each_low : (u : ℕ) → 1 ≤ u → u ≤ length w.session.principals → floors u ≤ most
     = λ u some least. below u (u == p) refl (r.bench.closed.retired u some least).floor in
-    let own : IsBenched w.session r.setup p seat.steps number line left seat.registers [] (Attempt []) (record (r.views p) { floor = most })
-    = raised w.session r.setup p seat.steps number line left seat.registers [] (Attempt []) (r.views p) most low
-    (at_line w.session r.setup p seat (left_of w.session p seat) number line left (r.views p) a.at (r.each i seat a.seated)) in
+    let own : IsBenched w.session r.setup p seat.steps number line left seat.registers seat.events (Attempt now.seen) (record (r.views p) { floor = most })
+    = raised w.session r.setup p seat.steps number line left seat.registers seat.events (Attempt now.seen) (r.views p) most low now.benched in
     let after : Seat = after_line seat number [] result.HistoryFull seat.registers in
     let is_full : nat_le (limit_of w.session) most ≡ true = reached (limit_of w.session) most at_limit in
     record {
@@ -217,8 +252,9 @@ full_law w i seat number line left ring request r a e full =
           (subst (λ (l : List (ℕ × Line)). IsBefore w.session r.setup p after l (raise floors r.views p))
           (sym (after_it w.session p seat number line left [] result.HistoryFull seat.registers a.at))
           (subst (λ (n : ℕ). IsBefore w.session r.setup p after left (record (r.views p) { floor = n })) (sym (floor_own p most r.views))
-          (ended w.session r.setup p seat number line left [] (Attempt []) result.HistoryFull seat.registers (record (r.views p) { floor = most })
-          (λ d. rw e (is_full, refl, refl)) own)));
+          (ended w.session r.setup p seat number line left [] (Attempt now.seen) result.HistoryFull seat.registers (record (r.views p) { floor = most })
+          (λ d. rw e (is_full, refl, refl))
+          (no_more w.session r.setup p seat number line left (Attempt now.seen) (record (r.views p) { floor = most }) own))));
     }
   where
     reached : (limit most : ℕ) → most ≡ limit → nat_le limit most ≡ true
@@ -229,14 +265,15 @@ full_law w i seat number line left ring request r a e full =
     below u true t h = rw t (omega arith)
     below u false t h = rw t h
 
--- a call below the limit is entered
-pub call_law : (w : World) (i : ℕ) (seat : Seat) (number : ℕ) (left : List (ℕ × Line)) (request : Request) (entry : journaled.Entry)
-    → IsRunning w → IsAt w i seat number (Ask request) left
-    → entry.process ≡ suc i → entry.ring ≡ seat.registers.ring → entry.request ≡ request
+-- a call below the limit is entered, and the line ends with its reply
+pub call_law : (w : World) (i : ℕ) (seat : Seat) (number : ℕ) (line : Line) (left : List (ℕ × Line)) (entry : journaled.Entry)
+    → IsRunning w → IsAt w i seat number line left
+    → entry.process ≡ suc i → Asking seat line (Calls entry.ring entry.request)
+    → answered seat.registers line entry.reply ≡ Ends (result_of entry.reply) seat.registers
     → length w.journal < limit_of w.session → IsRightEntry (replay (opening w.session.principals) w.journal) entry
     → IsRunning (stepped w i (w.journal ++ entry ∷ []) w.cells
     (after_line seat number (Entry (length w.journal + 1) ∷ []) (result_of entry.reply) seat.registers))
-call_law w i seat number left request entry r a maker ring asked below right =
+call_law w i seat number line left entry r a maker asks answers below right =
     let p : ℕ = suc i in
     let front : List journaled.Entry = followed r.setup r.history in
     let marked : Marked = record { entry = entry; mark = length (r.views p).trace } in
@@ -247,13 +284,14 @@ call_law w i seat number left request entry r a maker ring asked below right =
     let below' : length front < limit_of w.session = subst (λ (j : List journaled.Entry). length j < limit_of w.session) r.journal below in
     let right' : IsRightEntry (replay (opening w.session.principals) front) entry
     = subst (λ (j : List journaled.Entry). IsRightEntry (replay (opening w.session.principals) j) entry) r.journal right in
-    let benched = at_line w.session r.setup p seat (left_of w.session p seat) number (Ask request) left (r.views p) a.at (r.each i seat a.seated) in
-    let called = bench_call_law w.session r.setup r.history r.views views always (held_in w.cells) p marked seat.steps number (Ask request) left
-    seat.registers [] (Attempt []) r.bench (omega arith) within maker refl below' (same_call ring asked) (put_own p v r.views) benched in
+    let now = at_line w.session r.setup p seat (left_of w.session p seat) number line left (r.views p) a.at (r.each i seat a.seated) in
+    let called = bench_call_law w.session r.setup r.history r.views views always (held_in w.cells) p marked seat.steps number line left
+    seat.registers seat.events (Attempt now.seen) r.bench (omega arith) within maker refl below' (asks now.seen now.placed) (put_own p v r.views)
+    now.benched in
     let after : ℕ → Seat = λ n. after_line seat number (Entry n ∷ []) (result_of entry.reply) seat.registers in
     let own : IsBefore w.session r.setup p (after (length front + 1)) left (views p)
-    = ended w.session r.setup p seat number (Ask request) left (Entry (length front + 1) ∷ []) (Answer entry) (result_of entry.reply)
-    seat.registers (views p) (λ d. (refl, refl)) called in
+    = ended w.session r.setup p seat number line left (Entry (length front + 1) ∷ []) (Answer entry) (result_of entry.reply)
+    seat.registers (views p) (λ d. rw answers (refl, refl)) called in
     record {
       setup = r.setup;
       history = history;
@@ -265,34 +303,37 @@ call_law w i seat number left request entry r a maker ring asked below right =
       count = set_length w.seats i (after (length w.journal + 1)) ∙ r.count;
       each = each_after w.session r.setup w.seats r.views views i (after (length w.journal + 1)) seat a.seated (put_other p v r.views) r.each
           (subst (λ (l : List (ℕ × Line)). IsBefore w.session r.setup p (after (length w.journal + 1)) l (views p))
-          (sym (after_it w.session p seat number (Ask request) left (Entry (length w.journal + 1) ∷ []) (result_of entry.reply) seat.registers a.at))
+          (sym (after_it w.session p seat number line left (Entry (length w.journal + 1) ∷ []) (result_of entry.reply) seat.registers a.at))
           (subst (λ (j : List journaled.Entry). IsBefore w.session r.setup p (after (length j + 1)) left (views p)) (sym r.journal) own));
     }
   where
-    same_call : entry.ring ≡ seat.registers.ring → entry.request ≡ request
-        → next seat.registers (Ask request) (Attempt []) ≡ Calls entry.ring entry.request
-    same_call e f = rw (e, f) refl
-
     grown : (setup : List journaled.Entry) (history : List Marked) (marked : Marked) (journal : List journaled.Entry)
         → journal ≡ followed setup history → journal ++ marked.entry ∷ [] ≡ followed setup (history ++ marked ∷ [])
     grown setup history marked journal e =
         ap (λ (j : List journaled.Entry). j ++ marked.entry ∷ []) e ∙ append_assoc setup (map entry_in history) (marked.entry ∷ [])
         ∙ ap (λ (more : List journaled.Entry). setup ++ more) (sym (map-append entry_in history (marked ∷ [])))
 
--- a reference
-pub refer_law : (w : World) (i : ℕ) (seat : Seat) (number : ℕ) (line : Line) (left : List (ℕ × Line)) (asked : Reference) (j : Judged)
-    (cells : List Contents) (ends : Result2) (after : Registers)
-    → IsRunning w → IsAt w i seat number line left
-    → next seat.registers line (Attempt []) ≡ Asks asked → IsJudged asked j.desc j.element
+-- what stands after a reference of the line at work
+record IsReferredTo (w : World) (r : IsRunning w) (i : ℕ) (seat : Seat) (number : ℕ) (line : Line) (left : List (ℕ × Line))
+    (seen : List Judged) (j : Judged) (cells : List Contents) : Type 0 where
+  pub views : ℕ → View
+  pub bench : IsBench w.session r.setup r.history views always (held_in cells)
+  pub benched : IsBenched w.session r.setup (suc i) seat.steps number line left seat.registers (seat.events ++ Core (Seen j.element) ∷ [])
+      (Attempt (seen ++ j ∷ [])) (views (suc i))
+  pub others : (u : ℕ) → u ≢ suc i → views u ≡ r.views u
+
+referred_to : (w : World) (r : IsRunning w) (i : ℕ) (seat : Seat) (number : ℕ) (line : Line) (left : List (ℕ × Line)) (asked : Reference)
+    (j : Judged) (cells : List Contents) → slice_get w.seats i ≡ Some seat
+    → (now : IsAtWork w.session r.setup (suc i) seat number line left (r.views (suc i)))
+    → next seat.registers line (Attempt now.seen) ≡ Asks asked → IsJudged asked j.desc j.element
     → j.desc ≡ descriptor_of w.session w.journal (suc i) j.element → j.element.point ≡ length w.journal
-    → IsAccess w.cells cells (suc i) j → next seat.registers line (Attempt (j ∷ [])) ≡ Ends ends after
-    → IsRunning (stepped w i w.journal cells (after_line seat number (Core (Seen j.element) ∷ []) ends after))
-refer_law w i seat number line left asked j cells ends after r a asks judged desc point access end =
+    → IsAccess w.cells cells (suc i) j → IsReferredTo w r i seat number line left now.seen j cells
+referred_to w r i seat number line left asked j cells seated now asks judged desc point access =
     let p : ℕ = suc i in
     let front : List journaled.Entry = followed r.setup r.history in
     let v : View = referred_view (r.views p) j (length front) in
     let views : ℕ → View = put p v r.views in
-    let within = seated_within w i seat r a.seated in
+    let within = seated_within w i seat r seated in
     let here : j.element.point ≡ length front = point ∙ ap length r.journal in
     let is : IsReferred w.session r.setup r.history r.views views p j = record {
       some = omega arith;
@@ -302,23 +343,12 @@ refer_law w i seat number line left asked j cells ends after r a asks judged des
       own = put_own p v r.views;
       others = put_other p v r.views;
     } in
-    let benched = at_line w.session r.setup p seat (left_of w.session p seat) number line left (r.views p) a.at (r.each i seat a.seated) in
-    let seen = bench_look_law w.session r.setup r.history r.views views always (held_in w.cells) p j asked seat.steps number line left seat.registers
-    [] (Attempt []) r.bench is asks judged (stamps front here access) benched in
-    let own = ended w.session r.setup p seat number line left (Core (Seen j.element) ∷ []) (Attempt (j ∷ [])) ends after (views p)
-    (λ d. rw end (refl, refl)) seen in
-    let next_seat : Seat = after_line seat number (Core (Seen j.element) ∷ []) ends after in
     record {
-      setup = r.setup;
-      history = r.history;
       views = views;
-      journal = r.journal;
       bench = touched views is here access;
-      set_up = r.set_up;
-      count = set_length w.seats i next_seat ∙ r.count;
-      each = each_after w.session r.setup w.seats r.views views i next_seat seat a.seated (put_other p v r.views) r.each
-          (subst (λ (l : List (ℕ × Line)). IsBefore w.session r.setup p next_seat l (views p))
-          (sym (after_it w.session p seat number line left (Core (Seen j.element) ∷ []) ends after a.at)) own);
+      benched = bench_look_law w.session r.setup r.history r.views views always (held_in w.cells) p j asked seat.steps number line left
+          seat.registers seat.events (Attempt now.seen) r.bench is asks judged (stamps front here access) now.benched;
+      others = put_other p v r.views;
     }
   where
     same_stamp : (a b c x y z : ℕ) → Read a b c ≡ Read x y z → c ≡ z
@@ -350,3 +380,63 @@ refer_law w i seat number line left asked j cells ends after r a asks judged des
     touched views is here (inr (inr q)) =
         subst (λ (c : List Contents). IsBench w.session r.setup r.history views always (held_in c)) (sym q.keeps)
         (bench_quiet_law w.session r.setup r.history r.views views always (held_in w.cells) (suc i) j r.bench is q.quiet)
+
+-- a reference after which the line ends
+pub refer_law : (w : World) (i : ℕ) (seat : Seat) (number : ℕ) (line : Line) (left : List (ℕ × Line)) (asked : Reference) (j : Judged)
+    (cells : List Contents) (ends : Result2) (after : Registers)
+    → IsRunning w → IsAt w i seat number line left → Asking seat line (Asks asked) → IsJudged asked j.desc j.element
+    → j.desc ≡ descriptor_of w.session w.journal (suc i) j.element → j.element.point ≡ length w.journal
+    → IsAccess w.cells cells (suc i) j
+    → ((seen : List Judged) → IsPlaced seat.registers line seen seat.progress
+    → next seat.registers line (Attempt (seen ++ j ∷ [])) ≡ Ends ends after)
+    → IsRunning (stepped w i w.journal cells (after_line seat number (Core (Seen j.element) ∷ []) ends after))
+refer_law w i seat number line left asked j cells ends after r a asks judged desc point access end =
+    let p : ℕ = suc i in
+    let now = at_line w.session r.setup p seat (left_of w.session p seat) number line left (r.views p) a.at (r.each i seat a.seated) in
+    let t = referred_to w r i seat number line left asked j cells a.seated now (asks now.seen now.placed) judged desc point access in
+    let e = end now.seen now.placed in
+    let own = ended w.session r.setup p seat number line left (Core (Seen j.element) ∷ []) (Attempt (now.seen ++ j ∷ [])) ends after (t.views p)
+    (λ d. rw e (refl, refl)) t.benched in
+    let next_seat : Seat = after_line seat number (Core (Seen j.element) ∷ []) ends after in
+    record {
+      setup = r.setup;
+      history = r.history;
+      views = t.views;
+      journal = r.journal;
+      bench = t.bench;
+      set_up = r.set_up;
+      count = set_length w.seats i next_seat ∙ r.count;
+      each = each_after w.session r.setup w.seats r.views t.views i next_seat seat a.seated t.others r.each
+          (subst (λ (l : List (ℕ × Line)). IsBefore w.session r.setup p next_seat l (t.views p))
+          (sym (after_it w.session p seat number line left (Core (Seen j.element) ∷ []) ends after a.at)) own);
+    }
+
+-- a reference after which the line goes on
+pub look_law : (w : World) (i : ℕ) (seat : Seat) (number : ℕ) (line : Line) (left : List (ℕ × Line)) (asked : Reference) (j : Judged)
+    (cells : List Contents) (progress : Progress)
+    → IsRunning w → IsAt w i seat number line left → Asking seat line (Asks asked) → IsJudged asked j.desc j.element
+    → j.desc ≡ descriptor_of w.session w.journal (suc i) j.element → j.element.point ≡ length w.journal
+    → IsAccess w.cells cells (suc i) j
+    → ((seen : List Judged) → IsPlaced seat.registers line seen seat.progress → IsPlaced seat.registers line (seen ++ j ∷ []) progress)
+    → IsRunning (stepped w i w.journal cells (moved seat (Core (Seen j.element)) progress))
+look_law w i seat number line left asked j cells progress r a asks judged desc point access placed =
+    let p : ℕ = suc i in
+    let now = at_line w.session r.setup p seat (left_of w.session p seat) number line left (r.views p) a.at (r.each i seat a.seated) in
+    let t = referred_to w r i seat number line left asked j cells a.seated now (asks now.seen now.placed) judged desc point access in
+    let next_seat : Seat = moved seat (Core (Seen j.element)) progress in
+    let own : IsBefore w.session r.setup p next_seat ((number, line) ∷ left) (t.views p) = record {
+      seen = now.seen ++ j ∷ [];
+      benched = t.benched;
+      placed = placed now.seen now.placed;
+    } in
+    record {
+      setup = r.setup;
+      history = r.history;
+      views = t.views;
+      journal = r.journal;
+      bench = t.bench;
+      set_up = r.set_up;
+      count = set_length w.seats i next_seat ∙ r.count;
+      each = each_after w.session r.setup w.seats r.views t.views i next_seat seat a.seated t.others r.each
+          (subst (λ (l : List (ℕ × Line)). IsBefore w.session r.setup p next_seat l (t.views p)) (sym a.at) own);
+    }

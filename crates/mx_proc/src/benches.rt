@@ -371,9 +371,10 @@ impl<'a> Bench<'a> {
         match looked.came {
             Ok(value) => {
                 let r1 = desc.brackets().r1();
-                Ok(self
-                    .processes
-                    .feed(i, line, operand, place, value, r1, event))
+                Ok(
+                    self.processes
+                        .feed(i, line, operand, place, value, r1, event),
+                )
             }
             Err(denial) => {
                 let ends = Result2::Denied(denial);
@@ -430,15 +431,7 @@ impl<'a> Bench<'a> {
         self.processes.reserve(i)?;
         let desc = self.supervisor.descriptor(p, target.segno);
         let point = self.supervisor.length();
-        let made = store(
-            &mut self.cells,
-            &desc,
-            target,
-            value,
-            &registers,
-            p,
-            point,
-        );
+        let made = store(&mut self.cells, &desc, target, value, &registers, p, point);
         let event = Event2::Core(Event::Seen(made.element));
         self.processes
             .end_line(i, Some(event), made.ends, &made.after);

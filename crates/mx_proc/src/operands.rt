@@ -128,15 +128,7 @@ fn asked_by(registers: &Regs, walk: &Walk) -> Asked
     ensures good { IsGoodAsked registers.now result }
 {
     match walk.want() {
-        Want::Word {
-            segno,
-            word,
-            ring,
-        } => Asked::First(Way::Word(Place {
-            segno,
-            word,
-            ring,
-        })),
+        Want::Word { segno, word, ring } => Asked::First(Way::Word(Place { segno, word, ring })),
         Want::Done(target) => Asked::Target(target),
     }
 }

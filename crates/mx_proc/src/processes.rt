@@ -1,11 +1,11 @@
 //! The processes of a bench: their registers, and what was recorded of them.
 
-ghost use Rattle.std.specs.Prelude.{◌≡◌, ◌<◌, ◌+◌, ◌^◌, true, [], ◌∷◌, ◌++◌, IfOk, IsTrue, OnOk, Some, length};
+ghost use Rattle.std.specs.Prelude.{◌≡◌, ◌<◌, ◌+◌, ◌^◌, true, [], ◌∷◌, ◌++◌, IfOk, IsTrue, IsSome, OnOk, Some, length};
 ghost use Rattle.mx_call.specs.Registers.{ArePackable};
 ghost use Rattle.mx_legal.specs.Openings.{opening_registers};
 ghost use Rattle.mx_script.specs.Sessions.{IsSession, is_address, is_script_line};
-ghost use Rattle.mx_proc.specs.Operands.{IsGoodProgress, IsLed, IsGoodAsked, AsksFor, walk_at};
-ghost use Rattle.mx_proc.specs.Processes.{AreFresh, IsStill, HasRoom, IsCountable, IsGoodAt, HasEnded, HasMoved, HasFed, HasRegisters, HasLines, HasAsked, IsLedAt, fed, events_in};
+ghost use Rattle.mx_proc.specs.Operands.{IsGoodProgress, IsGoodWalk, IsLed, walk_at};
+ghost use Rattle.mx_proc.specs.Processes.{AreFresh, IsStill, HasRoom, IsCountable, IsGoodAt, HasEnded, HasFed, IsFed, HasRegisters, HasLines, HasAsked, IsLedAt, events_in};
 ghost use Rattle.mx_proc.specs.declared.operands.Progress.TheVariants.{Before};
 
 use crate::benches::Stepped;
@@ -96,6 +96,49 @@ impl Processes {
         end_line(self.items.as_mut_slice(), i, event, ends, after);
     }
 
+    /// What the operand of the line at work of a process asks for.
+    pub(crate) fn asks(&self, i: usize, operand: &Operand) -> Asked
+        requires within { i < length self.now }
+        requires good { IsGoodAt self.now i }
+        requires address { is_address operand.now ≡ true }
+        ensures { HasAsked self.now i operand.now result }
+    {
+        asks_at(&self.items, i, operand)
+    }
+
+    /// The indirect word for which the operand of a process asks was read, from a segment with the first bracket `r1`: the
+    /// line at work has this event, and goes on or ends.
+    pub(crate) fn feed(
+        &mut self,
+        i: usize,
+        line: &Line,
+        operand: &Operand,
+        place: Place,
+        value: Word,
+        r1: Ring,
+        event: Event2,
+    ) -> Stepped
+        requires within { i < length self.old }
+        requires room { HasRoom self.old i }
+        requires number { IsCountable self.old i }
+        requires good { IsGoodAt self.old i }
+        requires line { is_script_line line.now ≡ true }
+        requires address { is_address operand.now ≡ true }
+        requires led { IsLedAt self.old i operand.now place }
+        ensures { HasFed self.old i line.now operand.now value r1 event self.new result }
+    {
+        feed_at(
+            self.items.as_mut_slice(),
+            i,
+            line,
+            operand,
+            place,
+            value,
+            r1,
+            event,
+        )
+    }
+
     /// The processes themselves.
     pub(crate) fn into_items(self) -> Vec<Process>
         ensures { result.items ≡ self }
@@ -136,6 +179,37 @@ fn lines_at(processes: &[Process], i: usize) -> usize
     processes[i].recording.lines()
 }
 
+fn asks_at(processes: &[Process], i: usize, operand: &Operand) -> Asked
+    requires within { i < length processes.now }
+    requires good { IsGoodAt processes.now i }
+    requires address { is_address operand.now ≡ true }
+    ensures { HasAsked processes.now i operand.now result }
+{
+    asks(&processes[i].registers, operand, &processes[i].progress)
+}
+
+fn feed_at(
+    processes: &mut [Process],
+    i: usize,
+    line: &Line,
+    operand: &Operand,
+    place: Place,
+    value: Word,
+    r1: Ring,
+    event: Event2,
+) -> Stepped
+    requires within { i < length processes.old }
+    requires room { HasRoom processes.old i }
+    requires number { IsCountable processes.old i }
+    requires good { IsGoodAt processes.old i }
+    requires line { is_script_line line.now ≡ true }
+    requires address { is_address operand.now ≡ true }
+    requires led { IsLedAt processes.old i operand.now place }
+    ensures { HasFed processes.old i line.now operand.now value r1 event processes.new result }
+{
+    processes[i].feed(line, operand, place, value, r1, event)
+}
+
 fn reserve(processes: &mut [Process], i: usize) -> Result<(), AllocError>
     requires { i < length processes.old }
     ensures room { OnOk result (HasRoom processes.new i) }
@@ -172,11 +246,67 @@ impl Process {
         ensures steps { self.new.recording.steps ≡ self.old.recording.steps
             ++ (self.old.first + length self.old.recording.steps, self.old.recording.events ++ events_in event, ends) ∷ [] }
         ensures idle { self.new.recording.events ≡ [] }
+        ensures fresh { self.new.progress ≡ Before }
     {
         let number = self.first + self.recording.lines() as u32;
         push_if(&mut self.recording, event);
         self.recording.end_line(number, ends);
         self.registers = *after;
+        self.progress = Progress::Before;
+    }
+
+    // The indirect word for which its operand asks was read.
+    fn feed(
+        &mut self,
+        line: &Line,
+        operand: &Operand,
+        place: Place,
+        value: Word,
+        r1: Ring,
+        event: Event2,
+    ) -> Stepped
+        requires event { IsTrue self.old.recording.event_room }
+        requires room { IsTrue self.old.recording.line_room }
+        requires number { self.old.first + length self.old.recording.steps < 2 ^ 32 }
+        requires packable { ArePackable self.old.registers }
+        requires progress { IsGoodProgress self.old.registers self.old.progress }
+        requires line { is_script_line line.now ≡ true }
+        requires address { is_address operand.now ≡ true }
+        requires led { IsLed self.old.registers operand.now self.old.progress place }
+        ensures { IsFed self.old line.now operand.now value r1 event self.new result }
+    {
+        let registers = self.registers;
+        let walk = self.take_walk(operand);
+        match feed(line, &registers, walk, place, value, r1) {
+            Onward::More(progress) => {
+                self.recording.push(event);
+                self.progress = progress;
+                Stepped::More
+            }
+            Onward::End { ends, after } => {
+                self.end_line(Some(event), ends, &after);
+                Stepped::LineDone
+            }
+        }
+    }
+
+    // The walk that its operand is at, taken out.
+    fn take_walk(&mut self, operand: &Operand) -> Walk
+        requires packable { ArePackable self.old.registers }
+        requires progress { IsGoodProgress self.old.registers self.old.progress }
+        requires address { is_address operand.now ≡ true }
+        requires led { IsSome (walk_at self.old.registers operand.now self.old.progress) }
+        ensures walk { walk_at self.old.registers operand.now self.old.progress ≡ Some result }
+        ensures good { IsGoodWalk self.old.registers result }
+        ensures first { self.new.first ≡ self.old.first }
+        ensures registers { self.new.registers ≡ self.old.registers }
+        ensures recording { self.new.recording ≡ self.old.recording }
+    {
+        match mem::replace(&mut self.progress, Progress::Before) {
+            Progress::Before => start(&self.registers, operand),
+            Progress::Walking(walk) => walk,
+            Progress::AtLink(_) => unreachable!(),
+        }
     }
 }
 

@@ -36,7 +36,7 @@ use Rattle.mx_ties.proofs.Finishes.{finished_law}
 use Rattle.mx_ties.proofs.SoFarLaws.{first_line_law, seen_step_law, entry_step_law, line_step_law, last_line_law}
 
 abbrev sta : Line
-sta = line.Sta (record { base = Segment 4; word = 7 })
+sta = line.Sta (record { base = Segment 4; word = 7; indirect = false })
 
 abbrev logout : Line
 logout = line.Ask ask.Logout
