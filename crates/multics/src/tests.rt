@@ -10,6 +10,7 @@ use std::test::Fail;
 
 mod access;
 mod calls;
+mod knowing;
 mod limits;
 mod replays;
 mod rows;
@@ -69,6 +70,15 @@ fn the_smallest_session_runs(rt: HostRuntime) -> Result<(), Fail> {
     let answer = call(rt.alloc(), &["run"], &text, &GOOD)?;
     assert_eq!(rt; answer.status, 0);
     assert!(rt; answer.written.as_slice() == SMALLEST_RUN);
+    Ok(())
+}
+
+#[test]
+fn a_terminated_segment_is_unknown(rt: HostRuntime) -> Result<(), Fail> {
+    let text = text_of(rt.alloc(), &knowing::TWO_NAMES)?;
+    let answer = call(rt.alloc(), &["run"], &text, &GOOD)?;
+    assert_eq!(rt; answer.status, 0);
+    assert!(rt; answer.written.as_slice() == knowing::TWO_NAMES_RUN);
     Ok(())
 }
 
@@ -192,6 +202,8 @@ fn other_lines_are_refused(rt: HostRuntime) -> Result<(), Fail> {
         (1, b"create_object >a 64 4 4 4 0"),
         (1, b"create_dir >a 4"),
         (1, b"initiate >a"),
+        (1, b"terminate 10"),
+        (1, b"set_rules working_dir"),
         (1, b"set 5"),
         (2, b"set_acl >a Jones.Faculty.a wr"),
         (2, b"set_acl >a Jones.Faculty.a"),
@@ -202,8 +214,17 @@ fn other_lines_are_refused(rt: HostRuntime) -> Result<(), Fail> {
         (3, b"process Jones.Faculty.ab"),
         (3, b"process"),
         (4, b"initiate >a\t"),
-        (4, b"initiate >a alpha"),
-        (4, b"terminate 10"),
+        (4, b"initiate >a alpha beta"),
+        (4, b"initiate >a >b"),
+        (4, b"initiate >a "),
+        (4, b"terminate 8"),
+        (4, b"terminate 10000"),
+        (4, b"terminate"),
+        (4, b"set_rules"),
+        (4, b"set_rules a"),
+        (4, b"set_rules <"),
+        (4, b"set_rules working_dir "),
+        (4, b"set_rules > > > > > > > > > > > > > > > > >"),
         (4, b"block"),
         (5, b"set 08"),
         (5, b"set 1000000000000"),
@@ -237,6 +258,10 @@ fn refused_requests_stand_in_sessions(rt: HostRuntime) -> Result<(), Fail> {
         (2, b"set_acl >a *.*.* m"),
         (2, b"rename > x"),
         (4, b"initiate <<x>y"),
+        (4, b"initiate >a alpha"),
+        (4, b"set_rules > > > > > > > > > > > > > > > >"),
+        (5, b"terminate 0"),
+        (5, b"terminate 7777"),
         (4, b"change_wdir a"),
         (5, b"list >"),
         (6, b"status >a"),
@@ -295,7 +320,8 @@ fn lines_out_of_place_are_refused(rt: HostRuntime) -> Result<(), Fail> {
 }
 
 // Each byte of the smallest session left out. A number may lose a digit, a pathname its mark or its name, a component a letter,
-// and the modes a letter; every other byte is missed on its own line.
+// the modes a letter, and `initiate >a` its newline, so that `>aset` is made known as `52`; every other byte is missed on its own
+// line.
 #[test]
 fn a_missing_byte_is_missed(rt: HostRuntime) -> Result<(), Fail> {
     let alloc = rt.alloc();
@@ -305,7 +331,7 @@ fn a_missing_byte_is_missed(rt: HostRuntime) -> Result<(), Fail> {
         b"...........##.##......",
         b"........##.#####.#######...##",
         b"........#####.#######..",
-        b".........##",
+        b".........###",
         b"....##",
         b"....##..",
         b"....##..",

@@ -11,3 +11,4 @@ pub mod ChangeLaws
 pub mod SortLaws
 pub mod DescriptorLaws
 pub mod NameTextLaws
+pub mod FindLaws

@@ -12,6 +12,7 @@ mod branches;
 mod callers;
 mod changing;
 mod children;
+mod finding;
 mod hier;
 mod laws;
 mod making;

@@ -61,7 +61,7 @@ impl Hier {
 
     /// The walk of names from a directory, where so many links may be followed.
     #[tactic(auto, using(crate::proofs::WalkLaws::walk_refused))]
-    fn walk(
+    pub(crate) fn walk(
         &self,
         alloc: Global,
         left: u32,
@@ -142,7 +142,7 @@ pub(crate) fn resolved(alloc: Global, who: &Who, pathname: &Pathname) -> Result<
 }
 
 /// The names of a link's target, and then those that are left.
-fn joined(
+pub(crate) fn joined(
     alloc: Global,
     target: &[EntryName],
     rest: &[EntryName],

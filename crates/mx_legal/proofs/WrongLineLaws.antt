@@ -137,8 +137,8 @@ wrong_calls = record {
     end = (refl, refl);
   };
   other_request = λ path after is.
-      let w : Calls 4 (Initiate path) ≡ Calls 4 Logout =
-      (peel_call (line.Ask (Initiate path)) 1 out [] is.course refl is.so_far).0 in cc;
+      let w : Calls 4 (Initiate path None) ≡ Calls 4 Logout =
+      (peel_call (line.Ask (Initiate path None)) 1 out [] is.course refl is.so_far).0 in cc;
   others_entry = λ after is.
       let w : 2 ≡ 1 =
       (peel_call (line.Ask Logout) 2 (record out { process = 2 }) [] is.course refl is.so_far).1 in omega arith;

@@ -1,5 +1,5 @@
 -- Wrong lines, each one change away from the right ones beside them: the line rule refuses them.
-use Rattle.std.specs.Prelude.{ℕ, true, false, List, [], ◌∷◌}
+use Rattle.std.specs.Prelude.{ℕ, true, false, List, [], ◌∷◌, None}
 use Rattle.mx_sdw.specs.Descriptors.{segment_desc}
 use Rattle.mx_sdw.specs.declared.denials.Denial.TheVariants as denial
 use Rattle.mx_call.specs.Registers.{Registers}
@@ -84,7 +84,7 @@ pub record WrongReferences : Type 0 where
 -- below its limit
 pub record WrongCalls : Type 0 where
   pub right_call : IsLine setting g (line.Ask Logout) (Entry 1 ∷ []) result.Done g
-  pub other_request : (path : List ℕ) → Never (line.Ask (Initiate path)) (Entry 1 ∷ []) result.Done
+  pub other_request : (path : List ℕ) → Never (line.Ask (Initiate path None)) (Entry 1 ∷ []) result.Done
   pub others_entry : Never (line.Ask Logout) (Entry 2 ∷ []) result.Done
   pub other_ring : Never (line.Ask Logout) (Entry 3 ∷ []) result.Done
   pub not_refused : Never (line.Ask Logout) (Entry 4 ∷ []) result.Done

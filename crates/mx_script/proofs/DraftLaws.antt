@@ -10,7 +10,7 @@ use Rattle.mx_request.specs.Steps.{◌>>=◌}
 use Rattle.mx_request.specs.Classes.{class_of}
 use Rattle.mx_request.specs.RequestTexts.{fits_request, is_pathname, are_brackets}
 use Rattle.mx_request.specs.declared.requests.Request.{Request}
-use Rattle.mx_request.specs.declared.requests.Request.TheVariants.{CreateDir, CreateSeg, CreateLink, Rename, Delete, SetAcl, DelAcl, SetBrackets, SetDirBrackets, Status, List as ListNames, ChangeWdir, Initiate, Link, Logout}
+use Rattle.mx_request.specs.declared.requests.Request.TheVariants.{CreateDir, CreateSeg, CreateLink, Rename, Delete, SetAcl, DelAcl, SetBrackets, SetDirBrackets, Status, List as ListNames, ChangeWdir, SetRules, Initiate, Terminate, Link, Logout}
 use Rattle.mx_script.specs.Drafts.{setup_step, may_stand, script_on, script_step, step, one_process}
 use Rattle.mx_script.specs.FirstBadLine.{BeginsText}
 use Rattle.mx_script.specs.Progress.{rows_so_far, texts_so_far, goes_before, is_sound, run}
@@ -41,7 +41,9 @@ short_request (SetDirBrackets path d1 d2) e = refl
 short_request (Status path) e = refl
 short_request (ListNames path) e = refl
 short_request (ChangeWdir path) e = refl
-short_request (Initiate path) e = refl
+short_request (SetRules rules) e = refl
+short_request (Initiate path name) e = refl
+short_request (Terminate segno) e = e
 short_request (Link segno word) e = refl
 short_request Logout e = refl
 

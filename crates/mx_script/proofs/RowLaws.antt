@@ -1,11 +1,11 @@
 -- Laws of rows: what a line is read as spells that line, and each row is read back.
-use Rattle.std.proofs.Common.{◌≡◌, ℕ, ◌==◌, Bool, true, false, cond, List, ◌++◌, Option, Some, None, codes, refl, ap, sym, ◌∙◌, subst}
+use Rattle.std.proofs.Common.{◌≡◌, ℕ, ◌==◌, Bool, true, false, cond, List, [], ◌∷◌, ◌++◌, Option, Some, None, codes, refl, ap, sym, ◌∙◌, subst}
 use Rattle.std.specs.Cmp.Lexicographic.{pointwise}
 use Rattle.mx_name.proofs.TextLaws.{principal_takes, principal_again, principal_is_free}
 use Rattle.mx_name.specs.Names.{is_free}
 use Rattle.mx_name.specs.Principals.{components_fault, principal_of, principal_text}
 use Rattle.mx_request.specs.declared.requests.Request.{Request}
-use Rattle.mx_request.specs.declared.requests.Request.TheVariants.{CreateDir, CreateSeg, CreateLink, Rename, Delete, SetAcl, DelAcl, SetBrackets, SetDirBrackets, Status, List as ListNames, ChangeWdir, Initiate, Link, Logout}
+use Rattle.mx_request.specs.declared.requests.Request.TheVariants.{CreateDir, CreateSeg, CreateLink, Rename, Delete, SetAcl, DelAcl, SetBrackets, SetDirBrackets, Status, List as ListNames, ChangeWdir, SetRules, Initiate, Terminate, Link, Logout}
 use Rattle.mx_request.proofs.StepLaws.{some_is, bind_some, same_bytes}
 use Rattle.mx_request.proofs.TakenLaws.{no_fault, faultless}
 use Rattle.mx_script.proofs.FrontLaws.{after_takes}
@@ -167,7 +167,10 @@ plain_request (SetDirBrackets path d1 d2) = refl
 plain_request (Status path) = refl
 plain_request (ListNames path) = refl
 plain_request (ChangeWdir path) = refl
-plain_request (Initiate path) = refl
+plain_request (SetRules []) = refl
+plain_request (SetRules (rule ∷ rules)) = refl
+plain_request (Initiate path name) = refl
+plain_request (Terminate segno) = refl
 plain_request (Link segno word) = refl
 plain_request Logout = refl
 
@@ -185,7 +188,10 @@ process_request (SetDirBrackets path d1 d2) = refl
 process_request (Status path) = refl
 process_request (ListNames path) = refl
 process_request (ChangeWdir path) = refl
-process_request (Initiate path) = refl
+process_request (SetRules []) = refl
+process_request (SetRules (rule ∷ rules)) = refl
+process_request (Initiate path name) = refl
+process_request (Terminate segno) = refl
 process_request (Link segno word) = refl
 process_request Logout = refl
 

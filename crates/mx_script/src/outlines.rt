@@ -38,12 +38,13 @@ fn is_for_script(class: RequestClass) -> bool
     }
 }
 
-// WORDS has at most five digits.
+// WORDS has at most five digits, a segment number four octal ones.
 fn is_short(request: &Request) -> bool
     ensures { result ≡ is_short request.now }
 {
     match request {
         Request::CreateSeg { words, .. } => *words <= 99_999,
+        Request::Terminate { segno } => *segno <= 0o7777,
         Request::CreateDir { .. }
         | Request::CreateLink { .. }
         | Request::Rename { .. }
@@ -55,6 +56,7 @@ fn is_short(request: &Request) -> bool
         | Request::Status { .. }
         | Request::List { .. }
         | Request::ChangeWdir { .. }
+        | Request::SetRules { .. }
         | Request::Initiate { .. }
         | Request::Link { .. }
         | Request::Logout => true,

@@ -2,7 +2,7 @@
 
 use super::calls::{GOOD, call};
 use super::rows::{self, Row};
-use super::{access, limits};
+use super::{access, knowing, limits};
 use std::alloc::{AllocError, Global};
 use std::test::Fail;
 
@@ -140,7 +140,54 @@ fn know_segments(replay: &mut Replay, alloc: Global) -> Result<(), AllocError> {
         let reply = format!(in alloc; "segno {segno:o} new")?;
         replay.ask(alloc, &request, &reply)?;
     }
-    replay.ask_all(alloc, limits::ALL_NUMBERS)?;
+    for rows in [
+        limits::ALL_NUMBERS,
+        knowing::NAMES,
+        knowing::TERMINATED,
+        knowing::RULES,
+    ] {
+        replay.ask_all(alloc, rows)?;
+    }
+    Ok(())
+}
+
+// Each request is refused for the first reason that applies; then an access list has 64 entries.
+#[test]
+fn refusals_come_in_order(rt: HostRuntime) -> Result<(), Fail> {
+    let alloc = rt.alloc();
+    let mut replay = Replay::new(alloc)?;
+    replay.ask(alloc, "set_acl > Jones.Faculty.a sma", "ok")?;
+    replay.process(alloc, "Jones.Faculty.a")?;
+    replay.ask_all(alloc, knowing::REFUSED_IN_ORDER)?;
+    for i in 1..64u32 {
+        let request = format!(in alloc; "set_acl >d>y U{i}.Ops.a r")?;
+        replay.ask(alloc, &request, "ok")?;
+    }
+    replay.ask(alloc, "set_acl >d>y V.Ops.a r", "refused 14 acl_full")?;
+    assert!(rt; replay.is_printed(alloc)?);
+    Ok(())
+}
+
+// Of 121 segments 120 get the numbers octal 10 to 177.
+#[test]
+fn a_table_takes_120_segments(rt: HostRuntime) -> Result<(), Fail> {
+    let alloc = rt.alloc();
+    let mut replay = Replay::new(alloc)?;
+    for i in 0..121u32 {
+        let request = format!(in alloc; "create_seg >s{i} 1 4 4 4")?;
+        replay.ask(alloc, &request, "ok")?;
+        let request = format!(in alloc; "set_acl >s{i} *.*.* r")?;
+        replay.ask(alloc, &request, "ok")?;
+    }
+    replay.process(alloc, "Jones.Faculty.a")?;
+    for i in 0..120u32 {
+        let segno = i + 8;
+        let request = format!(in alloc; "initiate >s{i}")?;
+        let reply = format!(in alloc; "segno {segno:o} new")?;
+        replay.ask(alloc, &request, &reply)?;
+    }
+    replay.ask(alloc, "initiate >s120", "refused 17 kst_full")?;
+    assert!(rt; replay.is_printed(alloc)?);
     Ok(())
 }
 
