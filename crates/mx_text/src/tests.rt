@@ -6,6 +6,7 @@ use mx_legal::{
     Element, Event, Event2, Kind, Outcome, Recording, Result2, Transcript, Transcripts,
 };
 use mx_list::Sequence;
+use mx_ptr::Pointer;
 use mx_request::{Reply, Request};
 use mx_sdw::{Denial, Ring};
 use mx_state::{Entry, Journal};
@@ -68,6 +69,12 @@ fn a_full_journal_is_printed(rt: HostRuntime) -> Result<(), Fail> {
     ]?);
     let denial = Denial::UnknownSegment;
     let denied = seen(Kind::Read, 1, Outcome::Denied(denial))?;
+    let pointer = Pointer {
+        ring: ring(5)?,
+        segno: 0o201,
+        word: 0o16,
+        further: false,
+    };
     let setup = [
         (3, Some(Event2::Entry(1)), Result2::Done),
         (4, None, Result2::HistoryFull),
@@ -75,6 +82,7 @@ fn a_full_journal_is_printed(rt: HostRuntime) -> Result<(), Fail> {
     let script = [
         (6, Some(denied), Result2::Denied(denial)),
         (7, None, Result2::HistoryFull),
+        (8, None, Result2::Pr { n: 2, pointer }),
     ];
     let transcripts = Sequence::of(vec![in alloc;
         transcript(alloc, &setup)?,
@@ -84,7 +92,7 @@ fn a_full_journal_is_printed(rt: HostRuntime) -> Result<(), Fail> {
         1 0 0 create_seg >a 64 4 4 4 = ok\n\
         process 0\nentry 1\nline 3 done\nline 4 history_full\n\
         process 1\nread 10|5 ring 4 point 1 denied unknown_segment\n\
-        line 6 denied unknown_segment\nline 7 history_full\nend\n";
+        line 6 denied unknown_segment\nline 7 history_full\nline 8 pr 2 5 201|16\nend\n";
     assert_eq!(rt;
         text(alloc, &journal, &transcripts)?.bytes(),
         want.as_slice()
