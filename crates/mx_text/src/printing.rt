@@ -11,6 +11,7 @@ ghost use Rattle.mx_text.specs.declared.printing.TextError.TheVariants.{Fault, M
 mod entries;
 mod lines;
 mod numbers;
+mod tails;
 
 use entries::add_entry;
 use lines::add_step;
@@ -19,6 +20,7 @@ use mx_legal::{Transcript, Transcripts};
 use mx_state::{Entry, Journal};
 use numbers::add_labelled;
 use std::alloc::{AllocError, Global};
+use tails::Tail;
 use thiserror::Error;
 
 /// Why a text was not printed whole.
@@ -75,7 +77,7 @@ pub fn print<K: Sink>(
 }
 
 // A label and a number on a line.
-fn add_heading(out: &mut Vec<u8>, label: &[u8], n: usize) -> Result<(), AllocError>
+fn add_heading(out: &mut Vec<u8>, label: &[u8; 8], n: usize) -> Result<(), AllocError>
     ensures { OnOk result (out.new.items ≡ out.old.items ++ (label.now ++ decimal n ++ codes "\n")) }
 {
     add_labelled(out, label, n as u64)?;
@@ -136,8 +138,9 @@ fn print_steps<K: Sink>(
     ensures only { (IsErrOf result TextError.Fault → ⊥) → K.faults sink.new ≡ K.faults sink.old }
     ensures later { K.faults sink.old ≤ K.faults sink.new }
 {
+    let mut tail = Tail::new();
     for (number, events, ends) in transcript.steps() {
-        add_step(buffer, number, events, ends)?;
+        add_step(buffer, &mut tail, number, events, ends)?;
         send_when_long(buffer, sink)?;
     }
     Ok(())

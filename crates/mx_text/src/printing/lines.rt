@@ -1,93 +1,109 @@
 //! The texts of the events and results of a transcript's lines, added to bytes.
 
-ghost use Rattle.std.specs.Prelude.{◌≡◌, ◌++◌, OnOk};
+ghost use Rattle.std.specs.Prelude.{◌≡◌, ◌≤◌, ◌+◌, ◌++◌, codes, length, OnOk};
+ghost use Rattle.std.specs.Fmt.{decimal};
 ghost use Rattle.mx_sdw.specs.Denials.{denial_text};
 ghost use Rattle.mx_sdw.specs.Octal.{octal};
 ghost use Rattle.mx_core.specs.declared.elements.Event.TheVariants.{Missing};
-ghost use Rattle.mx_legal.specs.declared.transcripts.Event2.TheVariants.{Core};
-ghost use Rattle.mx_text.specs.RunText.{kind_text, outcome_text, element_text, event_text, events_text, result_text, step_text};
+ghost use Rattle.mx_legal.specs.declared.transcripts.Event2.TheVariants.{Core, Entry};
+ghost use Rattle.mx_legal.specs.declared.transcripts.Result2.TheVariants.{Pr};
+ghost use Rattle.mx_text.specs.RunText.{kind_text, outcome_text, element_text, event_text, events_text};
+ghost use Rattle.mx_text.specs.RunText.{result_text, step_text};
 
-use super::numbers::{add_address, add_labelled};
+use super::tails::Tail;
 use mx_legal::{Element, Event, Event2, Kind, Outcome, Result2};
-use mx_sdw::{Denial, Word, write_octal};
+use mx_ptr::Pointer;
+use mx_sdw::{Denial, Word};
 use std::alloc::AllocError;
 
-/// Adds a line's events, then `line N RESULT`.
+/// Adds a line's events, then `line N RESULT`. Each is spelled in `tail`, which holds nothing that lasts.
 pub(super) fn add_step(
     out: &mut Vec<u8>,
+    tail: &mut Tail,
     number: u32,
     events: &[Event2],
     ends: Result2,
 ) -> Result<(), AllocError>
     ensures { OnOk result (out.new.items ≡ out.old.items ++ step_text (number, events.now, ends)) }
 {
-    add_events(out, events)?;
-    add_labelled(out, b"line ", u64::from(number))?;
-    out.extend_from_slice(b" ")?;
-    add_result(out, &ends)?;
-    out.extend_from_slice(b"\n")
+    add_events(out, tail, events)?;
+    spell_line(tail, number, &ends);
+    out.extend_from_slice(tail.bytes())
 }
 
-fn add_events(out: &mut Vec<u8>, events: &[Event2]) -> Result<(), AllocError>
+fn add_events(out: &mut Vec<u8>, tail: &mut Tail, events: &[Event2]) -> Result<(), AllocError>
     ensures { OnOk result (out.new.items ≡ out.old.items ++ events_text events.now) }
 {
     for event in events {
-        add_event(out, event)?;
+        spell_event(tail, event);
+        out.extend_from_slice(tail.bytes())?;
     }
     Ok(())
 }
 
-fn add_event(out: &mut Vec<u8>, event: &Event2) -> Result<(), AllocError>
-    ensures { OnOk result (out.new.items ≡ out.old.items ++ event_text event.now) }
+fn spell_event(tail: &mut Tail, event: &Event2)
+    ensures { tail.new ≡ event_text event.now }
 {
     match event {
-        Event2::Core(Event::Seen(element)) => add_element(out, element),
-        Event2::Core(Event::Missing { segno, by }) => add_miss(out, *segno, *by),
-        Event2::Entry(number) => {
-            add_labelled(out, b"entry ", u64::from(*number))?;
-            out.extend_from_slice(b"\n")
-        },
+        Event2::Core(Event::Seen(element)) => spell_element(tail, element),
+        Event2::Core(Event::Missing { segno, by }) => spell_miss(tail, *segno, *by),
+        Event2::Entry(entry) => spell_entry(tail, *entry),
     }
+}
+
+// `entry N`
+fn spell_entry(tail: &mut Tail, entry: u32)
+    ensures { tail.new ≡ event_text (Entry entry) }
+{
+    tail.begin();
+    tail.decimal(u64::from(entry));
+    tail.text(b"entry ");
 }
 
 // `missing S by K`
-fn add_miss(out: &mut Vec<u8>, segno: u16, by: u32) -> Result<(), AllocError>
-    ensures { OnOk result (out.new.items ≡ out.old.items ++ event_text (Core (Missing segno by))) }
+fn spell_miss(tail: &mut Tail, segno: u16, by: u32)
+    ensures { tail.new ≡ event_text (Core (Missing segno by)) }
 {
-    out.extend_from_slice(b"missing ")?;
-    write_octal(out, u64::from(segno))?;
-    add_labelled(out, b" by ", u64::from(by))?;
-    out.extend_from_slice(b"\n")
+    tail.begin();
+    tail.decimal(u64::from(by));
+    tail.text(b" by ");
+    tail.octal(u64::from(segno));
+    tail.text(b"missing ");
 }
 
 // `KIND S|W ring R point K ..`
-fn add_element(out: &mut Vec<u8>, element: &Element) -> Result<(), AllocError>
-    ensures { OnOk result (out.new.items ≡ out.old.items ++ element_text element.now) }
+fn spell_element(tail: &mut Tail, element: &Element)
+    ensures { tail.new ≡ element_text element.now }
 {
-    out.extend_from_slice(kind_text(&element.kind).as_bytes())?;
-    out.extend_from_slice(b" ")?;
-    add_address(out, element.segno, element.word)?;
-    add_labelled(out, b" ring ", u64::from(element.ring.number()))?;
-    add_labelled(out, b" point ", u64::from(element.point))?;
-    add_outcome(out, &element.outcome)?;
-    out.extend_from_slice(b"\n")
+    tail.begin();
+    put_outcome(tail, &element.outcome);
+    tail.decimal(u64::from(element.point));
+    tail.text(b" point ");
+    tail.decimal(u64::from(element.ring.number()));
+    tail.text(b" ring ");
+    tail.address(element.segno, element.word);
+    put_kind(tail, &element.kind);
 }
 
-fn kind_text(kind: &Kind) -> &'static str
-    ensures { result.now ≡ kind_text kind.now }
+// A kind and a blank.
+fn put_kind(tail: &mut Tail, kind: &Kind)
+    requires { 7 + length tail.old ≤ 192 }
+    ensures { tail.new ≡ kind_text kind.now ++ codes " " ++ tail.old }
 {
     match kind {
-        Kind::Read => "read",
-        Kind::Ind => "ind",
-        Kind::Write => "write",
-        Kind::Fetch => "fetch",
-        Kind::Call => "call",
-        Kind::Return => "return",
+        Kind::Read => tail.text(b"read "),
+        Kind::Ind => tail.text(b"ind "),
+        Kind::Write => tail.text(b"write "),
+        Kind::Fetch => tail.text(b"fetch "),
+        Kind::Call => tail.text(b"call "),
+        Kind::Return => tail.text(b"return "),
     }
 }
 
-fn add_outcome(out: &mut Vec<u8>, outcome: &Outcome) -> Result<(), AllocError>
-    ensures { OnOk result (out.new.items ≡ out.old.items ++ outcome_text outcome.now) }
+fn put_outcome(tail: &mut Tail, outcome: &Outcome)
+    requires { 81 + length tail.old ≤ 192 }
+    ensures spelled { tail.new ≡ outcome_text outcome.now ++ tail.old }
+    ensures short { length tail.new ≤ 81 + length tail.old }
 {
     match outcome {
         Outcome::Read {
@@ -95,40 +111,85 @@ fn add_outcome(out: &mut Vec<u8>, outcome: &Outcome) -> Result<(), AllocError>
             writer,
             stamp,
         } => {
-            add_word(out, b" word ", value)?;
-            add_labelled(out, b" from ", u64::from(*writer))?;
-            add_labelled(out, b" stamp ", u64::from(*stamp))
+            tail.decimal(u64::from(*stamp));
+            tail.text(b" stamp ");
+            tail.decimal(u64::from(*writer));
+            tail.text(b" from ");
+            put_word(tail, value);
         },
-        Outcome::Written { value } => add_word(out, b" word ", value),
-        Outcome::Entered { ring } => add_labelled(out, b" enter ", u64::from(ring.number())),
-        Outcome::Denied(denial) => add_denial(out, b" denied ", denial),
+        Outcome::Written { value } => put_word(tail, value),
+        Outcome::Entered { ring } => {
+            tail.decimal(u64::from(ring.number()));
+            tail.text(b" enter ");
+        },
+        Outcome::Denied(denial) => {
+            put_denial(tail, denial);
+            tail.text(b" denied ");
+        },
     }
 }
 
-// A label and then the word, in octal.
-fn add_word(out: &mut Vec<u8>, label: &[u8], word: &Word) -> Result<(), AllocError>
-    ensures { OnOk result (out.new.items ≡ out.old.items ++ (label.now ++ octal word.now)) }
+// ` word W`
+fn put_word(tail: &mut Tail, word: &Word)
+    requires { 28 + length tail.old ≤ 192 }
+    ensures spelled { tail.new ≡ codes " word " ++ octal word.now ++ tail.old }
+    ensures short { length tail.new ≤ 28 + length tail.old }
 {
-    out.extend_from_slice(label)?;
-    write_octal(out, word.value())
+    tail.octal(word.value());
+    tail.text(b" word ");
 }
 
-// A label and then the denial's name.
-fn add_denial(out: &mut Vec<u8>, label: &[u8], denial: &Denial) -> Result<(), AllocError>
-    ensures { OnOk result (out.new.items ≡ out.old.items ++ (label.now ++ denial_text denial.now)) }
+// The denial's name.
+fn put_denial(tail: &mut Tail, denial: &Denial)
+    requires { 15 + length tail.old ≤ 192 }
+    ensures spelled { tail.new ≡ denial_text denial.now ++ tail.old }
+    ensures short { length tail.new ≤ 15 + length tail.old }
 {
-    out.extend_from_slice(label)?;
-    out.extend_from_slice(denial.text().as_bytes())
+    tail.text(denial.text().as_bytes());
 }
 
-fn add_result(out: &mut Vec<u8>, outcome: &Result2) -> Result<(), AllocError>
-    ensures { OnOk result (out.new.items ≡ out.old.items ++ result_text outcome.now) }
+// `line N RESULT`
+fn spell_line(tail: &mut Tail, number: u32, ends: &Result2)
+    ensures { tail.new ≡ codes "line " ++ decimal number ++ codes " " ++ result_text ends.now ++ codes "\n" }
 {
-    match outcome {
-        Result2::Done => out.extend_from_slice(b"done"),
-        Result2::A(word) => add_word(out, b"a ", word),
-        Result2::Denied(denial) => add_denial(out, b"denied ", denial),
-        Result2::Refused => out.extend_from_slice(b"refused"),
-        Result2::HistoryFull => out.extend_from_slice(b"history_full"),
+    tail.begin();
+    put_result(tail, ends);
+    tail.byte(b' ');
+    tail.decimal(u64::from(number));
+    tail.text(b"line ");
+}
+
+fn put_result(tail: &mut Tail, ends: &Result2)
+    requires { 100 + length tail.old ≤ 192 }
+    ensures spelled { tail.new ≡ result_text ends.now ++ tail.old }
+    ensures short { length tail.new ≤ 100 + length tail.old }
+{
+    match ends {
+        Result2::Done => tail.text(b"done"),
+        Result2::A(word) => {
+            tail.octal(word.value());
+            tail.text(b"a ");
+        },
+        Result2::Pr { n, pointer } => put_register(tail, *n, pointer),
+        Result2::Denied(denial) => {
+            put_denial(tail, denial);
+            tail.text(b"denied ");
+        },
+        Result2::Refused => tail.text(b"refused"),
+        Result2::HistoryFull => tail.text(b"history_full"),
     }
+}
+
+// `pr N RING S|W`
+fn put_register(tail: &mut Tail, n: u8, pointer: &Pointer)
+    requires { 90 + length tail.old ≤ 192 }
+    ensures spelled { tail.new ≡ result_text (Pr n pointer.now) ++ tail.old }
+    ensures short { length tail.new ≤ 90 + length tail.old }
+{
+    tail.address(pointer.segno, pointer.word);
+    tail.byte(b' ');
+    tail.decimal(u64::from(pointer.ring.number()));
+    tail.byte(b' ');
+    tail.decimal(u64::from(n));
+    tail.text(b"pr ");
 }
