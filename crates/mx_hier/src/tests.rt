@@ -133,7 +133,7 @@ fn names(alloc: Global) -> Result<Names, Fail> {
 #[test]
 fn names_are_listed_in_byte_order(rt: HostRuntime) -> Result<(), Fail> {
     let names = names(rt.alloc())?;
-    assert_eq!(rt; names.text(), b" B a ab b");
+    assert_eq!(rt; names.text(), b" B a ab b".as_slice());
     Ok(())
 }
 

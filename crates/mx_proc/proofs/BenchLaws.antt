@@ -227,10 +227,10 @@ done_kept x s s' whole room cells cells' processes processes' i events ends regi
   one = k.one;
   room_for = let f = k.room_for in let l = ap length d.set ∙ set_length processes i d.after in omega (arith, f, l);
   good = subst (AreGood x) (sym d.set) (good_set x processes i d.before d.after d.at k.good (record {
-        first = d.first ∙ (k.good i d.before d.at).first;
-        packable = subst ArePackable (sym d.done) packable;
-        progress = fresh_progress d.after d.fresh;
-      }));
+    first = d.first ∙ (k.good i d.before d.at).first;
+    packable = subst ArePackable (sym d.done) packable;
+    progress = fresh_progress d.after d.fresh;
+  }));
   running = subst IsRunning (ap (λ (seats : List Seat). record {
     session = x;
     journal = s'.journal;
@@ -257,10 +257,10 @@ moved_kept x s whole room cells processes processes' i event progress k d fits r
   one = k.one;
   room_for = let f = k.room_for in let l = ap length d.set ∙ set_length processes i d.after in omega (arith, f, l);
   good = subst (AreGood x) (sym d.set) (good_set x processes i d.before d.after d.at k.good (record {
-        first = d.first ∙ (k.good i d.before d.at).first;
-        packable = subst ArePackable (sym d.registers) (k.good i d.before d.at).packable;
-        progress = good_progress_is d.before d.after d.registers d.progress_is fits;
-      }));
+    first = d.first ∙ (k.good i d.before d.at).first;
+    packable = subst ArePackable (sym d.registers) (k.good i d.before d.at).packable;
+    progress = good_progress_is d.before d.after d.registers d.progress_is fits;
+  }));
   running = subst IsRunning (ap (λ (seats : List Seat). record {
     session = x;
     journal = s.journal;

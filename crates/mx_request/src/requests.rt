@@ -9,8 +9,8 @@ use crate::writing::push_request;
 use mx_acl::Modes;
 use mx_list::Sequence;
 use mx_name::{AclId, EntryName, Pathname};
-use mx_search::Rules;
 use mx_sdw::Ring;
+use mx_search::Rules;
 use std::alloc::{AllocError, Global};
 
 /// A supervisor call. Brackets need not be in order, nor a length in its bounds: the supervisor refuses.

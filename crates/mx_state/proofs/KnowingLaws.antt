@@ -243,7 +243,7 @@ known_serves h processes new p i process uid ring path name who known changes as
     let s = plain_state h processes in
     let stands = segment_stands h who path uid told in
     let are : AreChanges s (plain_state h new) changes =
-        rw (is, knows.2) (known_changes s p i process uid stands.0 first here e stands.1 ring name (record { known = known; after = knows.0 }) knows.1) in
+    rw (is, knows.2) (known_changes s p i process uid stands.0 first here e stands.1 ring name (record { known = known; after = knows.0 }) knows.1) in
     let count : length new ≡ length processes = ap length knows.2 ∙ length-set processes i (knower process knows.0) in
     record {
       as_meant = to_process s p i process ask first here e ∙ meant ∙ ap (given s p process) knows.1
@@ -334,10 +334,10 @@ ended_serves h processes new p i process segno after held changes ask sound firs
     let own = (sound.processes i process e).known in
     let is = ended_lots process.known after segno ends in
     let two : AreChanges s (in_place s i (knower process after)) (renewed (in_place s i (knower process after)) (held_two s p segno)) =
-        renewing_two s (in_place s i (knower process after)) p segno
-        (λ q m apart. others_stay s p i process (knower process after) first here e refl q m
-        (λ at. ap (λ (lots : List Lot). lot_of lots m) is.1
-        ∙ stays_apart process.known segno m own (λ f. apart (at, inl f)) (λ f. apart (at, inr f)))) in
+    renewing_two s (in_place s i (knower process after)) p segno
+    (λ q m apart. others_stay s p i process (knower process after) first here e refl q m
+    (λ at. ap (λ (lots : List Lot). lot_of lots m) is.1
+    ∙ stays_apart process.known segno m own (λ f. apart (at, inl f)) (λ f. apart (at, inr f)))) in
     let are : AreChanges s (plain_state h new) changes = rw (now, was, set) two in
     let count : length new ≡ length processes = ap length set ∙ length-set processes i (knower process after) in
     record {

@@ -79,10 +79,7 @@ impl State {
         let i = usize::from(p) - 1;
         let process = process_in(self.processes.as_slice(), i);
         if !is_segment(process, segno) {
-            return Ok(Applied::unchanged(
-                alloc,
-                Reply::Refused(Refusal::UnknownSegno),
-            ));
+            return Ok(Applied::unchanged(alloc, Reply::Refused(Refusal::UnknownSegno)));
         }
         let held = held_two(alloc, &self.hier, self.processes.as_slice(), p, segno)?;
         let room = Vec::with_capacity(alloc, held.len())?;

@@ -49,7 +49,10 @@ pub(super) const TERMINATED: &[Row] = &[
 /// Search rules are never refused.
 pub(super) const RULES: &[Row] = &[
     ("set_rules working_dir", "ok"),
-    ("set_rules >none >none >lib>closed > initiated_segments", "ok"),
+    (
+        "set_rules >none >none >lib>closed > initiated_segments",
+        "ok",
+    ),
     (
         "set_rules referencing_dir >a >b >c >d >e >f >g >h >i >j >k >l >m >n >o",
         "ok",
@@ -70,10 +73,7 @@ pub(super) const REFUSED_IN_ORDER: &[Row] = &[
     ("list >l", "refused 5 link_loop"),
     ("status >l", "link >l"),
     ("list >d", "names x"),
-    (
-        "status >d>x",
-        "segment words 64 brackets 4 4 4 modes rw",
-    ),
+    ("status >d>x", "segment words 64 brackets 4 4 4 modes rw"),
     ("initiate >d", "refused 8 notaseg"),
     ("list >d>x", "refused 4 notadir"),
     ("change_wdir <", "refused 1 bad_path"),

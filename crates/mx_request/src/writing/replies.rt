@@ -14,8 +14,8 @@ use super::fields::{push_field, push_number, push_ring, push_rings};
 use crate::replies::Reply;
 use mx_acl::Modes;
 use mx_hier::{Names, Refusal, Status};
-use mx_name::Path;
 use mx_kst::Known;
+use mx_name::Path;
 use mx_sdw::{Brackets, Ring, write_octal};
 use std::alloc::AllocError;
 
@@ -123,6 +123,7 @@ fn push_link(out: &mut Vec<u8>, target: &Path) -> Result<(), AllocError>
     target.append_to(out)
 }
 
+#[tactic(auto, using(crate::proofs::GrowthLaws::word_grows))]
 fn push_names(out: &mut Vec<u8>, names: &Names) -> Result<(), AllocError>
     ensures ok { OnOk result (out.new.items ≡ out.old.items ++ reply_text (Listed names.now)) }
     ensures err { OnErr result (IsGrown out.old.items out.new.items) }

@@ -16,8 +16,7 @@ returns-in-Err-NameDup-clause-known c = λ process e.
     let text = option_copied c.args.name in
     let same : now ≡ process = c.index_mut.ensures.value ∙ index_is c.args.processes.now.items c.args.i process now e in
     let P : KstError → Type 0 = λ x. reply.Answers error.Memory (kst.initiate now.known c.args.uid c.args.ring text None) (Err x) in
-    let answer = subst P c.in-Err-NameDup.field-0-is c.in-Err-NameDup.ensures.answer in
-    (
+    let answer = subst P c.in-Err-NameDup.field-0-is c.in-Err-NameDup.ensures.answer in (
       ap (λ (p : ProcessState). known_then p.known c.args.ring text c.args.uid) (sym same)
           ∙ is_taken_name now.known c.args.uid c.args.ring text answer,
       as_before c.args.processes.now.items c.args.i process now c.initiate.new.self same c.in-Err-NameDup.ensures.err e,
@@ -29,8 +28,7 @@ returns-in-Err-Full-clause-known c = λ process e.
     let text = option_copied c.args.name in
     let same : now ≡ process = c.index_mut.ensures.value ∙ index_is c.args.processes.now.items c.args.i process now e in
     let P : KstError → Type 0 = λ x. reply.Answers error.Memory (kst.initiate now.known c.args.uid c.args.ring text None) (Err x) in
-    let answer = subst P c.in-Err-Full.field-0-is c.in-Err-Full.ensures.answer in
-    (
+    let answer = subst P c.in-Err-Full.field-0-is c.in-Err-Full.ensures.answer in (
       ap (λ (p : ProcessState). known_then p.known c.args.ring text c.args.uid) (sym same)
           ∙ is_full_table now.known c.args.uid c.args.ring text answer,
       as_before c.args.processes.now.items c.args.i process now c.initiate.new.self same c.in-Err-Full.ensures.err e,

@@ -25,8 +25,7 @@ invariant_of-self-2 c =
     with_items_is c.self.inside.names c.add_name.new.names (omega arith)
     ∙ c.in_ok-add_name.ensures.ok
     ∙ ap (λ (x : Known). with_name c.deref_mut.result.now c.args.ring name x.segno) known
-    ∙ ap (λ (xs : List RingNames). with_name xs c.args.ring name (known_as k.lots c.args.uid c.args.section).segno) c.deref_mut.ensures.value in
-    (
+    ∙ ap (λ (xs : List RingNames). with_name xs c.args.ring name (known_as k.lots c.args.uid c.args.section).segno) c.deref_mut.ensures.value in (
       sound_after k c.args.uid c.args.ring name c.args.section _ _ c.self.invariant.0 room fits lots names,
       omega (arith, c.add_lots.ensures.room),
       initiated_index (get ◌==◌ c.self.inside.numbers) _ k.lots _ c.args.uid c.args.section c.known_as-known.result c.self.invariant.2 known lots c.add_number.ensures.numbers,

@@ -31,12 +31,12 @@ returns-clause-served c =
     let place = rw c.as_slice.ensures.value at c.process_in-process.ensures in
     let told = ap (λ who. segment s.hier who c.args.path.now) (sym c.own_caller-who.ensures) ∙ c.in-Ok.ensures.answer in
     let asks : ProcessState → Answer =
-        λ process. initiate old c.args.p c.args.ring process name (segment s.hier (caller process c.args.ring) c.args.path.now) in
+    λ process. initiate old c.args.p c.args.ring process name (segment s.hier (caller process c.args.ring) c.args.path.now) in
     let meant : asks process ≡ initiate old c.args.p c.args.ring process name (Ok c.in-Ok.uid) =
-        ap (initiate old c.args.p c.args.ring process name) told in
+    ap (initiate old c.args.p c.args.ring process name) told in
     let knows = c.in_ok-known.ensures.known process place in
     let P : Result Known Refusal → Type 0 =
-        λ told. Knows (known_then process.known c.args.ring name c.in-Ok.uid) s.processes.items (c.from-i.result - 1) process told c.know.new.processes.items in
+    λ told. Knows (known_then process.known c.args.ring name c.in-Ok.uid) s.processes.items (c.from-i.result - 1) process told c.know.new.processes.items in
     elim c.match-branch-3.branch [
       | in-Ok-2 w ↦ rw w.result-is
           (of_old s.hier s.processes.items _ _ c.args.p c.args.ring (ask.Initiate c.args.path.now name) _ c.self.view_is
