@@ -23,7 +23,7 @@ digit_range c e = grind (arith, nat_tests)
 range_digit : (c : ℕ) → 48 ≤ c → c ≤ 57 → is_digit c ≡ true
 range_digit c l h = grind (arith, nat_tests)
 
-own : IsNumeralModel (λ ds. list_all is_digit ds ≡ true) (decimal_after 0)
+pub own : IsNumeralModel (λ ds. list_all is_digit ds ≡ true) (decimal_after 0)
 own = numerals_by_fold _ (search rules) decimal_after (search rules)
 
 first_not_zero : (c : ℕ) → not (nat_eq c 48) ≡ true → c ≢ 48

@@ -38,11 +38,11 @@ pub record IsForeign (byte : ℕ) : Type 0 where
   pub no_star : (42 == byte) ≡ false
   pub no_blank : (32 == byte) ≡ false
 
-free_append : (byte : ℕ) (xs ys : List ℕ) → is_free byte xs ≡ true → is_free byte ys ≡ true → is_free byte (xs ++ ys) ≡ true
+pub free_append : (byte : ℕ) (xs ys : List ℕ) → is_free byte xs ≡ true → is_free byte ys ≡ true → is_free byte (xs ++ ys) ≡ true
 free_append byte xs ys e f = list_all-append _ xs ys ∙ both_hold _ _ e f
 
 -- a line has the bytes of its fields, and blanks
-line_free : (byte : ℕ) (fields : List (List ℕ)) → (32 == byte) ≡ false → list_all (is_free byte) fields ≡ true → is_free byte (line_of fields) ≡ true
+pub line_free : (byte : ℕ) (fields : List (List ℕ)) → (32 == byte) ≡ false → list_all (is_free byte) fields ≡ true → is_free byte (line_of fields) ≡ true
 line_free byte [] blank e = refl
 line_free byte (x ∷ []) blank e = (both (is_free byte x) true e).0
 line_free byte (x ∷ y ∷ fields) blank e =
@@ -139,6 +139,23 @@ newline_free request e = request_free 10 newline request e
   where
     newline : IsForeign 10
     newline = record {
+      no_name = refl;
+      no_pathname = refl;
+      no_component = refl;
+      no_digit = refl;
+      no_octal_digit = refl;
+      no_bar = refl;
+      no_letter = refl;
+      no_dot = refl;
+      no_star = refl;
+      no_blank = refl;
+    }
+
+pub equals_free : (request : Request) → fits_request request ≡ true → is_free 61 (request_text request) ≡ true
+equals_free request e = request_free 61 equals request e
+  where
+    equals : IsForeign 61
+    equals = record {
       no_name = refl;
       no_pathname = refl;
       no_component = refl;

@@ -7,4 +7,6 @@ pub mod ClassLaws
 pub mod TakenLaws
 pub mod AgainLaws
 pub mod ForeignLaws
+pub mod LineLaws
+pub mod ReplyLaws
 pub mod GrowthLaws

@@ -1,6 +1,7 @@
 -- The replies, each as the text that the journal has of it.
-use Rattle.std.specs.Prelude.{ℕ, Bool, true, false, List, [], ◌∷◌, Option, None, Some, codes}
+use Rattle.std.specs.Prelude.{ℕ, ◌^◌, nat_lt, Bool, true, false, ◌&&◌, List, [], ◌∷◌, Option, None, Some, codes}
 use Rattle.std.specs.Fmt.{decimal}
+use Rattle.std.specs.List.{list_all}
 use Rattle.mx_name.specs.Paths.{path_text}
 use Rattle.mx_sdw.specs.Octal.{octal}
 use Rattle.mx_acl.specs.Modes.{modes_text}
@@ -10,6 +11,7 @@ use Rattle.mx_hier.specs.declared.asking.Status.TheVariants.{Segment, Directory,
 use Rattle.mx_request.specs.declared.replies.Reply.{Reply}
 use Rattle.mx_request.specs.declared.replies.Reply.TheVariants.{Done, Refused, Status, Names, Segno}
 use Rattle.mx_request.specs.Fields.{line_of, ring_text}
+use Rattle.mx_request.specs.RequestTexts.{is_name, is_ring}
 
 -- whether the segment has become known by this request
 abbrev pub fresh_text : Bool → List ℕ
@@ -41,3 +43,17 @@ reply_fields (Segno known) =
 
 abbrev pub reply_text : Reply → List ℕ
 reply_text reply = line_of (reply_fields reply)
+
+-- What a reply's text can say: names of their grammar, rings to 7, and numbers of 64 bits.
+abbrev pub fits_status : said.Status → Bool
+fits_status (Segment words brackets modes) =
+    nat_lt words (2 ^ 64) && (is_ring brackets.r1 && (is_ring brackets.r2 && is_ring brackets.r3))
+fits_status (Directory d1 d2 modes) = is_ring d1 && is_ring d2
+fits_status (Link target) = list_all is_name target
+
+abbrev pub fits_reply : Reply → Bool
+fits_reply Done = true
+fits_reply (Refused why) = true
+fits_reply (Status status) = fits_status status
+fits_reply (Names names) = list_all is_name names
+fits_reply (Segno known) = true

@@ -13,7 +13,9 @@ mod requests;
 mod writing;
 
 pub use classes::RequestClass;
-pub use laws::{each_request_has_its_own_line, the_first_word_tells_who_asks};
+pub use laws::{
+    each_reply_has_its_own_text, each_request_has_its_own_line, the_first_word_tells_who_asks,
+};
 pub use mx_kst::Known;
 pub use replies::Reply;
 pub use requests::{Request, Requests};

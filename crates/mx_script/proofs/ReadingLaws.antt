@@ -6,6 +6,7 @@ use Rattle.std.specs.List.{list_all}
 use Rattle.mx_name.specs.Names.{is_free}
 use Rattle.mx_name.specs.Principals.{PlainPrincipal}
 use Rattle.mx_name.proofs.CutLaws.{cut_takes, cut_again}
+use Rattle.mx_request.proofs.LineLaws.{same_cut}
 use Rattle.mx_request.proofs.StepLaws.{both, both_hold, some_is}
 use Rattle.mx_name.specs.Cuts.{cut_at}
 use Rattle.mx_request.specs.declared.requests.Request.{Request}
@@ -23,7 +24,7 @@ use Rattle.mx_script.specs.declared.reading.drafts.Draft.TheVariants.{Empty, End
 use Rattle.mx_script.specs.declared.rows.Row.{Row}
 
 -- lines, each with its newline
-lines_text-append : (xs ys : List (List ℕ)) → lines_text (xs ++ ys) ≡ lines_text xs ++ lines_text ys
+pub lines_text-append : (xs ys : List (List ℕ)) → lines_text (xs ++ ys) ≡ lines_text xs ++ lines_text ys
 lines_text-append [] ys = refl
 lines_text-append (x ∷ xs) ys = rw (lines_text-append xs ys, append_assoc) refl
 
@@ -34,13 +35,6 @@ fewer_lines (x ∷ xs) = omega (arith, fewer_lines xs, length-append x (10 ∷ l
 pub rows_free : (rows : List Row) → list_all fits rows ≡ true → list_all (is_free 10) (map row_text rows) ≡ true
 rows_free [] e = refl
 rows_free (r ∷ rows) e = let f = both (fits r) (list_all fits rows) e in both_hold _ _ (row_free r f.0) (rows_free rows f.1)
-
-same_cut : (byte : ℕ) (x y s t : List ℕ) → is_free byte x ≡ true → is_free byte y ≡ true → x ++ byte ∷ s ≡ y ++ byte ∷ t
-    → (x ≡ y) × (s ≡ t)
-same_cut byte x y s t a b e =
-    let P : List ℕ × List ℕ → List ℕ × List ℕ → Type 0 = λ p q. (p.0 ≡ q.0) × (p.1 ≡ q.1) in
-    let one : (x, s) ≡ (y, t) = some_is _ _ (sym (cut_again byte x s a) ∙ ap (cut_at byte) e ∙ cut_again byte y t b) in
-    subst (P (x, s)) one (refl, refl)
 
 not_empty : (x t rest : List ℕ) → (x ++ 10 ∷ t) ++ rest ≡ [] → ⊥
 not_empty [] t rest e = cc

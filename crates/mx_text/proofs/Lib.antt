@@ -1,2 +1,4 @@
 pub mod PrintingLaws
 pub mod TailLaws
+pub mod EventLaws
+pub mod RunLaws

@@ -5,8 +5,10 @@
 //! requests and replies), `mx_state` (the journal) and `mx_legal` (transcripts).
 #![tactic(auto)]
 
+mod laws;
 mod printing;
 
+pub use laws::each_run_text_is_of_one_run;
 pub use printing::{TextError, print};
 
 #[cfg(test)]

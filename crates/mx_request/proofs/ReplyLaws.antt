@@ -1,0 +1,368 @@
+-- Laws of replies: a reply that fits is found again in its fields, so that no two have one text.
+use Rattle.std.proofs.Common.{◌≡◌, ℕ, ◌==◌, ◌-◌, ◌<◌, ◌≤◌, ◌^◌, nat_lt, ltb, Bool, true, false, if◌then◌else◌, not, ◌&&◌, List, [], ◌∷◌, ◌++◌, length, Option, Some, None, codes, refl, ap, sym, ◌∙◌, subst, arith, append-nil}
+use Rattle.std.proofs.lemmas.Bool.Decides.{nat_tests}
+use Rattle.std.proofs.lemmas.Fmt.{digits_value-decimal, digits_decimal}
+use Rattle.std.proofs.lemmas.List.Elements.{All-cons, All-nil}
+use Rattle.std.proofs.lemmas.List.Splits.{slice_split_at, slice_split_none}
+use Rattle.std.proofs.lemmas.Str.Parse.{IsNumeralModel}
+use Rattle.std.specs.Cmp.Lexicographic.{pointwise}
+use Rattle.std.specs.Fmt.{decimal}
+use Rattle.std.specs.List.{All, find, list_all, slice_split}
+use Rattle.mx_name.proofs.TextLaws.{all_free, name_is_free}
+use Rattle.mx_name.specs.Names.{is_free, is_name_byte, name_fault}
+use Rattle.mx_name.specs.Paths.{names_text, path_text}
+use Rattle.mx_sdw.proofs.OctalLaws.{octal_has_digits, octal_value-octal}
+use Rattle.mx_sdw.specs.Octal.{is_octal_digit, octal, octal_value}
+use Rattle.mx_acl.proofs.ModesLaws.{modes_again, modes_is_free}
+use Rattle.mx_acl.specs.Modes.{modes_of_text, modes_text}
+use Rattle.mx_acl.specs.declared.modes.Modes.{Modes}
+use Rattle.mx_hier.specs.Refusals.{refusal_number, refusal_text}
+use Rattle.mx_hier.specs.declared.asking.Status as said
+use Rattle.mx_hier.specs.declared.asking.Status.TheVariants.{Segment, Directory, Link}
+use Rattle.mx_hier.specs.declared.refusals.Refusal.{Refusal}
+use Rattle.mx_hier.specs.declared.refusals.Refusal.TheVariants.{BadPath, NoEntry, NoInfo, NotADir, LinkLoop, IncorrectAccess, NameDup, NotASeg, DirNotEmpty, DirFull, BadLength, BadBrackets, InvalidMode, AclFull, NoAclEntry, NoPages, KstFull, UnknownSegno, NotLinkage, SegmentNotFound, NotObject, NoDefinition, NoProcess, MailFull, Ended}
+use Rattle.mx_request.proofs.FieldLaws.{own, ring_free}
+use Rattle.mx_request.proofs.ForeignLaws.{free_append, line_free}
+use Rattle.mx_request.proofs.LineLaws.{same_fields}
+use Rattle.mx_request.proofs.StepLaws.{both, both_hold, fails, some_is}
+use Rattle.mx_request.proofs.TakenLaws.{faultless}
+use Rattle.mx_request.specs.declared.replies.Reply.{Reply}
+use Rattle.mx_request.specs.declared.replies.Reply.TheVariants.{Done, Refused, Status, Names, Segno}
+use Rattle.mx_request.specs.Fields.{ring_text}
+use Rattle.mx_request.specs.Reading.{decimal_after, is_digit}
+use Rattle.mx_request.specs.ReplyTexts.{fits_reply, fits_status, fresh_text, linkage_fields, reply_fields, reply_text, status_fields}
+use Rattle.mx_request.specs.RequestTexts.{is_name, is_ring}
+use Rattle.mx_request.specs.Steps.{◌>>=◌}
+
+-- numbers
+pub below : (n : ℕ) → nat_lt n (2 ^ 64) ≡ true → n < 2 ^ 64
+below n e = grind (arith, nat_tests)
+
+pub decimal_again : (n : ℕ) → nat_lt n (2 ^ 64) ≡ true → decimal_after 0 (decimal n) ≡ n
+decimal_again n e = digits_value-decimal own n (below n e)
+
+pub decimal_free : (byte n : ℕ) → is_digit byte ≡ false → nat_lt n (2 ^ 64) ≡ true → is_free byte (decimal n) ≡ true
+decimal_free byte n other e = all_free is_digit byte (decimal n) other (digits_decimal own n (below n e))
+
+pub octal_free : (byte n : ℕ) → is_octal_digit byte ≡ false → is_free byte (octal n) ≡ true
+octal_free byte n other = all_free is_octal_digit byte (octal n) other (octal_has_digits n)
+
+abbrev digit_at : List ℕ → ℕ
+digit_at [] = 0
+digit_at (c ∷ cs) = c - 48
+
+digit_again : (r : ℕ) → digit_at (ring_text r) ≡ r
+digit_again r = omega arith
+
+-- refusals, by their names
+abbrev all_refusals : List Refusal
+all_refusals =
+    BadPath ∷ NoEntry ∷ NoInfo ∷ NotADir ∷ LinkLoop ∷ IncorrectAccess ∷ NameDup ∷ NotASeg ∷ DirNotEmpty ∷ DirFull ∷ BadLength
+    ∷ BadBrackets ∷ InvalidMode ∷ AclFull ∷ NoAclEntry ∷ NoPages ∷ KstFull ∷ UnknownSegno ∷ NotLinkage ∷ SegmentNotFound
+    ∷ NotObject ∷ NoDefinition ∷ NoProcess ∷ MailFull ∷ Ended ∷ []
+
+abbrev refusal_at : List ℕ → Option Refusal
+refusal_at text = find (λ why. pointwise ◌==◌ text (refusal_text why)) all_refusals
+
+refusal_again : (why : Refusal) → refusal_at (refusal_text why) ≡ Some why
+refusal_again BadPath = refl
+refusal_again NoEntry = refl
+refusal_again NoInfo = refl
+refusal_again NotADir = refl
+refusal_again LinkLoop = refl
+refusal_again IncorrectAccess = refl
+refusal_again NameDup = refl
+refusal_again NotASeg = refl
+refusal_again DirNotEmpty = refl
+refusal_again DirFull = refl
+refusal_again BadLength = refl
+refusal_again BadBrackets = refl
+refusal_again InvalidMode = refl
+refusal_again AclFull = refl
+refusal_again NoAclEntry = refl
+refusal_again NoPages = refl
+refusal_again KstFull = refl
+refusal_again UnknownSegno = refl
+refusal_again NotLinkage = refl
+refusal_again SegmentNotFound = refl
+refusal_again NotObject = refl
+refusal_again NoDefinition = refl
+refusal_again NoProcess = refl
+refusal_again MailFull = refl
+refusal_again Ended = refl
+
+refusal_bytes : (why : Refusal) → list_all is_name_byte (refusal_text why) ≡ true
+refusal_bytes BadPath = refl
+refusal_bytes NoEntry = refl
+refusal_bytes NoInfo = refl
+refusal_bytes NotADir = refl
+refusal_bytes LinkLoop = refl
+refusal_bytes IncorrectAccess = refl
+refusal_bytes NameDup = refl
+refusal_bytes NotASeg = refl
+refusal_bytes DirNotEmpty = refl
+refusal_bytes DirFull = refl
+refusal_bytes BadLength = refl
+refusal_bytes BadBrackets = refl
+refusal_bytes InvalidMode = refl
+refusal_bytes AclFull = refl
+refusal_bytes NoAclEntry = refl
+refusal_bytes NoPages = refl
+refusal_bytes KstFull = refl
+refusal_bytes UnknownSegno = refl
+refusal_bytes NotLinkage = refl
+refusal_bytes SegmentNotFound = refl
+refusal_bytes NotObject = refl
+refusal_bytes NoDefinition = refl
+refusal_bytes NoProcess = refl
+refusal_bytes MailFull = refl
+refusal_bytes Ended = refl
+
+-- paths, by their parts
+abbrev path_of_parts : List (List ℕ) → List (List ℕ)
+path_of_parts [] = []
+path_of_parts (root ∷ []) = []
+path_of_parts (root ∷ [] ∷ parts) = []
+path_of_parts (root ∷ (c ∷ cs) ∷ parts) = (c ∷ cs) ∷ parts
+
+abbrev path_at : List ℕ → List (List ℕ)
+path_at text = path_of_parts (slice_split (λ c. c == 62) text)
+
+-- a text without `>` has it nowhere
+no_mark : (text : List ℕ) → is_free 62 text ≡ true → All (λ c. (c == 62) ≡ false) text
+no_mark [] e = All-nil _
+no_mark (c ∷ cs) e =
+    let f = both (not (c == 62)) (is_free 62 cs) e in
+    All-cons (λ x. (x == 62) ≡ false) c cs (fails (c == 62) f.0) (no_mark cs f.1)
+
+name_marks : (name : List ℕ) → is_name name ≡ true → All (λ c. (c == 62) ≡ false) name
+name_marks name e = no_mark name (name_is_free 62 name refl (faultless (name_fault name) e))
+
+parts_again : (name : List ℕ) (names : List (List ℕ)) → list_all is_name (name ∷ names) ≡ true
+    → slice_split (λ c. c == 62) (name ++ names_text names) ≡ name ∷ names
+parts_again name [] e =
+    rw append-nil (slice_split_none (λ c. c == 62) name (name_marks name (both (is_name name) true e).0))
+parts_again name (next ∷ names) e =
+    let f = both (is_name name) (list_all is_name (next ∷ names)) e in
+    slice_split_at (λ c. c == 62) name 62 (next ++ names_text names) (name_marks name f.0) refl
+    ∙ ap (λ parts. name ∷ parts) (parts_again next names f.1)
+
+not_empty : (name : List ℕ) (names : List (List ℕ)) → is_name name ≡ true → path_of_parts ([] ∷ name ∷ names) ≡ name ∷ names
+not_empty [] names e = absurd (cc)
+not_empty (c ∷ cs) names e = refl
+
+path_again : (path : List (List ℕ)) → list_all is_name path ≡ true → path_at (path_text path) ≡ path
+path_again [] e = refl
+path_again (name ∷ names) e =
+    ap (λ parts. path_of_parts ([] ∷ parts)) (parts_again name names e)
+    ∙ not_empty name names (both (is_name name) (list_all is_name names) e).0
+
+names_free : (byte : ℕ) (names : List (List ℕ)) → is_name_byte byte ≡ false → (62 == byte) ≡ false → list_all is_name names ≡ true
+    → is_free byte (names_text names) ≡ true
+names_free byte [] other mark e = refl
+names_free byte (name ∷ names) other mark e =
+    let f = both (is_name name) (list_all is_name names) e in
+    rw mark (free_append byte name (names_text names) (name_is_free byte name other (faultless (name_fault name) f.0))
+    (names_free byte names other mark f.1))
+
+path_free : (byte : ℕ) (path : List (List ℕ)) → is_name_byte byte ≡ false → (62 == byte) ≡ false → list_all is_name path ≡ true
+    → is_free byte (path_text path) ≡ true
+path_free byte [] other mark e = rw mark refl
+path_free byte (name ∷ names) other mark e = names_free byte (name ∷ names) other mark e
+
+-- the reply that fields say, by the first of them
+abbrev is : List ℕ → List ℕ → Bool
+is word text = pointwise ◌==◌ word text
+
+abbrev refused_at : List (List ℕ) → Option Reply
+refused_at (number ∷ text ∷ []) = refusal_at text >>= λ why. Some (Refused why)
+refused_at _ = None
+
+abbrev segment_at : List (List ℕ) → Option Reply
+segment_at (w ∷ words ∷ b ∷ r1 ∷ r2 ∷ r3 ∷ m ∷ modes ∷ []) =
+    modes_of_text modes >>= λ modes.
+    Some (Status (Segment (decimal_after 0 words) (record { r1 = digit_at r1; r2 = digit_at r2; r3 = digit_at r3 }) modes))
+segment_at _ = None
+
+abbrev directory_at : List (List ℕ) → Option Reply
+directory_at (b ∷ d1 ∷ d2 ∷ m ∷ modes ∷ []) =
+    modes_of_text modes >>= λ modes. Some (Status (Directory (digit_at d1) (digit_at d2) modes))
+directory_at _ = None
+
+abbrev link_at : List (List ℕ) → Option Reply
+link_at (target ∷ []) = Some (Status (Link (path_at target)))
+link_at _ = None
+
+abbrev linkage_at : List (List ℕ) → Option (Option ℕ)
+linkage_at [] = Some None
+linkage_at (word ∷ segno ∷ []) = Some (Some (octal_value segno))
+linkage_at _ = None
+
+abbrev segno_at : List (List ℕ) → Option Reply
+segno_at (segno ∷ fresh ∷ section) =
+    linkage_at section >>= λ linkage.
+    Some (Segno (record { segno = octal_value segno; fresh = is fresh (codes "new"); linkage = linkage }))
+segno_at _ = None
+
+abbrev reply_of : List ℕ → List (List ℕ) → Option Reply
+reply_of word fields =
+    if is word (codes "ok") then Some Done
+    else (if is word (codes "refused") then refused_at fields
+    else (if is word (codes "segment") then segment_at fields
+    else (if is word (codes "directory") then directory_at fields
+    else (if is word (codes "link") then link_at fields
+    else (if is word (codes "names") then Some (Names fields)
+    else (if is word (codes "segno") then segno_at fields
+    else None))))))
+
+abbrev reply_at : List (List ℕ) → Option Reply
+reply_at [] = None
+reply_at (word ∷ fields) = reply_of word fields
+
+fresh_again : (fresh : Bool) → is (fresh_text fresh) (codes "new") ≡ fresh
+fresh_again true = refl
+fresh_again false = refl
+
+linkage_again : (linkage : Option ℕ) → linkage_at (linkage_fields linkage) ≡ Some linkage
+linkage_again None = refl
+linkage_again (Some segno) = rw (octal_value-octal segno) refl
+
+status_again : (status : said.Status) → fits_status status ≡ true → reply_at (status_fields status) ≡ Some (Status status)
+status_again (Segment words brackets modes) e =
+    let f = both (nat_lt words (2 ^ 64)) _ e in
+    rw (
+      modes_again modes,
+      decimal_again words f.0,
+      digit_again brackets.r1,
+      digit_again brackets.r2,
+      digit_again brackets.r3,
+    ) refl
+status_again (Directory d1 d2 modes) e = rw (modes_again modes, digit_again d1, digit_again d2) refl
+status_again (Link target) e = ap (λ path. Some (Status (Link path))) (path_again target e)
+
+-- a reply that fits is found again in its fields
+reply_again : (reply : Reply) → fits_reply reply ≡ true → reply_at (reply_fields reply) ≡ Some reply
+reply_again Done e = refl
+reply_again (Refused why) e = rw (refusal_again why) refl
+reply_again (Status status) e = status_again status e
+reply_again (Names names) e = refl
+reply_again (Segno known) e =
+    rw (linkage_again known.linkage, octal_value-octal known.segno, fresh_again known.fresh) refl
+
+-- bytes that no reply has
+pub record IsApart (byte : ℕ) : Type 0 where
+  pub no_name : is_name_byte byte ≡ false
+  pub no_digit : is_digit byte ≡ false
+  pub no_octal : is_octal_digit byte ≡ false
+  pub no_letter : ltb 96 byte ≡ false
+  pub no_mark : (62 == byte) ≡ false
+
+fresh_bytes : (fresh : Bool) → list_all is_name_byte (fresh_text fresh) ≡ true
+fresh_bytes true = refl
+fresh_bytes false = refl
+
+module _ (byte : ℕ) (apart : IsApart byte) where
+  word_free : (text : List ℕ) → list_all is_name_byte text ≡ true → is_free byte text ≡ true
+  word_free text e = all_free is_name_byte byte text apart.no_name e
+
+  small_number : (why : Refusal) → nat_lt (refusal_number why) (2 ^ 64) ≡ true
+  small_number BadPath = refl
+  small_number NoEntry = refl
+  small_number NoInfo = refl
+  small_number NotADir = refl
+  small_number LinkLoop = refl
+  small_number IncorrectAccess = refl
+  small_number NameDup = refl
+  small_number NotASeg = refl
+  small_number DirNotEmpty = refl
+  small_number DirFull = refl
+  small_number BadLength = refl
+  small_number BadBrackets = refl
+  small_number InvalidMode = refl
+  small_number AclFull = refl
+  small_number NoAclEntry = refl
+  small_number NoPages = refl
+  small_number KstFull = refl
+  small_number UnknownSegno = refl
+  small_number NotLinkage = refl
+  small_number SegmentNotFound = refl
+  small_number NotObject = refl
+  small_number NoDefinition = refl
+  small_number NoProcess = refl
+  small_number MailFull = refl
+  small_number Ended = refl
+
+  status_free : (status : said.Status) → fits_status status ≡ true → list_all (is_free byte) (status_fields status) ≡ true
+  status_free (Segment words brackets modes) e =
+      let f = both (nat_lt words (2 ^ 64)) _ e in
+      let g = both (is_ring brackets.r1) _ f.1 in
+      let h = both (is_ring brackets.r2) (is_ring brackets.r3) g.1 in
+      both_hold _ _ (word_free (codes "segment") refl)
+      (both_hold _ _ (word_free (codes "words") refl)
+      (both_hold _ _ (decimal_free byte words apart.no_digit f.0)
+      (both_hold _ _ (word_free (codes "brackets") refl)
+      (both_hold _ _ (ring_free byte brackets.r1 apart.no_digit g.0)
+      (both_hold _ _ (ring_free byte brackets.r2 apart.no_digit h.0)
+      (both_hold _ _ (ring_free byte brackets.r3 apart.no_digit h.1)
+      (both_hold _ _ (word_free (codes "modes") refl)
+      (both_hold _ _ (modes_is_free byte modes apart.no_letter) refl))))))))
+  status_free (Directory d1 d2 modes) e =
+      let f = both (is_ring d1) (is_ring d2) e in
+      both_hold _ _ (word_free (codes "directory") refl)
+      (both_hold _ _ (word_free (codes "brackets") refl)
+      (both_hold _ _ (ring_free byte d1 apart.no_digit f.0)
+      (both_hold _ _ (ring_free byte d2 apart.no_digit f.1)
+      (both_hold _ _ (word_free (codes "modes") refl)
+      (both_hold _ _ (modes_is_free byte modes apart.no_letter) refl)))))
+  status_free (Link target) e =
+      both_hold _ _ (word_free (codes "link") refl)
+      (both_hold _ _ (path_free byte target apart.no_name apart.no_mark e) refl)
+
+  all_names_free : (names : List (List ℕ)) → list_all is_name names ≡ true → list_all (is_free byte) names ≡ true
+  all_names_free [] e = refl
+  all_names_free (name ∷ names) e =
+      let f = both (is_name name) (list_all is_name names) e in
+      both_hold _ _ (name_is_free byte name apart.no_name (faultless (name_fault name) f.0)) (all_names_free names f.1)
+
+  linkage_free : (linkage : Option ℕ) → list_all (is_free byte) (linkage_fields linkage) ≡ true
+  linkage_free None = refl
+  linkage_free (Some segno) =
+      both_hold _ _ (word_free (codes "linkage") refl) (both_hold _ _ (octal_free byte segno apart.no_octal) refl)
+
+  pub fields_free : (reply : Reply) → fits_reply reply ≡ true → list_all (is_free byte) (reply_fields reply) ≡ true
+  fields_free Done e = both_hold _ _ (word_free (codes "ok") refl) refl
+  fields_free (Refused why) e =
+      both_hold _ _ (word_free (codes "refused") refl)
+      (both_hold _ _ (decimal_free byte (refusal_number why) apart.no_digit (small_number why))
+      (both_hold _ _ (word_free (refusal_text why) (refusal_bytes why)) refl))
+  fields_free (Status status) e = status_free status e
+  fields_free (Names names) e = both_hold _ _ (word_free (codes "names") refl) (all_names_free names e)
+  fields_free (Segno known) e =
+      both_hold _ _ (word_free (codes "segno") refl)
+      (both_hold _ _ (octal_free byte known.segno apart.no_octal)
+      (both_hold _ _ (word_free (fresh_text known.fresh) (fresh_bytes known.fresh)) (linkage_free known.linkage)))
+
+blank : IsApart 32
+blank = record { no_name = refl; no_digit = refl; no_octal = refl; no_letter = refl; no_mark = refl }
+
+newline : IsApart 10
+newline = record { no_name = refl; no_digit = refl; no_octal = refl; no_letter = refl; no_mark = refl }
+
+pub reply_newline_free : (reply : Reply) → fits_reply reply ≡ true → is_free 10 (reply_text reply) ≡ true
+reply_newline_free reply e = line_free 10 (reply_fields reply) refl (fields_free 10 newline reply e)
+
+some_field : (reply : Reply) → 1 ≤ length (reply_fields reply)
+some_field Done = omega arith
+some_field (Refused why) = omega arith
+some_field (Status (Segment words brackets modes)) = omega arith
+some_field (Status (Directory d1 d2 modes)) = omega arith
+some_field (Status (Link target)) = omega arith
+some_field (Names names) = omega arith
+some_field (Segno known) = omega arith
+
+-- two replies that fit and have one text are the same
+pub one_reply : (one other : Reply) → fits_reply one ≡ true → fits_reply other ≡ true → reply_text one ≡ reply_text other → one ≡ other
+one_reply one other e f same =
+    let fields = same_fields (reply_fields one) (reply_fields other) (some_field one) (some_field other)
+    (fields_free 32 blank one e) (fields_free 32 blank other f) same in
+    some_is _ _ (sym (reply_again one e) ∙ ap reply_at fields ∙ reply_again other f)
