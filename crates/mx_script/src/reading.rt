@@ -49,10 +49,9 @@ pub fn read_session(alloc: Global, bytes: &[u8]) -> Result<Session, SessionError
     let mut number = 1;
     let mut draft = Draft::Empty;
     while let Some((line, after)) = cut(b'\n', rest) {
-        let Some(next) = draft.read(alloc, line)? else {
+        if !draft.read(alloc, line)? {
             return Err(SessionError::BadLine(number));
-        };
-        draft = next;
+        }
         rest = after;
         number += 1;
     }

@@ -1,8 +1,8 @@
 //! Sessions as far as their lines were read.
 
-ghost use Rattle.std.specs.Prelude.{◌≡◌, ◌<◌, ◌-◌, ◌^◌, IfOk, Some};
+ghost use Rattle.std.specs.Prelude.{◌≡◌, ◌<◌, ◌-◌, ◌^◌, ◌&&◌, not, if◌then◌else◌, IfOk, Some, None};
 ghost use Rattle.mx_script.specs.Sessions.{session_of, line_count, is_logout};
-ghost use Rattle.mx_script.specs.Drafts.{setup_step, script_step, step, Follows, one_process, finished, IsCountable};
+ghost use Rattle.mx_script.specs.Drafts.{may_stand, setup_step, script_step, step, Follows, one_process, finished, IsCountable};
 
 use crate::lines::{Line, Script};
 use crate::outlines::{is_for_setup, is_logout, may_stand};
@@ -13,6 +13,7 @@ use mx_list::Sequence;
 use mx_name::Principal;
 use mx_request::Requests;
 use std::alloc::{AllocError, Global};
+use std::mem::replace;
 
 /// What the lines read so far say.
 #[derive(Drop)]
@@ -30,14 +31,43 @@ pub(crate) enum Draft {
 }
 
 impl Draft {
-    /// The draft after one more line, `None` where the line cannot stand there.
-    pub(crate) fn read(self, alloc: Global, line: &[u8]) -> Result<Option<Draft>, AllocError>
-        ensures { IfOk result (λ next. Follows self line.now next) }
+    /// Goes on with one more line, `false` where the line cannot stand there. Then, and for want of memory, the draft is
+    /// of no use any more.
+    pub(crate) fn read(&mut self, alloc: Global, line: &[u8]) -> Result<bool, AllocError>
+        ensures { IfOk result (λ goes. Follows self.old line.now (if goes then Some self.new else None)) }
     {
         match read_row(alloc, line)? {
-            Some(row) => self.step(alloc, row),
-            None => Ok(None),
+            Some(row) => self.take(alloc, row),
+            None => Ok(false),
         }
+    }
+
+    // The lines of a script are taken in place, so that what was read is not moved for each.
+    fn take(&mut self, alloc: Global, row: Row) -> Result<bool, AllocError>
+        ensures { IfOk result (λ goes. (if goes then Some self.new else None) ≡ step self.old row) }
+    {
+        match self {
+            Draft::Running(_, _, script) => match row {
+                Row::Line(line) if is_within(&line) => {
+                    script.push(line)?;
+                    Ok(true)
+                }
+                _ => self.go_on(alloc, row),
+            },
+            _ => self.go_on(alloc, row),
+        }
+    }
+
+    #[inline(never)]
+    fn go_on(&mut self, alloc: Global, row: Row) -> Result<bool, AllocError>
+        ensures { IfOk result (λ goes. (if goes then Some self.new else None) ≡ step self.old row) }
+    {
+        let draft = replace(self, Draft::Empty);
+        let Some(next) = draft.step(alloc, row)? else {
+            return Ok(false);
+        };
+        *self = next;
+        Ok(true)
     }
 
     fn step(self, alloc: Global, row: Row) -> Result<Option<Draft>, AllocError>
@@ -68,6 +98,13 @@ impl Draft {
             _other => Ok(None),
         }
     }
+}
+
+// Whether a line stands in a script and does not end it.
+fn is_within(line: &Line) -> bool
+    ensures { result ≡ (may_stand line.now && not (is_logout line.now)) }
+{
+    may_stand(line) && !is_logout(line)
 }
 
 fn session_of(
