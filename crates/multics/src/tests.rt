@@ -12,6 +12,7 @@ mod access;
 mod calls;
 mod knowing;
 mod limits;
+mod pointers;
 mod replays;
 mod rows;
 

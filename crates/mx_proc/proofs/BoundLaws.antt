@@ -1,17 +1,18 @@
 -- Numbers of processes and of lines are within their bounds.
-use Rattle.std.proofs.Common.{◌≡◌, ℕ, zero, suc, ◌<◌, ◌≤◌, ◌+◌, ◌-◌, ◌^◌, List, [], ◌∷◌, map, drop, length, Some, refl, sym, ◌∙◌, ap, arith}
+use Rattle.std.proofs.Common.{◌≡◌, ℕ, zero, suc, ◌<◌, ◌≤◌, ◌+◌, ◌-◌, ◌^◌, Bool, true, List, [], ◌∷◌, map, drop, length, Some, refl, sym, ◌∙◌, ap, subst, arith}
 use Rattle.std.proofs.lemmas.List.{length-map}
 use Rattle.std.proofs.lemmas.List.Sums.{sum_by-cons}
 use Rattle.std.proofs.lemmas.Option.{slice_get_within}
-use Rattle.std.specs.List.{slice_get, sum_by}
+use Rattle.std.specs.List.{slice_get, sum_by, list_all}
 use Rattle.mx_legal.specs.Scripts.{first_line, numbered, lines_before, script_at}
 use Rattle.mx_legal.specs.Transcripts.{Step}
-use Rattle.mx_script.specs.Sessions.{Outline, IsSession}
+use Rattle.mx_request.proofs.StepLaws.{both}
+use Rattle.mx_script.specs.Sessions.{Outline, IsSession, is_script, is_script_line, ends}
 use Rattle.mx_script.specs.declared.lines.Line.{Line}
 use Rattle.mx_sup.specs.Supervised.{Supervised}
 use Rattle.mx_proc.proofs.SeatLaws.{set_here, set_length}
 use Rattle.mx_proc.specs.Benches.{world_in, IsKept}
-use Rattle.mx_proc.specs.Processes.{seat_in, IsStill, IsCountable}
+use Rattle.mx_proc.specs.Processes.{seat_in, AreGood, IsGoodAt, IsStill, IsCountable}
 use Rattle.mx_proc.specs.Running.{left_of}
 use Rattle.mx_proc.specs.Stepping.{IsAtLine}
 use Rattle.mx_proc.specs.Worlds.{Seat, World}
@@ -84,7 +85,7 @@ at_countable x s whole room cells processes middle p i line k place a still =
     record {
       process = still.after;
       at = ap (λ (l : List Process). slice_get l i) still.set ∙ set_here processes i still.before still.after still.at;
-      number = rw (still.first, still.steps, (k.idle i still.before still.at).first) small;
+      number = rw (still.first, still.steps, (k.good i still.before still.at).first) small;
     }
   where
     map_get : (processes : List Process) (i : ℕ) (q : Process) → slice_get processes i ≡ Some q → slice_get (map seat_in processes) i ≡ Some (seat_in q)
@@ -119,3 +120,42 @@ within_seats x s whole room cells processes w i k view h =
     let t = k.session.scripts in
     let v : length w.seats ≡ length (map seat_in processes) = ap (λ (v : World). length v.seats) (sym view) in
     (omega (arith, h, m, v), omega (arith, h, m, v, n, t))
+
+-- the line of a script is one that a script may hold
+all_in : (f : Line → Bool) (first k : ℕ) (lines : List Line) (number : ℕ) (line : Line) (left : List (ℕ × Line)) → list_all f lines ≡ true
+    → drop k (numbered first lines) ≡ (number, line) ∷ left → f line ≡ true
+all_in f first zero [] number line left all e = absurd (cc)
+all_in f first (suc k) [] number line left all e = absurd (cc)
+all_in f first zero (l ∷ lines) number line left all e =
+    let same : l ≡ line = heads e in ap f (sym same) ∙ (both (f l) (list_all f lines) all).0
+  where
+    heads : (first, l) ∷ numbered (suc first) lines ≡ (number, line) ∷ left → l ≡ line
+    heads e = ap (λ (p : ℕ × Line). p.1) (first_of (first, l) (number, line) (numbered (suc first) lines) left e)
+      where
+        first_of : (a b : ℕ × Line) (more others : List (ℕ × Line)) → a ∷ more ≡ b ∷ others → a ≡ b
+        first_of a b more others e = cc
+all_in f first (suc k) (l ∷ lines) number line left all e =
+    all_in f (suc first) k lines number line left (both (f l) (list_all f lines) all).1 e
+
+script_lines : (scripts : List (List Line)) (i : ℕ) → list_all is_script scripts ≡ true → list_all is_script_line (script_at scripts i) ≡ true
+script_lines [] i e = refl
+script_lines (script ∷ scripts) zero e =
+    (both (list_all is_script_line script) (ends script) (both (is_script script) (list_all is_script scripts) e).0).0
+script_lines (script ∷ scripts) (suc i) e = script_lines scripts i (both (is_script script) (list_all is_script scripts) e).1
+
+pub at_script_line : (x : Outline) (s : Supervised) (whole : List (List Step)) (room : ℕ) (cells : List Contents) (processes : List Process) (p i : ℕ) (line : Line)
+    → IsKept x s whole room cells processes → i ≡ p - 1 → IsAtLine (world_in x s whole cells processes) p line → is_script_line line ≡ true
+at_script_line x s whole room cells processes p i line k place a =
+    let own : p ≡ suc i = let one = a.some in omega (arith, place, one) in
+    all_in is_script_line (first_line x (suc i)) (length a.seat.steps) (script_at x.scripts i) a.number line a.left
+    (script_lines x.scripts i k.session.each) (subst (λ n. left_of x n a.seat ≡ (a.number, line) ∷ a.left) own a.at)
+
+-- a process of the bench is good
+pub good_at : (x : Outline) (processes : List Process) (i : ℕ) (q : Process) → AreGood x processes → slice_get processes i ≡ Some q
+    → IsGoodAt processes i
+good_at x processes i q good at = record {
+  process = q;
+  at = at;
+  packable = (good i q at).packable;
+  progress = (good i q at).progress;
+}

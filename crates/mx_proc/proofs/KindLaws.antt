@@ -1,43 +1,49 @@
--- Each kind of line keeps the bench.
-use Rattle.std.proofs.Common.{◌≡◌, ℕ, suc, ◌<◌, ◌+◌, ◌-◌, List, [], ◌∷◌, ◌++◌, length, Some, refl, sym, ◌∙◌, ap, subst, arith, append-nil}
+-- Each kind of step keeps the bench.
+use Rattle.std.proofs.Common.{◌≡◌, ℕ, suc, ◌<◌, ◌≤◌, ◌+◌, ◌-◌, List, [], ◌∷◌, ◌++◌, length, Some, refl, sym, ◌∙◌, ap, subst, arith, append-nil}
 use Rattle.std.proofs.lemmas.List.{take_all}
 use Rattle.std.specs.List.{slice_get}
 use Rattle.std.specs.Option.{option_map}
-use Rattle.mx_call.specs.Registers.{Registers}
+use Rattle.mx_call.specs.Registers.{Registers, ArePackable}
+use Rattle.mx_core.specs.declared.elements.Element.{Element}
 use Rattle.mx_core.specs.declared.elements.Event.TheVariants.{Seen}
+use Rattle.mx_hier.specs.declared.refusals.Refusal.TheVariants.{NotLinkage}
 use Rattle.mx_legal.specs.Access.{descriptor_of}
-use Rattle.mx_legal.specs.Asking.{next, result_of}
+use Rattle.mx_legal.specs.Asking.{next, answered, result_of}
 use Rattle.mx_legal.specs.Courses.{Attempt, Judged}
-use Rattle.mx_legal.specs.Next.{Reference, Asks, Ends}
+use Rattle.mx_legal.specs.Elements.{IsJudged}
+use Rattle.mx_legal.specs.Next.{Reference, Asks, Calls, Ends}
 use Rattle.mx_legal.specs.Settings.{entry_at}
-use Rattle.mx_legal.specs.Targets.{after_target}
 use Rattle.mx_legal.specs.Transcripts.{Step}
 use Rattle.mx_legal.specs.declared.transcripts.Event2.TheVariants.{Core, Entry}
 use Rattle.mx_legal.specs.declared.transcripts.Result2.{Result2}
 use Rattle.mx_legal.specs.declared.transcripts.Result2.TheVariants as result
-use Rattle.mx_ptr.specs.Pointers.{PointerParts}
 use Rattle.mx_request.specs.declared.replies.Reply.{Reply}
+use Rattle.mx_request.specs.declared.replies.Reply.TheVariants.{Refused}
 use Rattle.mx_request.specs.declared.requests.Request.{Request}
+use Rattle.mx_request.specs.declared.requests.Request.TheVariants.{Link}
 use Rattle.mx_script.specs.Sessions.{Outline, limit_of}
 use Rattle.mx_script.specs.declared.lines.Line.{Line}
-use Rattle.mx_script.specs.declared.lines.Line.TheVariants.{Ask, Set}
 use Rattle.mx_sdw.specs.Descriptors.{Descriptor}
+use Rattle.mx_state.proofs.LinkLaws.{link_serves}
 use Rattle.mx_state.specs.History.{opening, replay, IsRightEntry}
+use Rattle.mx_state.specs.Plain.{Plain, Answer}
 use Rattle.mx_state.specs.Table.{descriptor}
 use Rattle.mx_state.specs.declared.journal.Entry as journaled
 use Rattle.mx_sup.specs.Entering.{HasEntered}
 use Rattle.mx_sup.specs.Supervised.{Supervised, state_of}
-use Rattle.mx_proc.proofs.BenchLaws.{line_done, done_kept, done_stepped, at_process}
-use Rattle.mx_proc.proofs.WorldLaws.{after_line, stepped, set_law, full_law, call_law, refer_law}
+use Rattle.mx_proc.proofs.BenchLaws.{line_done, line_moved, done_kept, done_stepped, moved_kept, moved_stepped, at_process, seat_is}
+use Rattle.mx_proc.proofs.WorldLaws.{Asking, after_line, stepped, end_law, full_law, call_law, refer_law, look_law}
 use Rattle.mx_proc.specs.Access.{IsAccess}
+use Rattle.mx_proc.specs.Asking.{IsEnding, IsCalling, IsReplyTo}
 use Rattle.mx_proc.specs.Benches.{world_in, IsKept}
-use Rattle.mx_proc.specs.Making.{IsMade, beside}
-use Rattle.mx_proc.specs.Processes.{seat_in, IsStill, HasEnded}
+use Rattle.mx_proc.specs.Operands.{IsPlaced, IsGoodProgress, steps_in}
+use Rattle.mx_proc.specs.Processes.{seat_in, IsStill, HasEnded, HasGoneOn}
 use Rattle.mx_proc.specs.Running.{IsRunning}
-use Rattle.mx_proc.specs.Stepping.{IsAtLine, HasStepped}
+use Rattle.mx_proc.specs.Stepping.{IsAtLine, HasMoved, HasStepped}
+use Rattle.mx_proc.specs.Worlds.{Seat}
 use Rattle.mx_proc.specs.declared.memory.Contents.{Contents}
+use Rattle.mx_proc.specs.declared.operands.Progress.{Progress}
 use Rattle.mx_proc.specs.declared.processes.Process.{Process}
-use Rattle.mx_proc.specs.declared.references.Made.{Made}
 
 -- the bench is kept, and the process has done its line
 abbrev pub Goes : Outline → Supervised → Supervised → List (List Step) → ℕ → List Contents → List Contents → List Process → List Process → ℕ → Type 0
@@ -53,66 +59,87 @@ same_process processes i q r e f = same_some q r (sym e ∙ f)
     same_some : (q r : Process) → Some q ≡ Some r → q ≡ r
     same_some q r e = cc
 
--- the line of a process that was at a place of the list
-pub set_goes : (x : Outline) (s : Supervised) (whole : List (List Step)) (room : ℕ) (cells : List Contents) (processes middle processes' : List Process)
-    (p i word : ℕ) (q : Process) (registers : Registers)
-    → IsKept x s whole room cells processes → i ≡ p - 1 → IsAtLine (world_in x s whole cells processes) p (Set word)
-    → slice_get processes i ≡ Some q → registers ≡ record q.registers { a = word }
-    → IsStill processes i middle → HasEnded middle i [] result.Done registers processes'
+-- a line that needs no further event
+pub end_goes : (x : Outline) (s : Supervised) (whole : List (List Step)) (room : ℕ) (cells : List Contents) (processes middle processes' : List Process)
+    (p i : ℕ) (line : Line) (ends : Result2) (registers : Registers)
+    → IsKept x s whole room cells processes → i ≡ p - 1 → IsAtLine (world_in x s whole cells processes) p line
+    → IsEnding (world_in x s whole cells processes) p line ends registers
+    → IsStill processes i middle → HasEnded middle i [] ends registers processes'
     → Goes x s s whole room cells cells processes processes' p
-set_goes x s whole room cells processes middle processes' p i word q registers k place a here is still ended =
-    let d = line_done x processes middle processes' i [] result.Done registers k.idle still ended in
-    let same : q ≡ d.before = same_process processes i q d.before here d.at in
-    let after : registers ≡ record d.before.registers { a = word } = is ∙ ap (λ (r : Process). record r.registers { a = word }) same in
-    let w = set_law (world_in x s whole cells processes) i (seat_in d.before) (d.before.first + length d.before.recording.steps) (Set word) a.left
-    result.Done registers k.running (at_process x s whole cells processes p i (Set word) d.before k.idle place a d.at)
-    (ap (λ (r : Registers). Ends result.Done r) (sym after)) in (
-      done_kept x s s whole room cells cells processes processes' i [] result.Done registers k k.same k.wide d w,
-      done_stepped x s s whole cells cells processes processes' p i [] result.Done registers (Set word) [] k.idle place a (none_more s.journal) (omega arith) d,
+end_goes x s whole room cells processes middle processes' p i line ends registers k place a e still ended =
+    let d = line_done processes middle processes' i [] ends registers still ended in
+    let asks : Asking (seat_in d.before) line (Ends ends registers)
+    = subst (λ (seat : Seat). Asking seat line (Ends ends registers)) (seat_is x s whole cells processes p i e.seat d.before place e.seated d.at) e.asks in
+    let w = end_law (world_in x s whole cells processes) i (seat_in d.before) (d.before.first + length d.before.recording.steps) line a.left
+    ends registers k.running (at_process x s whole cells processes p i line d.before k.good place a d.at) asks in (
+      done_kept x s s whole room cells cells processes processes' i [] ends registers k k.same k.wide e.packable d w,
+      done_stepped x s s whole cells cells processes processes' p i [] ends registers line [] k.good place a (none_more s.journal) (omega arith)
+          (omega arith) d,
     )
 
+-- a call that found the journal full
 pub full_goes : (x : Outline) (s : Supervised) (whole : List (List Step)) (room : ℕ) (cells : List Contents) (processes middle processes' : List Process)
-    (p i : ℕ) (request : Request) (q : Process) (registers : Registers)
-    → IsKept x s whole room cells processes → i ≡ p - 1 → IsAtLine (world_in x s whole cells processes) p (Ask request)
+    (p i : ℕ) (line : Line) (ring : ℕ) (request : Request) (q : Process) (registers : Registers)
+    → IsKept x s whole room cells processes → i ≡ p - 1 → IsAtLine (world_in x s whole cells processes) p line
+    → IsCalling (world_in x s whole cells processes) p line ring request
     → slice_get processes i ≡ Some q → registers ≡ q.registers → length s.journal ≡ limit_of s.session
     → IsStill processes i middle → HasEnded middle i [] result.HistoryFull registers processes'
     → Goes x s s whole room cells cells processes processes' p
-full_goes x s whole room cells processes middle processes' p i request q registers k place a here is full still ended =
-    let d = line_done x processes middle processes' i [] result.HistoryFull registers k.idle still ended in
+full_goes x s whole room cells processes middle processes' p i line ring request q registers k place a e here is full still ended =
+    let d = line_done processes middle processes' i [] result.HistoryFull registers still ended in
     let after : d.before.registers ≡ registers = sym (is ∙ ap (λ (r : Process). r.registers) (same_process processes i q d.before here d.at)) in
-    let w = full_law (world_in x s whole cells processes) i (seat_in d.before) (d.before.first + length d.before.recording.steps) (Ask request) a.left
-    d.before.registers.ring request k.running (at_process x s whole cells processes p i (Ask request) d.before k.idle place a d.at) refl
+    let asks : Asking (seat_in d.before) line (Calls ring request)
+    = subst (λ (seat : Seat). Asking seat line (Calls ring request)) (seat_is x s whole cells processes p i e.seat d.before place e.seated d.at) e.asks in
+    let w = full_law (world_in x s whole cells processes) i (seat_in d.before) (d.before.first + length d.before.recording.steps) line a.left
+    ring request k.running (at_process x s whole cells processes p i line d.before k.good place a d.at) asks
     (full ∙ ap limit_of k.same) in (
-      done_kept x s s whole room cells cells processes processes' i [] result.HistoryFull registers k k.same k.wide d
+      done_kept x s s whole room cells cells processes processes' i [] result.HistoryFull registers k k.same k.wide
+          (subst ArePackable after (k.good i d.before d.at).packable) d
           (subst (λ (r : Registers). IsRunning (stepped (world_in x s whole cells processes) i s.journal cells
           (after_line (seat_in d.before) (d.before.first + length d.before.recording.steps) [] result.HistoryFull r))) after w),
-      done_stepped x s s whole cells cells processes processes' p i [] result.HistoryFull registers (Ask request) [] k.idle place a (none_more s.journal)
-          (omega arith) d,
+      done_stepped x s s whole cells cells processes processes' p i [] result.HistoryFull registers line [] k.good place a (none_more s.journal)
+          (omega arith) (omega arith) d,
     )
 
+-- a link is refused
+reply_is : (s : Plain) (p ring : ℕ) (request : Request) (reply : Reply) → 1 ≤ p
+    → IsRightEntry s (record { process = p; ring = ring; request = request; reply = reply }) → IsReplyTo request reply
+reply_is s p ring (Link segno word) reply some right =
+    let serves = link_serves s p ring segno word (record { reply = Refused NotLinkage; changes = [] }) some right.maker.0 refl in
+    sym right.reply ∙ ap (λ (a : Answer). a.reply) serves.as_meant
+reply_is _ _ _ _ _ _ _ = tt
+
+-- a call that was entered
 pub call_goes : (x : Outline) (s s' : Supervised) (whole : List (List Step)) (room : ℕ) (cells : List Contents) (processes middle processes' : List Process)
-    (p i number : ℕ) (request : Request) (reply : Reply) (ends : Result2) (q : Process) (registers : Registers)
-    → IsKept x s whole room cells processes → i ≡ p - 1 → IsAtLine (world_in x s whole cells processes) p (Ask request)
-    → slice_get processes i ≡ Some q → registers ≡ q.registers → HasEntered s p registers.ring request number s'
+    (p i number : ℕ) (line : Line) (ring : ℕ) (request : Request) (reply : Reply) (ends : Result2) (q : Process) (registers : Registers)
+    → IsKept x s whole room cells processes → i ≡ p - 1 → IsAtLine (world_in x s whole cells processes) p line
+    → IsCalling (world_in x s whole cells processes) p line ring request
+    → slice_get processes i ≡ Some q → registers ≡ q.registers → HasEntered s p ring request number s'
     → option_map (λ (e : journaled.Entry). e.reply) (entry_at s'.journal number) ≡ Some reply → ends ≡ result_of reply
     → IsStill processes i middle → HasEnded middle i (Entry number ∷ []) ends registers processes'
     → Goes x s s' whole room cells cells processes processes' p
-call_goes x s s' whole room cells processes middle processes' p i number request reply ends q registers k place a here is e replied result still ended =
-    let d = line_done x processes middle processes' i (Entry number ∷ []) ends registers k.idle still ended in
+call_goes x s s' whole room cells processes middle processes' p i number line ring request reply ends q registers k place a c here is e replied result still ended =
+    let d = line_done processes middle processes' i (Entry number ∷ []) ends registers still ended in
     let after : d.before.registers ≡ registers = sym (is ∙ ap (λ (r : Process). r.registers) (same_process processes i q d.before here d.at)) in
     let own : p ≡ suc i = let one = a.some in omega (arith, place, one) in
-    let entry : journaled.Entry = record { process = p; ring = registers.ring; request = request; reply = e.reply } in
+    let entry : journaled.Entry = record { process = p; ring = ring; request = request; reply = e.reply } in
     let journal : s'.journal ≡ s.journal ++ entry ∷ [] = ap (λ (t : Supervised). t.journal) e.entry in
     let told : e.reply ≡ reply = last_reply s.journal s'.journal entry number reply journal e.number replied in
-    let w = call_law (world_in x s whole cells processes) i (seat_in d.before) (d.before.first + length d.before.recording.steps) a.left request entry
-    k.running (at_process x s whole cells processes p i (Ask request) d.before k.idle place a d.at)
-    own (ap (λ (r : Registers). r.ring) (sym after)) refl (subst (λ (y : Outline). length s.journal < limit_of y) k.same e.below)
+    let seat = seat_is x s whole cells processes p i c.seat d.before place c.seated d.at in
+    let asks : Asking (seat_in d.before) line (Calls ring request)
+    = subst (λ (seat : Seat). Asking seat line (Calls ring request)) seat c.asks in
+    let answers : answered d.before.registers line e.reply ≡ Ends (result_of e.reply) d.before.registers
+    = subst (λ (seat : Seat). answered seat.registers line e.reply ≡ Ends (result_of e.reply) seat.registers) seat
+    (c.answers e.reply (reply_is (state_of s) p ring request e.reply a.some e.right)) in
+    let w = call_law (world_in x s whole cells processes) i (seat_in d.before) (d.before.first + length d.before.recording.steps) line a.left entry
+    k.running (at_process x s whole cells processes p i line d.before k.good place a d.at)
+    own asks answers (subst (λ (y : Outline). length s.journal < limit_of y) k.same e.below)
     (subst (λ (y : Outline). IsRightEntry (replay (opening y.principals) s.journal) entry) k.same e.right) in (
       done_kept x s s' whole room cells cells processes processes' i (Entry number ∷ []) ends registers k
-          (ap (λ (t : Supervised). t.session) e.entry ∙ k.same) k.wide d
+          (ap (λ (t : Supervised). t.session) e.entry ∙ k.same) k.wide (subst ArePackable after (k.good i d.before d.at).packable) d
           (as_done s s' cells d.before number entry ends registers i after journal e.number (result ∙ ap result_of (sym told)) w),
-      done_stepped x s s' whole cells cells processes processes' p i (Entry number ∷ []) ends registers (Ask request) (entry ∷ []) k.idle place a journal
-          (omega arith) d,
+      done_stepped x s s' whole cells cells processes processes' p i (Entry number ∷ []) ends registers line (entry ∷ []) k.good place a journal
+          (omega arith) (omega arith) d,
     )
   where
     last_at : (journal : List journaled.Entry) (entry : journaled.Entry) → entry_at (journal ++ entry ∷ []) (length journal + 1) ≡ Some entry
@@ -146,38 +173,75 @@ call_goes x s s' whole room cells processes middle processes' p i number request
         (after_line (seat_in before) (before.first + length before.recording.steps) (Entry number ∷ []) ends registers))
     as_done s s' cells before number entry ends registers i after journal at is w = rw (sym after, journal, at, is) w
 
+-- what an element is judged on is the access at its point
+pub present : (x : Outline) (s : Supervised) (desc : Descriptor) (segno p i point : ℕ) (e : Element) → s.session ≡ x → p ≡ suc i
+    → desc ≡ descriptor (state_of s) p segno → point ≡ length s.journal → e.segno ≡ segno → e.point ≡ point
+    → desc ≡ descriptor_of x s.journal (suc i) e
+present x s desc segno p i point e same own on_desc at_end segno_is point_is =
+    on_desc ∙ ap (λ (y : Outline). descriptor (replay (opening y.principals) s.journal) p segno) same
+    ∙ ap (λ n. descriptor (replay (opening x.principals) s.journal) n segno) own
+    ∙ ap (λ n. descriptor (replay (opening x.principals) s.journal) (suc i) n) (sym segno_is)
+    ∙ ap (λ (j : List journaled.Entry). descriptor (replay (opening x.principals) j) (suc i) e.segno)
+    (sym (take_all e.point s.journal (omega (arith, at_end, point_is))))
+
+-- a reference, on the present access and at the journal's end
+pub record IsPresent (s : Supervised) (p segno point : ℕ) (j : Judged) : Type 0 where
+  pub on : j.desc ≡ descriptor (state_of s) p segno
+  pub segno_is : j.element.segno ≡ segno
+  pub at_end : point ≡ length s.journal
+  pub point_is : j.element.point ≡ point
+
+-- after which the line ends
 pub refer_goes : (x : Outline) (s : Supervised) (whole : List (List Step)) (room : ℕ) (cells cells' : List Contents) (processes middle processes' : List Process)
-    (p i point : ℕ) (line : Line) (q : Process) (registers : Registers) (target : PointerParts) (asked : Reference) (desc : Descriptor) (made : Made)
+    (p i segno point : ℕ) (line : Line) (q : Process) (asked : Reference) (j : Judged) (ends : Result2) (registers : Registers)
     → IsKept x s whole room cells processes → i ≡ p - 1 → IsAtLine (world_in x s whole cells processes) p line
-    → slice_get processes i ≡ Some q → registers ≡ q.registers
-    → next registers line (Attempt []) ≡ Asks asked
-    → ((j : Judged) → next registers line (Attempt (j ∷ [])) ≡ after_target registers line target j.desc j.element.outcome)
-    → desc ≡ descriptor (state_of s) p target.segno → point ≡ length s.journal → length cells' ≡ 65536
-    → IsMade line asked registers desc target p point cells cells' made
-    → IsStill processes i middle → HasEnded middle i (Core (Seen made.element) ∷ []) made.ends made.after processes'
+    → slice_get processes i ≡ Some q → Asking (seat_in q) line (Asks asked) → IsJudged asked j.desc j.element
+    → IsPresent s p segno point j → length cells' ≡ 65536 → IsAccess cells cells' p j
+    → ((seen : List Judged) → IsPlaced q.registers line seen q.progress → next q.registers line (Attempt (seen ++ j ∷ [])) ≡ Ends ends registers)
+    → ArePackable registers
+    → IsStill processes i middle → HasEnded middle i (Core (Seen j.element) ∷ []) ends registers processes'
     → Goes x s s whole room cells cells' processes processes' p
-refer_goes x s whole room cells cells' processes middle processes' p i point line q registers target asked desc made k place a here is asks goes on_desc at_end wide m still ended =
-    let d = line_done x processes middle processes' i (Core (Seen made.element) ∷ []) made.ends made.after k.idle still ended in
-    let after : registers ≡ d.before.registers = is ∙ ap (λ (r : Process). r.registers) (same_process processes i q d.before here d.at) in
+refer_goes x s whole room cells cells' processes middle processes' p i segno point line q asked j ends registers k place a here asks judged present_is wide access goes packable still ended =
+    let d = line_done processes middle processes' i (Core (Seen j.element) ∷ []) ends registers still ended in
+    let same : q ≡ d.before = same_process processes i q d.before here d.at in
     let own : p ≡ suc i = let one = a.some in omega (arith, place, one) in
-    let j : Judged = beside made desc in
-    let judged_on : desc ≡ descriptor_of x s.journal (suc i) made.element = present x s desc target p i point made k.same own on_desc at_end m.segno m.point_is in
+    let judged_on : j.desc ≡ descriptor_of x s.journal (suc i) j.element
+    = present x s j.desc segno p i point j.element k.same own present_is.on present_is.at_end present_is.segno_is present_is.point_is in
     let w = refer_law (world_in x s whole cells processes) i (seat_in d.before) (d.before.first + length d.before.recording.steps) line a.left asked j
-    cells' made.ends made.after k.running (at_process x s whole cells processes p i line d.before k.idle place a d.at)
-    (subst (λ (r : Registers). next r line (Attempt []) ≡ Asks asked) after asks) m.judged judged_on (m.point_is ∙ at_end)
-    (subst (λ n. IsAccess cells cells' n j) own (m.access k.wide))
-    (subst (λ (r : Registers). next r line (Attempt (j ∷ [])) ≡ Ends made.ends made.after) after (goes j ∙ m.end)) in (
-      done_kept x s s whole room cells cells' processes processes' i (Core (Seen made.element) ∷ []) made.ends made.after k k.same wide d w,
-      done_stepped x s s whole cells cells' processes processes' p i (Core (Seen made.element) ∷ []) made.ends made.after line [] k.idle place a
-          (none_more s.journal) (omega arith) d,
+    cells' ends registers k.running (at_process x s whole cells processes p i line d.before k.good place a d.at)
+    (subst (λ (r : Process). Asking (seat_in r) line (Asks asked)) same asks) judged judged_on (present_is.point_is ∙ present_is.at_end)
+    (subst (λ n. IsAccess cells cells' n j) own access)
+    (subst (λ (r : Process). (seen : List Judged) → IsPlaced r.registers line seen r.progress
+    → next r.registers line (Attempt (seen ++ j ∷ [])) ≡ Ends ends registers) same goes) in (
+      done_kept x s s whole room cells cells' processes processes' i (Core (Seen j.element) ∷ []) ends registers k k.same wide packable d w,
+      done_stepped x s s whole cells cells' processes processes' p i (Core (Seen j.element) ∷ []) ends registers line [] k.good place a
+          (none_more s.journal) (omega arith) (omega arith) d,
     )
-  where
-    present : (x : Outline) (s : Supervised) (desc : Descriptor) (target : PointerParts) (p i point : ℕ) (made : Made) → s.session ≡ x → p ≡ suc i
-        → desc ≡ descriptor (state_of s) p target.segno → point ≡ length s.journal → made.element.segno ≡ target.segno → made.element.point ≡ point
-        → desc ≡ descriptor_of x s.journal (suc i) made.element
-    present x s desc target p i point made e f g h segno at =
-        g ∙ ap (λ (y : Outline). descriptor (replay (opening y.principals) s.journal) p target.segno) e
-        ∙ ap (λ n. descriptor (replay (opening x.principals) s.journal) n target.segno) f
-        ∙ ap (λ n. descriptor (replay (opening x.principals) s.journal) (suc i) n) (sym segno)
-        ∙ ap (λ (j : List journaled.Entry). descriptor (replay (opening x.principals) j) (suc i) made.element.segno)
-        (sym (take_all made.element.point s.journal (omega (arith, at, h))))
+
+-- after which the line goes on
+pub look_goes : (x : Outline) (s : Supervised) (whole : List (List Step)) (room : ℕ) (cells : List Contents) (processes middle processes' : List Process)
+    (p i segno point : ℕ) (line : Line) (q : Process) (asked : Reference) (j : Judged) (progress : Progress)
+    → IsKept x s whole room cells processes → i ≡ p - 1 → IsAtLine (world_in x s whole cells processes) p line
+    → slice_get processes i ≡ Some q → Asking (seat_in q) line (Asks asked) → IsJudged asked j.desc j.element
+    → IsPresent s p segno point j → IsAccess cells cells p j
+    → ((seen : List Judged) → IsPlaced q.registers line seen q.progress → IsPlaced q.registers line (seen ++ j ∷ []) progress)
+    → IsGoodProgress q.registers progress → steps_in progress < steps_in q.progress
+    → IsStill processes i middle → HasGoneOn middle i (Core (Seen j.element) ∷ []) progress processes'
+    → IsKept x s whole room cells processes' × HasMoved (world_in x s whole cells processes) p (world_in x s whole cells processes')
+look_goes x s whole room cells processes middle processes' p i segno point line q asked j progress k place a here asks judged present_is access placed fits closer still gone =
+    let d = line_moved processes middle processes' i (Core (Seen j.element)) progress still gone in
+    let same : q ≡ d.before = same_process processes i q d.before here d.at in
+    let own : p ≡ suc i = let one = a.some in omega (arith, place, one) in
+    let judged_on : j.desc ≡ descriptor_of x s.journal (suc i) j.element
+    = present x s j.desc segno p i point j.element k.same own present_is.on present_is.at_end present_is.segno_is present_is.point_is in
+    let w = look_law (world_in x s whole cells processes) i (seat_in d.before) (d.before.first + length d.before.recording.steps) line a.left asked j
+    cells progress k.running (at_process x s whole cells processes p i line d.before k.good place a d.at)
+    (subst (λ (r : Process). Asking (seat_in r) line (Asks asked)) same asks) judged judged_on (present_is.point_is ∙ present_is.at_end)
+    (subst (λ n. IsAccess cells cells n j) own access)
+    (subst (λ (r : Process). (seen : List Judged) → IsPlaced r.registers line seen r.progress
+    → IsPlaced r.registers line (seen ++ j ∷ []) progress) same placed) in (
+      moved_kept x s whole room cells processes processes' i (Core (Seen j.element)) progress k d
+          (subst (λ (r : Process). IsGoodProgress r.registers progress) same fits) w,
+      moved_stepped x s whole cells processes processes' p i (Core (Seen j.element)) progress place d
+          (subst (λ (r : Process). steps_in progress < steps_in r.progress) same closer),
+    )

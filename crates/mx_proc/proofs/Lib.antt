@@ -3,6 +3,7 @@ pub mod SeatLaws
 pub mod CellLaws
 pub mod WorldLaws
 pub mod MadeLaws
+pub mod OperandLaws
 pub mod BenchLaws
 pub mod KindLaws
 pub mod OpeningLaws
@@ -11,4 +12,5 @@ pub mod RoundLaws
 pub mod ProcessLaws
 pub mod NextLaws
 pub mod BoundLaws
+pub mod AskingLaws
 pub mod SeenLaws

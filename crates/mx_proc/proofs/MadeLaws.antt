@@ -1,33 +1,40 @@
--- References, granted and denied.
-use Rattle.std.proofs.Common.{◌≡◌, List, [], ◌∷◌, length, sym, ◌∙◌, ap}
+-- What the lines ask for, as their operands do.
+use Rattle.std.proofs.Common.{◌≡◌, ℕ, true, ◌&&◌, List, length, Some, sym, ◌∙◌, ap}
+use Rattle.mx_legal.specs.Next.{Reference}
 use Rattle.mx_call.specs.Registers.{Registers}
-use Rattle.mx_legal.specs.Asking.{next}
-use Rattle.mx_legal.specs.Courses.{Attempt, Judged}
-use Rattle.mx_legal.specs.Next.{Asks, at_place, storing}
-use Rattle.mx_legal.specs.Operands.{operand_target}
-use Rattle.mx_legal.specs.Targets.{after_target}
 use Rattle.mx_ptr.specs.Pointers.{PointerParts}
-use Rattle.mx_script.specs.declared.lines.Line.TheVariants.{Lda, Sta}
+use Rattle.mx_request.proofs.StepLaws.{both}
+use Rattle.mx_script.specs.Sessions.{is_register, is_address, is_script_line}
+use Rattle.mx_script.specs.declared.lines.Line.{Line}
+use Rattle.mx_script.specs.declared.lines.Line.TheVariants as line
 use Rattle.mx_script.specs.declared.lines.Operand.{Operand}
-use Rattle.mx_sdw.specs.declared.operations.Op.TheVariants as op
+use Rattle.mx_sdw.specs.Descriptors.{Descriptor}
+use Rattle.mx_proc.specs.Asking.{IsStore}
+use Rattle.mx_proc.specs.Making.{IsMade}
+use Rattle.mx_proc.specs.Operands.{operand_of}
 use Rattle.mx_proc.specs.declared.memory.Contents.{Contents}
-
--- what the memory lines ask for, and how they go on
-pub load_asks : (g : Registers) (o : Operand) (target : PointerParts) → target ≡ operand_target g o
-    → next g (Lda o) (Attempt []) ≡ Asks (at_place op.Read target)
-load_asks g o target e = ap (λ (p : PointerParts). Asks (at_place op.Read p)) (sym e)
-
-pub load_goes : (g : Registers) (o : Operand) (target : PointerParts) → target ≡ operand_target g o
-    → (j : Judged) → next g (Lda o) (Attempt (j ∷ [])) ≡ after_target g (Lda o) target j.desc j.element.outcome
-load_goes g o target e j = ap (λ (p : PointerParts). after_target g (Lda o) p j.desc j.element.outcome) (sym e)
-
-pub store_asks : (g : Registers) (o : Operand) (target : PointerParts) → target ≡ operand_target g o
-    → next g (Sta o) (Attempt []) ≡ Asks (storing g.a target)
-store_asks g o target e = ap (λ (p : PointerParts). Asks (storing g.a p)) (sym e)
-
-pub store_goes : (g : Registers) (o : Operand) (target : PointerParts) → target ≡ operand_target g o
-    → (j : Judged) → next g (Sta o) (Attempt (j ∷ [])) ≡ after_target g (Sta o) target j.desc j.element.outcome
-store_goes g o target e j = ap (λ (p : PointerParts). after_target g (Sta o) p j.desc j.element.outcome) (sym e)
+use Rattle.mx_proc.specs.declared.references.Made.{Made}
 
 pub wide_still : (cells cells' : List Contents) → length cells ≡ 65536 → length cells' ≡ length cells → length cells' ≡ 65536
 wide_still cells cells' wide same = same ∙ wide
+
+-- the operand of a line that a script may hold
+pub own_address : (l : Line) (o : Operand) → operand_of l ≡ Some o → is_script_line l ≡ true → is_address o ≡ true
+own_address (line.Ask request) o e s = absurd (cc)
+own_address (line.Set word) o e s = absurd (cc)
+own_address (line.Epp n operand) o e s = let same : operand ≡ o = cc in ap is_address (sym same) ∙ (both (is_register n) (is_address operand) s).1
+own_address (line.Lda operand) o e s = let same : operand ≡ o = cc in ap is_address (sym same) ∙ s
+own_address (line.Sta operand) o e s = let same : operand ≡ o = cc in ap is_address (sym same) ∙ s
+own_address (line.Spri n operand) o e s = let same : operand ≡ o = cc in ap is_address (sym same) ∙ (both (is_register n) (is_address operand) s).1
+
+-- a store, by either line
+pub stores_made : (l : Line) (asked : Reference) (g : Registers) (d : Descriptor) (target : PointerParts) (p point : ℕ) (cells cells' : List Contents) (m : Made)
+    → IsStore l → ((o : Operand) → IsMade (line.Sta o) asked g d target p point cells cells' m)
+    → ((n : ℕ) (o : Operand) → IsMade (line.Spri n o) asked g d target p point cells cells' m)
+    → IsMade l asked g d target p point cells cells' m
+stores_made (line.Sta o) asked g d target p point cells cells' m is sta spri = sta o
+stores_made (line.Spri n o) asked g d target p point cells cells' m is sta spri = spri n o
+stores_made (line.Ask request) asked g d target p point cells cells' m is sta spri = absurd is
+stores_made (line.Set word) asked g d target p point cells cells' m is sta spri = absurd is
+stores_made (line.Epp n o) asked g d target p point cells cells' m is sta spri = absurd is
+stores_made (line.Lda o) asked g d target p point cells cells' m is sta spri = absurd is

@@ -28,6 +28,7 @@ use Rattle.mx_proc.specs.Running.{IsBefore, left_of}
 use Rattle.mx_proc.specs.Stepping.{IsOpening}
 use Rattle.mx_proc.specs.Worlds.{Seat, held, held_when, held_in, contents_at, empty_contents, always}
 use Rattle.mx_proc.specs.declared.memory.Contents.{Contents}
+use Rattle.mx_proc.specs.declared.operands.Progress.TheVariants.{Before}
 use Rattle.mx_proc.specs.declared.processes.Process.{Process}
 
 -- entries with the setup's calls are the initializer's
@@ -74,12 +75,16 @@ all_clear cells empty u = by_test (u.since == 0)
 
 -- before the first line of a process
 first_before : (x : Outline) (setup : List journaled.Entry) (i : ℕ) (lines : List (ℕ × Line)) → lines_of x (suc i) ≡ lines → setup_entries x ≤ length setup
-    → IsBefore x setup (suc i) (record { registers = opening_registers (suc i); steps = [] }) lines (opening_view (length setup))
+    → IsBefore x setup (suc i) (record { registers = opening_registers (suc i); steps = []; events = []; progress = Before }) lines (opening_view (length setup))
 first_before x setup i [] e begun = no_line_law x setup (suc i) (length setup) e
-first_before x setup i (next ∷ left) e begun = first_line_law x setup (suc i) next.0 next.1 left (length setup) (λ segno. limit_of x) e begun
+first_before x setup i (next ∷ left) e begun = record {
+  seen = [];
+  benched = first_line_law x setup (suc i) next.0 next.1 left (length setup) (λ segno. limit_of x) e begun;
+  placed = refl;
+}
 
 -- which process a seat is of
-seat_of : (processes : List Process) (i : ℕ) (seat : Seat) → slice_get (map seat_in processes) i ≡ Some seat
+pub seat_of : (processes : List Process) (i : ℕ) (seat : Seat) → slice_get (map seat_in processes) i ≡ Some seat
     → (p : Process) × (slice_get processes i ≡ Some p) × (seat_in p ≡ seat)
 seat_of [] i seat e = absurd (cc)
 seat_of (p ∷ processes) zero seat e = (p, refl, same (seat_in p) seat e)
@@ -89,11 +94,11 @@ seat_of (p ∷ processes) zero seat e = (p, refl, same (seat_in p) seat e)
 seat_of (p ∷ processes) (suc i) seat e = seat_of processes i seat e
 
 fresh_seat : (x : Outline) (processes : List Process) (i : ℕ) (seat : Seat) → AreFresh x processes → slice_get (map seat_in processes) i ≡ Some seat
-    → seat ≡ record { registers = opening_registers (suc i); steps = [] }
+    → seat ≡ record { registers = opening_registers (suc i); steps = []; events = []; progress = Before }
 fresh_seat x processes i seat fresh e =
     let s = seat_of processes i seat e in
     let f = fresh.each i s.0 s.1 in
-    sym s.2 ∙ rw (f.registers, f.steps) refl
+    sym s.2 ∙ rw (f.registers, f.steps, f.events, f.progress) refl
 
 pub opening_kept : (x : Outline) (s : Supervised) (set_up : List Step) (whole : List (List Step)) (room : ℕ) (cells : List Contents) (processes : List Process)
     → IsSession x → IsOpened x s set_up → whole ≡ set_up ∷ [] → length cells ≡ 65536 → ((cell : ℕ) → contents_at cells cell ≡ empty_contents)
@@ -112,7 +117,7 @@ opening_kept x s set_up whole room cells processes session opened one wide empty
       wide = wide;
       one = ap length one;
       room_for = room_for;
-      idle = λ i p at. (fresh.each i p at).idle;
+      good = λ i p at. (fresh.each i p at).good;
       running = record {
         setup = s.journal;
         history = [];

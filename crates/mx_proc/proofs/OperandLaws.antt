@@ -7,14 +7,16 @@ use Rattle.mx_core.specs.declared.elements.Outcome.{Outcome}
 use Rattle.mx_core.specs.declared.elements.Outcome.TheVariants as outcome
 use Rattle.mx_effring.specs.Chains as chains
 use Rattle.mx_effring.specs.Chains.{read_on}
-use Rattle.mx_effring.specs.Walks.{wanted}
+use Rattle.mx_effring.specs.Walks.{wanted, refuses}
+use Rattle.mx_effring.specs.declared.walks.Stuck.{Stuck}
+use Rattle.mx_effring.specs.declared.walks.Stuck.TheVariants as stuck
 use Rattle.mx_effring.specs.declared.walks.Want.{Want}
 use Rattle.mx_effring.specs.declared.walks.Want.TheVariants as want
-use Rattle.mx_legal.proofs.WalkLaws.{walk_begun_law}
+use Rattle.mx_legal.proofs.WalkLaws.{walk_begun_law, walk_law}
 use Rattle.mx_legal.specs.Asking.{next}
-use Rattle.mx_legal.specs.Attempts.{wants, after_word, after_seen, along, attempt}
+use Rattle.mx_legal.specs.Attempts.{wants, taken, after_word, after_seen, along, attempt}
 use Rattle.mx_legal.specs.Courses.{Attempt, Judged}
-use Rattle.mx_legal.specs.Next.{Next, Asks, Calls, Ends, storing}
+use Rattle.mx_legal.specs.Next.{Next, Asks, Calls, Ends, Nowhere, storing}
 use Rattle.mx_legal.specs.Operands.{walk_of, operand_walk}
 use Rattle.mx_legal.specs.Standing.{IsWalked}
 use Rattle.mx_legal.specs.Targets.{at_target, after_target}
@@ -27,6 +29,7 @@ use Rattle.mx_script.specs.declared.lines.Line.TheVariants as line
 use Rattle.mx_script.specs.declared.lines.Operand.{Operand}
 use Rattle.mx_sdw.specs.Descriptors.{Descriptor}
 use Rattle.mx_sdw.specs.declared.denials.Denial.{Denial}
+use Rattle.mx_sdw.specs.declared.denials.Denial.TheVariants.{NotPointer, IndirectLimit}
 use Rattle.mx_proc.specs.Making.{looks}
 use Rattle.mx_proc.specs.Operands.{operand_of, walk_at, IsPlaced, asked_by, asked_at, AsksFor, IsLed, steps_in}
 use Rattle.mx_proc.specs.declared.operands.Asked.{Asked}
@@ -215,3 +218,58 @@ after_packable g (line.Lda o) target d (outcome.Read value writer stamp) ends no
 after_packable g (line.Sta o) target d (outcome.Written value) ends now p e = subst ArePackable (same_after g now _ ends e) p
 after_packable g (line.Spri n o) target d (outcome.Written value) ends now p e = subst ArePackable (same_after g now _ ends e) p
 after_packable _ _ _ _ _ _ _ _ e = absurd (cc)
+
+-- what an indirect word makes of a walk
+pub led_end : (g : Registers) (l : Line) (walk : chains.Operand) (n : ℕ) (o : Operand) (target : PointerParts) → l ≡ line.Epp n o
+    → wanted walk ≡ want.Done target → (seen : List Judged) → IsWalked g l seen walk
+    → attempt g l seen ≡ Ends (result.Pr n target) (loaded g n target)
+led_end g l walk n o target e done seen is =
+    ap (attempt g l) (sym (append-nil seen)) ∙ is [] ∙ ap (wants g l) done ∙ ap (λ (l : Line). at_target g l target) e
+
+pub fed_walk : (g : Registers) (l : Line) (walk : chains.Operand) (place : Place) (value r1 : ℕ) → wanted walk ≡ want.Word place.segno place.word place.ring
+    → refuses walk value ≡ None → (seen : List Judged) (j : Judged) (writer stamp : ℕ) → IsWalked g l seen walk
+    → j.element.outcome ≡ outcome.Read value writer stamp → j.desc.brackets.r1 ≡ r1
+    → IsWalked g l (seen ++ j ∷ []) (read_on walk (parts_of value) r1)
+fed_walk g l walk place value r1 wants fits seen j writer stamp is came first =
+    subst (λ n. IsWalked g l (seen ++ j ∷ []) (read_on walk (parts_of value) n)) first
+    (walk_law g l seen walk j place.segno place.word place.ring value writer stamp is wants came fits)
+
+fed_stuck : (g : Registers) (l : Line) (walk : chains.Operand) (place : Place) (value : ℕ) (why : Stuck) → wanted walk ≡ want.Word place.segno place.word place.ring
+    → refuses walk value ≡ Some why → (seen : List Judged) (j : Judged) (writer stamp : ℕ) → IsWalked g l seen walk
+    → j.element.outcome ≡ outcome.Read value writer stamp → (onward : Next)
+    → attempt g l (seen ++ j ∷ []) ≡ taken g place.segno place.word place.ring (Some why) onward
+fed_stuck g l walk place value why wants fits seen j writer stamp is came onward = by_why why fits
+  where
+    rest : ℕ → Next
+    rest v = along g l (read_on walk (parts_of v) j.desc.brackets.r1) []
+
+    start : attempt g l (seen ++ j ∷ []) ≡ taken g place.segno place.word place.ring (refuses walk value) (rest value)
+    start = is (j ∷ []) ∙ ap (λ (w : Want). after_seen g l walk j w rest) wants
+        ∙ ap (λ (c : Outcome). after_word g walk place.segno place.word place.ring c rest) came
+
+    by_why : (why : Stuck) → refuses walk value ≡ Some why
+        → attempt g l (seen ++ j ∷ []) ≡ taken g place.segno place.word place.ring (Some why) onward
+    by_why stuck.Link e = start ∙ ap (λ (w : Option Stuck). taken g place.segno place.word place.ring w (rest value)) e
+    by_why stuck.NotPointer e = start ∙ ap (λ (w : Option Stuck). taken g place.segno place.word place.ring w (rest value)) e
+    by_why stuck.Limit e = start ∙ ap (λ (w : Option Stuck). taken g place.segno place.word place.ring w (rest value)) e
+
+pub fed_link : (g : Registers) (l : Line) (walk : chains.Operand) (place : Place) (value : ℕ) → wanted walk ≡ want.Word place.segno place.word place.ring
+    → refuses walk value ≡ Some stuck.Link → (seen : List Judged) (j : Judged) (writer stamp : ℕ) → IsWalked g l seen walk
+    → j.element.outcome ≡ outcome.Read value writer stamp
+    → attempt g l (seen ++ j ∷ []) ≡ Calls place.ring (Link place.segno place.word)
+fed_link g l walk place value wants fits seen j writer stamp is came =
+    fed_stuck g l walk place value stuck.Link wants fits seen j writer stamp is came Nowhere
+
+pub fed_not_pointer : (g : Registers) (l : Line) (walk : chains.Operand) (place : Place) (value : ℕ) → wanted walk ≡ want.Word place.segno place.word place.ring
+    → refuses walk value ≡ Some stuck.NotPointer → (seen : List Judged) (j : Judged) (writer stamp : ℕ) → IsWalked g l seen walk
+    → j.element.outcome ≡ outcome.Read value writer stamp
+    → attempt g l (seen ++ j ∷ []) ≡ Ends (result.Denied NotPointer) g
+fed_not_pointer g l walk place value wants fits seen j writer stamp is came =
+    fed_stuck g l walk place value stuck.NotPointer wants fits seen j writer stamp is came Nowhere
+
+pub fed_limit : (g : Registers) (l : Line) (walk : chains.Operand) (place : Place) (value : ℕ) → wanted walk ≡ want.Word place.segno place.word place.ring
+    → refuses walk value ≡ Some stuck.Limit → (seen : List Judged) (j : Judged) (writer stamp : ℕ) → IsWalked g l seen walk
+    → j.element.outcome ≡ outcome.Read value writer stamp
+    → attempt g l (seen ++ j ∷ []) ≡ Ends (result.Denied IndirectLimit) g
+fed_limit g l walk place value wants fits seen j writer stamp is came =
+    fed_stuck g l walk place value stuck.Limit wants fits seen j writer stamp is came Nowhere

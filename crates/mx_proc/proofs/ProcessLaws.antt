@@ -1,15 +1,22 @@
 -- One process of a list is changed in its place.
 use Rattle.std.proofs.Common.{◌≡◌, ◌⊎◌, inl, inr, ℕ, zero, suc, ◌<◌, ◌+◌, ◌^◌, IsTrue, List, [], ◌∷◌, ◌++◌, length, Some, refl, sym, ◌∙◌, ap, subst, arith, length-append}
 use Rattle.std.specs.List.{slice_get, slice_set, slice_index_or}
-use Rattle.mx_call.specs.Registers.{Registers}
+use Rattle.mx_call.specs.Registers.{Registers, ArePackable}
 use Rattle.mx_legal.specs.Openings.{opening_registers}
 use Rattle.mx_legal.specs.Recorded.{Recorded, IsStill as IsStillRecorded}
 use Rattle.mx_legal.specs.Scripts.{first_line}
 use Rattle.mx_legal.specs.declared.transcripts.Event2.{Event2}
 use Rattle.mx_legal.specs.declared.transcripts.Result2.{Result2}
 use Rattle.mx_script.specs.Sessions.{Outline}
+use Rattle.mx_script.specs.declared.lines.Line.{Line}
+use Rattle.mx_script.specs.declared.lines.Operand.{Operand}
 use Rattle.mx_proc.proofs.SeatLaws.{set_here}
-use Rattle.mx_proc.specs.Processes.{IsFresh, AreFreshUpTo, IsStill, HasRoom, IsCountable, HasEnded, HasRegisters, HasLines}
+use Rattle.mx_proc.specs.Operands.{IsGoodProgress, AsksFor, IsGoodAsked, IsLed}
+use Rattle.mx_proc.specs.Processes.{IsFresh, AreFreshUpTo, IsStill, HasRoom, IsCountable, IsGoodAt, IsLedAt, IsFed, HasAsked, HasFed, HasEnded, HasRegisters, HasLines}
+use Rattle.mx_proc.specs.declared.benches.Stepped.{Stepped}
+use Rattle.mx_proc.specs.declared.operands.Asked.{Asked}
+use Rattle.mx_proc.specs.declared.operands.Place.{Place}
+use Rattle.mx_proc.specs.declared.operands.Progress.TheVariants.{Before}
 use Rattle.mx_proc.specs.declared.processes.Process.{Process}
 
 get_at : {A : Type 0} (xs : List A) (i : ℕ) (d : A) → i < length xs → slice_get xs i ≡ Some (slice_index_or xs i d)
@@ -18,7 +25,7 @@ get_at (x ∷ xs) zero d h = refl
 get_at (x ∷ xs) (suc i) d h = get_at xs i d (omega (arith, h))
 
 abbrev pub with_recording : Process → Recorded → Process
-with_recording p r = record { first = p.first; registers = p.registers; recording = r }
+with_recording p r = record { first = p.first; registers = p.registers; recording = r; progress = p.progress }
 
 pub reserved_still : (processes : List Process) (i : ℕ) (q : Process) (r : Recorded) → i < length processes
     → IsStillRecorded (slice_index_or processes i q).recording r → IsStill processes i (slice_set processes i (with_recording (slice_index_or processes i q) r))
@@ -30,6 +37,7 @@ reserved_still processes i q r h s = record {
   registers = refl;
   steps = s.steps;
   events = s.events;
+  progress = refl;
   set = refl;
 }
 
@@ -64,8 +72,8 @@ pub has_ended : (processes : List Process) (i : ℕ) (q p : Process) (events : L
     → i < length processes → p.first ≡ (slice_index_or processes i q).first → p.registers ≡ registers
     → p.recording.steps ≡ (slice_index_or processes i q).recording.steps
     ++ ((slice_index_or processes i q).first + length (slice_index_or processes i q).recording.steps, (slice_index_or processes i q).recording.events ++ events, ends) ∷ []
-    → p.recording.events ≡ [] → HasEnded processes i events ends registers (slice_set processes i p)
-has_ended processes i q p events ends registers h first done steps idle = record {
+    → p.recording.events ≡ [] → p.progress ≡ Before → HasEnded processes i events ends registers (slice_set processes i p)
+has_ended processes i q p events ends registers h first done steps idle fresh = record {
   before = slice_index_or processes i q;
   at = get_at processes i q h;
   after = p;
@@ -73,6 +81,7 @@ has_ended processes i q p events ends registers h first done steps idle = record
   done = done;
   steps = steps;
   idle = idle;
+  fresh = fresh;
   set = refl;
 }
 
@@ -82,6 +91,42 @@ registers_of processes i q h = record { process = slice_index_or processes i q; 
 pub lines_of_one : (processes : List Process) (i n : ℕ) (q : Process) → i < length processes
     → n ≡ length (slice_index_or processes i q).recording.steps → HasLines processes i n
 lines_of_one processes i n q h e = record { process = slice_index_or processes i q; at = get_at processes i q h; lines = e }
+
+-- what is good, asked and led of the one that is read
+pub good_of : (processes : List Process) (i : ℕ) (q : Process) → i < length processes → IsGoodAt processes i
+    → ArePackable (slice_index_or processes i q).registers
+    × IsGoodProgress (slice_index_or processes i q).registers (slice_index_or processes i q).progress
+good_of processes i q h good =
+    let same = same_at processes i q good.process h good.at in (
+      subst (λ (p : Process). ArePackable p.registers) same good.packable,
+      subst (λ (p : Process). IsGoodProgress p.registers p.progress) same good.progress,
+    )
+
+pub led_of : (processes : List Process) (i : ℕ) (q : Process) (o : Operand) (place : Place) → i < length processes → IsLedAt processes i o place
+    → IsLed (slice_index_or processes i q).registers o (slice_index_or processes i q).progress place
+led_of processes i q o place h led =
+    subst (λ (p : Process). IsLed p.registers o p.progress place) (same_at processes i q led.process h led.at) led.led
+
+pub has_asked : (processes : List Process) (i : ℕ) (q : Process) (o : Operand) (asked : Asked) → i < length processes
+    → AsksFor (slice_index_or processes i q).registers o (slice_index_or processes i q).progress asked
+    → IsGoodAsked (slice_index_or processes i q).registers asked → HasAsked processes i o asked
+has_asked processes i q o asked h asks good = record {
+  process = slice_index_or processes i q;
+  at = get_at processes i q h;
+  asks = asks;
+  good = good;
+}
+
+pub has_fed : (processes : List Process) (i : ℕ) (q p : Process) (l : Line) (o : Operand) (value r1 : ℕ) (event : Event2) (stepped : Stepped)
+    → i < length processes → IsFed (slice_index_or processes i q) l o value r1 event p stepped
+    → HasFed processes i l o value r1 event (slice_set processes i p) stepped
+has_fed processes i q p l o value r1 event stepped h fed = record {
+  before = slice_index_or processes i q;
+  at = get_at processes i q h;
+  after = p;
+  fed = fed;
+  set = refl;
+}
 
 -- processes before their first lines, one after another
 place_in : (processes : List Process) (p found : Process) (i : ℕ) → slice_get (processes ++ p ∷ []) i ≡ Some found
@@ -95,9 +140,9 @@ place_in (q ∷ processes) p found (suc i) e = elim (place_in processes p found 
 ]
 
 pub fresh_more : (x : Outline) (count : ℕ) (processes processes' : List Process) (p : Process) → AreFreshUpTo x count processes
-    → p.first ≡ first_line x (count + 1) → p.registers ≡ opening_registers 1 → p.recording.steps ≡ [] → p.recording.events ≡ []
-    → processes' ≡ processes ++ p ∷ [] → AreFreshUpTo x (count + 1) processes'
-fresh_more x count processes processes' p f first registers steps events more = record {
+    → p.first ≡ first_line x (count + 1) → p.registers ≡ opening_registers 1 → ArePackable p.registers → p.recording.steps ≡ []
+    → p.recording.events ≡ [] → p.progress ≡ Before → processes' ≡ processes ++ p ∷ [] → AreFreshUpTo x (count + 1) processes'
+fresh_more x count processes processes' p f first registers packable steps events progress more = record {
   count = ap length more ∙ length-append processes (p ∷ []) ∙ ap (λ n. n + 1) f.count;
   each = λ i found e. elim (place_in processes p found i (ap (λ (l : List Process). slice_get l i) (sym more) ∙ e)) [
     | inl old ↦ f.each i found old
@@ -110,7 +155,13 @@ fresh_more x count processes processes' p f first registers steps events more = 
 
     fresh : (i : ℕ) → i ≡ count → IsFresh x i p
     fresh i e = record {
-      idle = record { first = first ∙ ap (first_line x) (next count ∙ ap suc (sym e)); events = events };
+      good = record {
+        first = first ∙ ap (first_line x) (next count ∙ ap suc (sym e));
+        packable = packable;
+        progress = subst (IsGoodProgress p.registers) (sym progress) tt;
+      };
       registers = registers;
       steps = steps;
+      events = events;
+      progress = progress;
     }

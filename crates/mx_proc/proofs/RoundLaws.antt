@@ -1,36 +1,46 @@
--- A round of steps leaves fewer lines, as long as one is left.
-use Rattle.std.proofs.Common.{◌≡◌, ◌⊎◌, inl, inr, ℕ, zero, suc, ◌<◌, ◌≤◌, ◌+◌, ◌-◌, List, [], ◌∷◌, drop, length, Some, refl, sym, ◌∙◌, ap, subst, arith, length-append}
+-- A round of steps leaves fewer steps to make, as long as a line is left.
+use Rattle.std.proofs.Common.{◌≡◌, ◌⊎◌, inl, inr, ℕ, zero, suc, ◌<◌, ◌≤◌, ◌+◌, ◌-◌, ◌*◌, List, [], ◌∷◌, drop, length, Some, refl, sym, ◌∙◌, ap, subst, arith, length-append}
 use Rattle.std.proofs.lemmas.Bool.{cases_lt}
 use Rattle.std.proofs.lemmas.Option.{slice_get_within}
 use Rattle.std.specs.List.{slice_get, slice_set}
 use Rattle.mx_legal.specs.Scripts.{lines_of}
+use Rattle.mx_legal.specs.Transcripts.{Step}
 use Rattle.mx_script.specs.Sessions.{Outline}
+use Rattle.mx_script.specs.declared.lines.Line.{Line}
 use Rattle.mx_proc.proofs.SeatLaws.{set_length, left_more}
-use Rattle.mx_proc.specs.Rounds.{lines_left, all_left, HaveEndedUpTo, IsAsked}
+use Rattle.mx_proc.specs.Operands.{steps_in}
+use Rattle.mx_proc.specs.Rounds.{steps_of, steps_left, all_left, HaveEndedUpTo, IsAsked}
 use Rattle.mx_proc.specs.Running.{left_of}
-use Rattle.mx_proc.specs.Stepping.{HasStepped, HasEnded, HaveEnded}
+use Rattle.mx_proc.specs.Stepping.{HasMoved, HasStepped, HasEnded, HaveEnded}
 use Rattle.mx_proc.specs.Worlds.{Seat, World}
 use Rattle.mx_proc.specs.declared.benches.Stepped.{Stepped}
-use Rattle.mx_proc.specs.declared.benches.Stepped.TheVariants.{LineDone, Ended}
+use Rattle.mx_proc.specs.declared.benches.Stepped.TheVariants.{More, LineDone, Ended}
+use Rattle.mx_proc.specs.declared.operands.Progress.{Progress}
 
--- one line less of one process
+-- fewer steps of one process
 fewer : (x : Outline) (p : ℕ) (seats : List Seat) (i : ℕ) (before after : Seat) → slice_get seats i ≡ Some before
-    → length (left_of x (p + i) after) < length (left_of x (p + i) before) → lines_left x p (slice_set seats i after) < lines_left x p seats
+    → steps_of x (p + i) after < steps_of x (p + i) before → steps_left x p (slice_set seats i after) < steps_left x p seats
 fewer x p [] i before after e less = absurd (cc)
 fewer x p (seat ∷ seats) zero before after e less =
     let same : seat ≡ before = same_seat seat before e in
     let here : p + 0 ≡ p = omega arith in
-    let l : length (left_of x p after) < length (left_of x p seat)
-    = subst (λ n. length (left_of x n after) < length (left_of x n seat)) here
-    (subst (λ (s : Seat). length (left_of x (p + 0) after) < length (left_of x (p + 0) s)) (sym same) less) in
-    omega (arith, l)
+    let l : steps_of x p after < steps_of x p seat
+    = subst (λ n. steps_of x n after < steps_of x n seat) here
+    (subst (λ (s : Seat). steps_of x (p + 0) after < steps_of x (p + 0) s) (sym same) less) in
+    plus_less (steps_of x p after) (steps_of x p seat) (steps_left x (suc p) seats) l
   where
     same_seat : (a b : Seat) → Some a ≡ Some b → a ≡ b
     same_seat a b e = cc
+
+    plus_less : (a b c : ℕ) → a < b → a + c < b + c
+    plus_less a b c h = omega arith
 fewer x p (seat ∷ seats) (suc i) before after e less =
     let there : p + suc i ≡ suc p + i = omega arith in
-    let l = fewer x (suc p) seats i before after e (subst (λ n. length (left_of x n after) < length (left_of x n before)) there less) in
-    omega (arith, l)
+    let l = fewer x (suc p) seats i before after e (subst (λ n. steps_of x n after < steps_of x n before) there less) in
+    plus_less (steps_of x p seat) (steps_left x (suc p) (slice_set seats i after)) (steps_left x (suc p) seats) l
+  where
+    plus_less : (c a b : ℕ) → a < b → c + a < c + b
+    plus_less c a b h = omega arith
 
 pub stepped_less : (old : World) (p : ℕ) (new : World) → 1 ≤ p → HasStepped old p new → all_left new < all_left old
 stepped_less old p new some h =
@@ -38,26 +48,57 @@ stepped_less old p new some h =
     let left : left_of old.session p h.after ≡ h.left
     = ap (λ n. drop n (lines_of old.session p)) (ap length h.done ∙ length-append h.before.steps (h.step ∷ []) ∙ next (length h.before.steps))
     ∙ left_more (length h.before.steps) (lines_of old.session p) h.line h.left h.at in
-    let less : length (left_of old.session p h.after) < length (left_of old.session p h.before)
-    = rw (left, h.at) (omega arith) in
+    let after : steps_of old.session p h.after ≡ 11 * length h.left + 10
+    = ap (λ (l : List (ℕ × Line)). 11 * length l + steps_in h.after.progress) left ∙ ap (λ (r : Progress). 11 * length h.left + steps_in r) h.fresh in
+    let before : steps_of old.session p h.before ≡ 11 * suc (length h.left) + steps_in h.before.progress
+    = ap (λ (l : List (ℕ × Line)). 11 * length l + steps_in h.before.progress) h.at in
+    let less : steps_of old.session p h.after < steps_of old.session p h.before
+    = one_less (length h.left) (steps_in h.before.progress) (steps_of old.session p h.after) (steps_of old.session p h.before) after before in
     let l = fewer old.session 1 old.seats (p - 1) h.before h.after h.seated
-    (subst (λ n. length (left_of old.session n h.after) < length (left_of old.session n h.before)) (sym own) less) in
+    (subst (λ n. steps_of old.session n h.after < steps_of old.session n h.before) (sym own) less) in
     rw (h.session, h.seats) l
   where
     next : (n : ℕ) → n + 1 ≡ suc n
     next n = omega arith
 
+    one_less : (n k a b : ℕ) → a ≡ 11 * n + 10 → b ≡ 11 * suc n + k → a < b
+    one_less n k a b e f = omega arith
+
+pub moved_less : (old : World) (p : ℕ) (new : World) → 1 ≤ p → HasMoved old p new → all_left new < all_left old
+moved_less old p new some h =
+    let own : 1 + (p - 1) ≡ p = omega (arith, some) in
+    let lines : left_of old.session p h.after ≡ left_of old.session p h.before
+    = ap (λ (steps : List Step). drop (length steps) (lines_of old.session p)) h.steps in
+    let less : steps_of old.session p h.after < steps_of old.session p h.before
+    = same_lines (length (left_of old.session p h.after)) (length (left_of old.session p h.before)) (steps_in h.after.progress)
+    (steps_in h.before.progress) (ap length lines) h.closer in
+    let l = fewer old.session 1 old.seats (p - 1) h.before h.after h.seated
+    (subst (λ n. steps_of old.session n h.after < steps_of old.session n h.before) (sym own) less) in
+    rw (h.session, h.seats) l
+  where
+    same_lines : (n m a b : ℕ) → n ≡ m → a < b → 11 * n + a < 11 * m + b
+    same_lines n m a b e h = omega arith
+
+on_one : (start : World) (i : ℕ) (now next : World) → next.session ≡ now.session → length next.seats ≡ length now.seats
+    → all_left next < all_left now → IsAsked start i now → IsAsked start (i + 1) next
+on_one start i now next session seats less a = record {
+  session = session ∙ a.session;
+  seats = seats ∙ a.seats;
+  progress = inl (elim a.progress [
+    | inl l ↦ omega (arith, l, less)
+    | inr s ↦ subst (λ (w : World). all_left next < all_left w) s.0 less
+  ]);
+}
+
 asked_step : (start : World) (i : ℕ) (now next : World) → HasStepped now (i + 1) next → IsAsked start i now → IsAsked start (i + 1) next
 asked_step start i now next h a =
-    let less = stepped_less now (i + 1) next (omega arith) h in
-    record {
-      session = h.session ∙ a.session;
-      seats = ap length h.seats ∙ set_length now.seats (i + 1 - 1) h.after ∙ a.seats;
-      progress = inl (elim a.progress [
-        | inl l ↦ omega (arith, l, less)
-        | inr s ↦ subst (λ (w : World). all_left next < all_left w) s.0 less
-      ]);
-    }
+    on_one start i now next h.session (ap length h.seats ∙ set_length now.seats (i + 1 - 1) h.after)
+    (stepped_less now (i + 1) next (omega arith) h) a
+
+asked_move : (start : World) (i : ℕ) (now next : World) → HasMoved now (i + 1) next → IsAsked start i now → IsAsked start (i + 1) next
+asked_move start i now next h a =
+    on_one start i now next h.session (ap length h.seats ∙ set_length now.seats (i + 1 - 1) h.after)
+    (moved_less now (i + 1) next (omega arith) h) a
 
 asked_ended : (start : World) (i : ℕ) (now : World) → HasEnded now (i + 1) → IsAsked start i now → IsAsked start (i + 1) now
 asked_ended start i now h a = record {
@@ -108,8 +149,10 @@ round_less start now a some = elim a.progress [
 ]
 
 -- what a step answers
-pub asked_on : (start now next : World) (i : ℕ) (answered : Stepped) → (answered ≡ Ended → HasEnded now (i + 1)) → (answered ≡ LineDone → HasStepped now (i + 1) next)
+pub asked_on : (start now next : World) (i : ℕ) (answered : Stepped) → (answered ≡ Ended → HasEnded now (i + 1))
+    → (answered ≡ More → HasMoved now (i + 1) next) → (answered ≡ LineDone → HasStepped now (i + 1) next)
     → (answered ≡ Ended → next ≡ now) → IsAsked start i now → IsAsked start (i + 1) next
-asked_on start now next i LineDone ended done still a = asked_step start i now next (done refl) a
-asked_on start now next i Ended ended done still a =
+asked_on start now next i More ended more done still a = asked_move start i now next (more refl) a
+asked_on start now next i LineDone ended more done still a = asked_step start i now next (done refl) a
+asked_on start now next i Ended ended more done still a =
     subst (IsAsked start (i + 1)) (sym (still refl)) (asked_ended start i now (ended refl) a)

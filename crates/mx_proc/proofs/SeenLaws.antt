@@ -1,15 +1,16 @@
 -- The same as a caller sees it, whose old world is the bench's.
-use Rattle.std.proofs.Common.{◌≡◌, ℕ, ◌<◌, ◌≤◌, ◌-◌, List, [], ◌∷◌, length, Some, sym, ◌∙◌, ap, subst}
+use Rattle.std.proofs.Common.{◌≡◌, ℕ, ◌<◌, ◌≤◌, ◌-◌, List, [], ◌∷◌, ◌++◌, length, Some, sym, ◌∙◌, ap, subst, arith}
 use Rattle.std.specs.List.{slice_get}
 use Rattle.std.specs.Prelude.{Result, Ok, Err, OnErr}
 use Rattle.std.specs.Option.{option_map}
-use Rattle.mx_call.specs.Registers.{Registers}
+use Rattle.mx_call.specs.Registers.{Registers, ArePackable}
 use Rattle.mx_core.specs.declared.elements.Event.TheVariants.{Seen}
-use Rattle.mx_legal.specs.Asking.{next, result_of}
-use Rattle.mx_legal.specs.Courses.{Attempt, Judged}
-use Rattle.mx_legal.specs.Next.{Reference, Asks}
+use Rattle.mx_core.specs.declared.elements.Outcome.TheVariants.{Denied}
+use Rattle.mx_legal.specs.Asking.{result_of}
+use Rattle.mx_legal.specs.Courses.{Judged}
+use Rattle.mx_legal.specs.Next.{Reference, Asks, Ends, at_place, storing}
 use Rattle.mx_legal.specs.Settings.{entry_at}
-use Rattle.mx_legal.specs.Targets.{after_target}
+use Rattle.mx_legal.specs.Targets.{at_target, after_target}
 use Rattle.mx_legal.specs.Transcripts.{Step}
 use Rattle.mx_legal.specs.declared.transcripts.Event2.TheVariants.{Core, Entry}
 use Rattle.mx_legal.specs.declared.transcripts.Result2.{Result2}
@@ -19,72 +20,280 @@ use Rattle.mx_request.specs.declared.replies.Reply.{Reply}
 use Rattle.mx_request.specs.declared.requests.Request.{Request}
 use Rattle.mx_script.specs.Sessions.{Outline, limit_of}
 use Rattle.mx_script.specs.declared.lines.Line.{Line}
-use Rattle.mx_script.specs.declared.lines.Line.TheVariants.{Ask, Set}
+use Rattle.mx_script.specs.declared.lines.Line.TheVariants as lines
+use Rattle.mx_script.specs.declared.lines.Operand.{Operand}
 use Rattle.mx_sdw.specs.Descriptors.{Descriptor}
+use Rattle.mx_sdw.specs.declared.denials.Denial.{Denial}
+use Rattle.mx_sdw.specs.declared.operations.Op.TheVariants as op
 use Rattle.mx_state.specs.Table.{descriptor}
 use Rattle.mx_state.specs.declared.journal.Entry as journaled
 use Rattle.mx_sup.specs.Entering.{HasEntered}
 use Rattle.mx_sup.specs.Supervised.{Supervised, state_of}
-use Rattle.mx_proc.proofs.BenchLaws.{still_seats}
-use Rattle.mx_proc.specs.Benches.{world_in, first_of, IsKept}
-use Rattle.mx_proc.specs.Making.{IsMade}
-use Rattle.mx_proc.specs.Processes.{IsStill, IsCountable, HasEnded}
-use Rattle.mx_proc.specs.Stepping.{IsAtLine, HasStepped}
-use Rattle.mx_proc.proofs.KindLaws.{set_goes, full_goes, call_goes, refer_goes}
+use Rattle.mx_proc.proofs.BenchLaws.{still_seats, seat_is}
 use Rattle.mx_proc.proofs.BoundLaws.{at_within, at_principal, at_countable, still_within}
+use Rattle.mx_proc.proofs.KindLaws.{end_goes, full_goes, call_goes, refer_goes, look_goes}
+use Rattle.mx_proc.proofs.MadeLaws.{stores_made}
+use Rattle.mx_proc.proofs.OperandLaws.{memory_next, walked, led_to, target_asks, target_goes, word_asks, word_denied, fewer_steps, after_packable}
+use Rattle.mx_proc.proofs.SeatLaws.{set_here}
+use Rattle.mx_proc.specs.Asking.{IsAsking, IsEnding, IsCalling, IsStoring}
+use Rattle.mx_proc.specs.Benches.{world_in, first_of, IsKept}
+use Rattle.mx_proc.specs.Making.{IsMade, IsLooked, HasRead, HasCome, looks, beside}
+use Rattle.mx_proc.specs.Operands.{operand_of, walk_at, IsPlaced, AsksFor, IsOnward, IsGoodOnward, IsCloser}
+use Rattle.mx_proc.specs.Processes.{seat_in, IsStill, IsCountable, HasEnded, HasFed, Feeds, Goes}
+use Rattle.mx_proc.specs.Stepping.{IsAtLine, HasStepped, HasGone}
 use Rattle.mx_proc.specs.Worlds.{Seat, World}
+use Rattle.mx_proc.specs.declared.benches.Stepped.{Stepped}
 use Rattle.mx_proc.specs.declared.memory.Contents.{Contents}
+use Rattle.mx_proc.specs.declared.operands.Asked.TheVariants.{Target, First}
+use Rattle.mx_proc.specs.declared.operands.Onward.{Onward}
+use Rattle.mx_proc.specs.declared.operands.Onward.TheVariants.{More, End}
+use Rattle.mx_proc.specs.declared.operands.Place.{Place}
+use Rattle.mx_proc.specs.declared.operands.Progress.{Progress}
+use Rattle.mx_proc.specs.declared.operands.Way.TheVariants as way
 use Rattle.mx_proc.specs.declared.processes.Process.{Process}
+use Rattle.mx_proc.specs.declared.references.Looked.{Looked}
 use Rattle.mx_proc.specs.declared.references.Made.{Made}
 
-pub set_done : (x : Outline) (s : Supervised) (whole : List (List Step)) (room : ℕ) (cells : List Contents) (processes middle processes' : List Process)
-    (p i word : ℕ) (q : Process) (registers : Registers)
-    (w : World)
-    → IsKept x s whole room cells processes → world_in x s whole cells processes ≡ w → i ≡ p - 1 → IsAtLine w p (Set word)
-    → slice_get processes i ≡ Some q → registers ≡ record q.registers { a = word }
-    → IsStill processes i middle → HasEnded middle i [] result.Done registers processes'
+pub end_done : (x : Outline) (s : Supervised) (whole : List (List Step)) (room : ℕ) (cells : List Contents) (processes middle processes' : List Process)
+    (p i : ℕ) (line : Line) (ends : Result2) (registers : Registers) (w : World)
+    → IsKept x s whole room cells processes → world_in x s whole cells processes ≡ w → i ≡ p - 1 → IsAtLine w p line
+    → IsEnding w p line ends registers → IsStill processes i middle → HasEnded middle i [] ends registers processes'
     → IsKept x s whole room cells processes' × HasStepped w p (world_in x s whole cells processes')
-set_done x s whole room cells processes middle processes' p i word q registers w k view place a here is still ended =
-    let g = set_goes x s whole room cells processes middle processes' p i word q registers k place (subst (λ (v : World). IsAtLine v p (Set word)) (sym view) a) here is still ended in
-    (g.0, subst (λ (v : World). HasStepped v p (world_in x s whole cells processes')) view g.1)
+end_done x s whole room cells processes middle processes' p i line ends registers w k view place a e still ended =
+    subst (λ (v : World). IsAtLine v p line → IsEnding v p line ends registers
+    → IsKept x s whole room cells processes' × HasStepped v p (world_in x s whole cells processes')) view
+    (λ a e. end_goes x s whole room cells processes middle processes' p i line ends registers k place a e still ended) a e
 
 pub full_done : (x : Outline) (s : Supervised) (whole : List (List Step)) (room : ℕ) (cells : List Contents) (processes middle processes' : List Process)
-    (p i : ℕ) (request : Request) (q : Process) (registers : Registers)
-    (w : World)
-    → IsKept x s whole room cells processes → world_in x s whole cells processes ≡ w → i ≡ p - 1 → IsAtLine w p (Ask request)
+    (p i : ℕ) (line : Line) (ring : ℕ) (request : Request) (q : Process) (registers : Registers) (w : World)
+    → IsKept x s whole room cells processes → world_in x s whole cells processes ≡ w → i ≡ p - 1 → IsAtLine w p line
+    → IsCalling w p line ring request
     → slice_get processes i ≡ Some q → registers ≡ q.registers → length s.journal ≡ limit_of s.session
     → IsStill processes i middle → HasEnded middle i [] result.HistoryFull registers processes'
     → IsKept x s whole room cells processes' × HasStepped w p (world_in x s whole cells processes')
-full_done x s whole room cells processes middle processes' p i request q registers w k view place a here is full still ended =
-    let g = full_goes x s whole room cells processes middle processes' p i request q registers k place (subst (λ (v : World). IsAtLine v p (Ask request)) (sym view) a) here is full still ended in
-    (g.0, subst (λ (v : World). HasStepped v p (world_in x s whole cells processes')) view g.1)
+full_done x s whole room cells processes middle processes' p i line ring request q registers w k view place a e here is full still ended =
+    subst (λ (v : World). IsAtLine v p line → IsCalling v p line ring request
+    → IsKept x s whole room cells processes' × HasStepped v p (world_in x s whole cells processes')) view
+    (λ a e. full_goes x s whole room cells processes middle processes' p i line ring request q registers k place a e here is full still ended) a e
 
 pub call_done : (x : Outline) (s s' : Supervised) (whole : List (List Step)) (room : ℕ) (cells : List Contents) (processes middle processes' : List Process)
-    (p i number : ℕ) (request : Request) (reply : Reply) (ends : Result2) (q : Process) (registers : Registers)
-    (w : World)
-    → IsKept x s whole room cells processes → world_in x s whole cells processes ≡ w → i ≡ p - 1 → IsAtLine w p (Ask request)
-    → slice_get processes i ≡ Some q → registers ≡ q.registers → HasEntered s p registers.ring request number s'
+    (p i number : ℕ) (line : Line) (ring : ℕ) (request : Request) (reply : Reply) (ends : Result2) (q : Process) (registers : Registers) (w : World)
+    → IsKept x s whole room cells processes → world_in x s whole cells processes ≡ w → i ≡ p - 1 → IsAtLine w p line
+    → IsCalling w p line ring request
+    → slice_get processes i ≡ Some q → registers ≡ q.registers → HasEntered s p ring request number s'
     → option_map (λ (e : journaled.Entry). e.reply) (entry_at s'.journal number) ≡ Some reply → ends ≡ result_of reply
     → IsStill processes i middle → HasEnded middle i (Entry number ∷ []) ends registers processes'
     → IsKept x s' whole room cells processes' × HasStepped w p (world_in x s' whole cells processes')
-call_done x s s' whole room cells processes middle processes' p i number request reply ends q registers w k view place a here is e replied result still ended =
-    let g = call_goes x s s' whole room cells processes middle processes' p i number request reply ends q registers k place (subst (λ (v : World). IsAtLine v p (Ask request)) (sym view) a) here is e replied result still ended in
-    (g.0, subst (λ (v : World). HasStepped v p (world_in x s' whole cells processes')) view g.1)
+call_done x s s' whole room cells processes middle processes' p i number line ring request reply ends q registers w k view place a c here is e replied result still ended =
+    subst (λ (v : World). IsAtLine v p line → IsCalling v p line ring request
+    → IsKept x s' whole room cells processes' × HasStepped v p (world_in x s' whole cells processes')) view
+    (λ a c. call_goes x s s' whole room cells processes middle processes' p i number line ring request reply ends q registers k place a c here is e replied result still ended) a c
 
-pub refer_done : (x : Outline) (s : Supervised) (whole : List (List Step)) (room : ℕ) (cells cells' : List Contents) (processes middle processes' : List Process)
-    (p i point : ℕ) (line : Line) (q : Process) (registers : Registers) (target : PointerParts) (asked : Reference) (desc : Descriptor) (made : Made)
+-- a line does its own at its target
+pub own_done : (x : Outline) (s : Supervised) (whole : List (List Step)) (room : ℕ) (cells cells' : List Contents) (processes middle processes' : List Process)
+    (p i point : ℕ) (line : Line) (o : Operand) (q : Process) (registers : Registers) (target : PointerParts) (asked : Reference) (desc : Descriptor) (made : Made)
     (w : World)
     → IsKept x s whole room cells processes → world_in x s whole cells processes ≡ w → i ≡ p - 1 → IsAtLine w p line
+    → operand_of line ≡ Some o → IsAsking w p o (Target target) → at_target registers line target ≡ Asks asked
     → slice_get processes i ≡ Some q → registers ≡ q.registers
-    → next registers line (Attempt []) ≡ Asks asked
-    → ((j : Judged) → next registers line (Attempt (j ∷ [])) ≡ after_target registers line target j.desc j.element.outcome)
     → desc ≡ descriptor (state_of s) p target.segno → point ≡ length s.journal → length cells' ≡ 65536
     → IsMade line asked registers desc target p point cells cells' made
     → IsStill processes i middle → HasEnded middle i (Core (Seen made.element) ∷ []) made.ends made.after processes'
     → IsKept x s whole room cells' processes' × HasStepped w p (world_in x s whole cells' processes')
-refer_done x s whole room cells cells' processes middle processes' p i point line q registers target asked desc made w k view place a here is asks goes on_desc at_end wide m still ended =
-    let g = refer_goes x s whole room cells cells' processes middle processes' p i point line q registers target asked desc made k place (subst (λ (v : World). IsAtLine v p line) (sym view) a) here is asks goes on_desc at_end wide m still ended in
-    (g.0, subst (λ (v : World). HasStepped v p (world_in x s whole cells' processes')) view g.1)
+own_done x s whole room cells cells' processes middle processes' p i point line o q registers target asked desc made w k view place a own c does here is on_desc at_end wide m still ended =
+    subst (λ (v : World). IsAtLine v p line → IsAsking v p o (Target target)
+    → IsKept x s whole room cells' processes' × HasStepped v p (world_in x s whole cells' processes')) view
+    (λ a c. goes a c) a c
+  where
+    j : Judged
+    j = beside made desc
+
+    goes : IsAtLine (world_in x s whole cells processes) p line → IsAsking (world_in x s whole cells processes) p o (Target target)
+        → IsKept x s whole room cells' processes' × HasStepped (world_in x s whole cells processes) p (world_in x s whole cells' processes')
+    goes a c =
+        let seat : c.seat ≡ seat_in q = seat_is x s whole cells processes p i c.seat q place c.seated here in
+        let asks : AsksFor q.registers o q.progress (Target target)
+        = subst (λ (seat : Seat). AsksFor seat.registers o seat.progress (Target target)) seat c.asks in
+        let end : after_target q.registers line target desc made.element.outcome ≡ Ends made.ends made.after
+        = subst (λ (g : Registers). after_target g line target desc made.element.outcome ≡ Ends made.ends made.after) is m.end in
+        refer_goes x s whole room cells cells' processes middle processes' p i target.segno point line q asked (beside made desc) made.ends made.after
+        k place a here
+        (λ seen placed. target_asks q.registers line o q.progress target own asks seen placed
+        ∙ subst (λ (g : Registers). at_target g line target ≡ Asks asked) is does)
+        m.judged (record { on = on_desc; segno_is = m.segno; at_end = at_end; point_is = m.point_is }) wide (m.access k.wide)
+        (λ seen placed. target_goes q.registers line o q.progress target own asks (beside made desc) seen placed ∙ end)
+        (after_packable q.registers line target desc made.element.outcome made.ends made.after (k.good i q here).packable end)
+        still ended
+
+-- `lda` at its target
+pub load_done : (x : Outline) (s : Supervised) (whole : List (List Step)) (room : ℕ) (cells cells' : List Contents) (processes middle processes' : List Process)
+    (p i point : ℕ) (line : Line) (o : Operand) (q : Process) (registers : Registers) (target : PointerParts) (desc : Descriptor) (made : Made)
+    (w : World)
+    → IsKept x s whole room cells processes → world_in x s whole cells processes ≡ w → i ≡ p - 1 → IsAtLine w p line
+    → line ≡ lines.Lda o → IsAsking w p o (Target target)
+    → slice_get processes i ≡ Some q → registers ≡ q.registers
+    → desc ≡ descriptor (state_of s) p target.segno → point ≡ length s.journal → length cells' ≡ 65536
+    → IsMade (lines.Lda o) (at_place op.Read target) registers desc target p point cells cells' made
+    → IsStill processes i middle → HasEnded middle i (Core (Seen made.element) ∷ []) made.ends made.after processes'
+    → IsKept x s whole room cells' processes' × HasStepped w p (world_in x s whole cells' processes')
+load_done x s whole room cells cells' processes middle processes' p i point line o q registers target desc made w k view place a e c here is on_desc at_end wide m still ended =
+    own_done x s whole room cells cells' processes middle processes' p i point line o q registers target (at_place op.Read target) desc made w k view place a
+    (ap operand_of e) c (ap (λ (l : Line). at_target registers l target) e) here is on_desc at_end wide
+    (subst (λ (l : Line). IsMade l (at_place op.Read target) registers desc target p point cells cells' made) (sym e) m) still ended
+
+-- `sta` and `spri` at their targets
+pub store_done : (x : Outline) (s : Supervised) (whole : List (List Step)) (room : ℕ) (cells cells' : List Contents) (processes middle processes' : List Process)
+    (p i point value : ℕ) (line : Line) (o : Operand) (q : Process) (registers : Registers) (target : PointerParts) (desc : Descriptor) (made : Made)
+    (w : World)
+    → IsKept x s whole room cells processes → world_in x s whole cells processes ≡ w → i ≡ p - 1 → IsAtLine w p line
+    → operand_of line ≡ Some o → IsAsking w p o (Target target) → IsStoring w p line target value
+    → slice_get processes i ≡ Some q → registers ≡ q.registers
+    → desc ≡ descriptor (state_of s) p target.segno → point ≡ length s.journal → length cells' ≡ 65536
+    → ((o : Operand) → IsMade (lines.Sta o) (storing value target) registers desc target p point cells cells' made)
+    → ((n : ℕ) (o : Operand) → IsMade (lines.Spri n o) (storing value target) registers desc target p point cells cells' made)
+    → IsStill processes i middle → HasEnded middle i (Core (Seen made.element) ∷ []) made.ends made.after processes'
+    → IsKept x s whole room cells' processes' × HasStepped w p (world_in x s whole cells' processes')
+store_done x s whole room cells cells' processes middle processes' p i point value line o q registers target desc made w k view place a own c st here is on_desc at_end wide sta spri still ended =
+    let seat : st.seat ≡ seat_in q
+    = seat_is x s whole cells processes p i st.seat q place (ap (λ (v : World). slice_get v.seats (p - 1)) view ∙ st.seated) here in
+    let does : at_target registers line target ≡ Asks (storing value target)
+    = ap (λ (g : Registers). at_target g line target) (is ∙ sym (ap (λ (t : Seat). t.registers) seat)) ∙ st.asks in
+    own_done x s whole room cells cells' processes middle processes' p i point line o q registers target (storing value target) desc made w k view place a
+    own c does here is on_desc at_end wide
+    (stores_made line (storing value target) registers desc target p point cells cells' made st.stores sta spri) still ended
+
+-- an indirect word is denied
+pub denied_done : (x : Outline) (s : Supervised) (whole : List (List Step)) (room : ℕ) (cells : List Contents) (processes middle processes' : List Process)
+    (p i point : ℕ) (line : Line) (o : Operand) (q : Process) (registers : Registers) (place : Place) (desc : Descriptor) (looked : Looked) (denial : Denial)
+    (w : World)
+    → IsKept x s whole room cells processes → world_in x s whole cells processes ≡ w → i ≡ p - 1 → IsAtLine w p line
+    → operand_of line ≡ Some o → IsAsking w p o (First (way.Word place))
+    → slice_get processes i ≡ Some q → registers ≡ q.registers
+    → desc ≡ descriptor (state_of s) p place.segno → point ≡ length s.journal
+    → IsLooked place desc p point cells looked → looked.came ≡ Err denial
+    → IsStill processes i middle → HasEnded middle i (Core (Seen looked.element) ∷ []) (result.Denied denial) registers processes'
+    → IsKept x s whole room cells processes' × HasStepped w p (world_in x s whole cells processes')
+denied_done x s whole room cells processes middle processes' p i point line o q registers place desc looked denial w k view at a own c here is on_desc at_end l came still ended =
+    subst (λ (v : World). IsAtLine v p line → IsAsking v p o (First (way.Word place))
+    → IsKept x s whole room cells processes' × HasStepped v p (world_in x s whole cells processes')) view
+    (λ a c. goes a c) a c
+  where
+    goes : IsAtLine (world_in x s whole cells processes) p line → IsAsking (world_in x s whole cells processes) p o (First (way.Word place))
+        → IsKept x s whole room cells processes' × HasStepped (world_in x s whole cells processes) p (world_in x s whole cells processes')
+    goes a c =
+        let seat : c.seat ≡ seat_in q = seat_is x s whole cells processes p i c.seat q at c.seated here in
+        let asks : AsksFor q.registers o q.progress (First (way.Word place))
+        = subst (λ (seat : Seat). AsksFor seat.registers o seat.progress (First (way.Word place))) seat c.asks in
+        let led = led_to q.registers o q.progress place asks in
+        let denied : looked.element.outcome ≡ Denied denial = subst (λ (r : Result ℕ Denial). HasCome r looked.element.outcome) came l.came in
+        refer_goes x s whole room cells cells processes middle processes' p i place.segno point line q (looks place)
+        (record { element = looked.element; desc = desc }) (result.Denied denial) registers k at a here
+        (λ seen placed. word_asks q.registers line o q.progress place own led seen placed)
+        l.judged (record { on = on_desc; segno_is = l.segno; at_end = at_end; point_is = l.point_is }) k.wide (l.access k.wide)
+        (λ seen placed. word_denied q.registers line o q.progress place denial own led (record { element = looked.element; desc = desc }) denied seen placed
+        ∙ ap (λ (g : Registers). Ends (result.Denied denial) g) (sym is))
+        (subst ArePackable (sym is) (k.good i q here).packable)
+        still ended
+
+-- an indirect word is read, and taken or not
+pub fed_done : (x : Outline) (s : Supervised) (whole : List (List Step)) (room : ℕ) (cells : List Contents) (processes middle processes' : List Process)
+    (p i point value r1 : ℕ) (line : Line) (o : Operand) (q : Process) (place : Place) (desc : Descriptor) (looked : Looked) (stepped : Stepped)
+    (w : World)
+    → IsKept x s whole room cells processes → world_in x s whole cells processes ≡ w → i ≡ p - 1 → IsAtLine w p line
+    → operand_of line ≡ Some o → IsAsking w p o (First (way.Word place))
+    → slice_get processes i ≡ Some q
+    → desc ≡ descriptor (state_of s) p place.segno → point ≡ length s.journal
+    → IsLooked place desc p point cells looked → looked.came ≡ Ok value → r1 ≡ desc.brackets.r1
+    → IsStill processes i middle → HasFed middle i line o value r1 (Core (Seen looked.element)) processes' stepped
+    → IsKept x s whole room cells processes' × HasGone w p stepped (world_in x s whole cells processes')
+fed_done x s whole room cells processes middle processes' p i point value r1 line o q place desc looked stepped w k view at a own c here on_desc at_end l came r1_is still f =
+    subst (λ (v : World). IsAtLine v p line → IsAsking v p o (First (way.Word place))
+    → IsKept x s whole room cells processes' × HasGone v p stepped (world_in x s whole cells processes')) view
+    (λ a c. goes a c) a c
+  where
+    j : Judged
+    j = record { element = looked.element; desc = desc }
+
+    read : HasRead value looked.element.outcome
+    read = subst (λ (r : Result ℕ Denial). HasCome r looked.element.outcome) came l.came
+
+    one : (a b : Process) → Some a ≡ Some b → a ≡ b
+    one a b e = cc
+
+    before_is : f.before ≡ still.after
+    before_is = one f.before still.after (sym f.at ∙ ap (λ (l : List Process). slice_get l i) still.set ∙ set_here processes i still.before still.after still.at)
+
+    q_is : q ≡ still.before
+    q_is = one q still.before (sym here ∙ still.at)
+
+    same_registers : f.before.registers ≡ q.registers
+    same_registers = ap (λ (r : Process). r.registers) before_is ∙ still.registers ∙ ap (λ (r : Process). r.registers) (sym q_is)
+
+    same_progress : f.before.progress ≡ q.progress
+    same_progress = ap (λ (r : Process). r.progress) before_is ∙ still.progress ∙ ap (λ (r : Process). r.progress) (sym q_is)
+
+    walks : walk_at q.registers o q.progress ≡ Some f.fed.walk
+    walks = ap (λ (g : Registers). walk_at g o q.progress) (sym same_registers)
+        ∙ ap (λ (r : Progress). walk_at f.before.registers o r) (sym same_progress) ∙ f.fed.walks
+
+    feeds : Feeds q.registers line f.fed.walk value r1 f.fed.onward
+    feeds = subst (λ (g : Registers). Feeds g line f.fed.walk value r1 f.fed.onward) same_registers f.fed.feeds
+
+    leads : (seen : List Judged) → IsPlaced q.registers line seen q.progress → IsOnward q.registers line (seen ++ j ∷ []) f.fed.onward
+    leads seen placed =
+        feeds.leads seen j read.writer read.stamp (walked q.registers line o q.progress f.fed.walk seen own walks placed) read.is (sym r1_is)
+
+    by_onward : (onward : Onward) → Goes f.before (Core (Seen looked.element)) onward f.after stepped
+        → ((seen : List Judged) → IsPlaced q.registers line seen q.progress → IsOnward q.registers line (seen ++ j ∷ []) onward)
+        → IsGoodOnward q.registers onward → IsCloser (9 - length f.fed.walk.chain) onward
+        → IsAtLine (world_in x s whole cells processes) p line
+        → AsksFor q.registers o q.progress (First (way.Word place))
+        → IsKept x s whole room cells processes' × HasGone (world_in x s whole cells processes) p stepped (world_in x s whole cells processes')
+    by_onward (More progress) g on good closer a asks =
+        let led = led_to q.registers o q.progress place asks in
+        let fewer = fewer_steps q.registers o q.progress f.fed.walk walks in
+        let moves = look_goes x s whole room cells processes middle processes' p i place.segno point line q (looks place) j progress k at a here
+        (λ seen placed. word_asks q.registers line o q.progress place own led seen placed)
+        l.judged (record { on = on_desc; segno_is = l.segno; at_end = at_end; point_is = l.point_is }) (l.access k.wide)
+        on good (omega (arith, fewer, closer)) still
+        (record {
+          before = f.before;
+          at = f.at;
+          after = f.after;
+          first = g.1;
+          registers = g.2;
+          steps = g.3;
+          more = g.4;
+          progress_is = g.5;
+          set = f.set;
+        }) in
+        (moves.0, subst (λ (r : Stepped). HasGone (world_in x s whole cells processes) p r (world_in x s whole cells processes')) (sym g.0) moves.1)
+    by_onward (End ends after) g on good closer a asks =
+        let led = led_to q.registers o q.progress place asks in
+        let done = refer_goes x s whole room cells cells processes middle processes' p i place.segno point line q (looks place) j ends after k at a here
+        (λ seen placed. word_asks q.registers line o q.progress place own led seen placed)
+        l.judged (record { on = on_desc; segno_is = l.segno; at_end = at_end; point_is = l.point_is }) k.wide (l.access k.wide)
+        (λ seen placed. memory_next q.registers line o (seen ++ j ∷ []) own ∙ on seen placed)
+        good still
+        (record {
+          before = f.before;
+          at = f.at;
+          after = f.after;
+          first = g.1;
+          done = g.2;
+          steps = g.3;
+          idle = g.4;
+          fresh = g.5;
+          set = f.set;
+        }) in
+        (done.0, subst (λ (r : Stepped). HasGone (world_in x s whole cells processes) p r (world_in x s whole cells processes')) (sym g.0) done.1)
+
+    goes : IsAtLine (world_in x s whole cells processes) p line → IsAsking (world_in x s whole cells processes) p o (First (way.Word place))
+        → IsKept x s whole room cells processes' × HasGone (world_in x s whole cells processes) p stepped (world_in x s whole cells processes')
+    goes a c =
+        let seat : c.seat ≡ seat_in q = seat_is x s whole cells processes p i c.seat q at c.seated here in
+        by_onward f.fed.onward f.fed.goes leads feeds.good feeds.closer a
+        (subst (λ (seat : Seat). AsksFor seat.registers o seat.progress (First (way.Word place))) seat c.asks)
 
 -- what a call asks, as a caller sees it
 pub seen_within : (x : Outline) (s : Supervised) (whole : List (List Step)) (cells : List Contents) (processes : List Process) (p i : ℕ) (line : Line) (w : World)

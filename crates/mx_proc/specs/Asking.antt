@@ -28,6 +28,7 @@ pub record HasSeatWith (w : World) (p : ℕ) (g : Registers) : Type 0 where
   pub seat : Seat
   pub seated : IsSeat w p seat
   pub registers : g ≡ seat.registers
+  pub packable : ArePackable g
 
 -- its operand asks for this
 pub record IsAsking (w : World) (p : ℕ) (o : Operand) (asked : Asked) : Type 0 where

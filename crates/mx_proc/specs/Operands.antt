@@ -1,5 +1,5 @@
 -- Helpers: how far the operand of the line at work has come, and what it asks for.
-use Rattle.std.specs.Prelude.{◌≡◌, ℕ, ◌-◌, ◌<◌, ◌≤◌, false, List, [], Option, Some, None, length}
+use Rattle.std.specs.Prelude.{◌≡◌, ℕ, ◌-◌, ◌<◌, ◌≤◌, false, List, [], Option, Some, None, length, slice_get}
 use Rattle.mx_call.specs.Registers.{Registers, ArePackable}
 use Rattle.mx_effring.specs.Chains as chains
 use Rattle.mx_effring.specs.Chains.{IsBounded}
@@ -11,7 +11,7 @@ use Rattle.mx_legal.specs.Courses.{Judged}
 use Rattle.mx_legal.specs.Next.{Calls, Ends}
 use Rattle.mx_legal.specs.Operands.{operand_walk}
 use Rattle.mx_legal.specs.Standing.{IsWalked}
-use Rattle.mx_ptr.specs.Pointers.{PointerParts, IsPackable}
+use Rattle.mx_ptr.specs.Pointers.{PointerParts, IsPackable, pointer_word}
 use Rattle.mx_request.specs.declared.requests.Request.TheVariants.{Link}
 use Rattle.mx_script.specs.declared.lines.Line.{Line}
 use Rattle.mx_script.specs.declared.lines.Line.TheVariants as line
@@ -102,6 +102,12 @@ IsOnward g l seen (End ends after) = attempt g l seen ≡ Ends ends after
 abbrev pub IsGoodOnward : Registers → Onward → Type 0
 IsGoodOnward g (More progress) = IsGoodProgress g progress
 IsGoodOnward g (End ends after) = ArePackable after
+
+-- a pointer register is stored without further indirection
+pub record IsRegisterWord (g : Registers) (n value : ℕ) : Type 0 where
+  pub pointer : PointerParts
+  pub at : slice_get g.pr n ≡ Some pointer
+  pub is : value ≡ pointer_word (record pointer { further = false })
 
 -- how many steps a line can still take, at most: eight indirect words, and then its own reference or a link
 abbrev pub steps_in : Progress → ℕ

@@ -1,6 +1,6 @@
 //! The operand of the line at work: how far it has come, what it asks for, and what an indirect word makes of it.
 
-ghost use Rattle.std.specs.Prelude.{◌≡◌, ◌≤◌, ◌-◌, ℕ, true, false, List, [], ◌∷◌, ◌++◌, Some, length, slice_get};
+ghost use Rattle.std.specs.Prelude.{◌≡◌, ◌≤◌, ◌-◌, ℕ, true, List, [], ◌∷◌, ◌++◌, Some, length};
 ghost use Rattle.mx_call.specs.Loading.{loaded};
 ghost use Rattle.mx_call.specs.Registers.{ArePackable};
 ghost use Rattle.mx_core.specs.declared.elements.Outcome.TheVariants.{Read as WasRead};
@@ -10,9 +10,9 @@ ghost use Rattle.mx_legal.specs.Courses.{Judged};
 ghost use Rattle.mx_legal.specs.Operands.{base_of, beyond, operand_walk};
 ghost use Rattle.mx_legal.specs.Standing.{IsWalked};
 ghost use Rattle.mx_legal.specs.declared.transcripts.Result2.TheVariants as results;
-ghost use Rattle.mx_ptr.specs.Pointers.{PointerParts, IsPackable, pointer_word};
+ghost use Rattle.mx_ptr.specs.Pointers.{IsPackable};
 ghost use Rattle.mx_script.specs.Sessions.{is_address, is_script_line};
-ghost use Rattle.mx_proc.specs.Operands.{HasBegun, IsGoodWalk, IsGoodProgress, IsTarget, asked_by, AsksFor, IsGoodAsked, IsOnward, IsGoodOnward, IsCloser};
+ghost use Rattle.mx_proc.specs.Operands.{HasBegun, IsGoodWalk, IsGoodProgress, IsTarget, asked_by, AsksFor, IsGoodAsked, IsOnward, IsGoodOnward, IsCloser, IsRegisterWord};
 ghost use Rattle.mx_proc.specs.declared.operands.Onward.TheVariants.{End};
 
 use mx_call::Regs;
@@ -211,12 +211,12 @@ pub(crate) fn loaded(registers: &Regs, n: u8, target: &Pointer) -> Regs
 pub(crate) fn register_word(registers: &Regs, n: u8) -> Word
     requires number { n ≤ 7 }
     requires packable { ArePackable registers.now }
-    ensures { (p : PointerParts) → slice_get registers.now.pr n ≡ Some p
-        → result ≡ pointer_word (record p { further = false }) }
+    ensures { IsRegisterWord registers.now n result }
 {
+    let pointer = registers.pr[usize::from(n)];
     let plain = Pointer {
         further: false,
-        ..registers.pr[usize::from(n)]
+        ..pointer
     };
     plain.pack()
 }

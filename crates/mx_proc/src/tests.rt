@@ -18,6 +18,7 @@ fn line(alloc: Global, text: &[u8]) -> Result<Line, Fail> {
     let operand = Operand {
         base: Base::Segment(0o10),
         word: 0,
+        indirect: false,
     };
     if text == b"lda".as_slice() {
         return Ok(Line::Lda { operand });

@@ -13,4 +13,4 @@ end_line-requires-clause-number c = number_of _ _ c.index-processes-i.result c.r
 pub returns : goal.returns
 returns c =
     has_ended _ _ c.index-processes-i.result c.end_line.new.self _ _ _ c.requires.within c.end_line.ensures.first c.end_line.ensures.done
-    c.end_line.ensures.steps c.end_line.ensures.idle
+    c.end_line.ensures.steps c.end_line.ensures.idle c.end_line.ensures.fresh

@@ -5,7 +5,8 @@ use Rattle.mx_proc.proofs.benches.Bench.round.Goals as goal
 
 pub loop-i-preserved : goal.loop-i-preserved
 loop-i-preserved c =
-    asked_on _ _ _ _ c.in_ok-step.field-0 (λ e. c.in_ok-step.ensures.ended.0 (ap Ok e)) (λ e. c.in_ok-step.ensures.done (ap Ok e))
+    asked_on _ _ _ _ c.in_ok-step.field-0 (λ e. c.in_ok-step.ensures.ended.0 (ap Ok e)) (λ e. c.in_ok-step.ensures.more (ap Ok e))
+    (λ e. c.in_ok-step.ensures.done (ap Ok e))
     (λ e. c.in_ok-step.ensures.still (ap Ok e)) c.loop-i.invariant
 
 pub returns-clause-less : goal.returns-clause-less
