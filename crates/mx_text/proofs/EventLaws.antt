@@ -182,6 +182,7 @@ element_again e fits =
     let f = both (is_number e.ring) (is_number e.point && fits_outcome e.outcome) fits in
     let g = both (is_number e.point) (fits_outcome e.outcome) f.1 in
     rw (
+      append_assoc (octal e.segno) (124 ∷ []) (octal e.word),
       cut_again 124 (octal e.segno) (octal e.word) (octal_free 124 e.segno refl),
       outcome_again e.outcome g.1,
       octal_value-octal e.segno,
@@ -219,6 +220,7 @@ result_again (result.Pr n p) e =
     let f = both (is_number n) (is_number p.ring && not p.further) e in
     let g = both (is_number p.ring) (not p.further) f.1 in
     rw (
+      append_assoc (octal p.segno) (124 ∷ []) (octal p.word),
       cut_again 124 (octal p.segno) (octal p.word) (octal_free 124 p.segno refl),
       decimal_again n f.0,
       decimal_again p.ring g.0,
@@ -237,8 +239,9 @@ module _ (byte : ℕ) (apart : IsApart byte) (no_bar : (124 == byte) ≡ false) 
 
   address_free : (segno word : ℕ) → is_free byte (address_text segno word) ≡ true
   address_free segno word =
-      free_append byte (octal segno) (124 ∷ octal word) (octal_free byte segno apart.no_octal)
-      (rw (no_bar, octal_free byte word apart.no_octal) refl)
+      free_append byte (octal segno ++ 124 ∷ []) (octal word)
+      (free_append byte (octal segno) (124 ∷ []) (octal_free byte segno apart.no_octal) (rw no_bar refl))
+      (octal_free byte word apart.no_octal)
 
   outcome_free : (came : Outcome) → fits_outcome came ≡ true → list_all (is_free byte) (outcome_fields came) ≡ true
   outcome_free (outcome.Read value writer stamp) e =

@@ -8,6 +8,8 @@ use Rattle.std.specs.Cmp.Lexicographic.{pointwise}
 use Rattle.std.specs.Fmt.{decimal}
 use Rattle.std.specs.List.{list_all}
 use Rattle.mx_name.specs.Names.{is_free}
+use Rattle.mx_sdw.specs.Denials.{denial_text}
+use Rattle.mx_sdw.specs.Octal.{octal}
 use Rattle.mx_core.specs.declared.elements.Event.TheVariants.{Seen, Missing}
 use Rattle.mx_core.specs.declared.elements.Kind.{Kind}
 use Rattle.mx_core.specs.declared.elements.Kind.TheVariants as kind
@@ -20,10 +22,12 @@ use Rattle.mx_legal.specs.declared.transcripts.Result2.TheVariants as result
 use Rattle.mx_legal.specs.Transcripts.{Step}
 use Rattle.mx_request.proofs.AgainLaws.{one_request}
 use Rattle.mx_request.proofs.ForeignLaws.{equals_free, free_append, line_free, newline_free}
-use Rattle.mx_request.proofs.LineLaws.{both_of, same_cut, same_fields}
-use Rattle.mx_request.proofs.ReplyLaws.{IsApart, below, blank, decimal_again, decimal_free, newline, one_reply, reply_newline_free}
+use Rattle.mx_request.proofs.LineLaws.{same_cut, same_fields}
+use Rattle.mx_request.proofs.ReplyLaws.{IsApart, below, decimal_free, one_reply, reply_newline_free}
 use Rattle.mx_request.proofs.StepLaws.{both, both_hold, some_is}
-use Rattle.mx_request.specs.Fields.{line_of}
+use Rattle.mx_request.specs.declared.replies.Reply.{Reply}
+use Rattle.mx_request.specs.declared.requests.Request.{Request}
+use Rattle.mx_request.specs.Fields.{address_text, line_of}
 use Rattle.mx_request.specs.Reading.{decimal_after}
 use Rattle.mx_request.specs.ReplyTexts.{fits_reply, reply_text}
 use Rattle.mx_request.specs.RequestTexts.{fits_request, request_text}
@@ -31,8 +35,17 @@ use Rattle.mx_script.proofs.ReadingLaws.{lines_text-append}
 use Rattle.mx_script.specs.SessionTexts.{lines_text}
 use Rattle.mx_state.specs.declared.journal.Entry as journaled
 use Rattle.mx_text.proofs.EventLaws.{event_again, event_at, event_fields, event_free, outcome_fields, result_again, result_at, result_fields, result_free, word_free}
-use Rattle.mx_text.specs.RunText.{element_text, entries_text, entry_text, event_text, events_text, kind_text, parts_text, result_text, run_text, step_text, steps_text}
+use Rattle.mx_text.specs.RunText.{element_text, entries_text, entry_text, event_text, events_text, kind_text, parts_text, register_text, result_text, run_text, step_text, steps_text}
 use Rattle.mx_text.specs.Spelling.{IsSpellable, OneRunLaw, fits_entry, fits_event, fits_result, fits_step, is_number}
+
+both_of : {A : Type 0} (x y : A) (xs ys : List A) → x ≡ y → xs ≡ ys → x ∷ xs ≡ y ∷ ys
+both_of x y xs ys e f = cc
+
+blank : IsApart 32
+blank = record { no_name = refl; no_digit = refl; no_octal = refl; no_letter = refl; no_mark = refl }
+
+newline : IsApart 10
+newline = record { no_name = refl; no_digit = refl; no_octal = refl; no_letter = refl; no_mark = refl }
 
 -- the lines of a run, each without its newline
 abbrev entry_line : ℕ → journaled.Entry → List ℕ
@@ -87,12 +100,18 @@ event_whole (Core (Seen e)) = by_outcome e.outcome ∙ sym (with_rest (event_fie
   where
     by_outcome : (came : Outcome) → element_text (record e { outcome = came })
         ≡ behind_line (event_fields (Core (Seen (record e { outcome = came })))) (10 ∷ [])
-    by_outcome (outcome.Read value writer stamp) = rw append_assoc refl
-    by_outcome (outcome.Written value) = refl
-    by_outcome (outcome.Entered ring) = refl
-    by_outcome (outcome.Denied denial) = refl
-event_whole (Core (Missing segno by)) = sym (with_rest (event_fields (Core (Missing segno by))) (10 ∷ []))
-event_whole (Entry number) = sym (with_rest (event_fields (Entry number)) (10 ∷ []))
+    by_outcome (outcome.Read value writer stamp) = simp append_assoc
+    by_outcome (outcome.Written value) = simp append_assoc
+    by_outcome (outcome.Entered ring) = simp append_assoc
+    by_outcome (outcome.Denied denial) = simp append_assoc
+event_whole (Core (Missing segno by)) = spelled ∙ sym (with_rest (event_fields (Core (Missing segno by))) (10 ∷ []))
+  where
+    spelled : event_text (Core (Missing segno by)) ≡ behind_line (event_fields (Core (Missing segno by))) (10 ∷ [])
+    spelled = simp append_assoc refl
+event_whole (Entry number) = spelled ∙ sym (with_rest (event_fields (Entry number)) (10 ∷ []))
+  where
+    spelled : event_text (Entry number) ≡ behind_line (event_fields (Entry number)) (10 ∷ [])
+    spelled = simp append_assoc refl
 
 one_more : (x text rest : List ℕ) → x ≡ text ++ 10 ∷ [] → x ++ rest ≡ text ++ 10 ∷ rest
 one_more x text rest e = ap (λ t. t ++ rest) e ∙ append_assoc text (10 ∷ []) rest
@@ -109,21 +128,49 @@ end_whole : (number : ℕ) (ends : Result2) (rest : List ℕ) → behind_line (e
     ≡ line_of (end_fields number ends) ++ 10 ∷ rest
 end_whole number ends rest = sym (with_rest (end_fields number ends) (10 ∷ rest))
 
+behind_events : (e a b c d f rest : List ℕ) → (e ++ a ++ b ++ c ++ d ++ f) ++ rest ≡ e ++ ((a ++ b ++ c ++ d ++ f) ++ rest)
+behind_events e a b c d f rest = simp append_assoc
+
 step_whole : (step : Step) (rest : List ℕ) → step_text step ++ rest
     ≡ lines_text (map event_line step.1) ++ (end_line step ++ 10 ∷ rest)
 step_whole step rest =
-    append_assoc (events_text step.1) _ rest
+    behind_events (events_text step.1) (codes "line ") (decimal step.0) (codes " ") (result_text step.2) (codes "\n") rest
     ∙ events_whole step.1 _
     ∙ ap (λ text. lines_text (map event_line step.1) ++ text) (by_result step.2 ∙ end_whole step.0 step.2 rest)
   where
+    around : (text : List ℕ) → (codes "line " ++ decimal step.0 ++ codes " " ++ text ++ codes "\n") ++ rest
+        ≡ codes "line " ++ (decimal step.0 ++ (codes " " ++ (text ++ 10 ∷ rest)))
+    around text =
+        append_assoc (codes "line " ++ decimal step.0 ++ codes " " ++ text) (codes "\n") rest
+        ∙ append_assoc (codes "line " ++ decimal step.0 ++ codes " ") text (10 ∷ rest)
+        ∙ append_assoc (codes "line " ++ decimal step.0) (codes " ") (text ++ 10 ∷ rest)
+        ∙ append_assoc (codes "line ") (decimal step.0) (codes " " ++ (text ++ 10 ∷ rest))
+
+    in_line : (x y : List ℕ) → x ≡ y
+        → codes "line " ++ (decimal step.0 ++ (codes " " ++ x)) ≡ codes "line " ++ (decimal step.0 ++ (codes " " ++ y))
+    in_line x y e = ap (λ text. codes "line " ++ (decimal step.0 ++ (codes " " ++ text))) e
+
+    by_register : (n ring : ℕ) (address : List ℕ) → (codes "pr " ++ (decimal n ++ codes " " ++ decimal ring ++ codes " " ++ address)) ++ 10 ∷ rest
+        ≡ codes "pr " ++ (decimal n ++ (codes " " ++ (decimal ring ++ (codes " " ++ (address ++ 10 ∷ rest)))))
+    by_register n ring address =
+        append_assoc (codes "pr ") (decimal n ++ codes " " ++ decimal ring ++ codes " " ++ address) (10 ∷ rest)
+        ∙ ap (λ text. codes "pr " ++ text)
+        (append_assoc (decimal n ++ codes " " ++ decimal ring ++ codes " ") address (10 ∷ rest)
+        ∙ append_assoc (decimal n ++ codes " " ++ decimal ring) (codes " ") (address ++ 10 ∷ rest)
+        ∙ append_assoc (decimal n ++ codes " ") (decimal ring) (codes " " ++ (address ++ 10 ∷ rest))
+        ∙ append_assoc (decimal n) (codes " ") (decimal ring ++ (codes " " ++ (address ++ 10 ∷ rest))))
+
     by_result : (ends : Result2) → (codes "line " ++ decimal step.0 ++ codes " " ++ result_text ends ++ codes "\n") ++ rest
         ≡ behind_line (end_fields step.0 ends) (10 ∷ rest)
-    by_result result.Done = rw append_assoc refl
-    by_result (result.A word) = rw append_assoc refl
-    by_result (result.Pr n p) = rw append_assoc refl
-    by_result (result.Denied denial) = rw append_assoc refl
-    by_result result.Refused = rw append_assoc refl
-    by_result result.HistoryFull = rw append_assoc refl
+    by_result result.Done = around (codes "done")
+    by_result (result.A word) =
+        around (codes "a " ++ octal word) ∙ in_line _ _ (append_assoc (codes "a ") (octal word) (10 ∷ rest))
+    by_result (result.Pr n p) =
+        around (codes "pr " ++ register_text n p) ∙ in_line _ _ (by_register n p.ring (address_text p.segno p.word))
+    by_result (result.Denied denial) =
+        around (codes "denied " ++ denial_text denial) ∙ in_line _ _ (append_assoc (codes "denied ") (denial_text denial) (10 ∷ rest))
+    by_result result.Refused = around (codes "refused")
+    by_result result.HistoryFull = around (codes "history_full")
 
 steps_whole : (steps : List Step) → steps_text steps ≡ lines_text (steps_lines steps)
 steps_whole [] = refl
@@ -132,21 +179,26 @@ steps_whole (step ∷ steps) =
     ∙ ap (λ text. lines_text (map event_line step.1) ++ (end_line step ++ 10 ∷ text)) (steps_whole steps)
     ∙ sym (lines_text-append (map event_line step.1) (end_line step ∷ steps_lines steps))
 
+heading_behind : (a b c d f rest : List ℕ) → (a ++ b ++ c ++ d ++ f) ++ rest ≡ a ++ (b ++ (c ++ (d ++ (f ++ rest))))
+heading_behind a b c d f rest = simp append_assoc
+
 parts_whole : (p : ℕ) (parts : List (List Step)) → parts_text p parts ++ codes "end\n" ≡ lines_text (parts_lines p parts)
 parts_whole p [] = refl
 parts_whole p (steps ∷ parts) =
-    ap (λ text. codes "process " ++ text)
-    (append_assoc (decimal p) (10 ∷ (steps_text steps ++ parts_text (p + 1) parts)) (codes "end\n")
-    ∙ ap (λ text. decimal p ++ 10 ∷ text)
-    (append_assoc (steps_text steps) (parts_text (p + 1) parts) (codes "end\n")
-    ∙ ap (λ text. text ++ (parts_text (p + 1) parts ++ codes "end\n")) (steps_whole steps)
+    heading_behind (codes "process ") (decimal p) (codes "\n") (steps_text steps) (parts_text (p + 1) parts) (codes "end\n")
+    ∙ ap (λ text. codes "process " ++ (decimal p ++ 10 ∷ text))
+    (ap (λ text. text ++ (parts_text (p + 1) parts ++ codes "end\n")) (steps_whole steps)
     ∙ ap (λ text. lines_text (steps_lines steps) ++ text) (parts_whole (p + 1) parts)
-    ∙ sym (lines_text-append (steps_lines steps) (parts_lines (p + 1) parts))))
+    ∙ sym (lines_text-append (steps_lines steps) (parts_lines (p + 1) parts)))
 
 entry_whole : (number : ℕ) (entry : journaled.Entry) → entry_text number entry ≡ entry_line number entry ++ 10 ∷ []
 entry_whole number entry =
-    sym (with_rest (decimal number ∷ decimal entry.process ∷ decimal entry.ring ∷ request_text entry.request ∷ codes "="
+    spelled ∙ sym (with_rest (decimal number ∷ decimal entry.process ∷ decimal entry.ring ∷ request_text entry.request ∷ codes "="
     ∷ reply_text entry.reply ∷ []) (10 ∷ []))
+  where
+    spelled : entry_text number entry ≡ behind_line (decimal number ∷ decimal entry.process ∷ decimal entry.ring
+        ∷ request_text entry.request ∷ codes "=" ∷ reply_text entry.reply ∷ []) (10 ∷ [])
+    spelled = simp append_assoc
 
 entries_whole : (number : ℕ) (entries : List journaled.Entry) → entries_text number entries ≡ lines_text (entries_lines number entries)
 entries_whole number [] = refl
@@ -157,7 +209,9 @@ entries_whole number (entry ∷ entries) =
 run_whole : (journal : List journaled.Entry) (transcripts : List (List Step)) → run_text journal transcripts
     ≡ lines_text (run_lines journal transcripts)
 run_whole journal transcripts =
-    ap (λ text. codes "journal " ++ (decimal (length journal) ++ 10 ∷ text))
+    heading_behind (codes "journal ") (decimal (length journal)) (codes "\n") (entries_text 1 journal) (parts_text 0 transcripts)
+    (codes "end\n")
+    ∙ ap (λ text. codes "journal " ++ (decimal (length journal) ++ 10 ∷ text))
     (ap (λ text. text ++ (parts_text 0 transcripts ++ codes "end\n")) (entries_whole 1 journal)
     ∙ ap (λ text. lines_text (entries_lines 1 journal) ++ text) (parts_whole 0 transcripts)
     ∙ sym (lines_text-append (entries_lines 1 journal) (parts_lines 0 transcripts)))
@@ -382,7 +436,13 @@ one_parts p (x ∷ xs) (y ∷ ys) a b e =
 
 -- entries
 same_entry : (x y : journaled.Entry) → x.process ≡ y.process → x.ring ≡ y.ring → x.request ≡ y.request → x.reply ≡ y.reply → x ≡ y
-same_entry x y p q r s = cc
+same_entry x y p q r s =
+    let f : ℕ → ℕ → Request → Reply → journaled.Entry
+    = λ a b c d. record { process = a; ring = b; request = c; reply = d } in
+    ap (λ a. f a x.ring x.request x.reply) p
+    ∙ ap (λ b. f y.process b x.request x.reply) q
+    ∙ ap (λ c. f y.process y.ring c x.reply) r
+    ∙ ap (λ d. f y.process y.ring y.request d) s
 
 last_cut : (xs ys : List ℕ) → xs ++ 32 ∷ [] ≡ ys ++ 32 ∷ [] → xs ≡ ys
 last_cut xs ys e = append_cancel_right xs ys (32 ∷ []) e
@@ -481,7 +541,7 @@ run_free journal transcripts is =
     both_hold _ _ (free_append 10 (codes "journal ") (decimal (length journal)) refl (decimal_free 10 (length journal) refl is.count))
     (list_all-append _ (entries_lines 1 journal) (parts_lines 0 transcripts)
     ∙ both_hold _ _ (entries_free 1 journal (omega (arith, below (length journal) is.count)) is.entries)
-    (parts_free 0 transcripts (below (length transcripts) is.parts) is.steps))
+    (parts_free 0 transcripts (omega (arith, below (length transcripts) is.parts)) is.steps))
 
 -- two runs that have one text are the same
 pub one_run : OneRunLaw
