@@ -24,22 +24,28 @@ use Rattle.mx_script.specs.declared.lines.Line.{Line}
 use Rattle.mx_script.specs.declared.lines.Line.TheVariants as line
 use Rattle.mx_script.specs.declared.lines.Operand.{Operand}
 use Rattle.mx_sup.specs.Supervised.{Supervised}
+use Rattle.mx_proc.proofs.BenchLaws.{seat_is}
 use Rattle.mx_proc.proofs.BoundLaws.{at_script_line, good_at}
 use Rattle.mx_proc.proofs.NextLaws.{seat_of}
 use Rattle.mx_proc.proofs.OpeningLaws.{seat_of as process_of}
-use Rattle.mx_proc.proofs.OperandLaws.{target_asks, link_asks}
+use Rattle.mx_proc.proofs.OperandLaws.{target_asks, link_asks, led_to}
+use Rattle.mx_proc.proofs.SeatLaws.{set_here}
 use Rattle.mx_proc.specs.Asking.{HasSeat, HasSeatWith, IsAsking, IsEnding, IsCalling, IsStore, IsStoring}
 use Rattle.mx_proc.specs.Benches.{world_in, IsKept}
-use Rattle.mx_proc.specs.Operands.{operand_of, AsksFor, IsTarget, IsRegisterWord}
-use Rattle.mx_proc.specs.Processes.{seat_in, IsGoodAt, HasAsked, HasRegisters}
+use Rattle.mx_proc.specs.Operands.{operand_of, AsksFor, IsTarget, IsRegisterWord, IsLed, IsGoodProgress}
+use Rattle.mx_proc.specs.Processes.{seat_in, IsGoodAt, IsLedAt, IsStill, HasAsked, HasRegisters}
 use Rattle.mx_proc.specs.Stepping.{IsAtLine}
 use Rattle.mx_proc.specs.Worlds.{Seat, World}
 use Rattle.mx_proc.specs.declared.memory.Contents.{Contents}
 use Rattle.mx_proc.specs.declared.operands.Asked.{Asked}
 use Rattle.mx_proc.specs.declared.operands.Asked.TheVariants.{Target, First}
 use Rattle.mx_proc.specs.declared.operands.Place.{Place}
+use Rattle.mx_proc.specs.declared.operands.Progress.{Progress}
 use Rattle.mx_proc.specs.declared.operands.Way.TheVariants as way
 use Rattle.mx_proc.specs.declared.processes.Process.{Process}
+
+one_process : (a b : Process) → Some a ≡ Some b → a ≡ b
+one_process a b e = cc
 
 one_seat : (a b : Seat) → Some a ≡ Some b → a ≡ b
 one_seat a b e = cc
@@ -82,6 +88,35 @@ pub seen_script_line : (x : Outline) (s : Supervised) (whole : List (List Step))
     → is_script_line l ≡ true
 seen_script_line x s whole room cells processes p i l w k view place a =
     at_script_line x s whole room cells processes p i l k place (subst (λ (v : World). IsAtLine v p l) (sym view) a)
+
+-- a process for which room was made
+pub good_still : (processes middle : List Process) (i : ℕ) → IsGoodAt processes i → IsStill processes i middle → IsGoodAt middle i
+good_still processes middle i good still =
+    let same : good.process ≡ still.before = one_process good.process still.before (sym good.at ∙ still.at) in
+    let is : still.after.registers ≡ good.process.registers = still.registers ∙ ap (λ (q : Process). q.registers) (sym same) in
+    let came : still.after.progress ≡ good.process.progress = still.progress ∙ ap (λ (q : Process). q.progress) (sym same) in
+    record {
+      process = still.after;
+      at = ap (λ (l : List Process). slice_get l i) still.set ∙ set_here processes i still.before still.after still.at;
+      packable = subst ArePackable (sym is) good.packable;
+      progress = subst (λ (g : Registers). IsGoodProgress g still.after.progress) (sym is)
+      (subst (λ (r : Progress). IsGoodProgress good.process.registers r) (sym came) good.progress);
+    }
+
+pub led_still : (x : Outline) (s : Supervised) (whole : List (List Step)) (cells : List Contents) (processes middle : List Process) (w : World) (p i : ℕ)
+    (o : Operand) (place : Place) → world_in x s whole cells processes ≡ w → i ≡ p - 1 → IsAsking w p o (First (way.Word place))
+    → IsStill processes i middle → IsLedAt middle i o place
+led_still x s whole cells processes middle w p i o place view at c still =
+    let seat : c.seat ≡ seat_in still.before
+    = seat_is x s whole cells processes p i c.seat still.before at (ap (λ (v : World). slice_get v.seats (p - 1)) view ∙ c.seated) still.at in
+    let is : c.seat.registers ≡ still.after.registers = ap (λ (seat : Seat). seat.registers) seat ∙ sym still.registers in
+    let came : c.seat.progress ≡ still.after.progress = ap (λ (seat : Seat). seat.progress) seat ∙ sym still.progress in
+    record {
+      process = still.after;
+      at = ap (λ (l : List Process). slice_get l i) still.set ∙ set_here processes i still.before still.after still.at;
+      led = subst (λ (g : Registers). IsLed g o still.after.progress place) is
+      (subst (λ (r : Progress). IsLed c.seat.registers o r place) came (led_to c.seat.registers o c.seat.progress place c.asks));
+    }
 
 at_most_seven : (n : ℕ) → nat_le n 7 ≡ true → n ≤ 7
 at_most_seven n e = grind (arith, nat_tests)

@@ -47,7 +47,7 @@ past_end [] i e = omega arith
 past_end (x ∷ xs) zero e = absurd (cc)
 past_end (x ∷ xs) (suc i) e = omega (arith, past_end xs i e)
 
-seat_of : (processes : List Process) (i : ℕ) (q : Process) → slice_get processes i ≡ Some q → slice_get (map seat_in processes) i ≡ Some (seat_in q)
+pub seat_of : (processes : List Process) (i : ℕ) (q : Process) → slice_get processes i ≡ Some q → slice_get (map seat_in processes) i ≡ Some (seat_in q)
 seat_of [] i q e = absurd (cc)
 seat_of (r ∷ processes) zero q e = cc
 seat_of (r ∷ processes) (suc i) q e = seat_of processes i q e

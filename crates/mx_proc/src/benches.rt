@@ -1,6 +1,6 @@
 //! The bench: all processes of a session over one supervisor and one memory, stepped one at a time.
 
-ghost use Rattle.std.specs.Prelude.{◌≡◌, ◌<◌, ◌≤◌, ◌↔◌, Ok, IfOk, OnOk, OnErr, IsTrue, IsFalse, MatchOption, Some, ◌+◌, ◌++◌, map, slice_get, vec_len, vec_capacity, length};
+ghost use Rattle.std.specs.Prelude.{◌≡◌, true, ◌<◌, ◌≤◌, ◌↔◌, Ok, IfOk, OnOk, OnErr, IsTrue, IsFalse, MatchOption, Some, ◌+◌, ◌++◌, map, slice_get, vec_len, vec_capacity, length};
 ghost use Rattle.mx_legal.specs.Legal.{IsLegal, HasGatedFalls, HasSoundRegisters};
 ghost use Rattle.mx_proc.specs.Asking.{HasSeat, HasSeatWith, IsAsking, IsEnding, IsCalling, IsStoring};
 ghost use Rattle.mx_proc.specs.Operands.{operand_of};
@@ -8,6 +8,7 @@ ghost use Rattle.mx_proc.specs.Stepping.{IsOpening, IsAtLine, HasMoved, HasStepp
 ghost use Rattle.std.specs.Option.{option_map};
 ghost use Rattle.mx_proc.specs.Processes.{recorded_steps};
 ghost use Rattle.mx_proc.specs.Rounds.{HasNone, all_left};
+ghost use Rattle.mx_script.specs.Sessions.{is_script_line};
 ghost use Rattle.mx_script.specs.declared.lines.Line.TheVariants as lines;
 ghost use Rattle.mx_proc.specs.declared.benches.Stepped.TheVariants.{More, Ended, LineDone};
 ghost use Rattle.mx_proc.specs.declared.operands.Asked.TheVariants.{Target, First};
@@ -288,14 +289,16 @@ impl<'a> Bench<'a> {
     fn asks(&self, p: u8, line: &Line, operand: &Operand) -> Asked
         requires at { IsAtLine self.now p line.now }
         requires operand { operand_of line.now ≡ Some operand.now }
-        ensures { IsAsking self.now p operand.now result }
+        ensures asks { IsAsking self.now p operand.now result }
+        ensures line { is_script_line line.now ≡ true }
     {
         self.processes.asks(usize::from(p) - 1, operand)
     }
 
     // The registers of a process at the start of the line at work.
     fn registers(&self, p: u8) -> Regs
-        requires { HasSeat self.now p }
+        requires some { 1 ≤ p }
+        requires seat { HasSeat self.now p }
         ensures { HasSeatWith self.now p result }
     {
         self.processes.registers(usize::from(p) - 1)

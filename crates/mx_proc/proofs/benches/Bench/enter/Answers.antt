@@ -49,28 +49,28 @@ enter-requires-clause-process c =
 pub invariant_of-self-in-Ok : goal.invariant_of-self-in-Ok
 invariant_of-self-in-Ok c =
     let place : c.from-i.result - 1 ≡ c.args.p - 1 = ap (λ n. n - 1) c.from-i.ensures in
-    (call_done _ _ _ _ _ _ _ _ _ c.args.p _ _ _ _ _ _ _ _ _ c.self.invariant c.self.view_is place c.requires.at c.requires.calls
+    (call_done _ _ _ _ _ _ _ _ _ c.args.p _ _ _ _ _ _ _ _ _ _ c.self.invariant c.self.view_is place c.requires.at c.requires.calls
     c.registers-registers.ensures.at c.registers-registers.ensures.registers c.in-Ok.ensures.entered c.reply.ensures c.of-ends.ensures
     c.in_ok-reserve.ensures.still c.end_line.ensures).0
 
 pub returns-in-Ok-clause-done : goal.returns-in-Ok-clause-done
 returns-in-Ok-clause-done c =
     let place : c.from-i.result - 1 ≡ c.args.p - 1 = ap (λ n. n - 1) c.from-i.ensures in
-    (call_done _ _ _ _ _ _ _ _ _ c.args.p _ _ _ _ _ _ _ _ _ c.self.invariant c.self.view_is place c.requires.at c.requires.calls
+    (call_done _ _ _ _ _ _ _ _ _ c.args.p _ _ _ _ _ _ _ _ _ _ c.self.invariant c.self.view_is place c.requires.at c.requires.calls
     c.registers-registers.ensures.at c.registers-registers.ensures.registers c.in-Ok.ensures.entered c.reply.ensures c.of-ends.ensures
     c.in_ok-reserve.ensures.still c.end_line.ensures).1
 
 pub invariant_of-self-in-Err-HistoryFull : goal.invariant_of-self-in-Err-HistoryFull
 invariant_of-self-in-Err-HistoryFull c =
     let place : c.from-i.result - 1 ≡ c.args.p - 1 = ap (λ n. n - 1) c.from-i.ensures in
-    rw c.in-Err-HistoryFull.ensures.err (full_done _ _ _ _ _ _ _ _ c.args.p _ _ _ _ _ _ c.self.invariant c.self.view_is place c.requires.at c.requires.calls
+    rw c.in-Err-HistoryFull.ensures.err (full_done _ _ _ _ _ _ _ _ c.args.p _ _ _ _ _ _ _ c.self.invariant c.self.view_is place c.requires.at c.requires.calls
     c.registers-registers.ensures.at c.registers-registers.ensures.registers (c.in-Err-HistoryFull.ensures.full.0 (ap Err c.in-Err-HistoryFull.field-0-is))
     c.in_ok-reserve.ensures.still c.end_line-in-Err-HistoryFull.ensures).0
 
 pub returns-in-Err-HistoryFull-clause-done : goal.returns-in-Err-HistoryFull-clause-done
 returns-in-Err-HistoryFull-clause-done c =
     let place : c.from-i.result - 1 ≡ c.args.p - 1 = ap (λ n. n - 1) c.from-i.ensures in
-    rw c.in-Err-HistoryFull.ensures.err (full_done _ _ _ _ _ _ _ _ c.args.p _ _ _ _ _ _ c.self.invariant c.self.view_is place c.requires.at c.requires.calls
+    rw c.in-Err-HistoryFull.ensures.err (full_done _ _ _ _ _ _ _ _ c.args.p _ _ _ _ _ _ _ c.self.invariant c.self.view_is place c.requires.at c.requires.calls
     c.registers-registers.ensures.at c.registers-registers.ensures.registers (c.in-Err-HistoryFull.ensures.full.0 (ap Err c.in-Err-HistoryFull.field-0-is))
     c.in_ok-reserve.ensures.still c.end_line-in-Err-HistoryFull.ensures).1
 

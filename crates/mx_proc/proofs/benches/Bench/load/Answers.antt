@@ -1,4 +1,7 @@
-use Rattle.std.proofs.Common.{◌≡◌, ◌-◌, ap, refl}
+use Rattle.std.proofs.Common.{◌≡◌, ◌-◌, ap, refl, ◌∙◌}
+use Rattle.mx_ptr.specs.Pointers.{PointerParts}
+use Rattle.mx_state.specs.Table.{descriptor}
+use Rattle.mx_sup.specs.Supervised.{state_of}
 use Rattle.mx_proc.proofs.BenchLaws.{still_kept}
 use Rattle.mx_proc.proofs.SeenLaws.{load_done, seen_within, seen_principal, seen_countable, seen_still_within, still_seen, on_err}
 use Rattle.mx_proc.proofs.benches.Bench.load.Goals as goal
@@ -41,7 +44,7 @@ invariant_of-self-2 c =
     let place : c.from-i.result - 1 ≡ c.args.p - 1 = ap (λ n. n - 1) c.from-i.ensures in
     (load_done _ _ _ _ _ _ _ _ _ c.args.p _ _ _ _ _ _ _ _ _ _ c.self.invariant c.self.view_is place c.requires.at c.requires.line c.requires.asked
     c.registers-registers.ensures.at c.registers-registers.ensures.registers
-    c.descriptor-desc.ensures.value
+    (c.descriptor-desc.ensures.value ∙ ap (λ (t : PointerParts). descriptor (state_of c.self.inside.supervisor) c.args.p t.segno) c.target.view_is)
     c.length-point.ensures.value c.self.invariant.wide (c.load-made.ensures c.args.operand.now c.args.p) c.in_ok-reserve.ensures.still c.end_line.ensures).0
 
 pub returns-clause-done : goal.returns-clause-done
@@ -49,5 +52,5 @@ returns-clause-done c =
     let place : c.from-i.result - 1 ≡ c.args.p - 1 = ap (λ n. n - 1) c.from-i.ensures in
     (load_done _ _ _ _ _ _ _ _ _ c.args.p _ _ _ _ _ _ _ _ _ _ c.self.invariant c.self.view_is place c.requires.at c.requires.line c.requires.asked
     c.registers-registers.ensures.at c.registers-registers.ensures.registers
-    c.descriptor-desc.ensures.value
+    (c.descriptor-desc.ensures.value ∙ ap (λ (t : PointerParts). descriptor (state_of c.self.inside.supervisor) c.args.p t.segno) c.target.view_is)
     c.length-point.ensures.value c.self.invariant.wide (c.load-made.ensures c.args.operand.now c.args.p) c.in_ok-reserve.ensures.still c.end_line.ensures).1

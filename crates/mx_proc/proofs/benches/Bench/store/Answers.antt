@@ -1,4 +1,7 @@
-use Rattle.std.proofs.Common.{◌≡◌, ◌-◌, ap, refl}
+use Rattle.std.proofs.Common.{◌≡◌, ◌-◌, ap, refl, ◌∙◌}
+use Rattle.mx_ptr.specs.Pointers.{PointerParts}
+use Rattle.mx_state.specs.Table.{descriptor}
+use Rattle.mx_sup.specs.Supervised.{state_of}
 use Rattle.mx_proc.proofs.BenchLaws.{still_kept}
 use Rattle.mx_proc.proofs.MadeLaws.{wide_still}
 use Rattle.mx_proc.proofs.SeenLaws.{store_done, seen_within, seen_principal, seen_countable, seen_still_within, still_seen, on_err}
@@ -42,7 +45,7 @@ invariant_of-self-2 c =
     let place : c.from-i.result - 1 ≡ c.args.p - 1 = ap (λ n. n - 1) c.from-i.ensures in
     (store_done _ _ _ _ _ _ _ _ _ c.args.p _ _ _ _ _ _ _ _ _ _ _ c.self.invariant c.self.view_is place c.requires.at c.requires.operand c.requires.asked
     c.requires.stores c.registers-registers.ensures.at c.registers-registers.ensures.registers
-    c.descriptor-desc.ensures.value
+    (c.descriptor-desc.ensures.value ∙ ap (λ (t : PointerParts). descriptor (state_of c.self.inside.supervisor) c.args.p t.segno) c.target.view_is)
     c.length-point.ensures.value (wide_still _ _ c.self.invariant.wide c.store-made.ensures.wide) c.store-made.ensures.sta c.store-made.ensures.spri
     c.in_ok-reserve.ensures.still c.end_line.ensures).0
 
@@ -51,6 +54,6 @@ returns-clause-done c =
     let place : c.from-i.result - 1 ≡ c.args.p - 1 = ap (λ n. n - 1) c.from-i.ensures in
     (store_done _ _ _ _ _ _ _ _ _ c.args.p _ _ _ _ _ _ _ _ _ _ _ c.self.invariant c.self.view_is place c.requires.at c.requires.operand c.requires.asked
     c.requires.stores c.registers-registers.ensures.at c.registers-registers.ensures.registers
-    c.descriptor-desc.ensures.value
+    (c.descriptor-desc.ensures.value ∙ ap (λ (t : PointerParts). descriptor (state_of c.self.inside.supervisor) c.args.p t.segno) c.target.view_is)
     c.length-point.ensures.value (wide_still _ _ c.self.invariant.wide c.store-made.ensures.wide) c.store-made.ensures.sta c.store-made.ensures.spri
     c.in_ok-reserve.ensures.still c.end_line.ensures).1
