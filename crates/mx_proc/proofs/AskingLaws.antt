@@ -100,7 +100,7 @@ good_still processes middle i good still =
       at = ap (λ (l : List Process). slice_get l i) still.set ∙ set_here processes i still.before still.after still.at;
       packable = subst ArePackable (sym is) good.packable;
       progress = subst (λ (g : Registers). IsGoodProgress g still.after.progress) (sym is)
-      (subst (λ (r : Progress). IsGoodProgress good.process.registers r) (sym came) good.progress);
+          (subst (λ (r : Progress). IsGoodProgress good.process.registers r) (sym came) good.progress);
     }
 
 pub led_still : (x : Outline) (s : Supervised) (whole : List (List Step)) (cells : List Contents) (processes middle : List Process) (w : World) (p i : ℕ)
@@ -115,7 +115,7 @@ led_still x s whole cells processes middle w p i o place view at c still =
       process = still.after;
       at = ap (λ (l : List Process). slice_get l i) still.set ∙ set_here processes i still.before still.after still.at;
       led = subst (λ (g : Registers). IsLed g o still.after.progress place) is
-      (subst (λ (r : Progress). IsLed c.seat.registers o r place) came (led_to c.seat.registers o c.seat.progress place c.asks));
+          (subst (λ (r : Progress). IsLed c.seat.registers o r place) came (led_to c.seat.registers o c.seat.progress place c.asks));
     }
 
 at_most_seven : (n : ℕ) → nat_le n 7 ≡ true → n ≤ 7
