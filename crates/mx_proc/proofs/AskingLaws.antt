@@ -1,5 +1,5 @@
 -- What the lines of a process ask for, on the bench.
-use Rattle.std.proofs.Common.{◌≡◌, ℕ, ◌<◌, ◌≤◌, ◌-◌, nat_le, true, ◌&&◌, List, length, Some, refl, sym, ◌∙◌, ap, subst, arith}
+use Rattle.std.proofs.Common.{◌≡◌, ℕ, ◌<◌, ◌≤◌, ◌-◌, nat_le, true, List, length, Some, refl, sym, ◌∙◌, ap, subst, arith}
 use Rattle.std.proofs.lemmas.Bool.Decides.{nat_tests}
 use Rattle.std.proofs.lemmas.Option.{slice_get_within}
 use Rattle.std.specs.List.{slice_get}
@@ -8,12 +8,12 @@ use Rattle.mx_call.specs.Registers.{Registers, ArePackable}
 use Rattle.mx_hier.specs.declared.refusals.Refusal.{Refusal}
 use Rattle.mx_hier.specs.declared.refusals.Refusal.TheVariants.{NotLinkage}
 use Rattle.mx_legal.specs.Asking.{next, answered, result_of}
-use Rattle.mx_legal.specs.Courses.{Attempt, Judged}
+use Rattle.mx_legal.specs.Courses.{Attempt}
 use Rattle.mx_legal.specs.Next.{Asks, Calls, Ends, storing}
 use Rattle.mx_legal.specs.Targets.{at_target, spri_at}
 use Rattle.mx_legal.specs.Transcripts.{Step}
 use Rattle.mx_legal.specs.declared.transcripts.Result2.TheVariants as result
-use Rattle.mx_ptr.specs.Pointers.{PointerParts, pointer_word}
+use Rattle.mx_ptr.specs.Pointers.{PointerParts}
 use Rattle.mx_request.proofs.StepLaws.{both}
 use Rattle.mx_request.specs.declared.replies.Reply.{Reply}
 use Rattle.mx_request.specs.declared.replies.Reply.TheVariants.{Refused}
@@ -32,7 +32,7 @@ use Rattle.mx_proc.proofs.OperandLaws.{target_asks, link_asks, led_to}
 use Rattle.mx_proc.proofs.SeatLaws.{set_here}
 use Rattle.mx_proc.specs.Asking.{HasSeat, HasSeatWith, IsAsking, IsEnding, IsCalling, IsStore, IsStoring}
 use Rattle.mx_proc.specs.Benches.{world_in, IsKept}
-use Rattle.mx_proc.specs.Operands.{operand_of, AsksFor, IsTarget, IsRegisterWord, IsLed, IsGoodProgress}
+use Rattle.mx_proc.specs.Operands.{operand_of, IsTarget, IsRegisterWord, IsLed, IsGoodProgress}
 use Rattle.mx_proc.specs.Processes.{seat_in, IsGoodAt, IsLedAt, IsStill, HasAsked, HasRegisters}
 use Rattle.mx_proc.specs.Stepping.{IsAtLine}
 use Rattle.mx_proc.specs.Worlds.{Seat, World}

@@ -1,5 +1,5 @@
 -- What the lines ask for, as their operands do.
-use Rattle.std.proofs.Common.{◌≡◌, ℕ, true, ◌&&◌, List, length, Some, sym, ◌∙◌, ap}
+use Rattle.std.proofs.Common.{◌≡◌, ℕ, true, List, length, Some, sym, ◌∙◌, ap}
 use Rattle.mx_legal.specs.Next.{Reference}
 use Rattle.mx_call.specs.Registers.{Registers}
 use Rattle.mx_ptr.specs.Pointers.{PointerParts}

@@ -1,6 +1,5 @@
 -- What an operand asks for, and how its line goes on.
-use Rattle.std.proofs.Common.{◌≡◌, ℕ, ◌-◌, ◌<◌, ◌≤◌, List, [], ◌∷◌, ◌++◌, length, Option, Some, None, Result, Ok, Err, refl, sym, ◌∙◌, ap, subst, arith, append-nil}
-use Rattle.std.specs.List.{slice_get}
+use Rattle.std.proofs.Common.{◌≡◌, ℕ, ◌-◌, ◌≤◌, List, [], ◌∷◌, ◌++◌, length, Option, Some, None, refl, sym, ◌∙◌, ap, subst, arith, append-nil}
 use Rattle.mx_call.specs.Loading.{loaded}
 use Rattle.mx_call.specs.Registers.{Registers, ArePackable}
 use Rattle.mx_core.specs.declared.elements.Outcome.{Outcome}
@@ -16,7 +15,7 @@ use Rattle.mx_legal.proofs.WalkLaws.{walk_begun_law, walk_law}
 use Rattle.mx_legal.specs.Asking.{next}
 use Rattle.mx_legal.specs.Attempts.{wants, taken, after_word, after_seen, along, attempt}
 use Rattle.mx_legal.specs.Courses.{Attempt, Judged}
-use Rattle.mx_legal.specs.Next.{Next, Asks, Calls, Ends, Nowhere, storing}
+use Rattle.mx_legal.specs.Next.{Next, Asks, Calls, Ends, Nowhere}
 use Rattle.mx_legal.specs.Operands.{walk_of, operand_walk}
 use Rattle.mx_legal.specs.Standing.{IsWalked}
 use Rattle.mx_legal.specs.Targets.{at_target, after_target}
@@ -32,7 +31,6 @@ use Rattle.mx_sdw.specs.declared.denials.Denial.{Denial}
 use Rattle.mx_sdw.specs.declared.denials.Denial.TheVariants.{NotPointer, IndirectLimit}
 use Rattle.mx_proc.specs.Making.{looks}
 use Rattle.mx_proc.specs.Operands.{operand_of, walk_at, IsPlaced, asked_by, asked_at, AsksFor, IsLed, steps_in}
-use Rattle.mx_proc.specs.declared.operands.Asked.{Asked}
 use Rattle.mx_proc.specs.declared.operands.Asked.TheVariants.{Target, First}
 use Rattle.mx_proc.specs.declared.operands.Place.{Place}
 use Rattle.mx_proc.specs.declared.operands.Progress.{Progress}

@@ -1,4 +1,4 @@
-use Rattle.std.proofs.Common.{◌≡◌, ◌-◌, Ok, Err, ap, refl, ◌∙◌}
+use Rattle.std.proofs.Common.{◌≡◌, ◌-◌, ap, refl, ◌∙◌}
 use Rattle.mx_sdw.specs.Rings.{Bracketing}
 use Rattle.mx_proc.proofs.AskingLaws.{seen_good, seen_script_line, good_still, led_still}
 use Rattle.mx_proc.proofs.BenchLaws.{still_kept}
