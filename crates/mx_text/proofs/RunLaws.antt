@@ -1,5 +1,5 @@
 -- A run text is of one run: its lines are found again in it, and a journal and transcripts in its lines.
-use Rattle.std.proofs.Common.{◌≡◌, ℕ, ◌==◌, ◌+◌, ◌<◌, ◌≤◌, ◌^◌, nat_lt, Bool, true, false, not, ◌||◌, ◌&&◌, List, [], ◌∷◌, ◌++◌, map, length, Some, codes, refl, ap, sym, ◌∙◌, subst, arith, append_assoc, append-nil}
+use Rattle.std.proofs.Common.{◌≡◌, ℕ, ◌==◌, ◌+◌, ◌<◌, ◌≤◌, ◌^◌, Bool, true, false, not, ◌||◌, ◌&&◌, List, [], ◌∷◌, ◌++◌, map, length, codes, refl, ap, sym, ◌∙◌, arith, append_assoc}
 use Rattle.std.proofs.lemmas.Bool.Decides.{nat_tests}
 use Rattle.std.proofs.lemmas.Fmt.{decimal_injective}
 use Rattle.std.proofs.lemmas.List.{append_cancel_left, append_cancel_right}
@@ -28,13 +28,12 @@ use Rattle.mx_request.proofs.StepLaws.{both, both_hold, some_is}
 use Rattle.mx_request.specs.declared.replies.Reply.{Reply}
 use Rattle.mx_request.specs.declared.requests.Request.{Request}
 use Rattle.mx_request.specs.Fields.{address_text, line_of}
-use Rattle.mx_request.specs.Reading.{decimal_after}
 use Rattle.mx_request.specs.ReplyTexts.{fits_reply, reply_text}
 use Rattle.mx_request.specs.RequestTexts.{fits_request, request_text}
 use Rattle.mx_script.proofs.ReadingLaws.{lines_text-append}
 use Rattle.mx_script.specs.SessionTexts.{lines_text}
 use Rattle.mx_state.specs.declared.journal.Entry as journaled
-use Rattle.mx_text.proofs.EventLaws.{event_again, event_at, event_fields, event_free, outcome_fields, result_again, result_at, result_fields, result_free, word_free}
+use Rattle.mx_text.proofs.EventLaws.{event_again, event_at, event_fields, event_free, result_again, result_at, result_fields, result_free, word_free}
 use Rattle.mx_text.specs.RunText.{element_text, entries_text, entry_text, event_text, events_text, kind_text, parts_text, register_text, result_text, run_text, step_text, steps_text}
 use Rattle.mx_text.specs.Spelling.{IsSpellable, OneRunLaw, fits_entry, fits_event, fits_result, fits_step, is_number}
 
