@@ -1,0 +1,13 @@
+pub mod PartLaws
+pub mod CodeLaws
+pub mod Words
+pub mod Moves
+pub mod Entries
+pub mod CellSteps
+pub mod LoadDescs
+pub mod OfficeSteps
+pub mod MoreSteps
+pub mod NoteSteps
+pub mod Carries
+pub mod LastSteps
+pub mod Openings

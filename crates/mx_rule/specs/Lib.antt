@@ -1,0 +1,16 @@
+pub mod Parts
+pub mod Codes
+pub mod Layout
+pub mod Shown
+pub mod Rule
+pub mod Allowing
+pub mod Entering
+pub mod Loading
+pub mod CellSteps
+pub mod Striking
+pub mod Acknowledging
+pub mod Appending
+pub mod Clearing
+pub mod Notes
+pub mod Dealing
+pub mod Seats

@@ -1,0 +1,44 @@
+-- Split, Join and Report: seats that are split off and joined.
+use Rattle.std.specs.Prelude.{◌≡◌, ℕ, ◌+◌, ◌≤◌, max, ◌∷◌, length, slice_get, Some}
+use Rattle.atomic_table.specs.Table.{Splits, Joins}
+use Rattle.mx_core.specs.declared.elements.Kept.TheVariants.{Missed}
+use Rattle.mx_rule.specs.Layout.{Layout}
+use Rattle.mx_rule.specs.Rule.{Holds}
+use Rattle.mx_rule.specs.Shown.{PassView, Pass, Super, SuperView, Noted, NoteView, Report, ReportView, Spent, numbers_of}
+
+-- the supervisor makes a note
+abbrev pub noting_view : SuperView → SuperView
+noting_view v = record v { made = v.made + 1 }
+
+abbrev pub noted_view : SuperView → NoteView
+noted_view v = record { number = v.made; start = v.start; floor = v.answered; told = v.told }
+
+abbrev pub SplitAllowed : Type 0 → Type 0
+SplitAllowed S = (y : Layout) (v : SuperView) (id : ℕ) → v.length ≤ v.answered
+    → Splits {S = S} (Holds y) id (Super v) (Super (noting_view v)) (Noted (noted_view v))
+
+-- a pass takes a note
+abbrev pub joined_view : NoteView → PassView → PassView
+joined_view u v = record v { floor = max v.floor u.floor; told = u ∷ v.told }
+
+abbrev pub JoinAllowed : Type 0 → Type 0
+JoinAllowed S = (y : Layout) (v : PassView) (u : NoteView) (id other : ℕ)
+    → Joins {S = S} (Holds y) id (Pass v) other (Noted u) (Pass (joined_view u v)) Spent
+
+-- a pass makes a report, and the supervisor takes it
+abbrev pub report_of : ℕ → ℕ → PassView → ReportView
+report_of n by v = record { process = v.process; floor = v.floor; length = length v.trace; segno = n; by = by }
+
+abbrev pub MakesReportAllowed : Type 0 → Type 0
+MakesReportAllowed S = (y : Layout) (v : PassView) (id i n by : ℕ) → slice_get v.trace i ≡ Some (Missed n by)
+    → Splits {S = S} (Holds y) id (Pass v) (Pass v) (Report (report_of n by v))
+
+abbrev pub reported_view : ReportView → SuperView → SuperView
+reported_view u v = record v {
+  reported =
+      (record { process = u.process; number = max (numbers_of 0 v.reported u.process) u.length }) ∷ v.reported;
+}
+
+abbrev pub ReportAllowed : Type 0 → Type 0
+ReportAllowed S = (y : Layout) (v : SuperView) (u : ReportView) (id other : ℕ)
+    → Joins {S = S} (Holds y) id (Super v) other (Report u) (Super (reported_view u v)) Spent
