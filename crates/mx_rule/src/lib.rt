@@ -7,12 +7,14 @@
 
 mod laws;
 mod layout;
+mod office;
 mod passes;
 mod rule;
 mod views;
 
 pub use laws::{more_keeps, notes_keep, office_keeps, pass_keeps};
 pub use layout::Layout;
+pub use office::{Aim, Answers, Clears, Settles, Strikes, SuperSeat, Tells};
 pub use passes::{Connects, Enters, Leaves, PassSeat};
 pub use rule::{Board, Key, Law};
 pub use views::{
