@@ -1,5 +1,5 @@
 -- From a view to a seat that has it.
-use Rattle.std.proofs.Common.{◌≡◌, ℕ, List, [], sym, subst}
+use Rattle.std.proofs.Common.{◌≡◌, ℕ, [], sym, subst}
 use Rattle.atomic_table.specs.Table.{Me, Allows}
 use Rattle.mx_rule.specs.Allowing.{PassWrites, PassReads, PassTells, OfficeWrites}
 use Rattle.mx_rule.specs.Layout.{Layout}

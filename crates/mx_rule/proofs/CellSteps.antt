@@ -1,13 +1,13 @@
 -- StoreCell and LoadCell keep the rule.
-use Rattle.std.proofs.Common.{◌≡◌, ◌≢◌, ℕ, ◌+◌, ◌^◌, ◌<◌, ◌≤◌, max, true, List, [], ◌∷◌, ◌++◌, refl, sym, ap, ◌∙◌, subst, slice_index, Option, Some, None, arith}
+use Rattle.std.proofs.Common.{◌≡◌, ◌≢◌, ℕ, ◌^◌, ◌<◌, max, true, List, refl, sym, ap, ◌∙◌, subst, slice_index, Option, Some, None, arith}
 use Rattle.atomic_table.specs.Table.{keeps}
 use Rattle.mx_sdw.specs.Operations.{writes}
 use Rattle.mx_reads.specs.Held.{Held}
-use Rattle.mx_core.specs.Cells.{IsHolding, cell_read, cell_loaded, after_load_cell, cell_written, cell_stored, after_store_cell}
+use Rattle.mx_core.specs.Cells.{cell_read, cell_loaded, cell_written, cell_stored}
 use Rattle.mx_core.specs.Invariant.{Good}
 use Rattle.mx_core.specs.Judging.{loads}
-use Rattle.mx_core.specs.Loading.{element_of, with_event}
-use Rattle.mx_core.specs.Notions.{IsProcess, with_process}
+use Rattle.mx_core.specs.Loading.{element_of}
+use Rattle.mx_core.specs.Notions.{IsProcess}
 use Rattle.mx_core.specs.Pages.{cell_at}
 use Rattle.mx_core.specs.Put.{put}
 use Rattle.mx_core.specs.World.{Process, World}
@@ -23,10 +23,9 @@ use Rattle.mx_rule.specs.Codes.{IsPlain, cell_code, cell_said}
 use Rattle.mx_rule.specs.Layout.{Layout, content}
 use Rattle.mx_rule.specs.Parts.{Answered, CellAt, ConnectWord, Count, DescriptorAt, Flag, Part, number_in}
 use Rattle.mx_rule.proofs.CodeLaws.{cell_back}
-use Rattle.mx_rule.specs.Rule.{IsPassOf}
-use Rattle.mx_rule.specs.Shown.{PassView, Pass, shown}
-use Rattle.mx_rule.proofs.Words.{set_words, load_words, but_flag, all_words}
-use Rattle.mx_rule.proofs.Moves.{IsPassStep, event_step, pass_moves, own_here}
+use Rattle.mx_rule.specs.Shown.{PassView, Pass}
+use Rattle.mx_rule.proofs.Words.{set_words, load_words, all_words}
+use Rattle.mx_rule.proofs.Moves.{event_step, pass_moves, own_here}
 
 but_cell : (y : Layout) (w : World) (p : ℕ) (o : Process) (trace : ℕ → List Kept) (c : ℕ) (held : Held) → o.connect
     ≡ (w.process p).connect → o.flag ≡ (w.process p).flag

@@ -1,8 +1,8 @@
 -- What a word says of a descriptor word, or of a cell, is what was put into it.
-use Rattle.std.proofs.Common.{◌≡◌, ℕ, ◌^◌, ◌≤◌, refl, ap, sym, ◌∙◌, subst}
+use Rattle.std.proofs.Common.{◌≡◌, ℕ, ◌≤◌, refl, ap, sym, ◌∙◌}
 use Rattle.mx_sdw.specs.Admissible.{IsAdmissible}
-use Rattle.mx_sdw.specs.DescriptorWords.{FitsWord, desc_word, desc_view}
-use Rattle.mx_sdw.specs.Descriptors.{Descriptor, unknown_desc, gone_desc}
+use Rattle.mx_sdw.specs.DescriptorWords.{FitsWord}
+use Rattle.mx_sdw.specs.Descriptors.{Descriptor}
 use Rattle.mx_sdw.specs.declared.descriptors.DescKind.{DescKind}
 use Rattle.mx_sdw.specs.declared.descriptors.DescKind.TheVariants.{Unknown, Gone, Segment}
 use Rattle.mx_sdw.proofs.WordLaws.{view_back, value_back, writer_back, stamp_back}

@@ -1,16 +1,15 @@
 -- Enter, LoadConnect and Leave keep the rule.
-use Rattle.std.proofs.Common.{◌≡◌, ◌≢◌, ℕ, ◌≤◌, List, [], refl, sym, ap, ◌∙◌, subst, slice_index, arith}
+use Rattle.std.proofs.Common.{◌≡◌, ℕ, refl, sym, ap, ◌∙◌, subst, slice_index, arith}
 use Rattle.atomic_table.specs.Table.{keeps}
 use Rattle.mx_core.specs.Entering.{next_turn, entered, after_enter, connect_loaded, after_load_connect, left, after_leave}
-use Rattle.mx_core.specs.World.{Process, World}
-use Rattle.mx_core.specs.declared.elements.Kept.{Kept}
+use Rattle.mx_core.specs.World.{Process}
 use Rattle.mx_core.proofs.ProcessLaws.{enter_law, load_connect_law, leave_law}
 use Rattle.mx_core.proofs.Puts.{put_here}
 use Rattle.mx_rule.specs.Entering.{entered_view, EnterAllowed, connected_view, LoadConnectAllowed, left_view, LeaveAllowed}
 use Rattle.mx_rule.specs.Layout.{content}
 use Rattle.mx_rule.specs.Parts.{ConnectWord, Flag, number_in}
 use Rattle.mx_rule.specs.Rule.{IsPassOf}
-use Rattle.mx_rule.specs.Shown.{PassView, Pass, shown}
+use Rattle.mx_rule.specs.Shown.{PassView, Pass}
 use Rattle.mx_rule.proofs.Words.{set_words, load_words, but_flag, all_words}
 use Rattle.mx_rule.proofs.Moves.{plain_step, pass_moves}
 

@@ -1,7 +1,6 @@
 -- Settle, Clear and Recall keep the rule.
-use Rattle.std.proofs.Common.{◌≡◌, ◌≢◌, ℕ, ◌+◌, ◌<◌, ◌≤◌, Bool, true, false, List, [], ◌∷◌, length, set, refl, sym, ap, ◌∙◌, subst, slice_index, Option, Some, None, arith}
+use Rattle.std.proofs.Common.{◌≡◌, ◌≢◌, ℕ, true, false, set, refl, sym, ap, ◌∙◌, subst, slice_index, Option, Some, None, arith}
 use Rattle.atomic_table.specs.Table.{keeps}
-use Rattle.mx_sdw.specs.Descriptors.{Descriptor}
 use Rattle.mx_reads.specs.Held.{Held}
 use Rattle.mx_core.specs.AssociativeMemory.{recalled}
 use Rattle.mx_core.specs.Clearing.{after_clear}
@@ -10,9 +9,9 @@ use Rattle.mx_core.specs.Judging.{at_once}
 use Rattle.mx_core.specs.Loading.{judged, recalling}
 use Rattle.mx_core.specs.Pages.{page_of}
 use Rattle.mx_core.specs.Put.{put}
-use Rattle.mx_core.specs.Striking.{with_word, settled, after_settle}
+use Rattle.mx_core.specs.Striking.{settled}
 use Rattle.mx_core.specs.Words.{zero_cell, number_of}
-use Rattle.mx_core.specs.World.{Process, World}
+use Rattle.mx_core.specs.World.{World}
 use Rattle.mx_core.specs.declared.elements.Outcome.{Outcome}
 use Rattle.mx_core.specs.declared.words.Asked.{Asked}
 use Rattle.mx_core.specs.declared.words.DescriptorWord.{DescriptorWord}
@@ -28,11 +27,10 @@ use Rattle.mx_rule.specs.Clearing.{MayClear, cleared_view, ClearAllowed}
 use Rattle.mx_rule.specs.Codes.{IsPlain, cell_code, word_code}
 use Rattle.mx_rule.specs.Layout.{Layout, ShowsWords, content}
 use Rattle.mx_rule.specs.Parts.{Answered, CellAt, ConnectWord, Count, DescriptorAt, Flag, Part, number_in}
-use Rattle.mx_rule.specs.Rule.{IsPassOf}
-use Rattle.mx_rule.specs.Shown.{Super, SuperView, Pass, PassView, Office, office, office_of}
+use Rattle.mx_rule.specs.Shown.{Super, Pass, PassView, Office, office}
 use Rattle.mx_rule.proofs.LoadDescs.{IsReading, judged_reading}
 use Rattle.mx_rule.proofs.Moves.{pass_moves}
-use Rattle.mx_rule.proofs.OfficeSteps.{pair_rises, IsOfficeStep, office_moves}
+use Rattle.mx_rule.proofs.OfficeSteps.{pair_rises, office_moves}
 use Rattle.mx_rule.proofs.Words.{set_words, load_words, put_pair}
 
 abbrev pub settling : ℕ → ℕ → ℕ → Office → Office

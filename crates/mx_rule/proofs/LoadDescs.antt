@@ -1,16 +1,15 @@
 -- LoadDesc keeps the rule.
-use Rattle.std.proofs.Common.{◌≡◌, ◌≢◌, ℕ, ◌+◌, ◌<◌, ◌≤◌, nat_le, nat_lt, Bool, true, false, List, [], ◌∷◌, ◌++◌, refl, sym, ap, ◌∙◌, subst, slice_index, set, Option, Some, None, arith}
+use Rattle.std.proofs.Common.{◌≡◌, ℕ, ◌<◌, nat_le, nat_lt, Bool, true, false, List, refl, sym, ap, ◌∙◌, subst, slice_index, set, Option, Some, None, arith}
 use Rattle.atomic_table.specs.Table.{keeps}
-use Rattle.mx_core.specs.RightWords.{IsValid, IsFault, IsWord}
+use Rattle.mx_core.specs.RightWords.{IsWord}
 use Rattle.mx_core.specs.AssociativeMemory.{remembered}
 use Rattle.mx_sdw.specs.Admissible.{IsAdmissible}
 use Rattle.mx_core.specs.Invariant.{Good}
 use Rattle.mx_core.specs.Judging.{at_once}
-use Rattle.mx_core.specs.Loading.{element_of, with_event, judged_to, missed, found, loaded, after_load_desc}
-use Rattle.mx_core.specs.Notions.{IsProcess, with_process}
-use Rattle.mx_core.specs.Put.{put, pick}
+use Rattle.mx_core.specs.Loading.{element_of, judged_to, missed, found, loaded}
+use Rattle.mx_core.specs.Put.{pick}
 use Rattle.mx_core.specs.World.{Process, World}
-use Rattle.mx_sdw.specs.Descriptors.{Descriptor, unknown_desc}
+use Rattle.mx_sdw.specs.Descriptors.{unknown_desc}
 use Rattle.mx_core.specs.declared.elements.Kept.{Kept}
 use Rattle.mx_core.specs.declared.elements.Kept.TheVariants.{Judged, Missed}
 use Rattle.mx_core.specs.declared.elements.Outcome.{Outcome}
@@ -26,7 +25,7 @@ use Rattle.mx_rule.specs.Layout.{Layout, ShowsWords, content}
 use Rattle.mx_rule.specs.Parts.{DescriptorAt, Part, number_in}
 use Rattle.mx_rule.proofs.CodeLaws.{word_back}
 use Rattle.mx_rule.specs.Rule.{IsPassOf}
-use Rattle.mx_rule.specs.Shown.{PassView, Pass, shown, Office}
+use Rattle.mx_rule.specs.Shown.{PassView, Pass, Office}
 use Rattle.mx_rule.proofs.Words.{load_words, all_words}
 use Rattle.mx_rule.proofs.Moves.{IsPassStep, plain_step, event_step, pass_moves, own_here}
 use Rattle.std.proofs.lemmas.Bool.Decides.{nat_tests}

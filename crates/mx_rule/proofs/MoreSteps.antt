@@ -1,5 +1,5 @@
 -- Acknowledge, Look and Append keep the rule.
-use Rattle.std.proofs.Common.{◌≡◌, ◌≢◌, ◌⊎◌, inl, inr, ℕ, ◌+◌, ◌<◌, ◌≤◌, Bool, true, false, not, ◌&&◌, ◌||◌, IsTrue, List, [], ◌∷◌, length, set, refl, sym, ap, ◌∙◌, subst, slice_index, arith, ne_eqb, eq-eqb}
+use Rattle.std.proofs.Common.{◌≡◌, ◌≢◌, ◌⊎◌, inl, inr, ℕ, ◌+◌, Bool, true, false, not, ◌&&◌, ◌||◌, List, set, refl, sym, ap, ◌∙◌, subst, slice_index, arith, ne_eqb, eq-eqb}
 use Rattle.std.specs.Prelude.{◌==◌}
 use mathlib.Core.Logic.{dite}
 use native.Mathlib.Decide.{ℕ_discrete}
@@ -8,16 +8,15 @@ use lib.ListN.{get_elem?}
 use Rattle.atomic_table.specs.Table.{State, keeps}
 use Rattle.mx_core.specs.Acknowledging.{HasLeft, after_look, after_acknowledge}
 use Rattle.mx_core.specs.Append.{with_changes, after_append}
-use Rattle.mx_core.specs.Invariant.{Good}
-use Rattle.mx_core.specs.Notions.{IsProcess, with_process}
+use Rattle.mx_core.specs.Notions.{with_process}
 use Rattle.mx_core.specs.Pages.{page_of, gives, covered_anew}
-use Rattle.mx_core.specs.Put.{put, pick}
+use Rattle.mx_core.specs.Put.{put}
 use Rattle.mx_core.specs.World.{Process, World}
 use Rattle.mx_core.specs.declared.changes.Change.{Change}
 use Rattle.mx_core.specs.declared.changes.Run.{Run}
 use Rattle.mx_core.proofs.AppendLaw.{append_law}
 use Rattle.mx_core.proofs.ProcessLaws.{look_law, acknowledge_law}
-use Rattle.mx_core.proofs.Puts.{put_all, put_here, put_else, pick_all}
+use Rattle.mx_core.proofs.Puts.{put_all, pick_all}
 use Rattle.mx_rule.specs.Acknowledging.{MayAcknowledge, has_left, acknowledged_view, looked_view, noticed_view, AcknowledgeAllowed}
 use Rattle.mx_rule.specs.Appending.{MayAppend, appended_view, AppendAllowed}
 use Rattle.mx_rule.specs.Layout.{Layout, content}

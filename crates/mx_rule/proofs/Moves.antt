@@ -1,21 +1,21 @@
 -- How views follow a step of a pass or of the supervisor.
-use Rattle.std.proofs.Common.{◌≡◌, ◌≢◌, ℕ, ◌+◌, ◌<◌, ◌≤◌, List, [], ◌∷◌, ◌++◌, length, set, sym, refl, ap, ◌∙◌, subst, inl, inr, ⊎_elim, length-append, arith, Bool}
-use mathlib.Core.Option.{some, some-injective}
+use Rattle.std.proofs.Common.{◌≡◌, ◌≢◌, ℕ, ◌≤◌, List, [], ◌∷◌, ◌++◌, length, set, sym, refl, ap, ◌∙◌, subst, ⊎_elim, length-append, arith}
+use mathlib.Core.Option.{some}
 use lib.ListN.{get_elem?}
 use Rattle.atomic_table.specs.Table.{State}
-use Rattle.atomic_table.proofs.Lists.{at_set, set_here}
+use Rattle.atomic_table.proofs.Lists.{at_set}
 use Rattle.mx_core.specs.Invariant.{Good}
 use Rattle.mx_core.specs.Loading.{with_event}
 use Rattle.mx_core.specs.Notions.{IsProcess, with_process}
 use Rattle.mx_core.specs.Put.{put}
 use Rattle.mx_core.specs.Words.{number_of}
-use Rattle.mx_core.specs.World.{Process, Note, World}
+use Rattle.mx_core.specs.World.{Process, World}
 use Rattle.mx_core.specs.declared.elements.Kept.{Kept}
 use Rattle.mx_core.proofs.Puts.{put_all, put_here, put_else}
 use Rattle.mx_rule.specs.Codes.{IsPlain}
 use Rattle.mx_rule.specs.Layout.{IsLayout, Layout, ShowsWords, content}
 use Rattle.mx_rule.specs.Rule.{Seats, IsPassOf, Knows, Holds}
-use Rattle.mx_rule.specs.Shown.{View, Super, Pass, Noted, Report, Spent, PassView, NoteView, Office, office, office_of, shown, fresh_view}
+use Rattle.mx_rule.specs.Shown.{View, Super, Pass, Noted, Report, Spent, PassView, Office, office, fresh_view}
 
 -- what a step of process p leaves
 pub record IsPassStep (w w' : World) (p : ℕ) : Type 0 where

@@ -1,23 +1,21 @@
 -- Split, Join and Report keep the rule.
-use Rattle.std.proofs.Common.{◌≡◌, ◌≢◌, ◌⊎◌, inl, inr, ⊎_elim, ℕ, zero, suc, ◌+◌, ◌<◌, ◌≤◌, max, Bool, List, [], ◌∷◌, ◌++◌, length, set, length-set, refl, sym, ap, ◌∙◌, subst, slice_get, arith, Option, Some, None}
+use Rattle.std.proofs.Common.{◌≡◌, ◌≢◌, ◌⊎◌, inl, inr, ⊎_elim, ℕ, zero, suc, ◌+◌, max, List, [], ◌∷◌, ◌++◌, length, set, length-set, refl, sym, ap, ◌∙◌, subst, slice_get, arith, Option, Some, None}
 use mathlib.Core.Option.{some, some-injective, some-ne-none}
 use lib.ListN.{get_elem?}
-use Rattle.atomic_table.specs.Table.{State}
-use Rattle.atomic_table.proofs.Lists.{at_set, set_else}
+use Rattle.atomic_table.proofs.Lists.{set_else}
 use Rattle.mx_core.specs.Invariant.{Good}
-use Rattle.mx_core.specs.Notes.{after_split, told_by, joined, after_join, after_report}
-use Rattle.mx_core.specs.Notions.{IsProcess, with_process}
+use Rattle.mx_core.specs.Notes.{after_split, told_by, joined, after_report}
+use Rattle.mx_core.specs.Notions.{with_process}
 use Rattle.mx_core.specs.Put.{put}
 use Rattle.mx_core.specs.World.{Process, Note, World}
-use Rattle.mx_core.specs.declared.elements.Kept.{Kept}
 use Rattle.mx_core.proofs.HistoryLaws.{split_law, report_law}
 use Rattle.mx_core.proofs.ProcessLaws.{join_law}
-use Rattle.mx_core.proofs.Puts.{put_all, put_here, put_else}
+use Rattle.mx_core.proofs.Puts.{put_here, put_else}
 use Rattle.mx_rule.specs.Notes.{noting_view, noted_view, SplitAllowed, joined_view, JoinAllowed, report_of, MakesReportAllowed, reported_view, ReportAllowed}
 use Rattle.mx_rule.specs.Layout.{Layout, content}
 use Rattle.mx_rule.specs.Parts.{Answered, CellAt, ConnectWord, Count, DescriptorAt, Flag, Part}
-use Rattle.mx_rule.specs.Rule.{Seats, IsPassOf, Knows, Holds}
-use Rattle.mx_rule.specs.Shown.{View, Super, Pass, Noted, Report, Spent, PassView, NoteView, ReportView, SuperView, Office, office, office_of, note_of, shown}
+use Rattle.mx_rule.specs.Rule.{Seats, IsPassOf, Knows}
+use Rattle.mx_rule.specs.Shown.{View, Super, Pass, Noted, Report, Spent, PassView, Office, note_of}
 use Rattle.mx_rule.proofs.Words.{all_words}
 use Rattle.mx_rule.proofs.Moves.{IsPassStep, plain_step, under_pass, view_set}
 use Rattle.mx_rule.proofs.OfficeSteps.{IsOfficeStep, under_office}

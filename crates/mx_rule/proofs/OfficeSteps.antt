@@ -1,30 +1,29 @@
 -- Strike, Connect and Answer keep the rule.
-use Rattle.std.proofs.Common.{◌≡◌, ◌≢◌, ℕ, ◌+◌, ◌<◌, ◌≤◌, Bool, true, false, IsTrue, List, [], ◌∷◌, length, set, refl, sym, ap, ◌∙◌, subst, slice_index, arith}
+use Rattle.std.proofs.Common.{◌≡◌, ◌≢◌, ℕ, ◌≤◌, Bool, false, List, length, set, refl, sym, ap, ◌∙◌, subst, arith}
 use mathlib.Core.Option.{some}
 use lib.ListN.{get_elem?}
 use Rattle.atomic_table.specs.Table.{State, keeps}
-use Rattle.mx_core.specs.Acknowledging.{after_connect, forgotten, after_answer}
+use Rattle.mx_core.specs.Acknowledging.{after_connect, after_answer}
 use Rattle.mx_core.specs.Invariant.{Good}
-use Rattle.mx_core.specs.Notions.{IsProcess, with_process}
+use Rattle.mx_core.specs.Notions.{with_process}
 use Rattle.mx_core.specs.RightWords.{IsWord}
 use Rattle.mx_core.specs.Put.{put}
 use Rattle.mx_core.specs.Words.{number_of}
 use Rattle.mx_core.specs.declared.words.DescriptorWord.{DescriptorWord}
 use Rattle.mx_core.specs.Striking.{after_strike}
 use Rattle.mx_core.specs.World.{Process, World}
-use Rattle.mx_core.specs.declared.elements.Kept.{Kept}
 use Rattle.mx_core.specs.declared.words.DescriptorWord.TheVariants.{Valid, Fault}
 use Rattle.mx_core.proofs.HistoryLaws.{strike_law, answer_law}
 use Rattle.mx_core.proofs.ProcessLaws.{connect_law}
 use Rattle.mx_core.proofs.Puts.{put_all, put_here, put_else}
-use Rattle.mx_rule.specs.Striking.{Changes, MayStrike, struck_view, StrikeAllowed}
+use Rattle.mx_rule.specs.Striking.{MayStrike, struck_view, StrikeAllowed}
 use Rattle.mx_rule.specs.Acknowledging.{MayConnect, connecting_view, ConnectAllowed, MayAnswer, answered_view, AnswerAllowed}
 use Rattle.mx_rule.specs.Codes.{IsPlain, word_code}
 use Rattle.mx_rule.specs.Layout.{IsLayout, Layout, ShowsWords, content}
 use Rattle.mx_rule.specs.Parts.{Answered, CellAt, ConnectWord, Count, DescriptorAt, Flag, Part}
 use Rattle.mx_rule.specs.Rule.{Seats, IsPassOf, Undealt, AreRetired, Knows, Holds}
 use Rattle.mx_rule.specs.Shown.{View, Super, Pass, Noted, Report, Spent, PassView, SuperView, Office, office, office_of, fresh_view}
-use Rattle.mx_rule.proofs.Words.{set_words, load_words, but_flag, all_words, put_pair}
+use Rattle.mx_rule.proofs.Words.{set_words, put_pair}
 use Rattle.mx_rule.proofs.Moves.{put_map, view_set}
 
 -- what a step of the supervisor leaves

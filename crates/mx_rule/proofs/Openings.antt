@@ -1,10 +1,9 @@
 -- The opening, and the dealing of the processes' seats.
-use Rattle.std.proofs.Common.{◌≡◌, ◌≢◌, ◌⊎◌, ⊎_elim, ℕ, ◌+◌, ◌≤◌, List, [], ◌∷◌, ◌++◌, length, set, length-set, refl, sym, ap, ◌∙◌, subst, arith, lt_of_not-le, slice_get, Some, zero, suc, ◌<◌}
+use Rattle.std.proofs.Common.{◌≡◌, ◌≢◌, ⊎_elim, ℕ, ◌≤◌, List, [], ◌∷◌, length, set, length-set, refl, sym, ap, ◌∙◌, subst, arith, lt_of_not-le, slice_get, Some, zero, suc, ◌<◌}
 use mathlib.Core.Option.{some}
 use lib.ListN.{get_elem?}
 use Rattle.mx_core.specs.Opening.{opening}
 use Rattle.mx_core.specs.Put.{put}
-use Rattle.mx_core.specs.Words.{zero_cell}
 use Rattle.mx_core.specs.Traces.{IsGoodTrace}
 use Rattle.mx_core.specs.World.{World}
 use Rattle.mx_core.specs.declared.elements.Kept.{Kept}
@@ -12,8 +11,8 @@ use Rattle.mx_core.proofs.OpeningLaw.{opening_law}
 use Rattle.mx_core.proofs.Puts.{put_here, put_else, put_all}
 use Rattle.mx_rule.specs.Dealing.{opening_view, OpeningAllowed, dealing_view, DealAllowed, retired_view, RetireAllowed, RetiredIsRight}
 use Rattle.atomic_table.proofs.Lists.{set_else}
-use Rattle.mx_rule.specs.Rule.{Seats, IsPassOf, Undealt, AreRetired, Knows, Holds}
-use Rattle.mx_rule.specs.Shown.{View, Super, Pass, Noted, Report, Spent, PassView, SuperView, Office, office, office_of, base_of, fresh_view}
+use Rattle.mx_rule.specs.Rule.{Seats, IsPassOf, AreRetired, Knows}
+use Rattle.mx_rule.specs.Shown.{View, Super, Pass, Noted, Report, Spent, PassView, Office, base_of, fresh_view}
 use Rattle.mx_rule.proofs.Moves.{view_set}
 use Rattle.mx_rule.proofs.NoteSteps.{at_snoc_index}
 

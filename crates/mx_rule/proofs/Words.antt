@@ -1,12 +1,12 @@
 -- How the shared words follow a step.
-use Rattle.std.proofs.Common.{◌≡◌, ◌≢◌, ℕ, ◌<◌, ◌≤◌, List, [], length, get_or, set, sym, refl, ap, ◌∙◌, subst, length-set, get_or-set_other, get_or-set_same, slice_index, arith}
+use Rattle.std.proofs.Common.{◌≡◌, ◌≢◌, ℕ, ◌<◌, List, get_or, set, sym, refl, ap, ◌∙◌, subst, length-set, get_or-set_other, get_or-set_same, slice_index}
 use mathlib.Core.Logic.{dite}
 use native.Mathlib.Decide.{ℕ_discrete}
 use lib.Seq.{set-get_or}
 use Rattle.mx_core.specs.Put.{put}
 use Rattle.mx_core.specs.Notions.{with_process}
 use Rattle.mx_core.specs.World.{Process, World}
-use Rattle.mx_core.proofs.Puts.{put_all, put_here, put_else}
+use Rattle.mx_core.proofs.Puts.{put_all, put_else}
 use Rattle.mx_rule.specs.Layout.{IsLayout, Layout, ShowsWords, content}
 use Rattle.mx_rule.proofs.PartLaws.{numbers_apart}
 use Rattle.mx_rule.specs.Parts.{Answered, CellAt, ConnectWord, Count, DescriptorAt, Flag, IsPart, Part, number_in}

@@ -1,7 +1,6 @@
 -- What a step on one word must show: whatever the table is, the word and the view of the one who makes it may change
 -- so.
 use Rattle.std.specs.Prelude.{◌≡◌, ℕ, []}
-use Rattle.mx_sdw.specs.Operations.{writes}
 use Rattle.atomic_table.specs.Table.{Allows}
 use Rattle.mx_rule.specs.Layout.{Layout}
 use Rattle.mx_rule.specs.Parts.{Part, number_in}

@@ -1,5 +1,5 @@
 -- Append by the supervisor.
-use Rattle.std.specs.Prelude.{◌≡◌, ℕ, ◌+◌, ◌<◌, ◌≤◌, ◌||◌, IsTrue, List, [], ◌∷◌, length, slice_get, Some}
+use Rattle.std.specs.Prelude.{◌≡◌, ℕ, ◌+◌, ◌<◌, ◌≤◌, ◌||◌, IsTrue, List, [], ◌∷◌, slice_get, Some}
 use Rattle.mx_sdw.specs.Admissible.{IsAdmissible}
 use Rattle.mx_core.specs.Pages.{page_of, gives, covered_anew}
 use Rattle.mx_core.specs.declared.changes.Change.{Change}

@@ -1,5 +1,5 @@
 -- LoadCell and StoreCell by a pass.
-use Rattle.std.specs.Prelude.{◌^◌, ◌≡◌, ℕ, ◌+◌, ◌<◌, ◌++◌, max, true, [], ◌∷◌, Some, None}
+use Rattle.std.specs.Prelude.{◌^◌, ◌≡◌, ℕ, ◌<◌, ◌++◌, max, true, [], ◌∷◌, Some, None}
 use Rattle.mx_sdw.specs.Operations.{writes}
 use Rattle.mx_reads.specs.Held.{Held}
 use Rattle.mx_core.specs.Judging.{loads}

@@ -1,5 +1,5 @@
 -- LoadDesc and Recall by a pass.
-use Rattle.std.specs.Prelude.{◌≡◌, ℕ, ◌+◌, ◌<◌, ◌++◌, nat_le, nat_lt, [], ◌∷◌, Option, Some, None}
+use Rattle.std.specs.Prelude.{◌≡◌, ℕ, ◌<◌, ◌++◌, nat_le, nat_lt, [], ◌∷◌, Option, Some, None}
 use Rattle.mx_core.specs.AssociativeMemory.{remembered, recalled}
 use Rattle.mx_core.specs.Judging.{at_once}
 use Rattle.mx_core.specs.Loading.{element_of}

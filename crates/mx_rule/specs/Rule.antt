@@ -1,5 +1,5 @@
 -- The rule: words and views show a world that is good.
-use Rattle.std.specs.Prelude.{◌≡◌, ◌≢◌, ℕ, ◌<◌, ◌≤◌, List, length, Some, slice_get}
+use Rattle.std.specs.Prelude.{◌≡◌, ℕ, ◌<◌, ◌≤◌, List, length, Some, slice_get}
 use mathlib.Core.Option.{some}
 use lib.ListN.{get_elem?}
 use Rattle.atomic_table.specs.Table.{State}
@@ -10,7 +10,7 @@ use Rattle.mx_core.specs.World.{Process, World}
 use Rattle.mx_core.specs.declared.elements.Kept.{Kept}
 use Rattle.mx_rule.specs.Codes.{IsPlain}
 use Rattle.mx_rule.specs.Layout.{IsLayout, Layout, ShowsWords, content}
-use Rattle.mx_rule.specs.Shown.{View, Super, Pass, Noted, Report, Spent, PassView, NoteView, office, office_of, shown, all_told, note_of, fresh_view}
+use Rattle.mx_rule.specs.Shown.{View, Super, Pass, Noted, Report, Spent, PassView, office, office_of, shown, all_told, note_of, fresh_view}
 
 -- the seats of the supervisor, of each process and of each note
 pub record Seats : Type 0 where

@@ -1,6 +1,5 @@
 -- The view of a seat, by whose seat it is.
-use Rattle.std.specs.Prelude.{ℕ, [], None}
-use Rattle.mx_core.specs.declared.words.Stage.TheVariants.{Outside}
+use Rattle.std.specs.Prelude.{[]}
 use Rattle.mx_rule.specs.Dealing.{opening_view}
 use Rattle.mx_rule.specs.Shown.{View, Super, Pass, PassView, SuperView, fresh_view}
 

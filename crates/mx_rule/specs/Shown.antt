@@ -1,5 +1,5 @@
 -- What views show of a world.
-use Rattle.std.specs.Prelude.{◌≡◌, ℕ, ◌+◌, ◌≤◌, ◌&&◌, ◌||◌, not, max, Bool, true, false, List, [], ◌∷◌, ◌++◌, length, Option, Some, None}
+use Rattle.std.specs.Prelude.{ℕ, ◌+◌, ◌&&◌, ◌||◌, not, max, Bool, true, false, List, [], ◌∷◌, None}
 use Rattle.mx_sdw.specs.Descriptors.{Descriptor, unknown_desc}
 use Rattle.mx_core.specs.Append.{with_changes}
 use Rattle.mx_core.specs.Opening.{is_covered}
@@ -7,11 +7,8 @@ use Rattle.mx_core.specs.Pages.{page_of, gives, covered_anew}
 use Rattle.mx_core.specs.Put.{put}
 use Rattle.mx_core.specs.declared.words.DescriptorWord.{DescriptorWord}
 use Rattle.mx_core.specs.declared.words.DescriptorWord.TheVariants.{Valid}
-use Rattle.mx_core.specs.declared.words.Triple.{Triple}
-use Rattle.mx_core.specs.declared.words.Asked.{Asked}
 use Rattle.mx_core.specs.World.{Process, Note, Entry, World}
 use Rattle.mx_core.specs.declared.elements.Kept.{Kept}
-use Rattle.mx_core.specs.declared.words.Stage.{Stage}
 use Rattle.mx_core.specs.declared.words.Stage.TheVariants.{Outside}
 use Rattle.mx_core.specs.declared.changes.Change.{Change}
 pub use Rattle.mx_rule.specs.declared.views.Told.{Told}

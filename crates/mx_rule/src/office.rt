@@ -18,8 +18,8 @@ use atomic_table::{Play, Seat};
 use mx_sdw::{Desc, DescKind, DescView, DescWord};
 use std::marker::{Brand, PhantomData};
 
-/// What a call of the supervisor is about: a process, a number of it, and a number of an entry or a cell. Each call names
-/// its own.
+/// What a call of the supervisor is about: a process, a number of it, and a number of an entry or a cell. Each call
+/// names its own.
 pub trait Aim {
     ghost process: { ℕ };
 
@@ -154,14 +154,7 @@ impl<E> SuperSeat<E> {
 
     /// Settles a struck word with the present descriptor. Condition: nothing is pending, the word is a fault by entry
     /// `number`, and `desc` is the pair's present descriptor.
-    pub fn settle(
-        &mut self,
-        shared: &Board<E>,
-        process: u8,
-        segno: u16,
-        number: u32,
-        desc: &Desc,
-    )
+    pub fn settle(&mut self, shared: &Board<E>, process: u8, segno: u16, number: u32, desc: &Desc)
         requires fits { self.old.seat.table_id ≡ shared.now.table_id }
         requires layout { shared.now.key.layout ≡ self.old.layout }
         requires wide { words_in self.old.layout ≤ shared.now.table_id.words }
@@ -195,8 +188,8 @@ impl<E> SuperSeat<E> {
         shared.store::<Settles<J>>(&mut self.seat, word, code);
     }
 
-    /// Tells a process by its connect word to empty its memory. Condition: an entry is pending that changes a pair of it,
-    /// and each changed pair of it is struck.
+    /// Tells a process by its connect word to empty its memory. Condition: an entry is pending that changes a pair of
+    /// it, and each changed pair of it is struck.
     pub fn connect(&mut self, shared: &Board<E>, process: u8)
         requires fits { self.old.seat.table_id ≡ shared.now.table_id }
         requires layout { shared.now.key.layout ≡ self.old.layout }

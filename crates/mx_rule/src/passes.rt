@@ -77,7 +77,8 @@ impl<E> PassSeat<E> {
         requires layout { shared.now.key.layout ≡ self.old.layout }
         requires wide { words_in self.old.layout ≤ shared.now.table_id.words }
         requires entering { (pass_of self.old.seat.me.0).stage ≡ Entering }
-        ensures view { pass_of self.new.seat.me.0 ≡ connected_view (pass_of self.new.seat.me.0).cleared (pass_of self.old.seat.me.0) }
+        ensures view { pass_of self.new.seat.me.0
+            ≡ connected_view (pass_of self.new.seat.me.0).cleared (pass_of self.old.seat.me.0) }
         ensures emptied { result ≡ not ((pass_of self.new.seat.me.0).cleared == (pass_of self.old.seat.me.0).cleared) }
     {
         let word = self.layout.connect_word(self.process);

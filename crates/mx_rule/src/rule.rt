@@ -9,8 +9,8 @@ use crate::views::View;
 use atomic_table::{Shared, TableRule};
 use mx_core::Changes;
 
-/// What a shared table opened with: its layout, after how many entries, and its descriptors, as changes of a table where
-/// all is unknown.
+/// What a shared table opened with: its layout, after how many entries, and its descriptors, as changes of a table
+/// where all is unknown.
 #[derive(Debug, Drop)]
 pub struct Key {
     /// The processes and their numbers.

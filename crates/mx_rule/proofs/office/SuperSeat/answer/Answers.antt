@@ -1,5 +1,5 @@
-use Rattle.std.proofs.Common.{ap, sym, ◌∙◌, arith}
-use Rattle.mx_rule.specs.Parts.{Answered, number_in}
+use Rattle.std.proofs.Common.{sym, ◌∙◌, arith}
+use Rattle.mx_rule.specs.Parts.{Answered}
 use Rattle.mx_rule.specs.Seats.{super_of}
 use Rattle.mx_rule.proofs.Carries.{office_writes}
 use Rattle.mx_rule.proofs.OfficeSteps.{answer_allowed}

@@ -31,7 +31,7 @@ store-requires g c =
     let wide = c.requires.wide in
     let place = c.descriptor-word.ensures in
     let desc =
-        (λ i. (office_of v).table (seat.length_is i) (a i) (b i)) ∙ c.requires.present in (
+    (λ i. (office_of v).table (seat.length_is i) (a i) (b i)) ∙ c.requires.present in (
       c.requires.fits,
       omega arith,
       office_writes g.row.E.Denot y v _ (DescriptorAt p n) _ _ _ _

@@ -1,4 +1,4 @@
-use Rattle.std.proofs.Common.{ap, sym, ◌∙◌, arith}
+use Rattle.std.proofs.Common.{sym, ◌∙◌, arith}
 use Rattle.mx_rule.specs.Entering.{connected_view}
 use Rattle.mx_rule.specs.Parts.{ConnectWord, number_in}
 use Rattle.mx_rule.specs.Seats.{pass_of}
