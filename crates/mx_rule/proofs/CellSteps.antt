@@ -75,7 +75,7 @@ store_cell_allowed S y v u a value basis hold op small near slots id s r len at 
       Pass (stored_view u a value v),
       keeps,
       tt,
-      pass_moves y s r id v (stored_view u a value v) w' _ at refl
+      pass_moves y s r id v (stored_view u a value v) w' _ at (refl, refl)
           (record {
             office = step.office;
             process = step.process;
@@ -119,7 +119,7 @@ load_cell_allowed S y v u a basis hold op near slots id s r len at lt =
       Pass v',
       keeps,
       tt,
-      pass_moves y s r id v v' w' _ at refl
+      pass_moves y s r id v v' w' _ at (refl, refl)
           (event_step w p o' event (record { connect = refl; look = refl; acknowledged = refl; floor = omega arith }))
           (read_good w p u a r.good k.1 (ap (λ (x : PassView). x.basis) k.2.rest ∙ basis)
           (ap (λ (x : PassView). x.hold) k.2.rest ∙ hold) op)

@@ -22,7 +22,7 @@ enter_allowed S y v outside slots id s r len at lt =
       Pass (entered_view v),
       keeps,
       tt,
-      pass_moves y s r id v (entered_view v) (after_enter w p) _ at refl
+      pass_moves y s r id v (entered_view v) (after_enter w p) _ at (refl, refl)
           (plain_step w p o' (record { connect = refl; look = refl; acknowledged = refl; floor = omega arith }))
           (enter_law w p r.good (record { range = k.1; outside = ap (λ (x : PassView). x.stage) k.2.rest ∙ outside }))
           (subst (λ (o : Process). IsPassOf o (w.trace p) (entered_view v)) (sym (put_here w.process p o'))
@@ -44,7 +44,7 @@ leave_allowed S y v inside slots id s r len at lt =
       Pass (left_view v),
       keeps,
       tt,
-      pass_moves y s r id v (left_view v) (after_leave w p) _ at refl
+      pass_moves y s r id v (left_view v) (after_leave w p) _ at (refl, refl)
           (plain_step w p o' (record { connect = refl; look = refl; acknowledged = refl; floor = omega arith }))
           (leave_law w p r.good (record {
             range = k.1;
@@ -71,7 +71,7 @@ load_connect_allowed S y v entering slots id s r len at lt =
       Pass (connected_view n v),
       keeps,
       tt,
-      pass_moves y s r id v (connected_view n v) (after_load_connect w p) _ at refl
+      pass_moves y s r id v (connected_view n v) (after_load_connect w p) _ at (refl, refl)
           (plain_step w p o' (record { connect = refl; look = refl; acknowledged = refl; floor = omega arith }))
           (load_connect_law w p r.good (record {
             range = k.1;

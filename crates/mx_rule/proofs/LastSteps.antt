@@ -28,7 +28,7 @@ use Rattle.mx_rule.specs.Codes.{IsPlain, cell_code, word_code}
 use Rattle.mx_rule.specs.Layout.{Layout, ShowsWords, content}
 use Rattle.mx_rule.specs.Parts.{Answered, CellAt, ConnectWord, Count, DescriptorAt, Flag, Part, number_in}
 use Rattle.mx_rule.specs.Shown.{Super, Pass, PassView, Office, office}
-use Rattle.mx_rule.proofs.LoadDescs.{IsReading, judged_reading}
+use Rattle.mx_rule.proofs.LoadDescs.{IsReading, judged_reading, judged_same}
 use Rattle.mx_rule.proofs.Moves.{pass_moves}
 use Rattle.mx_rule.proofs.OfficeSteps.{pair_rises, office_moves}
 use Rattle.mx_rule.proofs.Words.{set_words, load_words, put_pair}
@@ -62,6 +62,7 @@ settle_allowed S y v p n by may slots id s r len at lt =
       office_moves y s r id v (settled_view p n by v) w' _ at
           (record {
             processes = refl;
+            start = refl;
             passes = λ q u h. h;
             longer = λ q. omega arith;
             higher = λ q. omega arith;
@@ -109,6 +110,7 @@ clear_allowed S y v c may slots id s r len at lt =
       office_moves y s r id v (cleared_view c v) (after_clear w c) _ at
           (record {
             processes = refl;
+            start = refl;
             passes = λ q u h. h;
             longer = λ q. omega arith;
             higher = λ q. omega arith;
@@ -125,10 +127,6 @@ clear_allowed S y v c may slots id s r len at lt =
           (sym (ap cell_code (put_here w.cell c zero_cell))) (but_cleared y w c)),
       refl,
     )
-
-judged_same : (o : Option Outcome) (u : Triple) (a : Asked) (v : PassView) → (judged_view o u a v).process ≡ v.process
-judged_same None u a v = refl
-judged_same (Some o) u a v = refl
 
 pub recall_allowed : (S : Type 0) → RecallAllowed S
 recall_allowed S y v n a u ready has slots id s r len at lt =

@@ -1,5 +1,5 @@
 -- LoadDesc keeps the rule.
-use Rattle.std.proofs.Common.{◌≡◌, ℕ, ◌<◌, nat_le, nat_lt, Bool, true, false, List, refl, sym, ap, ◌∙◌, subst, slice_index, set, Option, Some, None, arith}
+use Rattle.std.proofs.Common.{◌≡◌, ℕ, ◌<◌, ◌≤◌, nat_le, nat_lt, Bool, true, false, List, refl, sym, ap, ◌∙◌, subst, slice_index, set, Option, Some, None, arith}
 use Rattle.atomic_table.specs.Table.{keeps}
 use Rattle.mx_core.specs.RightWords.{IsWord}
 use Rattle.mx_core.specs.AssociativeMemory.{remembered}
@@ -18,16 +18,16 @@ use Rattle.mx_core.specs.declared.words.Triple.{Triple}
 use Rattle.mx_core.specs.declared.words.DescriptorWord.{DescriptorWord}
 use Rattle.mx_core.specs.declared.words.DescriptorWord.TheVariants.{Valid, Fault}
 use Rattle.mx_core.proofs.JudgingLaws.{load_desc_law}
-use Rattle.mx_core.proofs.Puts.{put_here, pick_true}
-use Rattle.mx_rule.specs.Loading.{missed_view, judged_view, remembering_view, loaded_view, LoadDescAllowed}
+use Rattle.mx_core.proofs.Puts.{put_here, pick_true, pick_false}
+use Rattle.mx_rule.specs.Loading.{missed_view, judged_view, remembering_view, loaded_view, LoadDescAllowed, LoadUnknownAllowed}
 use Rattle.mx_rule.specs.Codes.{IsCodable, IsPlain, word_said}
 use Rattle.mx_rule.specs.Layout.{Layout, ShowsWords, content}
-use Rattle.mx_rule.specs.Parts.{DescriptorAt, Part, number_in}
+use Rattle.mx_rule.specs.Parts.{DescriptorAt, Flag, Part, number_in}
 use Rattle.mx_rule.proofs.CodeLaws.{word_back}
 use Rattle.mx_rule.specs.Rule.{IsPassOf}
 use Rattle.mx_rule.specs.Shown.{PassView, Pass, Office}
 use Rattle.mx_rule.proofs.Words.{load_words, all_words}
-use Rattle.mx_rule.proofs.Moves.{IsPassStep, plain_step, event_step, pass_moves, own_here}
+use Rattle.mx_rule.proofs.Moves.{IsPassStep, IsSamePass, plain_step, event_step, pass_moves, own_here}
 use Rattle.std.proofs.lemmas.Bool.Decides.{nat_tests}
 
 -- a step of process p that changes no word
@@ -98,6 +98,22 @@ codable w p n g (Valid number desc) is =
     (omega arith, subst IsAdmissible (is.stands w.answered c (omega arith)) (g.shape.admissible w.answered p n))
 codable w p n g (Fault number) is = let a = g.shape.limit in let c = is.high in omega arith
 
+pub judged_same : (o : Option Outcome) (u : Triple) (a : Asked) (v : PassView) → IsSamePass v (judged_view o u a v)
+judged_same None u a v = (refl, refl)
+judged_same (Some o) u a v = (refl, refl)
+
+either_same : (t : Bool) (b c v : PassView) → IsSamePass v b → IsSamePass v c → IsSamePass v (pick t b c)
+either_same true b c v h k = h
+either_same false b c v h k = k
+
+same_pass : (numbers n : ℕ) (a : Asked) (word : DescriptorWord) (v : PassView)
+    → IsSamePass v (loaded_view numbers n a word v)
+same_pass numbers n a (Fault number) v = (refl, refl)
+same_pass numbers n a (Valid number desc) v =
+    let u : Triple = record { segno = n; number = number; desc = desc } in
+    either_same (nat_le number v.floor) _ _ v (judged_same (at_once desc a) u a (remembering_view numbers u v))
+    (refl, refl)
+
 pub load_desc_allowed : (S : Type 0) → LoadDescAllowed S
 load_desc_allowed S y v n a ready small slots id s r len at lt =
     let w = r.world in
@@ -119,7 +135,7 @@ load_desc_allowed S y v n a ready small slots id s r len at lt =
       Pass v',
       keeps,
       tt,
-      pass_moves y s r id v v' w' _ at (same_process y.numbers n a (word_said m) v) reading.step
+      pass_moves y s r id v v' w' _ at (same_pass y.numbers n a (word_said m) v) reading.step
           (subst (λ (z : DescriptorWord). Good (loaded w p n a z)) here
           (load_desc_law w p n a r.good (record {
             range = k.1;
@@ -133,20 +149,37 @@ load_desc_allowed S y v n a ready small slots id s r len at lt =
           (load_words y w.processes w.numbers (content w) (content w') s.words (number_in y x) r.words reading.words)),
       (refl, subst IsCodable (sym is) (codable w p n r.good word (r.good.access.words p n))),
     )
-  where
-    judged_same : (o : Option Outcome) (u : Triple) (a : Asked) (v : PassView) → (judged_view o u a v).process
-        ≡ v.process
-    judged_same None u a v = refl
-    judged_same (Some o) u a v = refl
 
-    either_same : (t : Bool) (b c : PassView) (p : ℕ) → b.process ≡ p → c.process ≡ p → (pick t b c).process ≡ p
-    either_same true b c p h k = h
-    either_same false b c p h k = k
-
-    same_process : (numbers n : ℕ) (a : Asked) (word : DescriptorWord) (v : PassView)
-        → (loaded_view numbers n a word v).process ≡ v.process
-    same_process numbers n a (Fault number) v = refl
-    same_process numbers n a (Valid number desc) v =
-        let u : Triple = record { segno = n; number = number; desc = desc } in
-        either_same (nat_le number v.floor) _ _ v.process
-        (judged_same (at_once desc a) u a (remembering_view numbers u v)) refl
+-- a number that the table has not
+pub load_unknown_allowed : (S : Type 0) → LoadUnknownAllowed S
+load_unknown_allowed S y v n a ready past slots id s r len at lt =
+    let w = r.world in
+    let p = v.process in
+    let k = r.views id (Pass v) at in
+    let numbers_is = r.layout.numbers_is in
+    let past' : w.numbers ≤ n = omega arith in
+    let word : DescriptorWord = Valid w.start unknown_desc in
+    let here : found w p n ≡ word = pick_false (nat_lt n w.numbers) (w.word p n) word (grind (arith, nat_tests)) in
+    let w' = loaded w p n a word in
+    let v' = loaded_view y.numbers n a (Valid v.start unknown_desc) v in
+    let reading : IsReading y w w' p v' = subst (λ (z : ℕ × ℕ). IsReading y w w' p
+    (loaded_view z.0 n a (Valid z.1 unknown_desc) v)) (λ i. (numbers_is i, sym k.3 i))
+    (loaded_reading y w p n a word v k.2) in (
+      Pass v',
+      keeps,
+      tt,
+      pass_moves y s r id v v' w' _ at (same_pass y.numbers n a (Valid v.start unknown_desc) v) reading.step
+          (subst (λ (z : DescriptorWord). Good (loaded w p n a z)) here
+          (load_desc_law w p n a r.good (record {
+            range = k.1;
+            ready = ap (λ (z : PassView). z.stage) k.2.rest ∙ ready;
+          })))
+          reading.own
+          (subst (λ (f : ℕ → _). (c : ℕ) → IsPlain (f c)) (sym reading.cells) r.plain)
+          (subst (λ (z : Office). ShowsWords y z.processes z.numbers (content w')
+          (set s.words (number_in y (Flag p)) (slice_index s.words (number_in y (Flag p)))))
+          (sym reading.step.office)
+          (load_words y w.processes w.numbers (content w) (content w') s.words (number_in y (Flag p)) r.words
+          reading.words)),
+      refl,
+    )

@@ -193,6 +193,7 @@ append_allowed S y v p changes given may slots id s r len at lt =
       office_moves y s r id v (appended_view p changes given v) (after_append w p changes given) _ at
           (record {
             processes = refl;
+            start = refl;
             passes = λ q u h. h;
             longer = λ q. omega arith;
             higher = λ q. omega arith;

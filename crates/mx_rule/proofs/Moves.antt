@@ -94,6 +94,7 @@ under_pass w w' seats p me j (Pass v) s mine n k =
       record { low = k.1.low; high = subst (λ (x : Office). v.process ≤ x.processes) (sym s.office) k.1.high },
       subst (λ (x : Process × List Kept). IsPassOf x.0 x.1 v)
           (λ i. (sym (s.process v.process other) i, sym (s.trace v.process other) i)) k.2,
+      k.3 ∙ sym (ap (λ (x : Office). x.start) s.office),
     )
 under_pass w w' seats p me j (Noted v) s mine n k = (k.0, ap (λ (f : ℕ → _). f v.number) s.note ∙ k.1)
 under_pass w w' seats p me j (Report v) s mine n k = (
@@ -117,10 +118,14 @@ pub knows : {S : Type 0} (y : Layout) (s : State S View) (r : Holds y s) (id : �
     ≡ some v → Knows r.world r.seats id v
 knows y s r id v at = r.views id v at
 
+-- a pass stays that of its process
+abbrev pub IsSamePass : PassView → PassView → Type 0
+IsSamePass v v' = (v'.process ≡ v.process) × (v'.start ≡ v.start)
+
 -- a step of a pass keeps the rule
 pub pass_moves : {S : Type 0} (y : Layout) (s : State S View) (r : Holds y s) (id : ℕ) (v v' : PassView) (w' : World)
     (words : List ℕ)
-    → get_elem? s.views id ≡ some (Pass v) → v'.process ≡ v.process → IsPassStep r.world w' v.process → Good w'
+    → get_elem? s.views id ≡ some (Pass v) → IsSamePass v v' → IsPassStep r.world w' v.process → Good w'
     → IsPassOf (w'.process v.process) (w'.trace v.process) v' → ((c : ℕ) → IsPlain (w'.cell c))
     → ShowsWords y w'.processes w'.numbers (content w') words
     → Holds y (record { words = words; homes = s.homes; views = set s.views id (Pass v') })
@@ -133,13 +138,14 @@ pass_moves y s r id v v' w' words at same step good own plain shows =
       plain = plain;
       words = shows;
       views = view_set (Knows w' r.seats) s.views id (Pass v') (
-        ap r.seats.owner same ∙ k.0,
-        subst (IsProcess w') (sym same) (record {
+        ap r.seats.owner same.0 ∙ k.0,
+        subst (IsProcess w') (sym same.0) (record {
           low = k.1.low;
           high = subst
               (λ (x : Office). v.process ≤ x.processes) (sym step.office) k.1.high;
         }),
-        subst (λ (p : ℕ). IsPassOf (w'.process p) (w'.trace p) v') (sym same) own,
+        subst (λ (p : ℕ). IsPassOf (w'.process p) (w'.trace p) v') (sym same.0) own,
+        same.1 ∙ k.3 ∙ sym (ap (λ (x : Office). x.start) step.office),
       )
           (λ j u n e. under_pass r.world w' r.seats v.process id j u step k.0 n (r.views j u e));
     }

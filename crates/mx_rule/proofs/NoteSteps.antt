@@ -1,5 +1,5 @@
 -- Split, Join and Report keep the rule.
-use Rattle.std.proofs.Common.{◌≡◌, ◌≢◌, ◌⊎◌, inl, inr, ⊎_elim, ℕ, zero, suc, ◌+◌, max, List, [], ◌∷◌, ◌++◌, length, set, length-set, refl, sym, ap, ◌∙◌, subst, slice_get, arith, Option, Some, None}
+use Rattle.std.proofs.Common.{◌≡◌, ◌≢◌, ◌⊎◌, inl, inr, ⊎_elim, ℕ, zero, suc, ◌+◌, ◌≤◌, max, List, [], ◌∷◌, ◌++◌, length, set, length-set, refl, sym, ap, ◌∙◌, subst, slice_get, arith, Option, Some, None}
 use mathlib.Core.Option.{some, some-injective, some-ne-none}
 use lib.ListN.{get_elem?}
 use Rattle.atomic_table.proofs.Lists.{set_else}
@@ -7,6 +7,7 @@ use Rattle.mx_core.specs.Invariant.{Good}
 use Rattle.mx_core.specs.Notes.{after_split, told_by, joined, after_report}
 use Rattle.mx_core.specs.Notions.{with_process}
 use Rattle.mx_core.specs.Put.{put}
+use Rattle.mx_core.specs.Words.{number_of}
 use Rattle.mx_core.specs.World.{Process, Note, World}
 use Rattle.mx_core.proofs.HistoryLaws.{split_law, report_law}
 use Rattle.mx_core.proofs.ProcessLaws.{join_law}
@@ -77,7 +78,7 @@ split_allowed S y v id rest s r at =
         → j ≢ seats.chief
         → Knows w seats j u → Knows (after_split w) (record seats { noter = put seats.noter w.made seat }) j u
     still w seats seat new none j (Super u) n k = absurd (n k.0)
-    still w seats seat new none j (Pass u) n k = (k.0, record { low = k.1.low; high = k.1.high }, k.2)
+    still w seats seat new none j (Pass u) n k = (k.0, record { low = k.1.low; high = k.1.high }, k.2, k.3)
     still w seats seat new none j (Noted u) n k =
         let other : u.number ≢ w.made = λ e. some_note (note_of u) (sym none ∙ ap w.note (sym e) ∙ k.1) in
         (put_else seats.noter w.made seat u.number other ∙ k.0, put_else w.note w.made _ u.number other ∙ k.1)
@@ -123,6 +124,7 @@ join_allowed S y v u id other s r at apart at' =
             record { low = k.1.low; high = k.1.high },
             subst (λ (o : Process). IsPassOf o (w.trace p) (joined_view u v)) (sym (put_here w.process p o'))
                 (record { told = (λ i p n. max (k.2.told i p n) (note.told p n)); rest = ap (joined_view u) k.2.rest }),
+            k.3,
           ))
           (λ i a m e' ne. but_note w p u.number note r.seats id other i a step k.0 l.0 m ne (r.views i a e'))
           j x e n);
@@ -149,7 +151,7 @@ join_allowed S y v u id other s r at apart at' =
         under_pass w _ seats p me j (Super a) step mine n k
     but_note w p i note seats me other j (Pass a) step mine its n n' k =
         let q = under_pass w _ seats p me j (Pass a) step mine n k in
-        (q.0, record { low = q.1.low; high = q.1.high }, q.2)
+        (q.0, record { low = q.1.low; high = q.1.high }, q.2, q.3)
     but_note w p i note seats me other j (Noted a) step mine its n n' k =
         (k.0, put_else w.note i None a.number (λ e. n' (sym k.0 ∙ ap seats.noter e ∙ its)) ∙ k.1)
     but_note w p i note seats me other j (Report a) step mine its n n' k =
@@ -158,11 +160,14 @@ join_allowed S y v u id other s r at apart at' =
     but_note w p i note seats me other j Spent step mine its n n' k = k
 
 pub makes_report_allowed : (S : Type 0) → MakesReportAllowed S
-makes_report_allowed S y v id i n by has s r at =
+makes_report_allowed S y v id n by has s r at =
     let w = r.world in
     let k = r.views id (Pass v) at in
-    let miss = ((r.good.traces v.process).misses i n by
-    (ap (λ (x : PassView). slice_get x.trace i) k.2.rest ∙ has)).most in record {
+    let miss : by ≤ number_of (w.word v.process n) = elim has [
+      | inl none ↦ omega arith
+      | inr at ↦ ((r.good.traces v.process).misses at.place n by
+          (ap (λ (x : PassView). slice_get x.trace at.place) k.2.rest ∙ at.at)).most
+    ] in record {
       world = w;
       seats = r.seats;
       layout = r.layout;
@@ -193,6 +198,7 @@ report_allowed S y v u id other s r at apart at' =
     let step : IsOfficeStep w w' =
     record {
       processes = refl;
+      start = refl;
       passes = λ q u h. h;
       longer = λ q. omega arith;
       higher = λ q. omega arith;

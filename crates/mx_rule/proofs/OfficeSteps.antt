@@ -29,6 +29,7 @@ use Rattle.mx_rule.proofs.Moves.{put_map, view_set}
 -- what a step of the supervisor leaves
 pub record IsOfficeStep (w w' : World) : Type 0 where
   pub processes : w'.processes ≡ w.processes
+  pub start : w'.start ≡ w.start
   pub passes : (q : ℕ) (v : PassView) → IsPassOf (w.process q) (w.trace q) v → IsPassOf (w'.process q) (w'.trace q) v
   pub longer : (q : ℕ) → length (w.trace q) ≤ length (w'.trace q)
   pub higher : (q : ℕ) → (w.process q).floor ≤ (w'.process q).floor
@@ -46,6 +47,7 @@ under_office w w' seats j (Pass v) s n k = (
         (sym s.processes) k.1.high;
   },
   s.passes v.process v k.2,
+  k.3 ∙ sym s.start,
 )
 under_office w w' seats j (Noted v) s n k = (k.0, ap (λ (f : ℕ → _). f v.number) s.note ∙ k.1)
 under_office w w' seats j (Report v) s n k = (
@@ -89,6 +91,7 @@ pub office_step : (w : World) (p : ℕ) (o : Process) → o.floor ≡ (w.process
     → IsOfficeStep w (with_process w p o)
 office_step w p o floor own = record {
   processes = refl;
+  start = refl;
   passes = λ q v. put_all (λ j (x : Process). IsPassOf (w.process j) (w.trace j) v
       → IsPassOf x (w.trace j) v) w.process p o (own v) (λ j n k. k) q;
   longer = λ q. omega arith;
@@ -135,6 +138,7 @@ strike_allowed S y v p n may slots id s r len at lt =
       office_moves y s r id v (struck_view p n v) (after_strike w p n) _ at
           (record {
             processes = refl;
+            start = refl;
             passes = λ q u h. h;
             longer = λ q. omega arith;
             higher = λ q. omega arith;
@@ -232,6 +236,7 @@ answer_allowed S y v may slots id s r len at lt =
       office_moves y s r id v (answered_view v) (after_answer w) _ at
           (record {
             processes = refl;
+            start = refl;
             passes = λ q u h. record { told = h.told; rest = h.rest };
             longer = λ q. omega arith;
             higher = λ q. omega arith;

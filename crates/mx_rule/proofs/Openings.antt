@@ -77,6 +77,7 @@ deal_allowed S y v id low high s r at =
                 ∙ sym (t.1 ∙ length-set s.views id (Super (dealing_view v))),
             record { low = low; high = within },
             u.1,
+            sym (ap (λ (x : Office). x.start) k.1),
           ))
           (at_snoc_index (set s.views id (Super (dealing_view v))) (Pass (fresh_view v.start v.next)) x j e);
     }
@@ -86,7 +87,7 @@ deal_allowed S y v id low high s r at =
         → Knows w seats j x → Knows w (record seats { owner = put seats.owner p seat }) j x
     still w seats p seat mine j (Super x) n k = absurd (n k.0)
     still w seats p seat mine j (Pass x) n k =
-        (put_else seats.owner p seat x.process (λ e. n (sym k.0 ∙ ap seats.owner e ∙ mine)) ∙ k.0, k.1, k.2)
+        (put_else seats.owner p seat x.process (λ e. n (sym k.0 ∙ ap seats.owner e ∙ mine)) ∙ k.0, k.1, k.2, k.3)
     still w seats p seat mine j (Noted x) n k = k
     still w seats p seat mine j (Report x) n k = k
     still w seats p seat mine j Spent n k = k
@@ -141,7 +142,7 @@ retire_allowed S y v u id other s r at apart at' =
         → Knows w seats j x → Knows w (record seats { owner = put seats.owner p seat }) j x
     still' w seats p seat other its j (Super x) n n' k = absurd (n k.0)
     still' w seats p seat other its j (Pass x) n n' k =
-        (put_else seats.owner p seat x.process (λ e. n' (sym k.0 ∙ ap seats.owner e ∙ its)) ∙ k.0, k.1, k.2)
+        (put_else seats.owner p seat x.process (λ e. n' (sym k.0 ∙ ap seats.owner e ∙ its)) ∙ k.0, k.1, k.2, k.3)
     still' w seats p seat other its j (Noted x) n n' k = k
     still' w seats p seat other its j (Report x) n n' k = k
     still' w seats p seat other its j Spent n n' k = k

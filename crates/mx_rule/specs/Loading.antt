@@ -1,5 +1,6 @@
 -- LoadDesc and Recall by a pass.
-use Rattle.std.specs.Prelude.{◌≡◌, ℕ, ◌<◌, ◌++◌, nat_le, nat_lt, [], ◌∷◌, Option, Some, None}
+use Rattle.std.specs.Prelude.{◌≡◌, ℕ, ◌<◌, ◌≤◌, ◌++◌, nat_le, nat_lt, [], ◌∷◌, Option, Some, None}
+use Rattle.mx_sdw.specs.Descriptors.{unknown_desc}
 use Rattle.mx_core.specs.AssociativeMemory.{remembered, recalled}
 use Rattle.mx_core.specs.Judging.{at_once}
 use Rattle.mx_core.specs.Loading.{element_of}
@@ -42,6 +43,11 @@ abbrev pub LoadDescAllowed : Type 0 → Type 0
 LoadDescAllowed S = (y : Layout) (v : PassView) (n : ℕ) (a : Asked) → v.stage ≡ Ready → n < y.numbers
     → PassTells S y v (DescriptorAt v.process n) (λ m. loaded_view y.numbers n a (word_said m) v)
     (λ m. IsCodable (word_said m))
+
+-- for a number that the table has not, it reads its own flag, and judges on the unknown descriptor
+abbrev pub LoadUnknownAllowed : Type 0 → Type 0
+LoadUnknownAllowed S = (y : Layout) (v : PassView) (n : ℕ) (a : Asked) → v.stage ≡ Ready → y.numbers ≤ n
+    → PassReads S y v (Flag v.process) (λ m. loaded_view y.numbers n a (Valid v.start unknown_desc) v)
 
 abbrev pub RecallAllowed : Type 0 → Type 0
 RecallAllowed S = (y : Layout) (v : PassView) (n : ℕ) (a : Asked) (u : Triple)

@@ -1,5 +1,5 @@
 -- Split, Join and Report: seats that are split off and joined.
-use Rattle.std.specs.Prelude.{◌≡◌, ℕ, ◌+◌, ◌≤◌, max, ◌∷◌, length, slice_get, Some}
+use Rattle.std.specs.Prelude.{◌≡◌, ◌⊎◌, ℕ, ◌+◌, ◌≤◌, max, ◌∷◌, length, slice_get, Some}
 use Rattle.atomic_table.specs.Table.{Splits, Joins}
 use Rattle.mx_core.specs.declared.elements.Kept.TheVariants.{Missed}
 use Rattle.mx_rule.specs.Layout.{Layout}
@@ -29,8 +29,14 @@ JoinAllowed S = (y : Layout) (v : PassView) (u : NoteView) (id other : ℕ)
 abbrev pub report_of : ℕ → ℕ → PassView → ReportView
 report_of n by v = record { process = v.process; floor = v.floor; length = length v.trace; segno = n; by = by }
 
+-- a miss of its trace
+pub record HasMiss (v : PassView) (n by : ℕ) : Type 0 where
+  pub place : ℕ
+  pub at : slice_get v.trace place ≡ Some (Missed n by)
+
+-- the report has a miss, or none: then its entry is 0
 abbrev pub MakesReportAllowed : Type 0 → Type 0
-MakesReportAllowed S = (y : Layout) (v : PassView) (id i n by : ℕ) → slice_get v.trace i ≡ Some (Missed n by)
+MakesReportAllowed S = (y : Layout) (v : PassView) (id n by : ℕ) → (by ≡ 0) ⊎ HasMiss v n by
     → Splits {S = S} (Holds y) id (Pass v) (Pass v) (Report (report_of n by v))
 
 abbrev pub reported_view : ReportView → SuperView → SuperView

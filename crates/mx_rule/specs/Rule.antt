@@ -36,7 +36,7 @@ abbrev pub Knows : World → Seats → ℕ → View → Type 0
 Knows w seats j (Super v) = (j ≡ seats.chief) × (office w ≡ office_of v) × Undealt w seats j v.next v.start
     × AreRetired w seats j v.next v.retired
 Knows w seats j (Pass v) = (seats.owner v.process ≡ j) × IsProcess w v.process
-    × IsPassOf (w.process v.process) (w.trace v.process) v
+    × IsPassOf (w.process v.process) (w.trace v.process) v × (v.start ≡ w.start)
 Knows w seats j (Noted v) = (seats.noter v.number ≡ j) × (w.note v.number ≡ Some (note_of v))
 Knows w seats j (Report v) = IsProcess w v.process × (v.length ≤ length (w.trace v.process))
     × (v.floor ≤ (w.process v.process).floor) × (v.by ≤ number_of (w.word v.process v.segno))

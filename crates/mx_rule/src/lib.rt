@@ -12,7 +12,7 @@ mod passes;
 mod rule;
 mod views;
 
-pub use laws::{more_keeps, notes_keep, office_keeps, pass_keeps};
+pub use laws::{office_keeps, pass_keeps, seats_keep};
 pub use layout::Layout;
 pub use office::{Aim, Answers, Clears, Settles, Strikes, SuperSeat, Tells};
 pub use passes::{Connects, Enters, Leaves, PassSeat};
