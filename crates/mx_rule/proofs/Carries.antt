@@ -1,7 +1,7 @@
 -- From a view to a seat that has it.
 use Rattle.std.proofs.Common.{◌≡◌, ℕ, [], sym, subst}
 use Rattle.atomic_table.specs.Table.{Me, Allows}
-use Rattle.mx_rule.specs.Allowing.{PassWrites, PassReads, PassTells, OfficeWrites}
+use Rattle.mx_rule.specs.Allowing.{PassWrites, PassReads, PassTells, OfficeWrites, OfficeReads}
 use Rattle.mx_rule.specs.Layout.{Layout}
 use Rattle.mx_rule.specs.Parts.{Part, number_in}
 use Rattle.mx_rule.specs.Rule.{Holds}
@@ -41,4 +41,13 @@ pub pass_tells : (S : Type 0) (y : Layout) (v : PassView) (v' : ℕ → PassView
 pass_tells S y v v' T x me i may posed at slots id =
     subst (λ (z : Me S View × ℕ). Allows {S = S} (Holds y) slots id z.0 z.1 (λ n. n)
     (λ n after. (after ≡ (Pass (v' n), [])) × T n))
+    (λ k. (sym posed k, at k)) (may slots id)
+
+pub office_reads : (S : Type 0) (y : Layout) (v : SuperView) (v' : ℕ → SuperView) (x : Part) (me : Me S View) (i : ℕ)
+    → OfficeReads S y v x v'
+    → me ≡ (Super v, []) → number_in y x ≡ i → (slots id : ℕ)
+    → Allows {S = S} (Holds y) slots id me i (λ n. n) (λ n after. after ≡ (Super (v' n), []))
+office_reads S y v v' x me i may posed at slots id =
+    subst (λ (z : Me S View × ℕ). Allows {S = S} (Holds y) slots id z.0 z.1 (λ n. n)
+    (λ n after. after ≡ (Super (v' n), [])))
     (λ k. (sym posed k, at k)) (may slots id)

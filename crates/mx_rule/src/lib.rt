@@ -14,7 +14,7 @@ mod views;
 
 pub use laws::{office_keeps, pass_keeps, seats_keep};
 pub use layout::Layout;
-pub use office::{Aim, Answers, Clears, Settles, Strikes, SuperSeat, Tells};
+pub use office::{Aim, Answers, Clears, Notices, Settles, Strikes, SuperSeat, Tells};
 pub use passes::{Connects, Enters, Leaves, PassSeat};
 pub use rule::{Board, Key, Law};
 pub use views::{

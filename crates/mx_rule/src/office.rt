@@ -1,13 +1,13 @@
 //! The supervisor's seat: it strikes and settles descriptor words, connects, answers, and clears cells.
 
-ghost use Rattle.std.specs.Prelude.{◌≡◌, ◌≤◌, ℕ, []};
+ghost use Rattle.std.specs.Prelude.{◌≡◌, ◌≤◌, ◌<◌, ℕ, [], slice_index_or};
 ghost use Rattle.mx_core.specs.declared.words.DescriptorWord.TheVariants.{Valid, Fault};
-ghost use Rattle.mx_rule.specs.Acknowledging.{MayAnswer, answered_view, MayConnect, connecting_view};
+ghost use Rattle.mx_rule.specs.Acknowledging.{MayAcknowledge, has_left, noticed_view, MayAnswer, answered_view, MayConnect, connecting_view};
 ghost use Rattle.mx_rule.specs.Clearing.{MayClear, cleared_view};
 ghost use Rattle.mx_rule.specs.Codes.{IsCodable, word_code};
 ghost use Rattle.mx_rule.specs.Parts.{words_in};
 ghost use Rattle.mx_rule.specs.Seats.{super_of};
-ghost use Rattle.mx_rule.specs.Shown.{office_of};
+ghost use Rattle.mx_rule.specs.Shown.{numbers_of, office_of};
 ghost use Rattle.mx_rule.specs.Striking.{MayStrike, struck_view, MaySettle, settled_view};
 ghost use Rattle.mx_rule.specs.declared.views.View.TheVariants.{Super};
 
@@ -70,6 +70,15 @@ impl<E> Play<E, View> for Answers {
     ghost then = { λ st me n after. after ≡ (Super (answered_view (super_of me.0)), []) };
 }
 
+/// A flag is read: the process has left, or its flag is kept as a look.
+pub struct Notices<J: Aim> {
+    of: PhantomData<J>,
+}
+
+impl<E, J: Aim> Play<E, View> for Notices<J> {
+    ghost then = { λ st me n after. after ≡ (Super (noticed_view J.process n (super_of me.0)), []) };
+}
+
 /// A cell becomes zero.
 pub struct Clears<J: Aim> {
     of: PhantomData<J>,
@@ -85,12 +94,15 @@ pub struct SuperSeat<E> {
     layout: Layout,
     answered: u32,
     length: u32,
+    looks: [u64; 16],
     pub ghost posed: { seat.me ≡ (Super (super_of seat.me.0), []) },
     pub ghost processes_is: { (super_of seat.me.0).processes ≡ layout.processes },
     pub ghost numbers_is: { (super_of seat.me.0).numbers ≡ layout.numbers },
     pub ghost answered_is: { (super_of seat.me.0).answered ≡ answered },
     pub ghost length_is: { (super_of seat.me.0).length ≡ length },
     pub ghost limit: { length ≤ 262143 },
+    pub ghost few: { layout.processes ≤ 15 },
+    pub ghost looks_are: { (p : ℕ) → p < 16 → slice_index_or looks p 0 ≡ numbers_of 0 (super_of seat.me.0).looks p },
 }
 
 /// The word of a descriptor that stands since an entry.
@@ -112,6 +124,13 @@ fn fault(number: u32) -> u64
     ensures { result ≡ word_code (Fault number) }
 {
     DescWord::of(&DescView::Fault(number)).number()
+}
+
+/// Whether a process with this flag is outside, or has left since the look.
+fn has_left(flag: u64, look: u64) -> bool
+    ensures { result ≡ has_left flag look }
+{
+    flag == 0 || (look != 0 && flag != look)
 }
 
 impl<E> SuperSeat<E> {
@@ -139,6 +158,37 @@ impl<E> SuperSeat<E> {
         shared.store::<Strikes<J>>(&mut self.seat, word, code);
     }
 
+    /// Reads the flag of a connected process once, and says whether the process uses the old access no more: it is
+    /// outside, or has left since its flag was read before. If not, the flag is kept to be compared later.
+    pub fn acknowledge(&mut self, shared: &Board<E>, process: u8) -> bool
+        requires fits { self.old.seat.table_id ≡ shared.now.table_id }
+        requires layout { shared.now.key.layout ≡ self.old.layout }
+        requires wide { words_in self.old.layout ≤ shared.now.table_id.words }
+        requires may { MayAcknowledge (office_of (super_of self.old.seat.me.0)) process }
+        ensures { (flag : ℕ) × (super_of self.new.seat.me.0 ≡ noticed_view process flag (super_of self.old.seat.me.0))
+            × (result ≡ has_left flag (numbers_of 0 (super_of self.old.seat.me.0).looks process)) }
+    {
+        self.acknowledge_for::<Brand>(shared, process)
+    }
+
+    fn acknowledge_for<J: Aim>(&mut self, shared: &Board<E>, process: u8) -> bool
+        requires fits { self.old.seat.table_id ≡ shared.now.table_id }
+        requires layout { shared.now.key.layout ≡ self.old.layout }
+        requires wide { words_in self.old.layout ≤ shared.now.table_id.words }
+        requires aim { J.process ≡ process }
+        requires may { MayAcknowledge (office_of (super_of self.old.seat.me.0)) process }
+        ensures { (flag : ℕ) × (super_of self.new.seat.me.0 ≡ noticed_view process flag (super_of self.old.seat.me.0))
+            × (result ≡ has_left flag (numbers_of 0 (super_of self.old.seat.me.0).looks process)) }
+    {
+        let word = self.layout.flag(process);
+        let place = usize::from(process);
+        let look = self.looks[place];
+        let flag = shared.load::<Notices<J>>(&mut self.seat, word);
+        let left = has_left(flag, look);
+        self.looks[place] = if left { look } else { flag };
+        left
+    }
+
     /// Answers the pending entry. Condition: every changed word is struck, and its process has acknowledged.
     pub fn answer(&mut self, shared: &Board<E>)
         requires fits { self.old.seat.table_id ≡ shared.now.table_id }
@@ -150,6 +200,7 @@ impl<E> SuperSeat<E> {
         let word = self.layout.answered();
         shared.store::<Answers>(&mut self.seat, word, u64::from(self.length));
         self.answered = self.length;
+        self.looks = [0; 16];
     }
 
     /// Settles a struck word with the present descriptor. Condition: nothing is pending, the word is a fault by entry
@@ -210,6 +261,7 @@ impl<E> SuperSeat<E> {
     {
         let word = self.layout.connect_word(process);
         shared.store::<Tells<J>>(&mut self.seat, word, u64::from(self.length));
+        self.looks[usize::from(process)] = 0;
     }
 
     /// Makes a cell zero. Condition: nothing is pending, and no descriptor covers the page of the cell.
