@@ -1,5 +1,5 @@
 -- Settle, Clear and Recall keep the rule.
-use Rattle.std.proofs.Common.{◌≡◌, ◌≢◌, ℕ, true, false, set, refl, sym, ap, ◌∙◌, subst, slice_index, Option, Some, None, arith}
+use Rattle.std.proofs.Common.{◌≡◌, ◌≢◌, ℕ, true, false, set, refl, sym, ap, ◌∙◌, subst, slice_index, Option, Some, arith}
 use Rattle.atomic_table.specs.Table.{keeps}
 use Rattle.mx_reads.specs.Held.{Held}
 use Rattle.mx_core.specs.AssociativeMemory.{recalled}
@@ -12,8 +12,6 @@ use Rattle.mx_core.specs.Put.{put}
 use Rattle.mx_core.specs.Striking.{settled}
 use Rattle.mx_core.specs.Words.{zero_cell, number_of}
 use Rattle.mx_core.specs.World.{World}
-use Rattle.mx_core.specs.declared.elements.Outcome.{Outcome}
-use Rattle.mx_core.specs.declared.words.Asked.{Asked}
 use Rattle.mx_core.specs.declared.words.DescriptorWord.{DescriptorWord}
 use Rattle.mx_core.specs.declared.words.DescriptorWord.TheVariants.{Valid, Fault}
 use Rattle.mx_core.specs.declared.words.Triple.{Triple}

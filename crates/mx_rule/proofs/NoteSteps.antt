@@ -12,7 +12,9 @@ use Rattle.mx_core.specs.World.{Process, Note, World}
 use Rattle.mx_core.proofs.HistoryLaws.{split_law, report_law}
 use Rattle.mx_core.proofs.ProcessLaws.{join_law}
 use Rattle.mx_core.proofs.Puts.{put_here, put_else}
-use Rattle.mx_rule.specs.Notes.{noting_view, noted_view, SplitAllowed, joined_view, JoinAllowed, report_of, MakesReportAllowed, reported_view, ReportAllowed}
+use Rattle.mx_core.specs.declared.elements.Kept.{Kept}
+use Rattle.mx_core.specs.declared.elements.Kept.TheVariants.{Judged, Missed}
+use Rattle.mx_rule.specs.Notes.{noting_view, noted_view, SplitAllowed, joined_view, JoinAllowed, report_of, MakesReportAllowed, reported_view, ReportAllowed, HasMiss, last_miss}
 use Rattle.mx_rule.specs.Layout.{Layout, content}
 use Rattle.mx_rule.specs.Parts.{Answered, CellAt, ConnectWord, Count, DescriptorAt, Flag, Part}
 use Rattle.mx_rule.specs.Rule.{Seats, IsPassOf, Knows}
@@ -236,3 +238,25 @@ report_allowed S y v u id other s r at apart at' =
     same_words y w p n (ConnectWord q) = refl
     same_words y w p n (DescriptorAt q m) = refl
     same_words y w p n (CellAt c) = refl
+
+-- a trace's last event is a miss, or the report has none
+last_found : (trace : List Kept) → ((last_miss trace).1 ≡ 0)
+    ⊎ ((i : ℕ) × (slice_get trace i ≡ Some (Missed (last_miss trace).0 (last_miss trace).1)))
+last_found [] = inl refl
+last_found (Missed n by ∷ []) = inr (0, refl)
+last_found (Judged e op d ∷ []) = inl refl
+last_found (Missed n by ∷ next ∷ rest) = elim (last_found (next ∷ rest)) [
+  | inl none ↦ inl none
+  | inr at ↦ inr (suc at.0, at.1)
+]
+last_found (Judged e op d ∷ next ∷ rest) = elim (last_found (next ∷ rest)) [
+  | inl none ↦ inl none
+  | inr at ↦ inr (suc at.0, at.1)
+]
+
+pub last_is_missed : (v : PassView) → ((last_miss v.trace).1 ≡ 0)
+    ⊎ HasMiss v (last_miss v.trace).0 (last_miss v.trace).1
+last_is_missed v = elim (last_found v.trace) [
+  | inl none ↦ inl none
+  | inr at ↦ inr (record { place = at.0; at = at.1 })
+]

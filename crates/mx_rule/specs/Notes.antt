@@ -1,7 +1,8 @@
 -- Split, Join and Report: seats that are split off and joined.
-use Rattle.std.specs.Prelude.{◌≡◌, ◌⊎◌, ℕ, ◌+◌, ◌≤◌, max, ◌∷◌, length, slice_get, Some}
+use Rattle.std.specs.Prelude.{List, [], ◌≡◌, ◌⊎◌, ℕ, ◌+◌, ◌≤◌, max, ◌∷◌, length, slice_get, Some}
 use Rattle.atomic_table.specs.Table.{Splits, Joins}
-use Rattle.mx_core.specs.declared.elements.Kept.TheVariants.{Missed}
+use Rattle.mx_core.specs.declared.elements.Kept.{Kept}
+use Rattle.mx_core.specs.declared.elements.Kept.TheVariants.{Judged, Missed}
 use Rattle.mx_rule.specs.Layout.{Layout}
 use Rattle.mx_rule.specs.Rule.{Holds}
 use Rattle.mx_rule.specs.Shown.{PassView, Pass, Super, SuperView, Noted, NoteView, Report, ReportView, Spent, numbers_of}
@@ -25,6 +26,14 @@ abbrev pub JoinAllowed : Type 0 → Type 0
 JoinAllowed S = (y : Layout) (v : PassView) (u : NoteView) (id other : ℕ)
     → Joins {S = S} (Holds y) id (Pass v) other (Noted u) (Pass (joined_view u v)) Spent
 
+-- the number and the entry of a trace's last event, where that is a miss
+abbrev pub last_miss : List Kept → ℕ × ℕ
+last_miss [] = (0, 0)
+last_miss (Missed n by ∷ []) = (n, by)
+last_miss (Judged e op d ∷ []) = (0, 0)
+last_miss (Missed n by ∷ next ∷ rest) = last_miss (next ∷ rest)
+last_miss (Judged e op d ∷ next ∷ rest) = last_miss (next ∷ rest)
+
 -- a pass makes a report, and the supervisor takes it
 abbrev pub report_of : ℕ → ℕ → PassView → ReportView
 report_of n by v = record { process = v.process; floor = v.floor; length = length v.trace; segno = n; by = by }
@@ -38,6 +47,9 @@ pub record HasMiss (v : PassView) (n by : ℕ) : Type 0 where
 abbrev pub MakesReportAllowed : Type 0 → Type 0
 MakesReportAllowed S = (y : Layout) (v : PassView) (id n by : ℕ) → (by ≡ 0) ⊎ HasMiss v n by
     → Splits {S = S} (Holds y) id (Pass v) (Pass v) (Report (report_of n by v))
+
+abbrev pub reporting_view : PassView → ReportView
+reporting_view v = report_of (last_miss v.trace).0 (last_miss v.trace).1 v
 
 abbrev pub reported_view : ReportView → SuperView → SuperView
 reported_view u v = record v {

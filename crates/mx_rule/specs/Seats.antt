@@ -1,7 +1,7 @@
 -- The view of a seat, by whose seat it is.
 use Rattle.std.specs.Prelude.{[]}
 use Rattle.mx_rule.specs.Dealing.{opening_view}
-use Rattle.mx_rule.specs.Shown.{View, Super, Pass, PassView, SuperView, fresh_view}
+use Rattle.mx_rule.specs.Shown.{View, Super, Pass, Noted, Report, PassView, NoteView, ReportView, SuperView, fresh_view}
 
 -- of a seat that is no pass's, a pass that did nothing
 abbrev pub pass_of : View → PassView
@@ -11,3 +11,11 @@ pass_of _ = fresh_view 0 0
 abbrev pub super_of : View → SuperView
 super_of (Super v) = v
 super_of _ = opening_view 0 0 0 []
+
+abbrev pub note_seen : View → NoteView
+note_seen (Noted v) = v
+note_seen _ = record { number = 0; start = 0; floor = 0; told = [] }
+
+abbrev pub report_seen : View → ReportView
+report_seen (Report v) = v
+report_seen _ = record { process = 0; floor = 0; length = 0; segno = 0; by = 0 }

@@ -7,6 +7,7 @@
 
 mod laws;
 mod layout;
+mod notes;
 mod office;
 mod passes;
 mod rule;
@@ -14,6 +15,7 @@ mod views;
 
 pub use laws::{office_keeps, pass_keeps, seats_keep};
 pub use layout::Layout;
+pub use notes::{Dealing, Hearing, NoteSeat, Noting, ReportSeat, Reported, Reporting, Retiring};
 pub use office::{Aim, Answers, Clears, Notices, Settles, Strikes, SuperSeat, Tells};
 pub use passes::{Connects, Enters, Leaves, PassSeat};
 pub use rule::{Board, Key, Law};

@@ -37,10 +37,10 @@ impl<E> Play<E, View> for Leaves {
 /// The seat of a process: its place at the shared table, with what its calls need.
 pub struct PassSeat<E> {
     pub seat: Seat<E, View>,
-    layout: Layout,
-    process: u8,
-    turn: u64,
-    cleared: u64,
+    pub(crate) layout: Layout,
+    pub(crate) process: u8,
+    pub(crate) turn: u64,
+    pub(crate) cleared: u64,
     pub ghost posed: { seat.me ≡ (Pass (pass_of seat.me.0), []) },
     pub ghost process_is: { (pass_of seat.me.0).process ≡ process },
     pub ghost turn_is: { (pass_of seat.me.0).turn ≡ turn },
