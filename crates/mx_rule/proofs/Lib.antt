@@ -11,3 +11,4 @@ pub mod NoteSteps
 pub mod Carries
 pub mod LastSteps
 pub mod Openings
+pub mod OpeningWords

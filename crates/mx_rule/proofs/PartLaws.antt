@@ -84,7 +84,7 @@ row_under N p n q low less small =
     one_row N zero low = absurd (omega arith)
     one_row N (suc p) low = grind arith
 
-desc_under : (P N p n : ℕ) → (1 ≤ p) × (p ≤ P) × (n < N) → N * (p - 1) + n < N * P
+pub desc_under : (P N p n : ℕ) → (1 ≤ p) × (p ≤ P) × (n < N) → N * (p - 1) + n < N * P
 desc_under P N p n is =
     let low = is.0 in
     let high = is.1 in

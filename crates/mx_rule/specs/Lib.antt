@@ -14,3 +14,4 @@ pub mod Clearing
 pub mod Notes
 pub mod Dealing
 pub mod Seats
+pub mod Openings

@@ -9,6 +9,7 @@ mod laws;
 mod layout;
 mod notes;
 mod office;
+mod opening;
 mod passes;
 mod rule;
 mod views;
@@ -17,6 +18,7 @@ pub use laws::{office_keeps, pass_keeps, seats_keep};
 pub use layout::Layout;
 pub use notes::{Dealing, Hearing, NoteSeat, Noting, ReportSeat, Reported, Reporting, Retiring};
 pub use office::{Aim, Answers, Clears, Notices, Settles, Strikes, SuperSeat, Tells};
+pub use opening::{Words, open};
 pub use passes::{Connects, Enters, Leaves, PassSeat};
 pub use rule::{Board, Key, Law};
 pub use views::{

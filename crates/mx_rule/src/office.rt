@@ -111,7 +111,7 @@ pub struct SuperSeat<E> {
 }
 
 /// The word of a descriptor that stands since an entry.
-fn standing(number: u32, desc: &Desc) -> u64
+pub(crate) fn standing(number: u32, desc: &Desc) -> u64
     requires { IsCodable (Valid number desc.now) }
     ensures { result ≡ word_code (Valid number desc.now) }
 {
