@@ -5,6 +5,7 @@
 //! core's kind says, and that the world stays good is the core's own law. It stands on `mx_core` and on `atomic_table`.
 #![tactic(auto)]
 
+mod appending;
 mod laws;
 mod layout;
 mod notes;
@@ -14,6 +15,7 @@ mod passes;
 mod rule;
 mod views;
 
+pub use appending::{Appends, Entry};
 pub use laws::{office_keeps, pass_keeps, seats_keep};
 pub use layout::Layout;
 pub use notes::{Dealing, Hearing, NoteSeat, Noting, ReportSeat, Reported, Reporting, Retiring};
