@@ -132,5 +132,5 @@ load_cell_allowed S y v u a basis hold op near slots id s r len at lt =
           r.plain
           (load_words y w.processes w.numbers (content w) (content w') s.words (number_in y (CellAt c)) r.words
           (all_words y w p o' refl refl)),
-      refl,
+      (refl, record { held = held; plain = r.plain c; is = r.words.each (CellAt c) near }),
     )

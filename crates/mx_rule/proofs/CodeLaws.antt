@@ -1,7 +1,7 @@
 -- What a word says of a descriptor word, or of a cell, is what was put into it.
 use Rattle.std.proofs.Common.{◌≡◌, ℕ, ◌≤◌, refl, ap, sym, ◌∙◌}
 use Rattle.mx_sdw.specs.Admissible.{IsAdmissible}
-use Rattle.mx_sdw.specs.DescriptorWords.{FitsWord}
+use Rattle.mx_sdw.specs.DescriptorWords.{FitsWord, IsDescWord, desc_word}
 use Rattle.mx_sdw.specs.Descriptors.{Descriptor}
 use Rattle.mx_sdw.specs.declared.descriptors.DescKind.{DescKind}
 use Rattle.mx_sdw.specs.declared.descriptors.DescKind.TheVariants.{Unknown, Gone, Segment}
@@ -9,7 +9,7 @@ use Rattle.mx_sdw.proofs.WordLaws.{view_back, value_back, writer_back, stamp_bac
 use Rattle.mx_reads.specs.Held.{Held}
 use Rattle.mx_core.specs.declared.words.DescriptorWord.{DescriptorWord}
 use Rattle.mx_core.specs.declared.words.DescriptorWord.TheVariants.{Valid, Fault}
-use Rattle.mx_rule.specs.Codes.{standing_view, view_of, word_by, word_code, word_said, cell_code, cell_said, IsCodable, IsPlain}
+use Rattle.mx_rule.specs.Codes.{standing_view, view_of, word_by, word_code, word_said, cell_code, cell_said, IsCodable, IsPlain, IsWordCode}
 
 standing_fits : (kind : DescKind) (number : ℕ) (desc : Descriptor) → desc.kind ≡ kind → number ≤ 262143
     → IsAdmissible desc → FitsWord (standing_view kind number desc)
@@ -35,3 +35,15 @@ cell_back held is = λ i. record {
   writer = writer_back held.value held.writer held.stamp is.value is.writer is.stamp i;
   stamp = stamp_back held.value held.writer held.stamp is.value is.stamp i;
 }
+
+view_fits : (word : DescriptorWord) → IsCodable word → FitsWord (view_of word)
+view_fits (Valid number desc) is = standing_fits desc.kind number desc refl is.0 is.1
+view_fits (Fault number) is = is
+
+pub code_is_word : (n : ℕ) → IsWordCode n → IsDescWord n
+code_is_word n code =
+    let back = view_back (view_of code.word) (view_fits code.word code.codable) in
+    subst IsDescWord (sym code.is) (record {
+      fits = subst FitsWord (sym back) (view_fits code.word code.codable);
+      spelled = ap desc_word back;
+    })

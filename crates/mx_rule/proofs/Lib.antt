@@ -12,3 +12,4 @@ pub mod Carries
 pub mod LastSteps
 pub mod Openings
 pub mod OpeningWords
+pub mod Granted

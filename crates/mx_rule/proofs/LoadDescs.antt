@@ -147,7 +147,11 @@ load_desc_allowed S y v n a ready small slots id s r len at lt =
           (subst (λ (z : Office). ShowsWords y z.processes z.numbers (content w') (set s.words (number_in y x) m))
           (sym reading.step.office)
           (load_words y w.processes w.numbers (content w) (content w') s.words (number_in y x) r.words reading.words)),
-      (refl, subst IsCodable (sym is) (codable w p n r.good word (r.good.access.words p n))),
+      (refl, record {
+        word = word;
+        codable = codable w p n r.good word (r.good.access.words p n);
+        is = r.words.each x (k.1.low, k.1.high, small');
+      }),
     )
 
 -- a number that the table has not

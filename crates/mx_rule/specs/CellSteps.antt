@@ -9,11 +9,11 @@ use Rattle.mx_core.specs.declared.elements.Kept.TheVariants.{Judged}
 use Rattle.mx_core.specs.declared.elements.Outcome.TheVariants as outcome
 use Rattle.mx_core.specs.declared.words.Asked.{Asked}
 use Rattle.mx_core.specs.declared.words.Triple.{Triple}
-use Rattle.mx_rule.specs.Codes.{cell_code, cell_said}
+use Rattle.mx_rule.specs.Codes.{cell_code, cell_said, IsCellCode}
 use Rattle.mx_rule.specs.Layout.{Layout}
 use Rattle.mx_rule.specs.Parts.{CellAt}
 use Rattle.mx_rule.specs.Shown.{PassView}
-use Rattle.mx_rule.specs.Allowing.{PassWrites, PassReads}
+use Rattle.mx_rule.specs.Allowing.{PassWrites, PassTells}
 
 abbrev pub stored_view : Triple → Asked → ℕ → PassView → PassView
 stored_view u a value v = record v {
@@ -39,4 +39,4 @@ read_view u a held v = record v {
 abbrev pub LoadCellAllowed : Type 0 → Type 0
 LoadCellAllowed S = (y : Layout) (v : PassView) (u : Triple) (a : Asked)
     → v.basis ≡ Some u → v.hold ≡ Some a → loads a.op ≡ true → cell_at u.desc a.word < 65536
-    → PassReads S y v (CellAt (cell_at u.desc a.word)) (λ n. read_view u a (cell_said n) v)
+    → PassTells S y v (CellAt (cell_at u.desc a.word)) (λ n. read_view u a (cell_said n) v) IsCellCode

@@ -1,5 +1,5 @@
 -- What a shared word says of a descriptor, and of a cell: the layouts of descriptor words and cell words.
-use Rattle.std.specs.Prelude.{ℕ, ◌^◌, ◌<◌, ◌≤◌}
+use Rattle.std.specs.Prelude.{◌≡◌, ℕ, ◌^◌, ◌<◌, ◌≤◌}
 use Rattle.mx_sdw.specs.Admissible.{IsAdmissible}
 use Rattle.mx_sdw.specs.CellWords.{cell_word, value_in, writer_in, stamp_in}
 use Rattle.mx_sdw.specs.DescriptorWords.{desc_word, desc_view}
@@ -50,3 +50,14 @@ pub record IsPlain (held : Held) : Type 0 where
   pub value : held.value < 2 ^ 36
   pub writer : held.writer ≤ 15
   pub stamp : held.stamp ≤ 262143
+
+-- the number of a word that says a descriptor word, or a cell
+pub record IsWordCode (n : ℕ) : Type 0 where
+  pub word : DescriptorWord
+  pub codable : IsCodable word
+  pub is : n ≡ word_code word
+
+pub record IsCellCode (n : ℕ) : Type 0 where
+  pub held : Held
+  pub plain : IsPlain held
+  pub is : n ≡ cell_code held

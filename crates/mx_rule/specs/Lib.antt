@@ -15,3 +15,4 @@ pub mod Notes
 pub mod Dealing
 pub mod Seats
 pub mod Openings
+pub mod Holding

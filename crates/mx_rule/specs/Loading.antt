@@ -12,7 +12,7 @@ use Rattle.mx_core.specs.declared.words.DescriptorWord.TheVariants.{Valid, Fault
 use Rattle.mx_core.specs.declared.words.Asked.{Asked}
 use Rattle.mx_core.specs.declared.words.Triple.{Triple}
 use Rattle.mx_core.specs.declared.words.Stage.TheVariants.{Ready}
-use Rattle.mx_rule.specs.Codes.{IsCodable, word_said}
+use Rattle.mx_rule.specs.Codes.{IsWordCode, word_said}
 use Rattle.mx_rule.specs.Layout.{Layout}
 use Rattle.mx_rule.specs.Parts.{DescriptorAt, Flag}
 use Rattle.mx_rule.specs.Shown.{PassView}
@@ -42,7 +42,7 @@ loaded_view numbers n a (Valid number desc) v =
 abbrev pub LoadDescAllowed : Type 0 → Type 0
 LoadDescAllowed S = (y : Layout) (v : PassView) (n : ℕ) (a : Asked) → v.stage ≡ Ready → n < y.numbers
     → PassTells S y v (DescriptorAt v.process n) (λ m. loaded_view y.numbers n a (word_said m) v)
-    (λ m. IsCodable (word_said m))
+    IsWordCode
 
 -- for a number that the table has not, it reads its own flag, and judges on the unknown descriptor
 abbrev pub LoadUnknownAllowed : Type 0 → Type 0

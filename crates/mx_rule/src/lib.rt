@@ -6,6 +6,7 @@
 #![tactic(auto)]
 
 mod appending;
+mod holding;
 mod laws;
 mod layout;
 mod notes;
