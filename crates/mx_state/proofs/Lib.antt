@@ -10,3 +10,4 @@ pub mod LinkLaws
 pub mod RenewingLaws
 pub mod KnowingLaws
 pub mod LeavingLaws
+pub mod GivingLaws
