@@ -267,7 +267,7 @@ refused_serves h processes new p i process why applied ask first here e meant sa
 })
 
 -- `terminate`: a segment's number, and its linkage section's, stand for nothing more
-pub ended_lots : (k after : KnownSegments) (segno : ℕ) → end.terminate k segno ≡ Some after
+ended_lots : (k after : KnownSegments) (segno : ℕ) → end.terminate k segno ≡ Some after
     → (is_branch (lot_of k.lots segno) ≡ true) × (after.lots ≡ end.lots_without segno k.lots)
 ended_lots k after segno e = by_test (is_branch (lot_of k.lots segno)) refl e
   where

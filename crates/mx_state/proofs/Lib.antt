@@ -10,4 +10,3 @@ pub mod LinkLaws
 pub mod RenewingLaws
 pub mod KnowingLaws
 pub mod LeavingLaws
-pub mod GivingLaws

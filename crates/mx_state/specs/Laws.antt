@@ -1,18 +1,15 @@
 -- What follows from the definitions alone, as the laws say it.
-use Rattle.std.specs.Prelude.{◌≡◌, ℕ, ◌<◌, true, List, Some, slice_get}
+use Rattle.std.specs.Prelude.{◌≡◌, ℕ, ◌<◌}
 use Rattle.mx_hier.specs.declared.refusals.Refusal.{Refusal}
 use Rattle.mx_request.specs.Classes.{class_of}
 use Rattle.mx_request.specs.declared.classes.RequestClass.TheVariants.{OfPath}
 use Rattle.mx_request.specs.declared.requests.Request.{Request}
-use Rattle.mx_request.specs.declared.replies.Reply.TheVariants.{Refused, Segno}
+use Rattle.mx_request.specs.declared.replies.Reply.TheVariants.{Refused}
 use Rattle.mx_sdw.specs.Descriptors.{unknown_desc}
 use Rattle.mx_kst.specs.Lots.{last_number}
-use Rattle.mx_kst.specs.declared.segments.Known.{Known}
-use Rattle.mx_state.specs.History.{IsRight}
 use Rattle.mx_state.specs.Plain.{Plain}
 use Rattle.mx_state.specs.Requests.{plain}
 use Rattle.mx_state.specs.Table.{descriptor}
-use Rattle.mx_state.specs.declared.journal.Entry.{Entry}
 
 -- a refusal leaves the state
 abbrev pub RefusalLaw : Type 0
@@ -27,16 +24,3 @@ PathLaw = (s : Plain) (p ring : ℕ) (request : Request) → class_of request �
 -- no process knows a number beyond the last
 abbrev pub UnknownLaw : Type 0
 UnknownLaw = (s : Plain) (p segno : ℕ) → last_number < segno → descriptor s p segno ≡ unknown_desc
-
--- by this entry a segment became known to the process under the number
-pub record Gives (entry : Entry) (p segno : ℕ) : Type 0 where
-  pub known : Known
-  pub process : entry.process ≡ p
-  pub reply : entry.reply ≡ Segno known
-  pub fresh : known.fresh ≡ true
-  pub number : known.segno ≡ segno
-
--- of a right journal no two entries give a process the same number, whatever was terminated between them
-abbrev pub NumberLaw : Type 0
-NumberLaw = (s : Plain) (entries : List Entry) (i j p segno : ℕ) (a b : Entry) → IsRight s entries → i < j
-    → slice_get entries i ≡ Some a → slice_get entries j ≡ Some b → Gives a p segno → Gives b p segno → ⊥

@@ -1,6 +1,6 @@
 //! What follows from the definitions alone.
 
-ghost use Rattle.mx_state.specs.Laws.{RefusalLaw, PathLaw, UnknownLaw, NumberLaw};
+ghost use Rattle.mx_state.specs.Laws.{RefusalLaw, PathLaw, UnknownLaw};
 
 /// A request that is refused leaves the state; one on a path leaves what is the processes' own.
 pub fn what_a_request_leaves()
@@ -11,9 +11,4 @@ pub fn what_a_request_leaves()
 /// No process knows a number beyond the last, 127.
 pub fn numbers_beyond_the_last_are_unknown()
     ensures { UnknownLaw }
-{}
-
-/// No number is given twice to a process in one history, also where it was taken away between.
-pub fn numbers_are_given_once()
-    ensures { NumberLaw }
 {}

@@ -24,7 +24,7 @@ mod tables;
 
 pub use applied::Applied;
 pub use journal::{Entry, Journal};
-pub use laws::{numbers_are_given_once, numbers_beyond_the_last_are_unknown, what_a_request_leaves};
+pub use laws::{numbers_beyond_the_last_are_unknown, what_a_request_leaves};
 pub use mx_core::{Change, Changes};
 pub use mx_request::{Known, Reply, Request};
 pub use states::{ProcessState, State};
