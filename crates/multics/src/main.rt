@@ -4,7 +4,7 @@
 #![tactic(auto)]
 
 use mx_io::{StdSink, StdSource};
-use mx_run::{OUT_OF_MEMORY, multics};
+use mx_run::{NoGate, OUT_OF_MEMORY, multics};
 use std::alloc::AllocError;
 use std::process::ExitCode;
 use std::{env, io};
@@ -14,7 +14,7 @@ fn main(rt: HostRuntime) -> ExitCode {
         Ok(words) => {
             let mut source = StdSource::new(rt.stdin());
             let mut sink = StdSink::new(rt.stdout());
-            ExitCode::from(multics(&rt, rt.alloc(), &words, &mut source, &mut sink))
+            ExitCode::from(multics(&rt, rt.alloc(), &words, &mut source, &mut sink, &NoGate))
         }
         Err(AllocError) => ExitCode::from(OUT_OF_MEMORY),
     }

@@ -5,16 +5,22 @@
 use super::*;
 use calls::{Ends, GOOD, call};
 use mx_io::{MemorySink, MemorySource};
+use mx_run::NoGate;
 use std::alloc::{AllocError, Global};
+use std::sync::Wait;
 use std::test::Fail;
+use std::thread::Threads;
 
 mod access;
 mod calls;
 mod knowing;
 mod limits;
+mod messages;
 mod pointers;
 mod replays;
+mod rings;
 mod rows;
+mod threads;
 
 // The smallest session, line by line.
 const SMALLEST: [&[u8]; 10] = [
@@ -56,8 +62,13 @@ fn bad_line(alloc: Global, number: u32) -> Result<String, AllocError> {
 }
 
 // Whether the answer to a text is right: where number is 0 the text is a session, and else it is its first bad line.
-fn is_answered(alloc: Global, text: &[u8], number: u32) -> Result<bool, Fail> {
-    let answer = call(alloc, &["run"], text, &GOOD)?;
+fn is_answered<R: Threads + Wait + Sync>(
+    rt: &R,
+    alloc: Global,
+    text: &[u8],
+    number: u32,
+) -> Result<bool, Fail> {
+    let answer = call(rt, alloc, &["run"], text, &GOOD)?;
     if number == 0 {
         return Ok(answer.status == 0);
     }
@@ -68,7 +79,7 @@ fn is_answered(alloc: Global, text: &[u8], number: u32) -> Result<bool, Fail> {
 #[test]
 fn the_smallest_session_runs(rt: HostRuntime) -> Result<(), Fail> {
     let text = text_of(rt.alloc(), &SMALLEST)?;
-    let answer = call(rt.alloc(), &["run"], &text, &GOOD)?;
+    let answer = call(&rt, rt.alloc(), &["run"], &text, &GOOD)?;
     assert_eq!(rt; answer.status, 0);
     assert!(rt; answer.written.as_slice() == SMALLEST_RUN);
     Ok(())
@@ -77,7 +88,7 @@ fn the_smallest_session_runs(rt: HostRuntime) -> Result<(), Fail> {
 #[test]
 fn a_terminated_segment_is_unknown(rt: HostRuntime) -> Result<(), Fail> {
     let text = text_of(rt.alloc(), &knowing::TWO_NAMES)?;
-    let answer = call(rt.alloc(), &["run"], &text, &GOOD)?;
+    let answer = call(&rt, rt.alloc(), &["run"], &text, &GOOD)?;
     assert_eq!(rt; answer.status, 0);
     assert!(rt; answer.written.as_slice() == knowing::TWO_NAMES_RUN);
     Ok(())
@@ -94,7 +105,7 @@ fn words_are_one_word(rt: HostRuntime) -> Result<(), Fail> {
         &[""],
         &["--help"],
     ] {
-        let answer = call(rt.alloc(), words, &text, &GOOD)?;
+        let answer = call(&rt, rt.alloc(), words, &text, &GOOD)?;
         assert_eq!(rt; answer.status, 2);
         assert!(rt; answer.written.as_slice() == b"bad words\n".as_slice());
     }
@@ -111,7 +122,7 @@ fn a_sink_holds_what_fits(rt: HostRuntime) -> Result<(), Fail> {
             sink_fails: &[],
             room,
         };
-        let answer = call(rt.alloc(), &["run"], &text, &ends)?;
+        let answer = call(&rt, rt.alloc(), &["run"], &text, &ends)?;
         let status = if room < SMALLEST_RUN.len() { 4 } else { 0 };
         assert_eq!(rt; answer.status, status);
         assert!(rt; answer.written.as_slice() == &SMALLEST_RUN[..room]);
@@ -130,7 +141,7 @@ fn a_source_fails_in_turn(rt: HostRuntime) -> Result<(), Fail> {
             sink_fails: &[],
             room: 4096,
         };
-        let answer = call(rt.alloc(), &["run"], &text, &ends)?;
+        let answer = call(&rt, rt.alloc(), &["run"], &text, &ends)?;
         if failing < 21 {
             assert_eq!(rt; answer.status, 3);
             assert!(rt; answer.written.is_empty());
@@ -150,7 +161,7 @@ fn a_failing_sink_is_told(rt: HostRuntime) -> Result<(), Fail> {
         sink_fails: &[0],
         room: 4096,
     };
-    let answer = call(rt.alloc(), &["run"], &text, &ends)?;
+    let answer = call(&rt, rt.alloc(), &["run"], &text, &ends)?;
     assert_eq!(rt; answer.status, 4);
     assert!(rt; answer.written.is_empty());
     Ok(())
@@ -168,7 +179,14 @@ fn a_text_past_the_limit_is_too_long(rt: HostRuntime) -> Result<(), Fail> {
     let mut words = Vec::new(alloc);
     words.push(String::from_str(alloc, "run")?)?;
     assert_eq!(rt;
-        multics(&rt, alloc, words.as_slice(), &mut source, &mut sink),
+        multics(
+            &rt,
+            alloc,
+            words.as_slice(),
+            &mut source,
+            &mut sink,
+            &NoGate
+        ),
         6
     );
     assert!(rt; sink.bytes() == b"too long\n".as_slice());
@@ -179,12 +197,12 @@ fn a_text_past_the_limit_is_too_long(rt: HostRuntime) -> Result<(), Fail> {
 #[test]
 fn texts_that_end_too_early_or_too_late_are_refused(rt: HostRuntime) -> Result<(), Fail> {
     let text = text_of(rt.alloc(), &SMALLEST)?;
-    assert!(rt; is_answered(rt.alloc(), b"", 1)?);
-    assert!(rt; is_answered(rt.alloc(), &text[..text.len().saturating_sub(4)], 10)?);
-    assert!(rt; is_answered(rt.alloc(), &text[..text.len().saturating_sub(1)], 10)?);
+    assert!(rt; is_answered(&rt, rt.alloc(), b"", 1)?);
+    assert!(rt; is_answered(&rt, rt.alloc(), &text[..text.len().saturating_sub(4)], 10)?);
+    assert!(rt; is_answered(&rt, rt.alloc(), &text[..text.len().saturating_sub(1)], 10)?);
     let mut more = Vec::from_slice(rt.alloc(), &text)?;
     more.push(b'\n')?;
-    assert!(rt; is_answered(rt.alloc(), &more, 11)?);
+    assert!(rt; is_answered(&rt, rt.alloc(), &more, 11)?);
     Ok(())
 }
 
@@ -194,13 +212,18 @@ fn other_lines_are_refused(rt: HostRuntime) -> Result<(), Fail> {
     for (place, line) in [
         (0u8, b"multics 2".as_slice()),
         (0, b"multics  1"),
-        (1, b"history 3"),
+        (1, b"history 0"),
+        (1, b"history 262144"),
+        (1, b"history 03"),
+        (2, b"history 3"),
         (1, b"create_seg >a 064 4 4 4"),
         (1, b"create_seg >a 100000 4 4 4"),
         (1, b"create_seg >a 64 4 4 8"),
         (1, b"create_seg >a 64 4 4"),
         (1, b"create_seg >>a 64 4 4 4"),
-        (1, b"create_object >a 64 4 4 4 0"),
+        (1, b"create_object >a 64 4 4 4"),
+        (1, b"create_object >a 64 4 4 4 10000"),
+        (1, b"create_object >a 64 4 4 4 0 d:sqrt:5"),
         (1, b"create_dir >a 4"),
         (1, b"initiate >a"),
         (1, b"terminate 10"),
@@ -226,7 +249,10 @@ fn other_lines_are_refused(rt: HostRuntime) -> Result<(), Fail> {
         (4, b"set_rules <"),
         (4, b"set_rules working_dir "),
         (4, b"set_rules > > > > > > > > > > > > > > > > >"),
-        (4, b"block"),
+        (4, b"resume"),
+        (4, b"wakeup 0 1"),
+        (4, b"wakeup 100 1"),
+        (4, b"wakeup 1"),
         (5, b"set 08"),
         (5, b"set 1000000000000"),
         (6, b"sta 8|0"),
@@ -247,6 +273,7 @@ fn other_lines_are_refused(rt: HostRuntime) -> Result<(), Fail> {
     ] {
         assert!(rt;
             is_answered(
+                &rt,
                 rt.alloc(),
                 &with_line(rt.alloc(), place, line)?,
                 u32::from(place) + 1
@@ -261,6 +288,7 @@ fn other_lines_are_refused(rt: HostRuntime) -> Result<(), Fail> {
 fn refused_requests_stand_in_sessions(rt: HostRuntime) -> Result<(), Fail> {
     for (place, line) in [
         (1u8, b"create_seg >a 0 4 4 4".as_slice()),
+        (1, b"history 262143"),
         (1, b"create_seg >a 99999 5 4 4"),
         (1, b"create_dir < 4 4"),
         (1, b"delete >"),
@@ -272,11 +300,13 @@ fn refused_requests_stand_in_sessions(rt: HostRuntime) -> Result<(), Fail> {
         (5, b"terminate 0"),
         (5, b"terminate 7777"),
         (4, b"change_wdir a"),
+        (4, b"wakeup 16 1"),
+        (4, b"block"),
         (5, b"list >"),
         (6, b"status >a"),
         (7, b"del_acl >a *.*.*"),
     ] {
-        assert!(rt; is_answered(rt.alloc(), &with_line(rt.alloc(), place, line)?, 0)?);
+        assert!(rt; is_answered(&rt, rt.alloc(), &with_line(rt.alloc(), place, line)?, 0)?);
     }
     Ok(())
 }
@@ -306,7 +336,7 @@ fn lines_out_of_place_are_refused(rt: HostRuntime) -> Result<(), Fail> {
                 lines.push(*line)?;
             }
         }
-        assert!(rt; is_answered(rt.alloc(), &text_of(alloc, &lines)?, *number)?);
+        assert!(rt; is_answered(&rt, rt.alloc(), &text_of(alloc, &lines)?, *number)?);
     }
     for (place, number) in doubled.iter().enumerate() {
         let mut lines = Vec::new(alloc);
@@ -316,14 +346,14 @@ fn lines_out_of_place_are_refused(rt: HostRuntime) -> Result<(), Fail> {
                 lines.push(*line)?;
             }
         }
-        assert!(rt; is_answered(rt.alloc(), &text_of(alloc, &lines)?, *number)?);
+        assert!(rt; is_answered(&rt, rt.alloc(), &text_of(alloc, &lines)?, *number)?);
     }
     for (place, number) in exchanged.iter().enumerate() {
         let mut lines = SMALLEST;
         if place + 1 < lines.len() {
             lines.swap(place, place + 1);
         }
-        assert!(rt; is_answered(rt.alloc(), &text_of(alloc, &lines)?, *number)?);
+        assert!(rt; is_answered(&rt, rt.alloc(), &text_of(alloc, &lines)?, *number)?);
     }
     Ok(())
 }
@@ -365,7 +395,7 @@ fn a_missing_byte_is_missed(rt: HostRuntime) -> Result<(), Fail> {
                 None => false,
             };
             let number = if is_spare { 0 } else { place as u32 + 1 };
-            assert!(rt; is_answered(alloc, &text, number)?);
+            assert!(rt; is_answered(&rt, rt.alloc(), &text, number)?);
         }
     }
     Ok(())

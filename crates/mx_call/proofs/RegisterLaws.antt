@@ -1,5 +1,5 @@
 -- What a granted call and a granted return make of the registers.
-use Rattle.std.proofs.Common.{◌≡◌, ℕ, ◌<◌, ◌≤◌, ◌⊎◌, ◌↔◌, min, max, false, List, [], ◌∷◌, length, slice_get, slice_set, Some, Ok, Err, IsOk, refl, sym, ap, subst, arith, rules}
+use Rattle.std.proofs.Common.{◌≡◌, ℕ, ◌<◌, ◌≤◌, ◌⊎◌, ◌↔◌, min, max, false, List, [], ◌∷◌, length, map, slice_get, slice_set, Some, Ok, Err, IsOk, refl, sym, ap, subst, arith, rules}
 use Rattle.std.proofs.Math.Nat.{le_refl, le_trans}
 use Rattle.std.proofs.lemmas.List.{get_or-set_other, length-map}
 use Rattle.std.proofs.lemmas.Option.{slice_get-get_or}
@@ -16,7 +16,7 @@ use Rattle.mx_sdw.proofs.JudgingLaws.{granted_is_allowed}
 use Rattle.mx_ptr.specs.Pointers.{PointerParts, IsPackable}
 use Rattle.mx_call.specs.Loading.{loaded}
 use Rattle.mx_call.specs.Registers.{Registers, ArePackable, IsSound, going_on, stack_base, way_back, raised_to}
-use Rattle.mx_call.specs.Transfers.{calling, call_judgement, called, IsCalled, IsReturned, IsGate}
+use Rattle.mx_call.specs.Transfers.{calling, call_judgement, called, returned, IsCalled, IsReturned, IsGate}
 
 allowed : (d : Descriptor) (op : Op) (ring word : ℕ) (r : Result Cell Denial) → judgement d op ring word ≡ r → IsOk r → IsGranted d op ring word
 allowed d op ring word (Ok cell) e h = granted_is_allowed d op ring word cell e
@@ -109,6 +109,12 @@ pub exactly_called : (before after : Registers) (target : PointerParts) (d : Des
 exactly_called before after target d e =
     (one_call before after target d e, λ same. subst (IsCalled before target d) (sym same) (a_call before target d e))
 
+pub one_return : (before after : Registers) (target : PointerParts) → IsReturned before target after
+    → after ≡ returned before target
+one_return before after target r =
+    same after (returned before target) r.current (chain r.procedure (ap (going_on target) r.current))
+    (chain r.pointers (ap (λ n. map (raised_to n) before.pr) r.current)) r.accumulator
+
 not_below : (a b : ℕ) → a ≤ max a b
 not_below a b = search rules
 
@@ -174,7 +180,7 @@ way_back_packable g a = record { ring = a.ring; segno = a.procedure.segno; word 
 raised_packable : (ring : ℕ) (p : PointerParts) → ring ≤ 7 → IsPackable p → IsPackable (raised_to ring p)
 raised_packable ring p low h = record { ring = let high = h.ring in omega arith; segno = h.segno; word = h.word }
 
-called_packable : (before : Registers) (target : PointerParts) (d : Descriptor) → ArePackable before → IsPackable target
+pub called_packable : (before : Registers) (target : PointerParts) (d : Descriptor) → ArePackable before → IsPackable target
     → ArePackable (called before target d)
 called_packable before target d s h =
     let ring : ℕ = min target.ring d.brackets.r2 in

@@ -1,6 +1,6 @@
 -- Why a step is not enabled: the first condition of its kind that fails. Of several pairs, processes or pages the first
 -- is named.
-use Rattle.std.specs.Prelude.{◌≡◌, ◌≢◌, ℕ, ◌^◌, ◌<◌, ◌≤◌, IsTrue, length}
+use Rattle.std.specs.Prelude.{◌≡◌, ◌≢◌, ℕ, ◌^◌, ◌<◌, ◌≤◌, IsTrue, true, length}
 use Rattle.mx_sdw.specs.Operations.{writes}
 use Rattle.mx_core.specs.AssociativeMemory.{HasRecall}
 use Rattle.mx_core.specs.Acknowledging.{HasChanged, HasLeft}
@@ -12,7 +12,9 @@ use Rattle.mx_core.specs.Memory.{IsBare}
 use Rattle.mx_core.specs.Notes.{IsNoted}
 use Rattle.mx_core.specs.Notions.{IsProcess, IsPair, IsPending, NothingPending, IsChanged, IsStruck}
 use Rattle.mx_core.specs.Pages.{page_of}
+use Rattle.mx_core.specs.Steps.{Can}
 use Rattle.mx_core.specs.Striking.{IsFaulty}
+use Rattle.mx_core.specs.TakesMemory.{takes_memory}
 use Rattle.mx_core.specs.World.{Outside, Entering, Ready, World}
 use Rattle.mx_core.specs.declared.steps.Cause.{Cause}
 use Rattle.mx_core.specs.declared.steps.Cause.TheVariants as cause
@@ -102,7 +104,7 @@ pub record HasCause (w : World) (step : Step) : Type 0 where
   pub why : Cause
   pub is : IsCause w step why
 
--- a step is refused with a cause, or for want of memory
+-- a step is refused with a cause, or for want of memory; that only where it is enabled, and of a kind that takes some
 abbrev pub IsRefusal : World → Step → StepError → Type 0
 IsRefusal w step (NotEnabled why) = IsCause w step why
-IsRefusal w step Memory = Unit {0}
+IsRefusal w step Memory = Can w step × (takes_memory step ≡ true)

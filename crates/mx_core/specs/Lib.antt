@@ -17,6 +17,7 @@ pub mod Notes
 pub mod Steps
 pub mod Opening
 pub mod FirstFailing
+pub mod TakesMemory
 pub mod Causes
 pub mod RightWords
 pub mod Keeping

@@ -13,7 +13,7 @@ use crate::worlds::World;
 
 impl World {
     /// Makes one step. A step that is not enabled has its first failing condition as its cause and changes nothing;
-    /// nor does one for which memory is refused.
+    /// nor does one for which memory is refused, which is enabled and of a kind that takes some.
     pub fn step(&mut self, step: &Step) -> Result<(), StepError>
         ensures { (w : WorldValue) → Shows self.old w
             → MatchResult result (λ done. Can w step.now × Shows self.new (after w step.now))

@@ -145,6 +145,7 @@ pub enum Cause {
 pub enum StepError {
     /// It is not enabled.
     NotEnabled(Cause),
-    /// Memory was refused.
+    /// Memory was refused. The step is enabled, and keeps an event, a number in an associative memory, or a note: others
+    /// take none.
     Memory,
 }

@@ -16,16 +16,16 @@ some_page words page some pages =
     let one : 1 ≤ pages_for words = grind arith in
     omega (arith, one, pages)
 
-pub segment_admissible : (segment : Segment) (r e w : Bool) → segment.brackets.r1 ≤ segment.brackets.r2 → segment.brackets.r2 ≤ segment.brackets.r3
-    → segment.brackets.r3 ≤ 7 → IsStored segment → IsAdmissible (segment_desc segment.brackets r e w 0 segment.page segment.words)
-segment_admissible segment r e w first second ring stored = record {
+pub segment_admissible : (segment : Segment) (r e w : Bool) (gate : ℕ) → gate ≤ 1024 → segment.brackets.r1 ≤ segment.brackets.r2 → segment.brackets.r2 ≤ segment.brackets.r3
+    → segment.brackets.r3 ≤ 7 → IsStored segment → IsAdmissible (segment_desc segment.brackets r e w gate segment.page segment.words)
+segment_admissible segment r e w gate gates first second ring stored = record {
   unknown = λ kind. cc;
   gone = λ kind. cc;
   segment = λ kind. record {
     range = record {
       order = record { write_first = first; gate_last = second };
       ring = ring;
-      gate = omega arith;
+      gate = gates;
       page = some_page segment.words segment.page stored.some stored.pages;
       some = stored.some;
       most = stored.most;

@@ -5,6 +5,8 @@ pub mod KeyLaws
 pub mod KeptLaws
 pub mod WalkLaws
 pub mod StrangerLaws
+pub mod OutsiderLaws
+pub mod ObjectLaws
 pub mod SoundLaws
 pub mod MakingLaws
 pub mod ChangeLaws

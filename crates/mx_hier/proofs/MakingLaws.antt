@@ -1,5 +1,7 @@
 -- A refusal of every request that makes an entry is that of each.
-use Rattle.std.proofs.Common.{◌≡◌, ◌==◌, ◌||◌, ltb, is_none, ℕ, Bool, true, false, cond, List, [], ◌∷◌, ◌++◌, Some, Result, Ok, Err, ap}
+use Rattle.std.proofs.Common.{◌≡◌, ◌==◌, ◌≤◌, ◌||◌, ltb, ℕ, is_none, Option, None, refl, arith, Bool, true, false, cond, List, [], ◌∷◌, ◌++◌, Some, Result, Ok, Err, ap}
+use Rattle.std.proofs.lemmas.Bool.{or_parts}
+use Rattle.mx_object.specs.Objects.{PlainObjectMap}
 use Rattle.mx_hier.specs.declared.branches.Directory.{Directory}
 use Rattle.mx_hier.specs.declared.making.Place.{Place}
 use Rattle.mx_hier.specs.declared.refusals.Refusal.{Refusal}
@@ -7,8 +9,9 @@ use Rattle.mx_hier.specs.declared.refusals.Refusal.TheVariants.{NotADir, BadLeng
 use Rattle.mx_pages.specs.Runs.{pages_for, run_given}
 use Rattle.mx_hier.specs.Branches.{Hierarchy, directory_at}
 use Rattle.mx_hier.specs.Brackets.{settable}
-use Rattle.mx_hier.specs.Callers.{Subject}
-use Rattle.mx_hier.specs.CreateSegment.{create_seg_refusals, create_seg_at, new_segment, segment_added}
+use Rattle.mx_hier.specs.Callers.{Subject, on}
+use Rattle.mx_hier.specs.Objects.{gate_of}
+use Rattle.mx_hier.specs.MakeSegment.{Wanted, reaches_beyond, is_bad_length, make_segment_refusals, make_segment_at, new_segment, segment_added}
 use Rattle.mx_hier.specs.Making.{making_refusals, made}
 use Rattle.mx_hier.specs.Rules.{first_of, onward, required, unless}
 
@@ -25,14 +28,48 @@ made_refused : (h : Hierarchy) (at : Place) (rules : List (Bool × Refusal)) (ma
     → first_of rules ≡ Some why → made h at rules make ≡ Err why
 made_refused h at rules make why is = ap (λ refusal. onward (unless refusal at) (λ (at : Place). onward (required NotADir (directory_at h at.dir)) make)) is
 
-pub segment_refused : (h : Hierarchy) (who : Subject) (at : Place) (words : ℕ) (rings : List ℕ) (why : Refusal)
-    → first_of (making_refusals h who at) ≡ Some why → create_seg_at h who at words rings ≡ Err why
-segment_refused h who at words rings why is =
-    made_refused h at (create_seg_refusals h who at words rings)
+pub segment_refused : (h : Hierarchy) (who : Subject) (at : Place) (wanted : Wanted) (why : Refusal)
+    → first_of (making_refusals h who at) ≡ Some why → make_segment_at h who at wanted ≡ Err why
+segment_refused h who at wanted why is =
+    made_refused h at (make_segment_refusals h who at wanted)
     (λ parent.
-    onward (required BadBrackets (settable who.ring rings)) (λ brackets.
-    onward (required NoPages (run_given h.pages (pages_for words))) (λ page.
-    Ok (segment_added h at (new_segment parent who words brackets page)))))
+    onward (required BadBrackets (settable who.ring wanted.rings)) (λ brackets.
+    onward (required NoPages (run_given h.pages (pages_for wanted.words))) (λ page.
+    Ok (segment_added h at (new_segment parent who wanted brackets page) wanted.object))))
     why
     (first_again (making_refusals h who at)
-    ((words == 0 || ltb 1024 words, BadLength) ∷ (is_none (settable who.ring rings), BadBrackets) ∷ (is_none (run_given h.pages (pages_for words)), NoPages) ∷ []) why is)
+    ((is_bad_length wanted.words wanted.object, BadLength) ∷ (is_none (settable who.ring wanted.rings), BadBrackets)
+    ∷ (is_none (run_given h.pages (pages_for wanted.words)), NoPages) ∷ []) why is)
+
+-- a length that is not bad
+all_false : (a b c : Bool) → (a || b || c) ≡ false → (a ≡ false) × (b ≡ false) × (c ≡ false)
+all_false true true c e = cc
+all_false true false c e = cc
+all_false false true c e = cc
+all_false false false true e = cc
+all_false false false false e = (refl, refl, refl)
+
+some_words : (words : ℕ) → (words == 0) ≡ false → 1 ≤ words
+some_words words e = grind arith
+
+few_words : (words : ℕ) → ltb 1024 words ≡ false → words ≤ 1024
+few_words words e = grind arith
+
+few_gates : (words : ℕ) (object : Option PlainObjectMap) → words ≤ 1024 → on (reaches_beyond words) object ≡ false → gate_of object ≤ 1024
+few_gates words None few e = omega arith
+few_gates words (Some object) few e =
+    let within : object.gate ≤ words = below words object.gate (or_parts (ltb words object.gate) _ e).0 in omega (arith, within, few)
+  where
+    below : (words gate : ℕ) → ltb words gate ≡ false → gate ≤ words
+    below words gate e = grind arith
+
+pub record IsGoodLength (words : ℕ) (object : Option PlainObjectMap) : Type 0 where
+  pub some : 1 ≤ words
+  pub few : words ≤ 1024
+  pub gates : gate_of object ≤ 1024
+
+pub good_length : (words : ℕ) (object : Option PlainObjectMap) → is_bad_length words object ≡ false → IsGoodLength words object
+good_length words object e =
+    let f = all_false (words == 0) (ltb 1024 words) (on (reaches_beyond words) object) e in
+    let few = few_words words f.1 in
+    record { some = some_words words f.0; few = few; gates = few_gates words object few f.2 }

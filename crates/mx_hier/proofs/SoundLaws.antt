@@ -3,6 +3,7 @@ use Rattle.std.proofs.Common.{◌≡◌, ◌≢◌, ◌⊎◌, inl, inr, ℕ, �
 use Rattle.std.proofs.lemmas.Bool.{eqb-true, ne_eqb}
 use Rattle.std.specs.Option.{option_and_then}
 use Rattle.mx_acl.specs.Access.{Access}
+use Rattle.mx_object.specs.Objects.{PlainObjectMap}
 use Rattle.mx_pages.specs.Runs.{PageMap, pages_for, IsFreeRun, IsFree, after_run}
 use Rattle.mx_sdw.specs.Rings.{Bracketing}
 use Rattle.mx_hier.specs.declared.branches.Branch.{Branch}
@@ -14,8 +15,10 @@ use Rattle.mx_hier.specs.Changing.{changed, with_node, acl_changed}
 use Rattle.mx_hier.specs.Delete.{without}
 use Rattle.mx_hier.specs.SetBrackets.{bracketed}
 use Rattle.mx_hier.specs.SetDirectoryBrackets.{dir_bracketed}
-use Rattle.mx_hier.specs.Sound.{IsStored, HasPage, IsSound}
+use Rattle.mx_hier.specs.Objects.{Objects, with_object, gate_of}
+use Rattle.mx_hier.specs.Sound.{IsStored, HasPage, AreObjects, IsSound}
 use Rattle.mx_hier.specs.Listed.{Listed}
+use Rattle.mx_hier.proofs.ObjectLaws.{objects_later, objects_with}
 
 -- a segment stood there before, on the same pages
 pub record WasOn (old : Option Segment) (segment : Segment) : Type 0 where
@@ -38,10 +41,10 @@ stored_as segment was words at is = record {
 }
 
 -- each segment stands where it stood, and no page has become free
-pub sound_kept : (old new : List Branch) (next : ℕ) (pages : PageMap)
+pub sound_kept : (old new : List Branch) (next : ℕ) (pages : PageMap) (objects : Objects)
     → ((uid : ℕ) (segment : Segment) → segment_in new uid ≡ Some segment → WasOn (segment_in old uid) segment)
-    → IsSound old next pages → IsSound new next pages
-sound_kept old new next pages kept sound = record {
+    → IsSound old next pages objects → IsSound new next pages objects
+sound_kept old new next pages objects kept sound = record {
   first = sound.first;
   last = sound.last;
   stored = λ uid segment is. let w = kept uid segment is in stored_as segment w.was w.words w.page (sound.stored uid w.was w.there);
@@ -50,6 +53,7 @@ sound_kept old new next pages kept sound = record {
       let w = kept uid a is in
       let v = kept other b also in
       sound.apart uid other w.was v.was w.there v.there differ page (moved a w.was page w.words w.page has) (moved b v.was page v.words v.page too);
+  maps = sound.maps;
 }
 
 -- one branch changed
@@ -78,11 +82,11 @@ module _ (f : Branch → Branch) (own : (x : Branch) → (f x).uid ≡ x.uid)
   changed_was at uid [] segment is = absurd (cc)
   changed_was at uid (x ∷ xs) segment is = one_was (eqb x.uid at) x uid xs (changed at f xs) segment (changed_was at uid xs segment) is
 
-  pub sound_changed : (at : ℕ) (pages : PageMap) (old new : Listed) → new ≡ record old { branches = changed at f old.branches }
-      → IsSound old.branches old.next pages → IsSound new.branches new.next pages
-  sound_changed at pages old new e sound =
-      subst (λ (t : Listed). IsSound t.branches t.next pages) (sym e)
-      (sound_kept old.branches (changed at f old.branches) old.next pages (λ uid segment is. changed_was at uid old.branches segment is) sound)
+  pub sound_changed : (at : ℕ) (pages : PageMap) (objects : Objects) (old new : Listed) → new ≡ record old { branches = changed at f old.branches }
+      → IsSound old.branches old.next pages objects → IsSound new.branches new.next pages objects
+  sound_changed at pages objects old new e sound =
+      subst (λ (t : Listed). IsSound t.branches t.next pages objects) (sym e)
+      (sound_kept old.branches (changed at f old.branches) old.next pages objects (λ uid segment is. changed_was at uid old.branches segment is) sound)
 
 acl_keeps : (f : Access → Access) (node : Node) (segment : Segment) → as_segment (acl_changed f node) ≡ Some segment → WasOn (as_segment node) segment
 acl_keeps f (IsDirectory directory) segment is = absurd (cc)
@@ -103,29 +107,29 @@ dir_brackets_keep d1 d2 (IsDirectory directory) segment is = absurd (cc)
 dir_brackets_keep d1 d2 (IsSegment was) segment is = was_itself (Some was) segment is
 dir_brackets_keep d1 d2 (IsLink target) segment is = absurd (cc)
 
-pub sound_acl : (uid : ℕ) (f : Access → Access) (pages : PageMap) (old new : Listed)
+pub sound_acl : (uid : ℕ) (f : Access → Access) (pages : PageMap) (objects : Objects) (old new : Listed)
     → new ≡ record old { branches = changed uid (λ branch. with_node (acl_changed f branch.node) branch) old.branches }
-    → IsSound old.branches old.next pages → IsSound new.branches new.next pages
-sound_acl uid f pages old new e sound =
-    sound_changed (λ branch. with_node (acl_changed f branch.node) branch) (λ x. refl) (λ x segment is. acl_keeps f x.node segment is) uid pages old new e sound
+    → IsSound old.branches old.next pages objects → IsSound new.branches new.next pages objects
+sound_acl uid f pages objects old new e sound =
+    sound_changed (λ branch. with_node (acl_changed f branch.node) branch) (λ x. refl) (λ x segment is. acl_keeps f x.node segment is) uid pages objects old new e sound
 
-pub sound_brackets : (uid : ℕ) (brackets : Bracketing) (pages : PageMap) (old new : Listed)
+pub sound_brackets : (uid : ℕ) (brackets : Bracketing) (pages : PageMap) (objects : Objects) (old new : Listed)
     → new ≡ record old { branches = changed uid (λ branch. with_node (bracketed brackets branch.node) branch) old.branches }
-    → IsSound old.branches old.next pages → IsSound new.branches new.next pages
-sound_brackets uid brackets pages old new e sound =
-    sound_changed (λ branch. with_node (bracketed brackets branch.node) branch) (λ x. refl) (λ x segment is. brackets_keep brackets x.node segment is) uid pages old new e sound
+    → IsSound old.branches old.next pages objects → IsSound new.branches new.next pages objects
+sound_brackets uid brackets pages objects old new e sound =
+    sound_changed (λ branch. with_node (bracketed brackets branch.node) branch) (λ x. refl) (λ x segment is. brackets_keep brackets x.node segment is) uid pages objects old new e sound
 
-pub sound_dir_brackets : (uid d1 d2 : ℕ) (pages : PageMap) (old new : Listed)
+pub sound_dir_brackets : (uid d1 d2 : ℕ) (pages : PageMap) (objects : Objects) (old new : Listed)
     → new ≡ record old { branches = changed uid (λ branch. with_node (dir_bracketed d1 d2 branch.node) branch) old.branches }
-    → IsSound old.branches old.next pages → IsSound new.branches new.next pages
-sound_dir_brackets uid d1 d2 pages old new e sound =
-    sound_changed (λ branch. with_node (dir_bracketed d1 d2 branch.node) branch) (λ x. refl) (λ x segment is. dir_brackets_keep d1 d2 x.node segment is) uid pages old new e sound
+    → IsSound old.branches old.next pages objects → IsSound new.branches new.next pages objects
+sound_dir_brackets uid d1 d2 pages objects old new e sound =
+    sound_changed (λ branch. with_node (dir_bracketed d1 d2 branch.node) branch) (λ x. refl) (λ x segment is. dir_brackets_keep d1 d2 x.node segment is) uid pages objects old new e sound
 
-pub sound_renamed : (uid : ℕ) (name : List ℕ) (pages : PageMap) (old new : Listed)
+pub sound_renamed : (uid : ℕ) (name : List ℕ) (pages : PageMap) (objects : Objects) (old new : Listed)
     → new ≡ record old { branches = changed uid (λ branch. record branch { name = name }) old.branches }
-    → IsSound old.branches old.next pages → IsSound new.branches new.next pages
-sound_renamed uid name pages old new e sound =
-    sound_changed (λ branch. record branch { name = name }) (λ x. refl) (λ x segment is. was_itself (as_segment x.node) segment is) uid pages old new e sound
+    → IsSound old.branches old.next pages objects → IsSound new.branches new.next pages objects
+sound_renamed uid name pages objects old new e sound =
+    sound_changed (λ branch. record branch { name = name }) (λ x. refl) (λ x segment is. was_itself (as_segment x.node) segment is) uid pages objects old new e sound
 
 -- one branch removed
 found_without : (at : ℕ) (branches : List Branch) (uid : ℕ) → uid ≢ at → branch_of (without at branches) uid ≡ branch_of branches uid
@@ -160,11 +164,11 @@ without_was at uid branches segment is = by (eqb uid at) refl
         was_itself (segment_in branches uid) segment
         (sym (ap (option_and_then (λ (branch : Branch). as_segment branch.node)) (found_without at branches uid (λ same. absurd (grind arith)))) ∙ is)
 
-pub sound_without : (at : ℕ) (pages : PageMap) (old new : Listed) → new ≡ record old { branches = without at old.branches }
-    → IsSound old.branches old.next pages → IsSound new.branches new.next pages
-sound_without at pages old new e sound =
-    subst (λ (t : Listed). IsSound t.branches t.next pages) (sym e)
-    (sound_kept old.branches (without at old.branches) old.next pages (λ uid segment is. without_was at uid old.branches segment is) sound)
+pub sound_without : (at : ℕ) (pages : PageMap) (objects : Objects) (old new : Listed) → new ≡ record old { branches = without at old.branches }
+    → IsSound old.branches old.next pages objects → IsSound new.branches new.next pages objects
+sound_without at pages objects old new e sound =
+    subst (λ (t : Listed). IsSound t.branches t.next pages objects) (sym e)
+    (sound_kept old.branches (without at old.branches) old.next pages objects (λ uid segment is. without_was at uid old.branches segment is) sound)
 
 -- one branch more: a segment is that of before, or the new one
 added_was : (branches : List Branch) (branch : Branch) (uid : ℕ) (segment : Segment) → segment_in (branches ++ branch ∷ []) uid ≡ Some segment
@@ -184,15 +188,16 @@ added_was (x ∷ xs) branch uid segment is = by (eqb x.uid uid) is (added_was xs
     by false is rest = rest is
 
 -- a directory or a link
-pub sound_added : (pages : PageMap) (old new : Listed) (branch : Branch) → new ≡ record { branches = old.branches ++ branch ∷ []; next = 1 + old.next }
-    → as_segment branch.node ≡ None → old.next < 4294967295 → IsSound old.branches old.next pages → IsSound new.branches new.next pages
-sound_added pages old new branch e none left sound =
-    subst (λ (t : Listed). IsSound t.branches t.next pages) (sym e) (record {
+pub sound_added : (pages : PageMap) (objects : Objects) (old new : Listed) (branch : Branch) → new ≡ record { branches = old.branches ++ branch ∷ []; next = 1 + old.next }
+    → as_segment branch.node ≡ None → old.next < 4294967295 → IsSound old.branches old.next pages objects → IsSound new.branches new.next pages objects
+sound_added pages objects old new branch e none left sound =
+    subst (λ (t : Listed). IsSound t.branches t.next pages objects) (sym e) (record {
       first = omega arith;
       last = omega arith;
       stored = λ uid segment is. sound.stored uid segment (was uid segment is);
       taken = λ uid page segment is. sound.taken uid page segment (was uid segment is);
       apart = λ uid other a b is also. sound.apart uid other a b (was uid a is) (was other b also);
+      maps = objects_later objects old.next sound.maps;
     })
   where
     was : (uid : ℕ) (segment : Segment) → segment_in (old.branches ++ branch ∷ []) uid ≡ Some segment → segment_in old.branches uid ≡ Some segment
@@ -204,12 +209,13 @@ in_free_run pages segment page run has =
     let there : segment.page + (page - segment.page) ≡ page = omega (arith, has.0) in
     subst (IsFree pages) there (run (page - segment.page) (omega (arith, has.0, has.1)))
 
-pub sound_made : (pages after : PageMap) (old new : Listed) (branch : Branch) (made : Segment) → new ≡ record { branches = old.branches ++ branch ∷ []; next = 1 + old.next }
+pub sound_made : (pages after : PageMap) (objects with : Objects) (object : Option PlainObjectMap) (old new : Listed) (branch : Branch) (made : Segment)
+    → new ≡ record { branches = old.branches ++ branch ∷ []; next = 1 + old.next }
     → as_segment branch.node ≡ Some made → 1 ≤ made.words → made.words ≤ 1024 → old.next < 4294967295
     → IsFreeRun pages (pages_for made.words) made.page → after ≡ after_run pages (pages_for made.words) (Some made.page)
-    → IsSound old.branches old.next pages → IsSound new.branches new.next after
-sound_made pages after old new branch made e node some most left run given sound =
-    subst (λ (t : Listed). IsSound t.branches t.next after) (sym e) (subst (λ (map : PageMap). IsSound (old.branches ++ branch ∷ []) (1 + old.next) map) (sym given) (record {
+    → with ≡ with_object objects old.next object → gate_of object ≤ 1024 → IsSound old.branches old.next pages objects → IsSound new.branches new.next after with
+sound_made pages after objects with object old new branch made e node some most left run given kept gates sound =
+    subst (λ (t : Listed). IsSound t.branches t.next after with) (sym e) (subst (λ (map : PageMap). IsSound (old.branches ++ branch ∷ []) (1 + old.next) map with) (sym given) (record {
       first = omega arith;
       last = omega arith;
       stored = λ uid segment is. elim (added_was old.branches branch uid segment is) [
@@ -230,6 +236,7 @@ sound_made pages after old new branch made e node some most left run given sound
           | inr later ↦ absurd (differ (new.0 ∙ sym later.0))
         ]
       ];
+      maps = subst (λ (o : Objects). AreObjects o (1 + old.next)) (sym kept) (objects_with objects old.next object gates sound.maps);
     }))
   where
     count : 1 ≤ pages_for made.words
@@ -245,7 +252,7 @@ sound_made pages after old new branch made e node some most left run given sound
     still_free page has free = omega (arith, has.1, free.0)
 
 -- what is found at a uid
-pub stored_at : (branches : List Branch) (next uid : ℕ) (pages : PageMap) (branch : Branch) (segment : Segment) → branch_of branches uid ≡ Some branch
-    → branch.node ≡ IsSegment segment → IsSound branches next pages → IsStored segment
-stored_at branches next uid pages branch segment is node sound =
+pub stored_at : (branches : List Branch) (next uid : ℕ) (pages : PageMap) (objects : Objects) (branch : Branch) (segment : Segment) → branch_of branches uid ≡ Some branch
+    → branch.node ≡ IsSegment segment → IsSound branches next pages objects → IsStored segment
+stored_at branches next uid pages objects branch segment is node sound =
     sound.stored uid segment (ap (option_and_then (λ (branch : Branch). as_segment branch.node)) is ∙ ap as_segment node)

@@ -7,7 +7,7 @@ use Rattle.mx_hier.specs.declared.branches.Directory.{Directory}
 use Rattle.mx_hier.specs.declared.branches.Node.{Node}
 use Rattle.mx_hier.specs.declared.refusals.Refusal.{Refusal}
 use Rattle.mx_hier.specs.declared.refusals.Refusal.TheVariants.{NoInfo, NotADir, NotASeg, IncorrectAccess, LinkLoop}
-use Rattle.mx_hier.specs.Branches.{Hierarchy, uid_in, directory_at, segment_at, target_at, holder, holding}
+use Rattle.mx_hier.specs.Branches.{Hierarchy, uid_in, directory_at, object_at, segment_at, target_at, holder, holding}
 use Rattle.mx_hier.specs.Callers.{Subject, Caller, has_status, has_any, has_access, on}
 use Rattle.mx_hier.specs.ChangeWorkingDirectory.{directory, directory_refusals}
 use Rattle.mx_hier.specs.Initiate.{segment, segment_refusals}
@@ -29,7 +29,7 @@ module _ (h : Hierarchy) (who : Subject) (stranger : IsStranger h who) where
       by None = refl
       by (Some dir) = stranger dir
 
-  silent : (why : Refusal) (dir : Option Directory) → Shut dir → say who why dir ≡ NoInfo
+  pub silent : (why : Refusal) (dir : Option Directory) → Shut dir → say who why dir ≡ NoInfo
   silent why dir shut = ap (λ (b : Bool). cond b why NoInfo) shut
 
   -- wherever names lead, what is to be said is to be said there
@@ -76,7 +76,7 @@ module _ (h : Hierarchy) (who : Subject) (stranger : IsStranger h who) where
   shut_outcome (Linked dir path) linked is later = later dir path is
   shut_outcome (Refused why dir) linked is later = inr (silent why dir is)
 
-  walk_reticent : (left : ℕ) (follow : Bool) (from : ℕ) (names : List (List ℕ)) → IsReticent (told who (walk left h follow from names))
+  pub walk_reticent : (left : ℕ) (follow : Bool) (from : ℕ) (names : List (List ℕ)) → IsReticent (told who (walk left h follow from names))
   walk_reticent zero follow from names =
       shut_outcome (along h follow from names) (λ dir path. Err (LinkLoop, dir)) (shut_ended follow (fold (step h) (Reached from) names) (shut_fold (Reached from) names tt))
       (λ dir path shut. inr (silent LinkLoop dir shut))
@@ -96,7 +96,7 @@ module _ (h : Hierarchy) (who : Subject) (stranger : IsStranger h who) where
   said_reticent false true why other dir value shut = inr (silent other dir shut)
   said_reticent false false why other dir value shut = tt
 
-resolved_reticent : (who : Caller) (path : List ℕ) → IsReticent (resolved who path)
+pub resolved_reticent : (who : Caller) (path : List ℕ) → IsReticent (resolved who path)
 resolved_reticent who path = by (resolution who.base path)
   where
     by : (given : Result (List (List ℕ)) PathError) → IsReticent (path_or_refusal given)
@@ -111,11 +111,11 @@ entry_reticent h who path follow stranger =
 status_at_reticent : (h : Hierarchy) (who : Subject) (uid : ℕ) → IsReticent (status_at h who uid)
 status_at_reticent h who uid = by (on (has_status who) (holding h uid))
   where
-    shown : (node : Option Node) → IsReticent (onward (required NoInfo node) (λ node. Ok (status_of who node)))
+    shown : (node : Option Node) → IsReticent (onward (required NoInfo node) (λ node. Ok (status_of who (object_at h uid) node)))
     shown None = inr refl
     shown (Some node) = tt
 
-    by : (b : Bool) → IsReticent (onward (unless (first_of ((not b, NoInfo) ∷ [])) uid) (λ uid. onward (required NoInfo (node_at h uid)) (λ node. Ok (status_of who node))))
+    by : (b : Bool) → IsReticent (onward (unless (first_of ((not b, NoInfo) ∷ [])) uid) (λ uid. onward (required NoInfo (node_at h uid)) (λ node. Ok (status_of who (object_at h uid) node))))
     by true = shown (node_at h uid)
     by false = inr refl
 

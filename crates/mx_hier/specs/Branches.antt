@@ -1,13 +1,15 @@
--- The hierarchy as plain lists: the root directory, and the branches in the order of their making.
+-- The hierarchy as plain lists: the root directory, the branches in the order of their making, and the object maps.
 use Rattle.std.specs.Prelude.{ℕ, ◌==◌, ◌&&◌, List, filter, find, Option, Some, None, if◌then◌else◌}
 use Rattle.std.specs.Cmp.Lexicographic.{pointwise}
 use Rattle.std.specs.Option.{option_map, option_and_then}
+use Rattle.mx_object.specs.Objects.{PlainObjectMap}
 use Rattle.mx_pages.specs.Runs.{PageMap}
 use Rattle.mx_hier.specs.declared.branches.Branch.{Branch}
 use Rattle.mx_hier.specs.declared.branches.Directory.{Directory}
 use Rattle.mx_hier.specs.declared.branches.Segment.{Segment}
 use Rattle.mx_hier.specs.declared.branches.Node.{Node}
 use Rattle.mx_hier.specs.declared.branches.Node.TheVariants.{Directory as IsDirectory, Segment as IsSegment, Link as IsLink}
+use Rattle.mx_hier.specs.Objects.{Objects, object_of}
 
 -- The root directory has uid 0 and is no branch. The uids of branches count from 1 in the order of their making, and
 -- none is used again: a segment that is not among the branches any more was deleted.
@@ -16,6 +18,7 @@ pub record Hierarchy : Type 0 where
   pub branches : List Branch
   pub next : ℕ
   pub pages : PageMap
+  pub objects : Objects
 
 -- the branch of a uid
 abbrev pub branch_of : List Branch → ℕ → Option Branch
@@ -58,6 +61,10 @@ segment_at h uid = segment_in h.branches uid
 
 abbrev pub target_at : Hierarchy → ℕ → Option (List (List ℕ))
 target_at h uid = option_and_then (λ branch. as_link branch.node) (branch_of h.branches uid)
+
+-- the map of an object segment, of a deleted one too
+abbrev pub object_at : Hierarchy → ℕ → Option PlainObjectMap
+object_at h uid = object_of h.objects uid
 
 -- the uid of the directory that holds an entry: the root is its own
 abbrev pub holder : Hierarchy → ℕ → Option ℕ

@@ -22,7 +22,7 @@ delete_refusals h who uid = changing_refusals h who uid ++
 abbrev pub without : ℕ → List Branch → List Branch
 without uid branches = filter (λ branch. not (branch.uid == uid)) branches
 
--- the pages of a segment are not used again
+-- the pages of a segment are not used again, and the map of an object stays
 abbrev pub delete_at : Hierarchy → Subject → ℕ → Result Hierarchy Refusal
 delete_at h who uid = unless (first_of (delete_refusals h who uid)) (record h { branches = without uid h.branches })
 

@@ -1,4 +1,5 @@
 pub mod Refusals
+pub mod Objects
 pub mod Branches
 pub mod Opening
 pub mod Callers
@@ -7,7 +8,9 @@ pub mod Walks
 pub mod Making
 pub mod Brackets
 pub mod CreateDirectory
+pub mod MakeSegment
 pub mod CreateSegment
+pub mod CreateObject
 pub mod CreateLink
 pub mod Changing
 pub mod SetAcl

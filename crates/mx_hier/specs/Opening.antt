@@ -14,6 +14,6 @@ root_id = record { person = Any; project = Literal (codes "SysDaemon"); tag = An
 abbrev pub root : Directory
 root = record { acl = record { kind = OfDirectory; entries = (root_id, Sma) ∷ [] }; d1 = 7; d2 = 7 }
 
--- no branches; each page from this one on is free
+-- no branches and no object maps; each page from this one on is free
 abbrev pub opening : ℕ → Hierarchy
-opening first_page = record { root = root; branches = []; next = 1; pages = record { unused = first_page } }
+opening first_page = record { root = root; branches = []; next = 1; pages = record { unused = first_page }; objects = [] }

@@ -1,9 +1,10 @@
 -- What is true of every hierarchy that the program reaches.
-use Rattle.std.specs.Prelude.{◌≡◌, ◌≢◌, ℕ, ◌+◌, ◌≤◌, List, Some}
+use Rattle.std.specs.Prelude.{◌≡◌, ◌≢◌, ℕ, ◌+◌, ◌≤◌, List, Some, None}
 use Rattle.mx_pages.specs.Runs.{PageMap, IsFree, IsInRun, AreApart, pages_for}
 use Rattle.mx_hier.specs.declared.branches.Branch.{Branch}
 use Rattle.mx_hier.specs.declared.branches.Segment.{Segment}
 use Rattle.mx_hier.specs.Branches.{segment_in}
+use Rattle.mx_hier.specs.Objects.{Objects, object_of, gate_of}
 
 -- a segment's words lie on pages that there are
 pub record IsStored (segment : Segment) : Type 0 where
@@ -14,9 +15,14 @@ pub record IsStored (segment : Segment) : Type 0 where
 abbrev pub HasPage : Segment → ℕ → Type 0
 HasPage segment page = IsInRun (pages_for segment.words) segment.page page
 
+-- No uid that is yet to be given has an object map, and no map has more gates than the longest segment has words.
+pub record AreObjects (objects : Objects) (next : ℕ) : Type 0 where
+  pub given : (uid : ℕ) → next ≤ uid → object_of objects uid ≡ None
+  pub gates : (uid : ℕ) → gate_of (object_of objects uid) ≤ 1024
+
 -- Uids count from 1, and the last that is given is 4,294,967,294. No page of a segment is free, and none is that of
 -- another.
-pub record IsSound (branches : List Branch) (next : ℕ) (pages : PageMap) : Type 0 where
+pub record IsSound (branches : List Branch) (next : ℕ) (pages : PageMap) (objects : Objects) : Type 0 where
   pub first : 1 ≤ next
   pub last : next ≤ 4294967295
   pub stored : (uid : ℕ) (segment : Segment) → segment_in branches uid ≡ Some segment → IsStored segment
@@ -24,3 +30,4 @@ pub record IsSound (branches : List Branch) (next : ℕ) (pages : PageMap) : Typ
       → IsFree pages page → ⊥
   pub apart : (uid other : ℕ) (a b : Segment) → segment_in branches uid ≡ Some a → segment_in branches other ≡ Some b
       → uid ≢ other → AreApart (pages_for a.words) a.page (pages_for b.words) b.page
+  pub maps : AreObjects objects next

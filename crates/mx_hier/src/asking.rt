@@ -1,17 +1,19 @@
 //! Asking.
 
-ghost use Rattle.std.specs.Prelude.{◌≡◌, ◌<◌, Some, IfOk, IfNone};
+ghost use Rattle.std.specs.Prelude.{◌≡◌, ◌<◌, ◌≤◌, Some, IfOk, IfNone};
 ghost use Rattle.mx_sdw.specs.Admissible.{IsAdmissible};
+ghost use Rattle.std.specs.Option.{option_copied};
+ghost use Rattle.mx_hier.specs.Branches.{object_at};
 ghost use Rattle.mx_hier.specs.ChangeWorkingDirectory.{directory_refusals, directory};
 ghost use Rattle.mx_hier.specs.Connected.{desc_of, desc_for};
 ghost use Rattle.mx_hier.specs.Initiate.{segment_refusals, segment};
 ghost use Rattle.mx_hier.specs.List.{list_at, list};
+ghost use Rattle.mx_hier.specs.Objects.{gate_of};
 ghost use Rattle.mx_hier.specs.Rules.{first_of, Tells, TellsFirst};
 ghost use Rattle.mx_hier.specs.Sound.{IsStored};
-ghost use Rattle.mx_hier.specs.Status.{status_of, status_at, status};
+ghost use Rattle.mx_hier.specs.Status.{directory_status, segment_status, status_of, status_at, status};
 ghost use Rattle.mx_hier.specs.Walks.{resolved};
 ghost use Rattle.mx_hier.specs.Who.{subject, caller};
-ghost use Rattle.mx_hier.specs.declared.branches.Node.TheVariants.{Directory as IsDirectory};
 
 use crate::branches::{Directory, Node, Segment};
 use crate::callers::Who;
@@ -21,15 +23,25 @@ use crate::refusals::{HierError, Refusal};
 use crate::walks::resolved;
 use mx_acl::Modes;
 use mx_name::{Path, Pathname, Principal};
+use mx_object::ObjectMap;
 use mx_sdw::{Brackets, Desc, Ring};
 use std::alloc::{AllocError, Global};
 
-/// What `status` says of an entry: the modes are those that its access list gives the caller, in whatever ring.
+/// What `status` says of an entry: the modes are those that its access list gives the caller, in whatever ring. An
+/// object segment has gates, definitions and links.
 #[derive(Debug, Drop, PartialEq, Eq)]
 pub enum Status {
     Segment {
         words: u16,
         brackets: Brackets,
+        modes: Modes,
+    },
+    Object {
+        words: u16,
+        brackets: Brackets,
+        gate: u16,
+        definitions: u16,
+        links: u16,
         modes: Modes,
     },
     Directory {
@@ -68,7 +80,7 @@ impl Hier {
         let Some(branch) = self.tables.get(uid) else {
             return Err(HierError::Refused(Refusal::NoInfo));
         };
-        let status = status_of(who, &branch.node)?;
+        let status = status_of(who, self.object_at(uid), &branch.node)?;
         Ok(status)
     }
 
@@ -148,8 +160,19 @@ impl Hier {
         }
     }
 
-    /// The descriptor that a principal has of the segment of a uid: its flags are what the access list gives. Gone
-    /// where the segment was deleted. Takes no memory.
+    /// How many words of the segment of a uid are gates.
+    fn gate_at(&self, uid: u32) -> u16
+        ensures value { result ≡ gate_of (object_at self.now uid) }
+        ensures most { result ≤ 1024 }
+    {
+        match self.object_at(uid) {
+            Some(object) => object.gate(),
+            None => 0,
+        }
+    }
+
+    /// The descriptor that a principal has of the segment of a uid: its flags are what the access list gives, and its
+    /// gates those of its object map. Gone where the segment was deleted. Takes no memory.
     #[tactic(auto, using(crate::proofs::DescriptorLaws::gone_admissible))]
     pub fn desc_of(&self, uid: u32, who: &Principal) -> Desc
         ensures value { result ≡ desc_of self.now uid who.now }
@@ -157,13 +180,13 @@ impl Hier {
     {
         match self.segment_at(uid) {
             None => Desc::gone(),
-            Some(segment) => segment_desc(segment, who),
+            Some(segment) => segment_desc(segment, self.gate_at(uid), who),
         }
     }
 }
 
 fn directory_status(who: &Who, directory: &Directory) -> Status
-    ensures { result ≡ status_of (subject who.now) (IsDirectory directory.now) }
+    ensures { result ≡ directory_status (subject who.now) directory.now }
 {
     Status::Directory {
         d1: directory.d1,
@@ -172,16 +195,33 @@ fn directory_status(who: &Who, directory: &Directory) -> Status
     }
 }
 
-fn status_of(who: &Who, node: &Node) -> Result<Status, AllocError>
-    ensures { IfOk result (λ status. status ≡ status_of (subject who.now) node.now) }
+fn segment_status(who: &Who, segment: &Segment, object: Option<&ObjectMap>) -> Status
+    ensures { result ≡ segment_status (subject who.now) segment.now (option_copied object.entry) }
+{
+    let modes = segment.acl.modes_of(who.principal);
+    match object {
+        None => Status::Segment {
+            words: segment.words,
+            brackets: segment.brackets,
+            modes,
+        },
+        Some(object) => Status::Object {
+            words: segment.words,
+            brackets: segment.brackets,
+            gate: object.gate(),
+            definitions: object.definitions().len() as u16,
+            links: object.links().len() as u16,
+            modes,
+        },
+    }
+}
+
+fn status_of(who: &Who, object: Option<&ObjectMap>, node: &Node) -> Result<Status, AllocError>
+    ensures { IfOk result (λ status. status ≡ status_of (subject who.now) (option_copied object.entry) node.now) }
 {
     match node {
         Node::Directory(directory) => Ok(directory_status(who, directory)),
-        Node::Segment(segment) => Ok(Status::Segment {
-            words: segment.words,
-            brackets: segment.brackets,
-            modes: segment.acl.modes_of(who.principal),
-        }),
+        Node::Segment(segment) => Ok(segment_status(who, segment, object)),
         Node::Link(target) => {
             let target = target.copy()?;
             Ok(Status::Link { target })
@@ -190,9 +230,10 @@ fn status_of(who: &Who, node: &Node) -> Result<Status, AllocError>
 }
 
 #[tactic(auto, using(crate::proofs::DescriptorLaws::segment_admissible))]
-fn segment_desc(segment: &Segment, who: &Principal) -> Desc
-    requires { IsStored segment.now }
-    ensures value { result ≡ desc_for who.now (Some segment.now) }
+fn segment_desc(segment: &Segment, gate: u16, who: &Principal) -> Desc
+    requires stored { IsStored segment.now }
+    requires gates { gate ≤ 1024 }
+    ensures value { result ≡ desc_for who.now gate (Some segment.now) }
     ensures admissible { IsAdmissible result }
 {
     // These are called for their clauses: the brackets are in order, and the last is at most 7.
@@ -203,7 +244,7 @@ fn segment_desc(segment: &Segment, who: &Principal) -> Desc
         modes.r(),
         modes.e(),
         modes.w(),
-        0,
+        gate,
         segment.page,
         segment.words,
     )

@@ -1,26 +1,32 @@
 //! The hierarchy.
 
-ghost use Rattle.std.specs.Prelude.{◌≡◌, ◌<◌, [], ◌∷◌, IfOk, IfSome};
+ghost use Rattle.std.specs.Prelude.{◌≡◌, ◌<◌, ◌≤◌, [], ◌∷◌, IfOk, IfSome};
 ghost use Rattle.std.specs.Option.{option_map};
-ghost use Rattle.mx_hier.specs.Branches.{Hierarchy, directory_at, segment_at, target_at, holder, holding};
+ghost use Rattle.mx_hier.specs.Branches.{Hierarchy, directory_at, segment_at, object_at, target_at, holder, holding};
+ghost use Rattle.mx_hier.specs.Objects.{gate_of};
 ghost use Rattle.mx_hier.specs.Opening.{root, opening};
 ghost use Rattle.mx_hier.specs.Sound.{IsStored};
 
 use crate::branches::{Directory, Node, Segment};
+use crate::objects::object_in;
 use crate::tables::Tables;
+use indexmap::IndexMap;
 use mx_acl::{Acl, AclKind, Modes};
 use mx_name::{AclId, Path};
+use mx_object::ObjectMap;
 use mx_pages::Pages;
 use mx_sdw::Ring;
 use std::alloc::{AllocError, Global};
 use std::marker::Model;
 
-/// The directory hierarchy: what its directories hold, and the pages that are left for segments.
+/// The directory hierarchy: what its directories hold, the pages that are left for segments, and the maps of object
+/// segments by uid.
 #[derive(Debug, Drop)]
 pub struct Hier {
     pub(crate) root: Directory,
     pub(crate) tables: Tables,
     pub(crate) pages: Pages,
+    pub(crate) objects: IndexMap<u32, ObjectMap>,
 }
 
 impl Model for Hier {
@@ -29,9 +35,15 @@ impl Model for Hier {
 
     ghost Value = { Hierarchy };
 
-    ghost view = { λ a. record { root = a.root; branches = a.tables.branches; next = a.tables.next; pages = a.pages } };
+    ghost view = { λ a. record {
+      root = a.root;
+      branches = a.tables.branches;
+      next = a.tables.next;
+      pages = a.pages;
+      objects = a.objects.entries;
+    } };
 
-    ghost invariant = { λ a. IsSound a.tables.branches a.tables.next a.pages };
+    ghost invariant = { λ a. IsSound a.tables.branches a.tables.next a.pages a.objects.entries };
 }
 
 impl Hier {
@@ -46,6 +58,7 @@ impl Hier {
             root,
             tables,
             pages: Pages::new(first_page),
+            objects: IndexMap::new(alloc),
         })
     }
 
@@ -73,6 +86,14 @@ impl Hier {
             Node::Segment(segment) => Some(segment),
             Node::Directory(_) | Node::Link(_) => None,
         }
+    }
+
+    /// The map of the object segment of a uid, of a deleted one too.
+    pub(crate) fn object_at(&self, uid: u32) -> Option<&ObjectMap>
+        ensures value { option_map (λ object. object.now) result ≡ object_at self.now uid }
+        ensures gates { gate_of (object_at self.now uid) ≤ 1024 }
+    {
+        object_in(&self.objects, uid)
     }
 
     /// The path of the link of a uid.

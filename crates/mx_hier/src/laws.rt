@@ -47,9 +47,10 @@ pub fn listed_names_ascend(hier: &Hier, dir: u32)
     ensures entries { IsPermutation (names_in hier.now dir) (in_byte_order (names_in hier.now dir)) }
 {}
 
-/// Every segment has pages of its own, none of which is free, and no uid after the last is given.
+/// Every segment has pages of its own, none of which is free; no uid after the last is given, and none that is yet to
+/// be given has an object map.
 pub fn segments_have_pages_of_their_own(hier: &Hier)
-    ensures { IsSound hier.now.branches hier.now.next hier.now.pages }
+    ensures { IsSound hier.now.branches hier.now.next hier.now.pages hier.now.objects }
 {
     let _ = &hier.root;
 }

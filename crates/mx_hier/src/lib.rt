@@ -1,7 +1,7 @@
-//! The hierarchy: directories, segments and links, and every request that reaches them by a pathname.
+//! The hierarchy: directories, segments, object segments and links, and every request that reaches them by a pathname.
 //!
-//! A contract sees a hierarchy as the root directory, a plain list of branches, the next uid and the pages. Each
-//! request is a definition over that list, with its refusals in the order of the table, and each call has the exact
+//! A contract sees a hierarchy as the root directory, a plain list of branches, the next uid, the pages, and the maps
+//! of object segments by uid, which stay when their segments are deleted. Each request is a definition over that list, with its refusals in the order of the table, and each call has the exact
 //! answer and the exact hierarchy that its definition gives; a refusal, and the want of memory, change nothing.
 //! Behind it stand a table of branches by uid and a map of names for each directory. Stands on names, access lists,
 //! brackets and pages.
@@ -17,6 +17,8 @@ mod hier;
 mod laws;
 mod making;
 mod names;
+mod objects;
+mod outsiders;
 mod refusals;
 mod slots;
 mod tables;
@@ -33,4 +35,5 @@ pub use laws::{
     listed_names_ascend, segments_have_pages_of_their_own,
 };
 pub use names::Names;
+pub use outsiders::an_outsider_is_turned_away;
 pub use refusals::{HierError, Refusal};

@@ -7,12 +7,15 @@
 //! `NoInfo` instead. An error, the want of memory too, leaves the hierarchy as it was. A request at a place that is
 //! found takes memory only once it is not refused.
 
-ghost use Rattle.std.specs.Prelude.{◌≡◌, ◌+◌, ◌<◌, [], ◌∷◌, ◌++◌, Some, None, IfOk, IfErr, OnOk, OnErr};
-ghost use Rattle.std.specs.Option.{option_map};
+ghost use Rattle.std.specs.Prelude.{◌≡◌, ◌+◌, ◌<◌, [], ◌∷◌, ◌++◌, Some, None, IfOk, IfErr, OnOk, OnErr, nat_le};
+ghost use Rattle.std.specs.List.{list_any};
+ghost use Rattle.std.specs.Option.{option_map, option_copied};
 ghost use Rattle.mx_hier.specs.Branches.{uid_in, directory_at};
 ghost use Rattle.mx_hier.specs.Brackets.{bracketing, settable};
 ghost use Rattle.mx_hier.specs.CreateDirectory.{create_dir_at, create_dir};
-ghost use Rattle.mx_hier.specs.CreateSegment.{create_seg_at, create_seg};
+ghost use Rattle.mx_hier.specs.CreateSegment.{create_seg};
+ghost use Rattle.mx_hier.specs.CreateObject.{create_object};
+ghost use Rattle.mx_hier.specs.MakeSegment.{is_bad_length, reaches_beyond, make_segment_at};
 ghost use Rattle.mx_hier.specs.CreateLink.{create_link_at, create_link};
 ghost use Rattle.mx_hier.specs.Listed.{listed_added};
 ghost use Rattle.mx_hier.specs.Making.{last_name, parent_path, place, making_refusals, first_acl};
@@ -23,11 +26,13 @@ ghost use Rattle.mx_hier.specs.Who.{subject, caller};
 use crate::branches::{Directory, Node, Segment};
 use crate::callers::Who;
 use crate::hier::{Hier, acl_of_one};
+use crate::objects::{add_object, copy_with_room};
 use crate::refusals::{HierError, Refusal};
 use crate::tables::Tables;
 use crate::walks::resolved;
 use mx_acl::{Acl, AclKind, Modes};
 use mx_name::{AclId, EntryName, Path, Pathname};
+use mx_object::ObjectMap;
 use mx_pages::pages_for;
 use mx_sdw::{Brackets, Ring};
 use std::alloc::{AllocError, Global};
@@ -101,25 +106,51 @@ impl Hier {
     {
         let path = resolved(alloc, who, path)?;
         let at = self.place(alloc, who, path.names())??;
-        self.create_seg_at(alloc, who, &at, words, &brackets)?;
+        self.make_segment_at(alloc, who, &at, words, &brackets, Modes::Rw, None)?;
+        Ok(())
+    }
+
+    /// Makes an object segment: a segment as `create_seg` makes it, with an object map, to which its maker has re. The
+    /// refusals are the same; it is `BadLength` too where the map has more gates than there are words, or a definition
+    /// at a word beyond them.
+    pub fn create_object(
+        &mut self,
+        alloc: Global,
+        who: &Who,
+        path: &Pathname,
+        words: u32,
+        brackets: [Ring; 3],
+        object: &ObjectMap,
+    ) -> Result<(), HierError>
+        ensures answer { Answers (create_object self.old (caller who.now) path.now words brackets object.now)
+            self.old result self.new }
+        ensures told { TellsFirst (resolved (caller who.now) path.now) result }
+    {
+        let path = resolved(alloc, who, path)?;
+        let at = self.place(alloc, who, path.names())??;
+        self.make_segment_at(alloc, who, &at, words, &brackets, Modes::Re, Some(object))?;
         Ok(())
     }
 
     #[tactic(auto, using(crate::proofs::MakingLaws::segment_refused))]
-    fn create_seg_at(
+    fn make_segment_at(
         &mut self,
         alloc: Global,
         who: &Who,
         at: &Place,
         words: u32,
         rings: &[Ring; 3],
+        modes: Modes,
+        object: Option<&ObjectMap>,
     ) -> Result<(), HierError>
-        ensures answer { Answers (create_seg_at self.old (subject who.now) at.now words rings.now)
+        ensures answer { Answers (make_segment_at self.old (subject who.now) at.now
+            (record { words = words; rings = rings.now; modes = modes; object = option_copied object.entry }))
             self.old result self.new }
-        ensures told { TellsFirst (create_seg_at self.old (subject who.now) at.now words rings.now) result }
+        ensures told { TellsFirst (make_segment_at self.old (subject who.now) at.now
+            (record { words = words; rings = rings.now; modes = modes; object = option_copied object.entry })) result }
     {
         self.parent(who, at)?;
-        if words == 0 || words > 1024 {
+        if is_bad_length(words, object) {
             return Err(HierError::Refused(Refusal::BadLength));
         }
         let Some(brackets) = settable(who.ring, rings) else {
@@ -128,14 +159,17 @@ impl Hier {
         let Some(page) = self.pages.next(pages_for(words)) else {
             return Err(HierError::Refused(Refusal::NoPages));
         };
-        let acl = first_acl(alloc, AclKind::Segment, who, Modes::Rw)?;
+        let acl = first_acl(alloc, AclKind::Segment, who, modes)?;
+        let object = copy_with_room(&mut self.objects, object)?;
         let segment = Segment {
             acl,
             brackets,
             words: words as u16,
             page: page as u16,
         };
+        let uid = self.tables.next();
         add(&mut self.tables, alloc, at, Node::Segment(segment))?;
+        add_object(&mut self.objects, uid, object);
         let _first = self.pages.allot(pages_for(words));
         Ok(())
     }
@@ -248,6 +282,36 @@ fn parent_path(path: &[EntryName]) -> &[EntryName]
     ensures { result.now ≡ parent_path path.now }
 {
     &path[..path.len().saturating_sub(1)]
+}
+
+/// Whether a segment of so many words is too short or too long, or too short for what its map names.
+fn is_bad_length(words: u32, object: Option<&ObjectMap>) -> bool
+    ensures { result ≡ is_bad_length words (option_copied object.entry) }
+{
+    if words == 0 || words > 1024 {
+        return true;
+    }
+    match object {
+        Some(object) => reaches_beyond(object, words),
+        None => false,
+    }
+}
+
+/// Whether a gate or a definition of a map is at a word that a segment of so many words doesn't have.
+fn reaches_beyond(object: &ObjectMap, words: u32) -> bool
+    ensures { result ≡ reaches_beyond words object.now }
+{
+    u32::from(object.gate()) > words || defines_beyond(object.definitions(), words)
+}
+
+fn defines_beyond(definitions: &[(EntryName, u16)], words: u32) -> bool
+    ensures { result ≡ list_any (λ definition. nat_le words definition.1) definitions.now }
+{
+    definitions.iter().any(
+        |definition: &(EntryName, u16)| -> bool
+            ensures { result ≡ nat_le words definition.now.1 }
+        { words <= u32::from(definition.1) },
+    )
 }
 
 /// Three rings as brackets, where they are in order.

@@ -66,6 +66,14 @@ impl Tables {
         self.slots.len() >= 4_294_967_294
     }
 
+    /// The uid that is given next.
+    pub(crate) fn next(&self) -> u32
+        requires { self.now.next ≤ 4294967295 }
+        ensures { result ≡ self.now.next }
+    {
+        self.slots.len() as u32 + 1
+    }
+
     /// The branch of a uid.
     pub(crate) fn get(&self, uid: u32) -> Option<&Branch>
         ensures value { option_map (λ branch. branch.now) result ≡ branch_of self.now.branches uid }

@@ -71,6 +71,18 @@ fn tells_segment(alloc: Global, hier: &Hier, path: &str, rings: [u8; 3]) -> Resu
     tells(alloc, hier, path, &want)
 }
 
+fn tells_object(alloc: Global, hier: &Hier, path: &str, rings: [u8; 3]) -> Result<bool, Fail> {
+    let want = Status::Object {
+        words: 64,
+        brackets: brackets(rings)?,
+        gate: 2,
+        definitions: 0,
+        links: 0,
+        modes: Modes::Re,
+    };
+    tells(alloc, hier, path, &want)
+}
+
 fn tells_directory(alloc: Global, hier: &Hier, path: &str, d1: u8, d2: u8) -> Result<bool, Fail> {
     let want = Status::Directory {
         d1: ring(d1)?,
@@ -94,23 +106,25 @@ fn brackets(rings: [u8; 3]) -> Result<Brackets, Fail> {
 }
 
 /// Whether `status` tells what stands there, of a link the link itself.
-fn statuses_told(alloc: Global) -> Result<[bool; 3], Fail> {
+fn statuses_told(alloc: Global) -> Result<[bool; 4], Fail> {
     let asks = [
         Ask::CreateDir(">d", 4, 5),
         Ask::CreateSeg(">d>x", 64, [4, 5, 6]),
         Ask::CreateLink(">l", ">d>x"),
+        Ask::CreateObject(">gate", 64, [1, 3, 5], 2),
     ];
     let hier = set_up(alloc, &asks)?;
     Ok([
         tells_segment(alloc, &hier, ">d>x", [4, 5, 6])?,
         tells_directory(alloc, &hier, ">d", 4, 5)?,
         tells_link(alloc, &hier, ">l", ">d>x")?,
+        tells_object(alloc, &hier, ">gate", [1, 3, 5])?,
     ])
 }
 
 #[test]
 fn status_tells_what_stands_there(rt: HostRuntime) -> Result<(), Fail> {
-    assert_eq!(rt; statuses_told(rt.alloc())?, [true, true, true]);
+    assert_eq!(rt; statuses_told(rt.alloc())?, [true, true, true, true]);
     Ok(())
 }
 
@@ -219,6 +233,68 @@ fn a_deleted_segment_is_gone(rt: HostRuntime) -> Result<(), Fail> {
     assert_eq!(rt; after, Desc::gone());
     // Its page isn't given out again.
     assert_eq!(rt; next, Desc::segment(brackets, true, false, true, 0, 9, 64));
+    Ok(())
+}
+
+#[test]
+fn an_object_is_made_or_refused(rt: HostRuntime) -> Result<(), Fail> {
+    let rows = [
+        (INITIALIZER, 0, Ask::CreateObject(">o", 0, [1, 3, 5], 0), 11),
+        (
+            INITIALIZER,
+            0,
+            Ask::CreateObject(">o", 64, [5, 3, 1], 65),
+            11,
+        ),
+        (
+            INITIALIZER,
+            0,
+            Ask::CreateObject(">o", 64, [5, 3, 1], 64),
+            12,
+        ),
+        (
+            INITIALIZER,
+            0,
+            Ask::CreateObject(">o", 64, [1, 3, 5], 64),
+            0,
+        ),
+        (
+            INITIALIZER,
+            0,
+            Ask::CreateObject(">o", 64, [1, 3, 5], 65),
+            7,
+        ),
+        (INITIALIZER, 0, Ask::SetAcl(">o", JONES, "re"), 0),
+        (JONES, 5, Ask::Segment(">o"), 0),
+        (JONES, 6, Ask::Segment(">o"), 3),
+    ];
+    assert_eq!(rt; first_wrong_of(rt.alloc(), &rows)?, None);
+    Ok(())
+}
+
+/// What is told of the object of uid 1 before and after its deletion, and of a segment of its name.
+fn object_deletion(alloc: Global) -> Result<[Desc; 3], Fail> {
+    let mut hier = set_up(alloc, &[Ask::CreateObject(">a", 64, [1, 3, 5], 2)])?;
+    let caller = Caller::new(alloc, INITIALIZER, 0)?;
+    let before = hier.desc_of(1, &caller.principal);
+    granted(delete(alloc, &mut hier, &caller, b">a")?)?;
+    let after = hier.desc_of(1, &caller.principal);
+    granted(create_seg(alloc, &mut hier, &caller, b">a", 64, [4, 4, 4])?)?;
+    Ok([before, after, hier.desc_of(2, &caller.principal)])
+}
+
+#[test]
+fn an_object_has_its_gates(rt: HostRuntime) -> Result<(), Fail> {
+    let [before, after, next] = object_deletion(rt.alloc())?;
+    assert_eq!(rt;
+        before,
+        Desc::segment(brackets([1, 3, 5])?, true, true, false, 2, 8, 64)
+    );
+    assert_eq!(rt; after, Desc::gone());
+    assert_eq!(rt;
+        next,
+        Desc::segment(brackets([4, 4, 4])?, true, false, true, 0, 9, 64)
+    );
     Ok(())
 }
 

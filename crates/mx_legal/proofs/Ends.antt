@@ -1,4 +1,4 @@
--- What the end of a line makes of the registers.
+-- The end of a line that does not move to another procedure, and that no line asks to end with a full journal.
 use Rattle.std.proofs.Common.{◌≡◌, ℕ, ◌≤◌, Bool, true, false, List, [], ◌∷◌, Option, Some, None, if◌then◌else◌, refl, ap, sym, subst, arith}
 use Rattle.std.specs.List.{slice_get}
 use Rattle.std.specs.Option.{option_map}
@@ -14,49 +14,51 @@ use Rattle.mx_effring.specs.declared.walks.Want.{Want}
 use Rattle.mx_effring.specs.declared.walks.Want.TheVariants.{Word, Done}
 use Rattle.mx_effring.proofs.ChainLaws.{never_below_current}
 use Rattle.mx_call.specs.Loading.{loaded}
-use Rattle.mx_call.specs.Registers.{Registers, IsSound}
+use Rattle.mx_call.specs.Registers.{Registers, IsSound, way_back}
 use Rattle.mx_call.proofs.RegisterLaws.{loaded_stays_sound}
 use Rattle.mx_core.specs.declared.elements.Outcome.{Outcome}
 use Rattle.mx_core.specs.declared.elements.Outcome.TheVariants as outcome
 use Rattle.mx_request.specs.declared.replies.Reply.{Reply}
 use Rattle.mx_request.specs.declared.replies.Reply.TheVariants as reply
+use Rattle.mx_request.specs.declared.requests.Request.{Request}
 use Rattle.mx_script.specs.declared.lines.Line.{Line}
-use Rattle.mx_script.specs.declared.lines.Line.TheVariants.{Ask, Set, Epp, Lda, Sta, Spri}
+use Rattle.mx_script.specs.declared.lines.Line.TheVariants.{Ask, Set, Epp, Lda, Sta, Spri, Fetch, Call, Return}
 use Rattle.mx_legal.specs.declared.transcripts.Result2.{Result2}
 use Rattle.mx_legal.specs.declared.transcripts.Result2.TheVariants as result
-use Rattle.mx_legal.specs.Asking.{next, linked, answered, result_of}
+use Rattle.mx_legal.proofs.AwaitLaws.{awaits_no_end}
+use Rattle.mx_legal.specs.Asking.{next, awaits, replied, attempts, linked, answered, result_of}
 use Rattle.mx_legal.specs.Attempts.{wants, taken, after_word, after_seen, along, attempting}
 use Rattle.mx_legal.specs.Courses.{Course, Attempt, Answer, Judged}
 use Rattle.mx_legal.specs.Falls.{printed_ring}
 use Rattle.mx_legal.specs.Next.{Next, Ends, Nowhere}
-use Rattle.mx_legal.specs.Operands.{walk_of, operand_walk, walk_from, base_of}
+use Rattle.mx_legal.specs.Operands.{walk_of, walk_from, base_of}
 use Rattle.mx_legal.specs.Targets.{at_target, after_target, spri_at}
 
--- an end that a line asks for leaves the ring, keeps sound registers sound, and is not `history_full`
+-- an end that leaves the ring, keeps sound registers sound, and is not `history_full`
 pub record IsEnded (g : Registers) (ends : Result2) (now : Registers) : Type 0 where
   pub sound : IsSound g → IsSound now
   pub ring : now.ring ≡ g.ring
   pub printed : printed_ring g.ring ends ≡ g.ring
   pub asked : ends ≡ result.HistoryFull → ⊥
 
-done_ends : (g : Registers) → IsEnded g result.Done g
+pub done_ends : (g : Registers) → IsEnded g result.Done g
 done_ends g = record { sound = λ s. s; ring = refl; printed = refl; asked = λ e. cc }
 
 refused_ends : (g : Registers) → IsEnded g result.Refused g
 refused_ends g = record { sound = λ s. s; ring = refl; printed = refl; asked = λ e. cc }
 
-with_a : (g : Registers) (word : ℕ) → IsSound g → IsSound (record g { a = word })
+pub with_a : (g : Registers) (word : ℕ) → IsSound g → IsSound (record g { a = word })
 with_a g word s = record { eight = s.eight; above = s.above; plain = s.plain; procedure = s.procedure }
 
 -- the same end
-same_end : (g left now : Registers) (given ends : Result2) → IsEnded g given left → Ends given left ≡ Ends ends now
+pub same_end : (g left now : Registers) (given ends : Result2) → IsEnded g given left → Ends given left ≡ Ends ends now
     → IsEnded g ends now
 same_end g left now given ends is e =
     let result : given ≡ ends = cc in
     let after : left ≡ now = cc in
     subst (λ (r : Registers). IsEnded g ends r) after (subst (λ (r : Result2). IsEnded g r left) result is)
 
-denied_ends : (g : Registers) (denial : Denial) → IsEnded g (result.Denied denial) g
+pub denied_ends : (g : Registers) (denial : Denial) → IsEnded g (result.Denied denial) g
 denied_ends g denial = record { sound = λ s. s; ring = refl; printed = refl; asked = λ e. cc }
 
 -- where a walk is done, its target has the effective ring and no further bit
@@ -95,65 +97,85 @@ target_ends g (Spri n o) target ends now high plain e = absurd (never (slice_get
     never : (p : Option PointerParts) → spri_at target p ≡ Ends ends now → ⊥
     never None h = cc
     never (Some p) h = cc
+target_ends g Fetch target ends now high plain e = absurd cc
+target_ends g (Call o) target ends now high plain e = absurd cc
+target_ends g (Return o) target ends now high plain e = absurd cc
 
 -- what a line asks for at a place of its walk
-wants_ends : (g : Registers) (line : Line) (walk : chains.Operand) (w : Want) (ends : Result2) (now : Registers)
+pub wants_ends : (g : Registers) (line : Line) (walk : chains.Operand) (w : Want) (ends : Result2) (now : Registers)
     → walk.current ≡ g.ring → wanted walk ≡ w → wants g line w ≡ Ends ends now → IsEnded g ends now
 wants_ends g line walk (Word segno word ring) ends now current is e = absurd cc
 wants_ends g line walk (Done target) ends now current is e =
     let high = high_target g walk target current is in target_ends g line target ends now high.0 high.1 e
 
-after_ends : (g : Registers) (line : Line) (target : PointerParts) (d : Descriptor) (came : Outcome) (ends : Result2)
-    (now : Registers) → after_target g line target d came ≡ Ends ends now → IsEnded g ends now
-after_ends g line target d (outcome.Denied denial) ends now e =
-    same_end g g now (result.Denied denial) ends (denied_ends g denial) e
-after_ends g (Lda o) target d (outcome.Read value writer stamp) ends now e =
-    same_end g (record g { a = value }) now (result.A value) ends
-    (record { sound = with_a g value; ring = refl; printed = refl; asked = λ e. cc }) e
-after_ends g (Sta o) target d (outcome.Written value) ends now e = same_end g g now result.Done ends (done_ends g) e
-after_ends g (Spri n o) target d (outcome.Written value) ends now e = same_end g g now result.Done ends (done_ends g) e
-after_ends _ _ _ _ _ _ _ e = absurd cc
+-- what a line's own reference ends with
+after_never : (g : Registers) (line : Line) (target : PointerParts) (d : Descriptor) (came : Outcome) (now : Registers)
+    → after_target g line target d came ≡ Ends result.HistoryFull now → ⊥
+after_never g line target d (outcome.Denied denial) now e = cc
+after_never g (Lda o) target d (outcome.Read value writer stamp) now e = cc
+after_never g (Sta o) target d (outcome.Written value) now e = cc
+after_never g (Spri n o) target d (outcome.Written value) now e = cc
+after_never g Fetch target d (outcome.Read value writer stamp) now e = cc
+after_never g (Call o) target d (outcome.Entered ring) now e = cc
+after_never g (Return o) target d (outcome.Entered ring) now e = cc
+after_never _ _ _ _ _ _ e = cc
 
 -- an indirect word that ends the line, or leads on
-taken_ends : (g : Registers) (segno word ring : ℕ) (why : Option Stuck) (onward : Next) (ends : Result2) (now : Registers)
-    → (onward ≡ Ends ends now → IsEnded g ends now) → taken g segno word ring why onward ≡ Ends ends now → IsEnded g ends now
-taken_ends g segno word ring None onward ends now on e = on e
-taken_ends g segno word ring (Some stuck.Link) onward ends now on e = absurd cc
-taken_ends g segno word ring (Some stuck.NotPointer) onward ends now on e = same_end g g now _ ends (denied_ends g _) e
-taken_ends g segno word ring (Some stuck.Limit) onward ends now on e = same_end g g now _ ends (denied_ends g _) e
+taken_never : (g : Registers) (segno word ring : ℕ) (why : Option Stuck) (onward : Next) (now : Registers)
+    → (onward ≡ Ends result.HistoryFull now → ⊥) → taken g segno word ring why onward ≡ Ends result.HistoryFull now → ⊥
+taken_never g segno word ring None onward now on e = on e
+taken_never g segno word ring (Some stuck.Link) onward now on e = cc
+taken_never g segno word ring (Some stuck.NotPointer) onward now on e = cc
+taken_never g segno word ring (Some stuck.Limit) onward now on e = cc
 
-word_ends : (g : Registers) (walk : chains.Operand) (segno word ring : ℕ) (came : Outcome) (onward : ℕ → Next)
-    (ends : Result2) (now : Registers) → ((value : ℕ) → onward value ≡ Ends ends now → IsEnded g ends now)
-    → after_word g walk segno word ring came onward ≡ Ends ends now → IsEnded g ends now
-word_ends g walk segno word ring (outcome.Read value writer stamp) onward ends now on e =
-    taken_ends g segno word ring (refuses walk value) (onward value) ends now (on value) e
-word_ends g walk segno word ring (outcome.Denied denial) onward ends now on e =
-    same_end g g now (result.Denied denial) ends (denied_ends g denial) e
-word_ends g walk segno word ring (outcome.Written value) onward ends now on e = absurd cc
-word_ends g walk segno word ring (outcome.Entered entered) onward ends now on e = absurd cc
+word_never : (g : Registers) (walk : chains.Operand) (segno word ring : ℕ) (came : Outcome) (onward : ℕ → Next)
+    (now : Registers) → ((value : ℕ) → onward value ≡ Ends result.HistoryFull now → ⊥)
+    → after_word g walk segno word ring came onward ≡ Ends result.HistoryFull now → ⊥
+word_never g walk segno word ring (outcome.Read value writer stamp) onward now on e =
+    taken_never g segno word ring (refuses walk value) (onward value) now (on value) e
+word_never g walk segno word ring (outcome.Denied denial) onward now on e = cc
+word_never g walk segno word ring (outcome.Written value) onward now on e = cc
+word_never g walk segno word ring (outcome.Entered entered) onward now on e = cc
 
-seen_ends : (g : Registers) (line : Line) (walk : chains.Operand) (j : Judged) (w : Want) (onward : ℕ → Next)
-    (ends : Result2) (now : Registers) → ((value : ℕ) → onward value ≡ Ends ends now → IsEnded g ends now)
-    → after_seen g line walk j w onward ≡ Ends ends now → IsEnded g ends now
-seen_ends g line walk j (Word segno word ring) onward ends now on e =
-    word_ends g walk segno word ring j.element.outcome onward ends now on e
-seen_ends g line walk j (Done target) onward ends now on e =
-    after_ends g line target j.desc j.element.outcome ends now e
+seen_never : (g : Registers) (line : Line) (walk : chains.Operand) (j : Judged) (w : Want) (onward : ℕ → Next)
+    (now : Registers) → ((value : ℕ) → onward value ≡ Ends result.HistoryFull now → ⊥)
+    → after_seen g line walk j w onward ≡ Ends result.HistoryFull now → ⊥
+seen_never g line walk j (Word segno word ring) onward now on e =
+    word_never g walk segno word ring j.element.outcome onward now on e
+seen_never g line walk j (Done target) onward now on e = after_never g line target j.desc j.element.outcome now e
 
-along_ends : (g : Registers) (line : Line) (walk : chains.Operand) (seen : List Judged) (ends : Result2) (now : Registers)
-    → walk.current ≡ g.ring → along g line walk seen ≡ Ends ends now → IsEnded g ends now
-along_ends g line walk [] ends now current e = wants_ends g line walk (wanted walk) ends now current refl e
-along_ends g line walk (j ∷ seen) ends now current e =
-    seen_ends g line walk j (wanted walk)
-    (λ value. along g line (read_on walk (parts_of value) j.desc.brackets.r1) seen) ends now
-    (λ value. along_ends g line (read_on walk (parts_of value) j.desc.brackets.r1) seen ends now current) e
+along_never : (g : Registers) (line : Line) (walk : chains.Operand) (seen : List Judged) (now : Registers)
+    → walk.current ≡ g.ring → along g line walk seen ≡ Ends result.HistoryFull now → ⊥
+along_never g line walk [] now current e =
+    (wants_ends g line walk (wanted walk) result.HistoryFull now current refl e).asked refl
+along_never g line walk (j ∷ seen) now current e =
+    seen_never g line walk j (wanted walk)
+    (λ value. along g line (read_on walk (parts_of value) j.desc.brackets.r1) seen) now
+    (λ value. along_never g line (read_on walk (parts_of value) j.desc.brackets.r1) seen now current) e
 
 -- a walk begins in the current ring
-attempt_ends : (g : Registers) (line : Line) (seen : List Judged) (indirect : Bool) (base : Option PointerParts)
-    (ends : Result2) (now : Registers) → attempting g line seen (option_map (walk_from g indirect) base) ≡ Ends ends now
-    → IsEnded g ends now
-attempt_ends g line seen indirect None ends now e = absurd cc
-attempt_ends g line seen indirect (Some base) ends now e = along_ends g line (walk_from g indirect base) seen ends now refl e
+begins_current : (g : Registers) (indirect : Bool) (base : Option PointerParts) (walk : chains.Operand)
+    → option_map (walk_from g indirect) base ≡ Some walk → walk.current ≡ g.ring
+begins_current g indirect None walk e = absurd cc
+begins_current g indirect (Some p) walk e =
+    let same : walk_from g indirect p ≡ walk = cc in sym (ap (λ (w : chains.Operand). w.current) same)
+
+pub walk_current : (g : Registers) (line : Line) (walk : chains.Operand) → walk_of g line ≡ Some walk
+    → walk.current ≡ g.ring
+walk_current g (Ask request) walk e = absurd cc
+walk_current g (Set word) walk e = absurd cc
+walk_current g (Epp n o) walk e = begins_current g o.indirect (base_of g o.base o.word) walk e
+walk_current g (Lda o) walk e = begins_current g o.indirect (base_of g o.base o.word) walk e
+walk_current g (Sta o) walk e = begins_current g o.indirect (base_of g o.base o.word) walk e
+walk_current g (Spri n o) walk e = begins_current g o.indirect (base_of g o.base o.word) walk e
+walk_current g Fetch walk e = begins_current g false (Some (way_back g)) walk e
+walk_current g (Call o) walk e = begins_current g o.indirect (base_of g o.base o.word) walk e
+walk_current g (Return o) walk e = begins_current g o.indirect (base_of g o.base o.word) walk e
+
+attempt_never : (g : Registers) (line : Line) (seen : List Judged) (walk : Option chains.Operand) (now : Registers)
+    → walk_of g line ≡ walk → attempting g line seen walk ≡ Ends result.HistoryFull now → ⊥
+attempt_never g line seen None now is e = cc
+attempt_never g line seen (Some walk) now is e = along_never g line walk seen now (walk_current g line walk is) e
 
 reply_ends : (g : Registers) (given : Reply) → IsEnded g (result_of given) g
 reply_ends g (reply.Refused why) = refused_ends g
@@ -161,6 +183,22 @@ reply_ends g reply.Done = done_ends g
 reply_ends g (reply.Status status) = done_ends g
 reply_ends g (reply.Names names) = done_ends g
 reply_ends g (reply.Segno known) = done_ends g
+reply_ends g reply.Sent = done_ends g
+reply_ends g (reply.Message sender word) = done_ends g
+reply_ends g reply.Nobody = done_ends g
+reply_ends g reply.Waiting = done_ends g
+
+replied_ends : (g : Registers) (request : Request) (given : Reply) (ends : Result2) (now : Registers)
+    → replied g request given ≡ Ends ends now → IsEnded g ends now
+replied_ends g request reply.Waiting ends now e = absurd (awaits_no_end g request ends now e)
+replied_ends g request (reply.Refused why) ends now e = same_end g g now _ ends (reply_ends g (reply.Refused why)) e
+replied_ends g request reply.Done ends now e = same_end g g now _ ends (reply_ends g reply.Done) e
+replied_ends g request (reply.Status status) ends now e = same_end g g now _ ends (reply_ends g (reply.Status status)) e
+replied_ends g request (reply.Names names) ends now e = same_end g g now _ ends (reply_ends g (reply.Names names)) e
+replied_ends g request (reply.Segno known) ends now e = same_end g g now _ ends (reply_ends g (reply.Segno known)) e
+replied_ends g request reply.Sent ends now e = same_end g g now _ ends (reply_ends g reply.Sent) e
+replied_ends g request (reply.Message sender word) ends now e = same_end g g now _ ends (reply_ends g (reply.Message sender word)) e
+replied_ends g request reply.Nobody ends now e = same_end g g now _ ends (reply_ends g reply.Nobody) e
 
 link_ends : (g : Registers) (given : Reply) (ends : Result2) (now : Registers) → linked g given ≡ Ends ends now
     → IsEnded g ends now
@@ -169,26 +207,62 @@ link_ends g reply.Done ends now e = absurd cc
 link_ends g (reply.Status status) ends now e = absurd cc
 link_ends g (reply.Names names) ends now e = absurd cc
 link_ends g (reply.Segno known) ends now e = absurd cc
+link_ends g reply.Sent ends now e = absurd cc
+link_ends g (reply.Message sender word) ends now e = absurd cc
+link_ends g reply.Nobody ends now e = absurd cc
+link_ends g reply.Waiting ends now e = absurd cc
 
-answer_ends : (g : Registers) (line : Line) (given : Reply) (ends : Result2) (now : Registers)
-    → answered g line given ≡ Ends ends now → IsEnded g ends now
-answer_ends g (Ask request) given ends now e = same_end g g now (result_of given) ends (reply_ends g given) e
-answer_ends g (Set word) given ends now e = absurd cc
-answer_ends g (Epp n o) given ends now e = link_ends g given ends now e
-answer_ends g (Lda o) given ends now e = link_ends g given ends now e
-answer_ends g (Sta o) given ends now e = link_ends g given ends now e
-answer_ends g (Spri n o) given ends now e = link_ends g given ends now e
+pub answer_ends : (g : Registers) (line : Line) (request : Request) (given : Reply) (ends : Result2) (now : Registers)
+    → answered g line request given ≡ Ends ends now → IsEnded g ends now
+answer_ends g (Ask asked) request given ends now e = replied_ends g request given ends now e
+answer_ends g (Set word) request given ends now e = absurd cc
+answer_ends g (Epp n o) request given ends now e = link_ends g given ends now e
+answer_ends g (Lda o) request given ends now e = link_ends g given ends now e
+answer_ends g (Sta o) request given ends now e = link_ends g given ends now e
+answer_ends g (Spri n o) request given ends now e = link_ends g given ends now e
+answer_ends g Fetch request given ends now e = link_ends g given ends now e
+answer_ends g (Call o) request given ends now e = link_ends g given ends now e
+answer_ends g (Return o) request given ends now e = link_ends g given ends now e
 
-pub next_ends : (g : Registers) (line : Line) (course : Course) (ends : Result2) (now : Registers)
-    → next g line course ≡ Ends ends now → IsEnded g ends now
-next_ends g line (Answer entry) ends now e = answer_ends g line entry.reply ends now e
-next_ends g (Ask request) (Attempt seen) ends now e = absurd cc
-next_ends g (Set word) (Attempt seen) ends now e =
+set_ends : (g : Registers) (word : ℕ) (ends : Result2) (now : Registers)
+    → Ends result.Done (record g { a = word }) ≡ Ends ends now → IsEnded g ends now
+set_ends g word ends now e =
     same_end g (record g { a = word }) now result.Done ends
     (record { sound = with_a g word; ring = refl; printed = refl; asked = λ e. cc }) e
-next_ends g (Epp n o) (Attempt seen) ends now e =
-    attempt_ends g (Epp n o) seen o.indirect (base_of g o.base o.word) ends now e
-next_ends g (Lda o) (Attempt seen) ends now e = attempt_ends g (Lda o) seen o.indirect (base_of g o.base o.word) ends now e
-next_ends g (Sta o) (Attempt seen) ends now e = attempt_ends g (Sta o) seen o.indirect (base_of g o.base o.word) ends now e
-next_ends g (Spri n o) (Attempt seen) ends now e =
-    attempt_ends g (Spri n o) seen o.indirect (base_of g o.base o.word) ends now e
+
+-- an attempt that has seen nothing
+none_ends : (g : Registers) (line : Line) (walk : Option chains.Operand) (ends : Result2) (now : Registers)
+    → walk_of g line ≡ walk → attempting g line [] walk ≡ Ends ends now → IsEnded g ends now
+none_ends g line None ends now is e = absurd cc
+none_ends g line (Some walk) ends now is e =
+    wants_ends g line walk (wanted walk) ends now (walk_current g line walk is) refl e
+
+pub first_ends : (g : Registers) (line : Line) (ends : Result2) (now : Registers)
+    → attempts g line [] ≡ Ends ends now → IsEnded g ends now
+first_ends g (Ask request) ends now e = absurd cc
+first_ends g (Set word) ends now e = set_ends g word ends now e
+first_ends g (Epp n o) ends now e = none_ends g (Epp n o) (walk_of g (Epp n o)) ends now refl e
+first_ends g (Lda o) ends now e = none_ends g (Lda o) (walk_of g (Lda o)) ends now refl e
+first_ends g (Sta o) ends now e = none_ends g (Sta o) (walk_of g (Sta o)) ends now refl e
+first_ends g (Spri n o) ends now e = none_ends g (Spri n o) (walk_of g (Spri n o)) ends now refl e
+first_ends g Fetch ends now e = none_ends g Fetch (walk_of g Fetch) ends now refl e
+first_ends g (Call o) ends now e = none_ends g (Call o) (walk_of g (Call o)) ends now refl e
+first_ends g (Return o) ends now e = none_ends g (Return o) (walk_of g (Return o)) ends now refl e
+
+-- no line asks for an end with `history_full`
+attempts_never : (g : Registers) (line : Line) (seen : List Judged) (now : Registers)
+    → attempts g line seen ≡ Ends result.HistoryFull now → ⊥
+attempts_never g (Ask request) seen now e = cc
+attempts_never g (Set word) seen now e = (set_ends g word result.HistoryFull now e).asked refl
+attempts_never g (Epp n o) seen now e = attempt_never g (Epp n o) seen (walk_of g (Epp n o)) now refl e
+attempts_never g (Lda o) seen now e = attempt_never g (Lda o) seen (walk_of g (Lda o)) now refl e
+attempts_never g (Sta o) seen now e = attempt_never g (Sta o) seen (walk_of g (Sta o)) now refl e
+attempts_never g (Spri n o) seen now e = attempt_never g (Spri n o) seen (walk_of g (Spri n o)) now refl e
+attempts_never g Fetch seen now e = attempt_never g Fetch seen (walk_of g Fetch) now refl e
+attempts_never g (Call o) seen now e = attempt_never g (Call o) seen (walk_of g (Call o)) now refl e
+attempts_never g (Return o) seen now e = attempt_never g (Return o) seen (walk_of g (Return o)) now refl e
+
+pub next_never : (g : Registers) (line : Line) (course : Course) (now : Registers)
+    → next g line course ≡ Ends result.HistoryFull now → ⊥
+next_never g line (Answer entry) now e = (answer_ends g line entry.request entry.reply result.HistoryFull now e).asked refl
+next_never g line (Attempt seen) now e = attempts_never g line seen now e

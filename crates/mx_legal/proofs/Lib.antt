@@ -1,7 +1,10 @@
 pub mod GoingOn
 pub mod Extending
 pub mod Outcomes
+pub mod AwaitLaws
 pub mod Ends
+pub mod Moving
+pub mod LastReference
 pub mod RingLaws
 pub mod LegalLaws
 pub mod WalkLaws
@@ -12,5 +15,7 @@ mod AskLines
 mod SetupLaws
 mod WrongLineLaws
 mod PointerLineLaws
+mod CallLineLaws
+mod WaitingLineLaws
 mod WrongRuleLaws
 pub mod RecordedLaws

@@ -1,46 +1,148 @@
--- Lines keep registers sound, and rings fall only through gates: no line that is built lets the ring fall.
-use Rattle.std.proofs.Common.{◌≡◌, ℕ, ◌<◌, List, [], ◌∷◌, refl, ap, sym, ◌∙◌, subst, true, arith}
+-- Lines keep registers sound, and rings fall only through gates.
+use Rattle.std.proofs.Common.{◌≡◌, ◌⊎◌, inl, inr, ℕ, ◌<◌, List, [], ◌∷◌, ◌++◌, refl, ap, sym, ◌∙◌, subst, true, arith}
 use Rattle.mx_call.specs.Registers.{Registers, IsSound}
+use Rattle.mx_core.specs.declared.elements.Element.{Element}
+use Rattle.mx_core.specs.declared.elements.Event.TheVariants.{Seen, Missing}
+use Rattle.mx_request.specs.declared.replies.Reply.{Reply}
+use Rattle.mx_request.specs.declared.requests.Request.{Request}
+use Rattle.mx_request.specs.declared.replies.Reply.TheVariants as reply
 use Rattle.mx_script.specs.declared.lines.Line.{Line}
+use Rattle.mx_script.specs.declared.lines.Line.TheVariants.{Ask, Set, Epp, Lda, Sta, Spri, Fetch, Call, Return}
 use Rattle.mx_legal.specs.declared.transcripts.Event2.{Event2}
+use Rattle.mx_legal.specs.declared.transcripts.Event2.TheVariants.{Core, Entry}
 use Rattle.mx_legal.specs.declared.transcripts.Result2.{Result2}
 use Rattle.mx_legal.specs.declared.transcripts.Result2.TheVariants as result
-use Rattle.mx_legal.specs.Asking.{next}
-use Rattle.mx_legal.specs.Courses.{Course}
-use Rattle.mx_legal.specs.Falls.{printed_ring, IsGateCall, AreGated}
-use Rattle.mx_legal.specs.Lines.{IsEnd}
-use Rattle.mx_legal.specs.Next.{Next, Asks, Calls, Ends, Nowhere}
+use Rattle.mx_legal.specs.Asking.{next, attempts, linked, answered}
+use Rattle.mx_legal.specs.Courses.{Course, Attempt, Answer, seen_in}
+use Rattle.mx_legal.specs.Events.{IsEvent}
+use Rattle.mx_legal.specs.Falls.{IsGateCall, AreGated, printed_ring}
+use Rattle.mx_legal.specs.Lines.{Goes, IsEnd}
+use Rattle.mx_legal.specs.Next.{Next, Reference, Asks, Calls, Ends, Nowhere}
 use Rattle.mx_legal.specs.Rings.{IsKept, LineRingsLaw, RingsLaw}
-use Rattle.mx_legal.specs.Settings.{Setting}
+use Rattle.mx_legal.specs.Settings.{Setting, judged}
 use Rattle.mx_legal.specs.Standing.{FullLaw}
-use Rattle.mx_legal.proofs.Ends.{next_ends}
+use Rattle.mx_legal.specs.Transcripts.{Step}
+use Rattle.mx_legal.proofs.AwaitLaws.{replied_asks}
+use Rattle.mx_legal.proofs.Ends.{IsEnded, first_ends, answer_ends, next_never}
+use Rattle.mx_legal.proofs.LastReference.{seen_end}
+use Rattle.mx_legal.proofs.Moving.{IsMoved, IsGateSeen, stays}
 
-kept : (s : Setting) (g : Registers) (events : List Event2) (ends : Result2) (now : Registers) → IsSound now
-    → now.ring ≡ g.ring
-    → printed_ring g.ring ends ≡ g.ring → IsKept s g events ends now
-kept s g events ends now sound same printed = record {
-  sound = sound;
-  printed = printed ∙ sym same;
-  gated = λ falls. absurd (omega arith);
+-- after an answer a line asks for no reference
+linked_asks : (g : Registers) (given : Reply) (r : Reference) → linked g given ≡ Asks r → ⊥
+linked_asks g (reply.Refused why) r e = cc
+linked_asks g _ r e = cc
+
+answered_asks : (g : Registers) (line : Line) (request : Request) (given : Reply) (r : Reference) → answered g line request given ≡ Asks r → ⊥
+answered_asks g (Ask asked) request given r e = replied_asks g request given r e
+answered_asks g (Set word) request given r e = cc
+answered_asks g (Epp n o) request given r e = linked_asks g given r e
+answered_asks g (Lda o) request given r e = linked_asks g given r e
+answered_asks g (Sta o) request given r e = linked_asks g given r e
+answered_asks g (Spri n o) request given r e = linked_asks g given r e
+answered_asks g Fetch request given r e = linked_asks g given r e
+answered_asks g (Call o) request given r e = linked_asks g given r e
+answered_asks g (Return o) request given r e = linked_asks g given r e
+
+asks_in : (g : Registers) (line : Line) (course : Course) (r : Reference) → next g line course ≡ Asks r
+    → attempts g line (seen_in course) ≡ Asks r
+asks_in g line (Attempt seen) r e = e
+asks_in g line (Answer entry) r e = absurd (answered_asks g line entry.request entry.reply r e)
+
+-- the last event of a line, if there is one
+record IsLast (s : Setting) (g : Registers) (line : Line) (events : List Event2) (course : Course) : Type 0 where
+  front : List Event2
+  event : Event2
+  between : Course
+  is_last : events ≡ front ++ event ∷ []
+  led : IsEvent s (next g line between) between event course
+
+last_event : (s : Setting) (g : Registers) (line : Line) (first : Course) (events : List Event2) (course : Course)
+    → Goes s g line first events course → ((events ≡ []) × (course ≡ first)) ⊎ IsLast s g line events course
+last_event s g line first [] course goes = inl (refl, goes)
+last_event s g line first (event ∷ events) course goes = elim (last_event s g line goes.0 events course goes.2) [
+  | inl none ↦ inr (record {
+    front = [];
+    event = event;
+    between = first;
+    is_last = ap (λ (es : List Event2). event ∷ es) none.0;
+    led = subst (λ (c : Course). IsEvent s (next g line first) first event c) (sym none.1) goes.1;
+  })
+  | inr last ↦ inr (record {
+    front = event ∷ last.front;
+    event = last.event;
+    between = last.between;
+    is_last = ap (λ (es : List Event2). event ∷ es) last.is_last;
+    led = last.led;
+  })
+]
+
+-- a gate that the attempt saw last is the line's last event
+gate_call : (s : Setting) (front events : List Event2) (e : Element) (ring : ℕ) → events ≡ front ++ Core (Seen e) ∷ []
+    → IsGateSeen (judged s e) ring → IsGateCall s.descriptor events ring
+gate_call s front events e ring last gate = record {
+  before = front;
+  call = e;
+  last = last;
+  kind = gate.kind;
+  granted = gate.granted;
+  gate = gate.gate;
+  above = gate.above;
+  within = gate.within;
+  into = gate.into;
 }
 
+kept : (s : Setting) (g : Registers) (events : List Event2) (ends : Result2) (now : Registers)
+    → IsMoved g ends now (IsGateCall s.descriptor events now.ring) → IsKept s g events ends now
+kept s g events ends now is = record { sound = is.sound; printed = is.printed; gated = is.gated }
+
+unmoved : (s : Setting) (g : Registers) (events : List Event2) (ends : Result2) (now : Registers) → IsSound g
+    → IsEnded g ends now → IsKept s g events ends now
+unmoved s g events ends now sound is = kept s g events ends now (stays g ends now _ sound is)
+
+by_event : (s : Setting) (g : Registers) (line : Line) (front events : List Event2) (event : Event2)
+    (between course : Course) (ends : Result2) (now : Registers) → IsSound g → events ≡ front ++ event ∷ []
+    → IsEvent s (next g line between) between event course → next g line course ≡ Ends ends now
+    → IsKept s g events ends now
+by_event s g line front events (Core (Missing segno by)) between course ends now sound last led e =
+    unmoved s g events ends now sound
+    (first_ends g line ends now (subst (λ (c : Course). next g line c ≡ Ends ends now) led.leads e))
+by_event s g line front events (Entry number) between course ends now sound last led e =
+    unmoved s g events ends now sound
+    (answer_ends g line led.entry.request led.entry.reply ends now (subst (λ (c : Course). next g line c ≡ Ends ends now) led.leads e))
+by_event s g line front events (Core (Seen el)) between course ends now sound last led e =
+    let is = seen_end g line (seen_in between) (judged s el) led.asked ends now sound led.right
+    (asks_in g line between led.asked led.next) (subst (λ (c : Course). next g line c ≡ Ends ends now) led.leads e) in
+    record {
+      sound = is.sound;
+      printed = is.printed;
+      gated = λ falls. gate_call s front events el now.ring last (is.gated falls);
+    }
+
 by_end : (s : Setting) (g : Registers) (line : Line) (events : List Event2) (course : Course) (asks : Next)
-    (ends : Result2)
-    (now : Registers) → IsSound g → next g line course ≡ asks → IsEnd s g asks ends now → IsKept s g events ends now
-by_end s g line events course (Asks r) ends now sound is end = absurd end
-by_end s g line events course Nowhere ends now sound is end = absurd end
-by_end s g line events course (Calls ring request) ends now sound is end =
-    kept s g events ends now (subst IsSound (sym end.2) sound) (ap (λ (r : Registers). r.ring) end.2)
-    (ap (λ (r : Result2). printed_ring g.ring r) end.1)
-by_end s g line events course (Ends given left) ends now sound is end =
+    (ends : Result2) (now : Registers) → IsSound g → Goes s g line (Attempt []) events course
+    → next g line course ≡ asks → IsEnd s g asks ends now → IsKept s g events ends now
+by_end s g line events course (Asks r) ends now sound goes is end = absurd end
+by_end s g line events course Nowhere ends now sound goes is end = absurd end
+by_end s g line events course (Calls ring request) ends now sound goes is end =
+    let same : now.ring ≡ g.ring = ap (λ (r : Registers). r.ring) end.2 in
+    kept s g events ends now (record {
+      sound = subst IsSound (sym end.2) sound;
+      printed = ap (λ (r : Result2). printed_ring g.ring r) end.1 ∙ sym same;
+      gated = λ falls. absurd (omega (arith, same));
+    })
+by_end s g line events course (Ends given left) ends now sound goes is end =
     let e : next g line course ≡ Ends ends now =
     is ∙ ap (λ (r : Result2). Ends r left) (sym end.0) ∙ ap (λ (r : Registers). Ends ends r) (sym end.1) in
-    let ended = next_ends g line course ends now e in
-    kept s g events ends now (ended.sound sound) ended.ring ended.printed
+    elim (last_event s g line (Attempt []) events course goes) [
+      | inl none ↦ unmoved s g events ends now sound
+          (first_ends g line ends now (subst (λ (c : Course). next g line c ≡ Ends ends now) none.1 e))
+      | inr last ↦ by_event s g line last.front events last.event last.between course ends now sound last.is_last
+          last.led e
+    ]
 
 pub line_rings_law : LineRingsLaw
 line_rings_law s before now line events ends sound is =
-    by_end s before line events is.course (next before line is.course) ends now sound refl is.end
+    by_end s before line events is.course (next before line is.course) ends now sound is.so_far refl is.end
 
 pub rings_law : RingsLaw
 rings_law s start now lines left [] sound are = (subst IsSound (sym are.1) sound, tt)
@@ -63,7 +165,7 @@ full_end s g line course (Asks r) after is end = absurd end
 full_end s g line course Nowhere after is end = absurd end
 full_end s g line course (Calls ring request) after is end = end.0
 full_end s g line course (Ends ends left) after is end =
-    absurd ((next_ends g line course ends left is).asked (sym end.0))
+    absurd (next_never g line course left (is ∙ ap (λ (r : Result2). Ends r left) (sym end.0)))
 
 -- a line finds the journal full only where it is at its limit
 pub full_law : FullLaw

@@ -15,8 +15,9 @@ use Rattle.mx_legal.specs.Parts.{AreDone}
 use Rattle.mx_legal.specs.Settings.{Setting}
 use Rattle.mx_legal.specs.Transcripts.{Step}
 
--- the current ring after a line, as its result prints it: no line that is built moves to another procedure yet
+-- the current ring after a line, as its result prints it
 abbrev pub printed_ring : ℕ → Result2 → ℕ
+printed_ring ring (result.Moved entered procedure) = entered
 printed_ring ring result.Done = ring
 printed_ring ring (result.A word) = ring
 printed_ring ring (result.Pr n pointer) = ring

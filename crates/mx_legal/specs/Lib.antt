@@ -36,6 +36,8 @@ pub mod Standing
 -- wrong runs that are refused
 pub mod WrongLines
 pub mod PointerLines
+pub mod CallLines
+pub mod WaitingLines
 pub mod WrongPoints
 pub mod WrongReads
 pub mod WrongFalls

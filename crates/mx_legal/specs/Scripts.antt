@@ -1,6 +1,6 @@
 -- The lines of a script, each under its number in the session text.
 use Rattle.std.specs.Prelude.{ℕ, zero, suc, ◌+◌, List, [], ◌∷◌, map, length}
-use Rattle.mx_script.specs.Sessions.{Outline}
+use Rattle.mx_script.specs.Sessions.{Outline, history_lines}
 use Rattle.mx_script.specs.declared.lines.Line.{Line}
 use Rattle.mx_script.specs.declared.lines.Line.TheVariants.{Ask}
 
@@ -16,11 +16,11 @@ lines_before scripts zero = 0
 lines_before [] (suc p) = 0
 lines_before (script ∷ scripts) (suc p) = 1 + length script + lines_before scripts p
 
--- the number of a process's first line in the session text, whose header is line 1; the lines of process 0 are the
--- setup's
+-- the number of a process's first line in the session text, whose header is line 1, and whose limit, if it sets one, is
+-- line 2; the lines of process 0 are the setup's
 abbrev pub first_line : Outline → ℕ → ℕ
-first_line x zero = 2
-first_line x (suc p) = 3 + length x.setup + lines_before x.scripts p
+first_line x zero = 2 + history_lines x.history
+first_line x (suc p) = 3 + history_lines x.history + length x.setup + lines_before x.scripts p
 
 -- lines with numbers from this one on
 abbrev pub numbered : ℕ → List Line → List (ℕ × Line)

@@ -5,7 +5,9 @@ ghost use Rattle.mx_legal.specs.Rings.{LineRingsLaw, RingsLaw, LegalRingsLaw};
 ghost use Rattle.mx_legal.specs.SetupLines.{SetupLinesLaw};
 ghost use Rattle.mx_legal.specs.SoFar.{ReferenceLaw, MissLaw, CallLaw, LineLaw, ExtendsLaw, GrownLaw, OneOutcomeLaw};
 ghost use Rattle.mx_legal.specs.Standing.{WalkBegunLaw, WalkLaw, TraceLaw, PromiseLaw, FullLaw};
+ghost use Rattle.mx_legal.specs.CallLines.{RightTransfers, WrongTransfers, WrongRegisters};
 ghost use Rattle.mx_legal.specs.PointerLines.{RightPointers, WrongPointers};
+ghost use Rattle.mx_legal.specs.WaitingLines.{RightWaits, WrongWaits, LimitLines};
 ghost use Rattle.mx_legal.specs.WrongFalls.{WrongFalls};
 ghost use Rattle.mx_legal.specs.WrongLines.{WrongReferences, WrongCalls, WrongScripts};
 ghost use Rattle.mx_legal.specs.WrongPoints.{WrongPoints};
@@ -70,6 +72,14 @@ pub fn setup_lines_law()
     ensures { SetupLinesLaw }
 {}
 
+/// `block` has two entries where it is told to wait, and one where the journal is full then; a line that departs from it is
+/// refused. The line that sets the journal's limit moves the numbers of all that follow.
+pub fn a_wait_is_two_entries()
+    ensures right { RightWaits }
+    ensures wrong { WrongWaits }
+    ensures numbers { LimitLines }
+{}
+
 /// Wrong runs, each one change away from a right one that stands beside them, are refused: at least three by each
 /// rule.
 pub fn wrong_runs_are_refused()
@@ -77,6 +87,9 @@ pub fn wrong_runs_are_refused()
     ensures calls { WrongCalls }
     ensures right_pointers { RightPointers }
     ensures pointers { WrongPointers }
+    ensures right_transfers { RightTransfers }
+    ensures transfers { WrongTransfers }
+    ensures registers { WrongRegisters }
     ensures scripts { WrongScripts }
     ensures points { WrongPoints }
     ensures reads { WrongReads }

@@ -5,11 +5,10 @@
 //! (`Reads`), the full journal (`FullJournal`), gated falls (`Falls`), and all of them together (`Legal`, one field a
 //! rule). The laws say how lines go on for whoever runs them (`SoFar`), what a process knows of its own lines
 //! (`Standing`), what the rules make of rings (`Rings`), of each printed reference (`Printed`) and of the setup
-//! (`SetupLines`), and that wrong runs are refused (`WrongLines`, `PointerLines`, `WrongPoints`, `WrongReads`,
-//! `WrongFalls`). The
-//! crate has the types of transcripts, and small readers that machines and printers share. Stands on `mx_core`
-//! (references), `mx_effring` (the walk of an operand), `mx_call` (registers), `mx_state` (journal, history, descriptors), `mx_script` (sessions) and
-//! `mx_request`; takes no memory.
+//! (`SetupLines`), and that wrong runs are refused (`WrongLines`, `PointerLines`, `CallLines`, `WrongPoints`,
+//! `WrongReads`, `WrongFalls`). The crate has the types of transcripts, and small readers that machines and printers
+//! share. Stands on `mx_core` (references), `mx_effring` (the walk of an operand), `mx_call` (registers), `mx_state`
+//! (journal, history, descriptors), `mx_script` (sessions) and `mx_request`; takes no memory.
 #![tactic(auto)]
 
 mod entries;

@@ -4,6 +4,7 @@ ghost use Rattle.std.specs.Prelude.{◌≡◌, ◌+◌, ◌<◌, ◌≤◌, ◌^
 ghost use Rattle.std.specs.List.{sum_by};
 ghost use Rattle.mx_legal.specs.Legal.{setup_entries};
 ghost use Rattle.mx_legal.specs.Scripts.{first_line, lines_before};
+ghost use Rattle.mx_script.specs.Sessions.{history_lines};
 
 use mx_script::{Script, Session};
 
@@ -25,11 +26,23 @@ pub fn setup_entries(session: &Session) -> u32
 pub fn first_line(session: &Session, p: u8) -> u32
     ensures { result ≡ first_line session.now p }
 {
+    let scripts = session.scripts().items();
+    let limit = history_lines(session.history());
     if p == 0 {
-        2
+        2 + limit
     } else {
-        let scripts = session.scripts().items();
-        3 + session.setup().items().len() as u32 + lines_before(scripts, p - 1)
+        3 + limit + session.setup().items().len() as u32 + lines_before(scripts, p - 1)
+    }
+}
+
+// The lines that set the journal's limit.
+fn history_lines(history: Option<u32>) -> u32
+    ensures value { result ≡ history_lines history }
+    ensures most { result ≤ 1 }
+{
+    match history {
+        None => 0,
+        Some(_) => 1,
     }
 }
 

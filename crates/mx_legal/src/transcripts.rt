@@ -9,7 +9,7 @@ use mx_core::Event;
 use mx_list::Sequence;
 use mx_ptr::Pointer;
 use mx_request::Reply;
-use mx_sdw::{Denial, Word};
+use mx_sdw::{Denial, Ring, Word};
 use std::alloc::{AllocError, Global};
 use std::marker::Model;
 
@@ -20,26 +20,36 @@ pub enum Event2 {
     Entry(u32),
 }
 
-/// How a line ended: done, with the accumulator's new value, with a pointer register's new value, with a reference
-/// denied, with a request refused, or with a request that found the journal at its limit and was not entered.
+/// How a line ended: done, with the accumulator's new value, with a pointer register's new value, in another procedure
+/// and its ring, with a reference denied, with a request refused, or with a request that found the journal at its limit
+/// and was not entered.
 #[derive(Clone, Copy, Debug, PartialEq, Eq)]
 pub enum Result2 {
     Done,
     A(Word),
     Pr { n: u8, pointer: Pointer },
+    Moved { ring: Ring, procedure: Pointer },
     Denied(Denial),
     Refused,
     HistoryFull,
 }
 
 impl Result2 {
-    /// How the line of a request ends that got this reply: refused exactly where the reply is a refusal, and else done.
+    /// How a line ends whose last reply is this: refused exactly where it is a refusal, and else done. A line does not end
+    /// with `waiting`.
     pub fn of(reply: &Reply) -> Result2
         ensures { result ≡ result_of reply.now }
     {
         match reply {
             Reply::Refused(_) => Result2::Refused,
-            Reply::Done | Reply::Status(_) | Reply::Names(_) | Reply::Segno(_) => Result2::Done,
+            Reply::Done
+            | Reply::Status(_)
+            | Reply::Names(_)
+            | Reply::Segno(_)
+            | Reply::Sent
+            | Reply::Message { .. }
+            | Reply::Nobody
+            | Reply::Waiting => Result2::Done,
         }
     }
 }

@@ -27,7 +27,9 @@ taken_is_sound xs i x nobody sound within is =
     record {
       some = rw length-set sound.some;
       most = rw length-set sound.most;
-      each = subst (λ (n : ℕ). All (IsProcess n) (set xs i y)) (sym (length-set xs i y)) (All-set P xs i y after sound.each);
+      each =
+          subst (λ (n : ℕ). All (IsProcess n) (set xs i y)) (sym (length-set xs i y))
+          (All-set P xs i y after sound.each);
     }
 
 pub stands_at : (xs : List PlainProcess) (p : ℕ) (x : PlainProcess) → 1 ≤ p → p ≤ length xs

@@ -1,9 +1,9 @@
 //! What follows from the definitions alone.
 
-ghost use Rattle.std.specs.Prelude.{◌≡◌, ℕ, ◌≤◌, ◌↔◌, List, [], ◌∷◌, ◌++◌, length, true, Some, Ok, Err};
+ghost use Rattle.std.specs.Prelude.{◌≡◌, ℕ, ◌≤◌, ◌↔◌, List, [], ◌∷◌, ◌++◌, length, true, false, Some, Ok, Err};
 ghost use Rattle.mx_mail.specs.Processes.{PlainProcess, AreProcesses, end_process, process_at};
 ghost use Rattle.mx_mail.specs.Sending.{send_message};
-ghost use Rattle.mx_mail.specs.Sleeping.{AreOthersAsleep};
+ghost use Rattle.mx_mail.specs.Sleeping.{AreOthersAsleep, IsAnotherAwake};
 ghost use Rattle.mx_mail.specs.Taking.{messages_of, take_message, is_ready};
 
 use crate::mail::{MailError, Taken};
@@ -66,6 +66,12 @@ pub fn nobody_where_the_others_are_asleep()
     ensures { (processes : List PlainProcess) (p : ℕ) → 1 ≤ p
         → ((take_message processes p).taken ≡ Taken.Nobody)
         ↔ ((messages_of processes p ≡ []) × AreOthersAsleep processes p) }
+{}
+
+/// A process that is not ready waits for another that runs, or that waits and has a message.
+pub fn one_that_is_not_ready_waits_for_another()
+    ensures { (processes : List PlainProcess) (p : ℕ) → 1 ≤ p → is_ready processes p ≡ false
+        → IsAnotherAwake processes p }
 {}
 
 /// Where a process waits and none runs, one that waits is ready.

@@ -12,7 +12,8 @@ mod processes;
 
 pub use laws::{
     a_message_is_refused_in_order, a_message_waits_behind_the_others, an_end_drops_what_waits,
-    nobody_where_the_others_are_asleep, one_that_waits_is_ready, the_oldest_message_is_taken,
+    nobody_where_the_others_are_asleep, one_that_is_not_ready_waits_for_another,
+    one_that_waits_is_ready, the_oldest_message_is_taken,
 };
 pub use mail::{Mail, MailError, Taken};
 pub use processes::ExecutionState;

@@ -39,6 +39,10 @@ map_fault object =
 abbrev pub object_map : PlainObjectMap → Result PlainObjectMap ObjectError
 object_map object = unless (map_fault object) object
 
+-- the map of an object with so many gates, which defines nothing and has no links
+abbrev pub of_gates : ℕ → PlainObjectMap
+of_gates gate = record { gate = gate; definitions = []; links = [] }
+
 -- the word with which a symbol is defined
 abbrev pub word_of : PlainObjectMap → List ℕ → Option ℕ
 word_of object symbol = lookup (same_name symbol) object.definitions

@@ -3,7 +3,7 @@ ghost use Rattle.std.specs.Prelude.{◌≡◌, ◌⊎◌, ◌↔◌, ℕ, Some, 
 ghost use Rattle.std.specs.Option.{option_map};
 ghost use Rattle.std.specs.Map.{lookup};
 ghost use Rattle.mx_name.specs.Names.{same_name};
-ghost use Rattle.mx_object.specs.Objects.{IsObjectMap, symbols_of, has_twice, object_map, word_of, link_of, Defines};
+ghost use Rattle.mx_object.specs.Objects.{IsObjectMap, symbols_of, has_twice, object_map, of_gates, word_of, link_of, Defines};
 ghost use Rattle.mx_object.specs.declared.objects.ObjectError.TheVariants.{Memory};
 
 use indexmap::IndexSet;
@@ -102,6 +102,17 @@ impl ObjectMap {
             definitions,
             links,
         })
+    }
+
+    /// The map of an object with so many gates, no definitions and no links. Takes no memory.
+    pub fn of_gates(alloc: Global, gate: u16) -> ObjectMap
+        ensures { result ≡ of_gates gate }
+    {
+        ObjectMap {
+            gate,
+            definitions: Definitions::new(alloc),
+            links: Links::new(alloc),
+        }
     }
 
     /// How many words from 0 on are gates.

@@ -1,46 +1,62 @@
 -- What the lines of a process ask for, on the bench.
-use Rattle.std.proofs.Common.{◌≡◌, ℕ, ◌<◌, ◌≤◌, ◌-◌, nat_le, true, List, length, Some, refl, sym, ◌∙◌, ap, subst, arith}
+use Rattle.std.proofs.Common.{◌≡◌, ◌⊎◌, inl, inr, ℕ, suc, ◌<◌, ◌≤◌, ◌-◌, max, nat_le, Bool, true, false, IsTrue, IsFalse, List, [], ◌∷◌, ◌++◌, length, Some, refl, sym, ◌∙◌, ap, subst, arith}
 use Rattle.std.proofs.lemmas.Bool.Decides.{nat_tests}
 use Rattle.std.proofs.lemmas.Option.{slice_get_within}
 use Rattle.std.specs.List.{slice_get}
 use Rattle.mx_call.specs.Loading.{loaded}
-use Rattle.mx_call.specs.Registers.{Registers, ArePackable}
+use Rattle.mx_call.specs.Registers.{Registers, ArePackable, going_on, way_back}
+use Rattle.mx_effring.specs.Chains.{read_on}
+use Rattle.mx_effring.specs.Walks.{wanted}
+use Rattle.mx_effring.specs.declared.walks.Want.{Want}
+use Rattle.mx_effring.specs.declared.walks.Want.TheVariants.{Done}
 use Rattle.mx_hier.specs.declared.refusals.Refusal.{Refusal}
 use Rattle.mx_hier.specs.declared.refusals.Refusal.TheVariants.{NotLinkage}
 use Rattle.mx_legal.specs.Asking.{next, answered, result_of}
-use Rattle.mx_legal.specs.Courses.{Attempt}
+use Rattle.mx_legal.specs.Attempts.{wants, after_seen, along, attempt}
+use Rattle.mx_legal.specs.Courses.{Course, Attempt, Answer, Judged}
+use Rattle.mx_legal.proofs.AwaitLaws.{replied_so}
 use Rattle.mx_legal.specs.Next.{Asks, Calls, Ends, storing}
+use Rattle.mx_legal.specs.Operands.{walk_from}
 use Rattle.mx_legal.specs.Targets.{at_target, spri_at}
 use Rattle.mx_legal.specs.Transcripts.{Step}
 use Rattle.mx_legal.specs.declared.transcripts.Result2.TheVariants as result
-use Rattle.mx_ptr.specs.Pointers.{PointerParts}
+use Rattle.mx_ptr.specs.Pointers.{PointerParts, parts_of}
 use Rattle.mx_request.proofs.StepLaws.{both}
 use Rattle.mx_request.specs.declared.replies.Reply.{Reply}
-use Rattle.mx_request.specs.declared.replies.Reply.TheVariants.{Refused}
+use Rattle.mx_request.specs.declared.replies.Reply.TheVariants as replies
 use Rattle.mx_request.specs.declared.requests.Request.{Request}
-use Rattle.mx_request.specs.declared.requests.Request.TheVariants.{Link}
-use Rattle.mx_script.specs.Sessions.{Outline, is_register, is_address, is_script_line}
+use Rattle.mx_request.specs.declared.requests.Request.TheVariants.{Block, Link, Resume, Logout}
+use Rattle.mx_script.specs.Sessions.{Outline, limit_of, is_register, is_address, is_script_line}
 use Rattle.mx_script.specs.declared.lines.Line.{Line}
 use Rattle.mx_script.specs.declared.lines.Line.TheVariants as line
 use Rattle.mx_script.specs.declared.lines.Operand.{Operand}
-use Rattle.mx_sup.specs.Supervised.{Supervised}
+use Rattle.mx_state.proofs.LinkLaws.{link_serves}
+use Rattle.mx_state.specs.History.{opening, replay, IsRightEntry}
+use Rattle.mx_state.specs.Messages.{is_ready}
+use Rattle.mx_state.specs.Plain.{Plain, Answer as Replied}
+use Rattle.mx_state.specs.Requests.{plain}
+use Rattle.mx_sup.proofs.ReplyLaws.{only_block_waits, ready_resumes}
+use Rattle.mx_sup.specs.Supervised.{Supervised, state_of}
 use Rattle.mx_proc.proofs.BenchLaws.{seat_is}
 use Rattle.mx_proc.proofs.BoundLaws.{at_script_line, good_at}
 use Rattle.mx_proc.proofs.NextLaws.{seat_of}
 use Rattle.mx_proc.proofs.OpeningLaws.{seat_of as process_of}
-use Rattle.mx_proc.proofs.OperandLaws.{target_asks, link_asks, led_to}
+use Rattle.mx_proc.proofs.OperandLaws.{no_request, target_asks, target_goes, link_asks, led_to}
 use Rattle.mx_proc.proofs.SeatLaws.{set_here}
-use Rattle.mx_proc.specs.Asking.{HasSeat, HasSeatWith, IsAsking, IsEnding, IsCalling, IsStore, IsStoring}
+use Rattle.mx_proc.specs.Asking.{HasSeat, HasSeatWith, IsAsking, IsTold, IsUntold, IsReadyBelow, IsUnreadyBelow, IsAiming, IsEnding, EndsWith, IsToldToWait, IsCalling, IsStore, IsStoring}
+use Rattle.mx_proc.proofs.WorldLaws.{IsAt, not_told, told_blocks, waits_next}
 use Rattle.mx_proc.specs.Benches.{world_in, IsKept}
-use Rattle.mx_proc.specs.Operands.{operand_of, IsTarget, IsRegisterWord, IsLed, IsGoodProgress}
-use Rattle.mx_proc.specs.Processes.{seat_in, IsGoodAt, IsLedAt, IsStill, HasAsked, HasRegisters}
-use Rattle.mx_proc.specs.Stepping.{IsAtLine}
+use Rattle.mx_proc.specs.Operands.{operand_of, IsPlaced, IsTarget, IsRegisterWord, IsLed, IsGoodProgress}
+use Rattle.mx_proc.specs.Processes.{seat_in, IsGoodAt, IsLedAt, IsStill, HasProgress, ReadsOperand, HasAsked, HasRegisters}
+use Rattle.mx_proc.specs.Running.{IsCome, IsRunning, left_of}
+use Rattle.mx_proc.specs.Stepping.{IsAtLine, IsWaiting, state_in}
 use Rattle.mx_proc.specs.Worlds.{Seat, World}
 use Rattle.mx_proc.specs.declared.memory.Contents.{Contents}
 use Rattle.mx_proc.specs.declared.operands.Asked.{Asked}
 use Rattle.mx_proc.specs.declared.operands.Asked.TheVariants.{Target, First}
 use Rattle.mx_proc.specs.declared.operands.Place.{Place}
 use Rattle.mx_proc.specs.declared.operands.Progress.{Progress}
+use Rattle.mx_proc.specs.declared.operands.Progress.TheVariants.{Waiting}
 use Rattle.mx_proc.specs.declared.operands.Way.TheVariants as way
 use Rattle.mx_proc.specs.declared.processes.Process.{Process}
 
@@ -127,17 +143,164 @@ epp_number l n o e s = at_most_seven n (both (is_register n) (is_address o) (ap 
 pub spri_number : (l : Line) (n : ℕ) (o : Operand) → l ≡ line.Spri n o → is_script_line l ≡ true → n ≤ 7
 spri_number l n o e s = at_most_seven n (both (is_register n) (is_address o) (ap is_script_line (sym e) ∙ s)).0
 
--- a request
-pub ask_calling : (w : World) (p : ℕ) (l : Line) (request : Request) (g : Registers) (ring : ℕ) → l ≡ line.Ask request → HasSeatWith w p g
-    → ring ≡ g.ring → IsCalling w p l ring request
-ask_calling w p l request g ring e s r = record {
+-- two looks at the seat of a process see one
+pub same_seats : (w : World) (p : ℕ) (a b : Seat) → slice_get w.seats (p - 1) ≡ Some a → slice_get w.seats (p - 1) ≡ Some b → a ≡ b
+same_seats w p a b e f = one_seat a b (sym e ∙ f)
+
+-- whether a process was told to wait
+pub seen_told : (x : Outline) (s : Supervised) (whole : List (List Step)) (cells : List Contents) (processes : List Process) (w : World) (p i : ℕ)
+    (waits : Bool) → world_in x s whole cells processes ≡ w → i ≡ p - 1 → HasProgress processes i waits → IsTrue waits → IsTold w p
+seen_told x s whole cells processes w p i waits view place h is = record {
+  seat = seat_in h.process;
+  seated = ap (λ (v : World). slice_get v.seats (p - 1)) (sym view) ∙ ap (slice_get _) (sym place) ∙ seat_of processes i h.process h.at;
+  told = h.yes is;
+}
+
+pub seen_awake : (x : Outline) (s : Supervised) (whole : List (List Step)) (cells : List Contents) (processes : List Process) (w : World) (p i : ℕ)
+    (waits : Bool) → world_in x s whole cells processes ≡ w → i ≡ p - 1 → HasProgress processes i waits → IsFalse waits → IsUntold w p
+seen_awake x s whole cells processes w p i waits view place h is = λ seat e told.
+    let there : slice_get w.seats (p - 1) ≡ Some (seat_in h.process)
+    = ap (λ (v : World). slice_get v.seats (p - 1)) (sym view) ∙ ap (slice_get _) (sym place) ∙ seat_of processes i h.process h.at in
+    h.no is (ap (λ (seat : Seat). seat.progress) (sym (same_seats w p seat (seat_in h.process) e there)) ∙ told)
+
+-- whether a reply tells to wait
+tells_to_wait : (reply : Reply) → (reply ≡ replies.Waiting) ⊎ (reply ≡ replies.Waiting → ⊥)
+tells_to_wait replies.Waiting = inl refl
+tells_to_wait (replies.Refused why) = inr (λ e. cc)
+tells_to_wait replies.Done = inr (λ e. cc)
+tells_to_wait (replies.Status status) = inr (λ e. cc)
+tells_to_wait (replies.Names names) = inr (λ e. cc)
+tells_to_wait (replies.Segno known) = inr (λ e. cc)
+tells_to_wait replies.Sent = inr (λ e. cc)
+tells_to_wait (replies.Message sender word) = inr (λ e. cc)
+tells_to_wait replies.Nobody = inr (λ e. cc)
+
+-- a request of a script, by a process that was not told to wait
+pub ask_calling : (w : World) (p : ℕ) (l : Line) (request : Request) (g : Registers) (ring : ℕ) → l ≡ line.Ask request → is_script_line l ≡ true
+    → HasSeatWith w p g → ring ≡ g.ring → IsUntold w p → IsCalling w p l ring request
+ask_calling w p l request g ring e in_script s r awake = record {
+  awake = λ waits. awake waits.seat waits.seated waits.told;
   seat = s.seat;
   seated = s.seated;
-  asks = λ seen placed.
-      ap (λ (l : Line). next s.seat.registers l (Attempt seen)) e
-      ∙ ap (λ (n : ℕ). Calls n request) (sym (r ∙ ap (λ (g : Registers). g.ring) s.registers));
-  answers = λ reply is. ap (λ (l : Line). answered s.seat.registers l reply) e;
+  asks = asks;
+  answers = λ reply below is. by_reply reply (tells_to_wait reply) is.reply;
+  first = λ blocks. awake s.seat s.seated;
+  logs_out = λ out. same_request request Logout (sym e ∙ out);
 }
+  where
+    same_request : (a b : Request) → line.Ask a ≡ line.Ask b → a ≡ b
+    same_request a b h = cc
+
+    asks : (course : Course) → IsCome s.seat.registers l course s.seat.progress → next s.seat.registers l course ≡ Calls ring request
+    asks (Attempt seen) come =
+        ap (λ (l : Line). next s.seat.registers l (Attempt seen)) e
+        ∙ ap (λ (n : ℕ). Calls n request) (sym (r ∙ ap (λ (g : Registers). g.ring) s.registers))
+    asks (Answer entry) come = absurd (awake s.seat s.seated come.0)
+
+    not_in_script : is_script_line (line.Ask Resume) ≡ true → ⊥
+    not_in_script h = cc
+
+    no_resume : request ≡ Resume → ⊥
+    no_resume h = not_in_script (ap is_script_line (sym (e ∙ ap line.Ask h)) ∙ in_script)
+
+    by_reply : (reply : Reply) → (reply ≡ replies.Waiting) ⊎ (reply ≡ replies.Waiting → ⊥) → (plain (state_in w) p ring request).reply ≡ reply
+        → EndsWith s.seat.registers l request reply ⊎ IsToldToWait l request reply
+    by_reply reply (inr never) is =
+        inl (ap (λ (l : Line). answered s.seat.registers l request reply) e ∙ replied_so s.seat.registers request reply never)
+    by_reply reply (inl waits) is = elim (only_block_waits (state_in w) p ring request (is ∙ waits)) [
+      | inl block ↦ inr (record { waits = waits; blocks = block; line_is = e ∙ ap line.Ask block })
+      | inr resume ↦ absurd (no_resume resume)
+    ]
+
+-- who was told to wait resumes, at its `block`, where it is ready or the journal full
+pub resume_calling : (w : World) (p : ℕ) (l : Line) (g : Registers) (ring : ℕ) → IsTold w p → l ≡ line.Ask Block
+    → HasSeatWith w p g → ring ≡ g.ring → IsReadyBelow w p
+    → IsCalling w p l ring Resume
+resume_calling w p l g ring t e s r ready = record {
+  awake = λ waits. both_ways (is_ready (state_in w) p) (ready waits.below) waits.unready;
+  seat = s.seat;
+  seated = s.seated;
+  asks = asks;
+  answers = λ reply below is.
+      inl (ap (λ (l : Line). answered s.seat.registers l Resume reply) e
+      ∙ replied_so s.seat.registers Resume reply (λ waits. ready_resumes (state_in w) p ring (ready below) (is.reply ∙ waits)));
+  first = λ blocks. absurd (no_block blocks);
+  logs_out = λ out. absurd (no_logout (sym e ∙ out));
+}
+  where
+    both_ways : (test : Bool) → test ≡ true → test ≡ false → ⊥
+    both_ways true a b = cc
+    both_ways false a b = cc
+
+    no_block : Resume ≡ Block → ⊥
+    no_block h = cc
+
+    no_logout : line.Ask Block ≡ line.Ask Logout → ⊥
+    no_logout h = cc
+
+    told : s.seat.progress ≡ Waiting
+    told = ap (λ (seat : Seat). seat.progress) (same_seats w p s.seat t.seat s.seated t.seated) ∙ t.told
+
+    asks : (course : Course) → IsCome s.seat.registers l course s.seat.progress → next s.seat.registers l course ≡ Calls ring Resume
+    asks (Attempt seen) come = absurd (subst (IsPlaced s.seat.registers l seen) told come).0
+    asks (Answer entry) come =
+        waits_next s.seat.registers l entry s.seat.progress come
+        ∙ ap (λ (n : ℕ). Calls n Resume) (sym (r ∙ ap (λ (g : Registers). g.ring) s.registers))
+
+-- what the supervisor tells of the bench's state
+pub state_is : (x : Outline) (s : Supervised) (whole : List (List Step)) (room : ℕ) (cells : List Contents) (processes : List Process) (w : World)
+    → IsKept x s whole room cells processes → world_in x s whole cells processes ≡ w
+    → (state_of s ≡ state_in w) × (length s.journal ≡ length w.journal) × (limit_of s.session ≡ limit_of w.session)
+state_is x s whole room cells processes w k view = (
+  ap (λ (y : Outline). replay (opening y.principals) s.journal) k.same ∙ ap state_in view,
+  ap (λ (v : World). length v.journal) view,
+  ap limit_of k.same ∙ ap (λ (v : World). limit_of v.session) view,
+)
+
+-- who is not ready, below the limit, waits
+pub unready_below : (x : Outline) (s : Supervised) (whole : List (List Step)) (room : ℕ) (cells : List Contents) (processes : List Process) (w : World) (p : ℕ)
+    → IsKept x s whole room cells processes → world_in x s whole cells processes ≡ w
+    → length s.journal < limit_of s.session → is_ready (state_of s) p ≡ false → IsUnreadyBelow w p
+unready_below x s whole room cells processes w p k view below unready =
+    let is = state_is x s whole room cells processes w k view in
+    record {
+      below = omega (arith, below, is.1, is.2);
+      unready = subst (λ q. is_ready q p ≡ false) is.0 unready;
+    }
+
+pub still_waits : (w : World) (p : ℕ) → IsTold w p → IsUnreadyBelow w p → IsWaiting w p
+still_waits w p t u = record { seat = t.seat; seated = t.seated; told = t.told; unready = u.unready; below = u.below }
+
+pub ready_below : (x : Outline) (s : Supervised) (whole : List (List Step)) (room : ℕ) (cells : List Contents) (processes : List Process) (w : World) (p : ℕ)
+    → IsKept x s whole room cells processes → world_in x s whole cells processes ≡ w
+    → (length s.journal < limit_of s.session → is_ready (state_of s) p ≡ true) → IsReadyBelow w p
+ready_below x s whole room cells processes w p k view ready below =
+    let is = state_is x s whole room cells processes w k view in
+    subst (λ q. is_ready q p ≡ true) is.0 (ready (omega (arith, below, is.1, is.2)))
+
+-- a process at a line, by its place
+at_place : (w : World) (p : ℕ) (l : Line) → (a : IsAtLine w p l) → IsAt w (p - 1) a.seat a.number l a.left
+at_place w p l a =
+    let next : suc (p - 1) ≡ p = let one = a.some in omega arith in
+    record { seated = a.seated; at = ap (λ n. left_of w.session n a.seat) next ∙ a.at }
+
+-- who was told to wait is at its `block`
+pub told_at_block : (x : Outline) (s : Supervised) (whole : List (List Step)) (room : ℕ) (cells : List Contents) (processes : List Process) (w : World) (p : ℕ)
+    (l : Line) → IsKept x s whole room cells processes → world_in x s whole cells processes ≡ w → IsAtLine w p l → IsTold w p
+    → l ≡ line.Ask Block
+told_at_block x s whole room cells processes w p l k view a t =
+    told_blocks w (p - 1) a.seat a.number l a.left (subst IsRunning view k.running) (at_place w p l a)
+    (ap (λ (seat : Seat). seat.progress) (same_seats w p a.seat t.seat a.seated t.seated) ∙ t.told)
+
+-- an operand is read by a process that was not told to wait
+pub seen_reads : (x : Outline) (s : Supervised) (whole : List (List Step)) (room : ℕ) (cells : List Contents) (processes : List Process) (w : World) (p i : ℕ)
+    (l : Line) (o : Operand) → IsKept x s whole room cells processes → world_in x s whole cells processes ≡ w → i ≡ p - 1 → IsAtLine w p l
+    → operand_of l ≡ Some o → ReadsOperand processes i
+seen_reads x s whole room cells processes w p i l o k view place a own = λ q at told.
+    let there : slice_get w.seats (p - 1) ≡ Some (seat_in q)
+    = ap (λ (v : World). slice_get v.seats (p - 1)) (sym view) ∙ ap (slice_get _) (sym place) ∙ seat_of processes i q at in
+    not_told w (p - 1) a.seat a.number l a.left (subst IsRunning view k.running) (at_place w p l a) (no_request l o own)
+    (ap (λ (seat : Seat). seat.progress) (same_seats w p a.seat (seat_in q) a.seated there) ∙ told)
 
 -- `set`
 with_a : (g : Registers) (word : ℕ) → ArePackable g → ArePackable (record g { a = word })
@@ -146,17 +309,16 @@ with_a g word p = record { ring = p.ring; procedure = p.procedure; pr = p.pr }
 pub set_ending : (w : World) (p : ℕ) (l : Line) (word : ℕ) (g after : Registers) → l ≡ line.Set word → HasSeatWith w p g
     → after ≡ record g { a = word } → IsEnding w p l result.Done after
 set_ending w p l word g after e s a = record {
+  other = λ request is. no_set (sym e ∙ is);
   seat = s.seat;
   seated = s.seated;
   asks = λ seen placed.
       ap (λ (l : Line). next s.seat.registers l (Attempt seen)) e
       ∙ ap (λ (r : Registers). Ends result.Done r) (sym (a ∙ ap (λ (g : Registers). record g { a = word }) s.registers));
   packable = subst ArePackable (sym a) (with_a g word s.packable);
-}
-
--- two looks at the seat of a process see one
-same_seats : (w : World) (p : ℕ) (a b : Seat) → slice_get w.seats (p - 1) ≡ Some a → slice_get w.seats (p - 1) ≡ Some b → a ≡ b
-same_seats w p a b e f = one_seat a b (sym e ∙ f)
+} where
+  no_set : {request : Request} → line.Set word ≡ line.Ask request → ⊥
+  no_set h = cc
 
 pub asked_target : (w : World) (p : ℕ) (o : Operand) (target : PointerParts) (g : Registers) → IsAsking w p o (Target target) → HasSeatWith w p g
     → IsTarget g target
@@ -169,6 +331,7 @@ pub epp_ending : (w : World) (p : ℕ) (l : Line) (n : ℕ) (o : Operand) (targe
     → IsAsking w p o (Target target) → HasSeatWith w p g → after ≡ loaded g n target → ArePackable after
     → IsEnding w p l (result.Pr n target) after
 epp_ending w p l n o target g after e c s a packable = record {
+  other = no_request l o (ap operand_of e);
   seat = c.seat;
   seated = c.seated;
   asks = λ seen placed.
@@ -179,6 +342,49 @@ epp_ending w p l n o target g after e c s a packable = record {
       ∙ ap (λ (r : Registers). Ends (result.Pr n target) r) (sym a);
   packable = packable;
 }
+
+-- a line at the target of its operand, and one that fetches where the process runs
+pub operand_aims : (w : World) (p : ℕ) (l : Line) (o : Operand) (target : PointerParts) → operand_of l ≡ Some o
+    → IsAsking w p o (Target target) → IsAiming w p l target
+operand_aims w p l o target own c = record {
+  seat = c.seat;
+  seated = c.seated;
+  good = c.good;
+  asks = λ seen placed. target_asks c.seat.registers l o c.seat.progress target own c.asks seen placed;
+  goes = λ j seen placed. target_goes c.seat.registers l o c.seat.progress target own c.asks j seen placed;
+}
+
+fetches_here : (g : Registers) → wanted (walk_from g false (way_back g)) ≡ Done (going_on g.procedure g.ring)
+fetches_here g = ap (λ n. Done (going_on g.procedure n)) (one_ring g.ring)
+  where
+    one_ring : (n : ℕ) → max n (max n 0) ≡ n
+    one_ring n = omega arith
+
+pub fetch_aims : (w : World) (p : ℕ) (l : Line) (g : Registers) (target : PointerParts) → l ≡ line.Fetch → HasSeatWith w p g
+    → target ≡ going_on g.procedure g.ring → IsAiming w p l target
+fetch_aims w p l g target e s is =
+    let at : target ≡ going_on s.seat.registers.procedure s.seat.registers.ring
+    = is ∙ ap (λ (r : Registers). going_on r.procedure r.ring) s.registers in
+    subst (IsAiming w p l) (sym at) (subst (λ (x : Line). IsAiming w p x (going_on s.seat.registers.procedure s.seat.registers.ring)) (sym e) (record {
+      seat = s.seat;
+      seated = s.seated;
+      good = there s.seat.registers (subst ArePackable s.registers s.packable);
+      asks = λ seen placed.
+          ap (λ (l : List Judged). attempt s.seat.registers line.Fetch l) (placed.1 refl)
+          ∙ ap (wants s.seat.registers line.Fetch) (fetches_here s.seat.registers);
+      goes = λ j seen placed.
+          ap (λ (l : List Judged). attempt s.seat.registers line.Fetch (l ++ j ∷ [])) (placed.1 refl)
+          ∙ ap (λ (w : Want). after_seen s.seat.registers line.Fetch (walk_from s.seat.registers false (way_back s.seat.registers)) j w
+          (λ value. along s.seat.registers line.Fetch (read_on (walk_from s.seat.registers false (way_back s.seat.registers)) (parts_of value) j.desc.brackets.r1) []))
+          (fetches_here s.seat.registers);
+    }))
+  where
+    there : (r : Registers) → ArePackable r → IsTarget r (going_on r.procedure r.ring)
+    there r a = record {
+      packable = record { ring = a.ring; segno = a.procedure.segno; word = a.procedure.word };
+      high = omega arith;
+      plain = refl;
+    }
 
 -- `sta` and `spri`
 pub sta_storing : (w : World) (p : ℕ) (l : Line) (o : Operand) (target : PointerParts) (g : Registers) (value : ℕ) → l ≡ line.Sta o
@@ -204,23 +410,51 @@ spri_storing w p l n o target g value e s v = record {
   stores = subst IsStore (sym e) tt;
 }
 
--- a link on the way of an operand
-link_answers : (g : Registers) (l : Line) (o : Operand) (why : Refusal) → operand_of l ≡ Some o
-    → answered g l (Refused why) ≡ Ends (result_of (Refused why)) g
-link_answers g (line.Ask request) o why e = absurd (cc)
-link_answers g (line.Set word) o why e = absurd (cc)
-link_answers g (line.Epp n operand) o why e = refl
-link_answers g (line.Lda operand) o why e = refl
-link_answers g (line.Sta operand) o why e = refl
-link_answers g (line.Spri n operand) o why e = refl
+-- a link on the way of an operand is refused
+link_answers : (g : Registers) (l : Line) (o : Operand) (request : Request) (why : Refusal) → operand_of l ≡ Some o
+    → answered g l request (replies.Refused why) ≡ Ends (result_of (replies.Refused why)) g
+link_answers g (line.Ask asked) o request why e = absurd (cc)
+link_answers g (line.Set word) o request why e = absurd (cc)
+link_answers g (line.Epp n operand) o request why e = refl
+link_answers g (line.Lda operand) o request why e = refl
+link_answers g (line.Sta operand) o request why e = refl
+link_answers g (line.Spri n operand) o request why e = refl
+link_answers g line.Fetch o request why e = absurd (cc)
+link_answers g (line.Call operand) o request why e = refl
+link_answers g (line.Return operand) o request why e = refl
 
-pub link_calling : (w : World) (p : ℕ) (l : Line) (o : Operand) (place : Place) → operand_of l ≡ Some o → IsAsking w p o (First (way.Link place))
+refused_link : (s : Plain) (p ring segno word : ℕ) (reply : Reply) → 1 ≤ p
+    → IsRightEntry s (record { process = p; ring = ring; request = Link segno word; reply = reply }) → reply ≡ replies.Refused NotLinkage
+refused_link s p ring segno word reply some right =
+    let serves = link_serves s p ring segno word (record { reply = replies.Refused NotLinkage; changes = [] }) some right.maker.0 refl in
+    sym right.reply ∙ ap (λ (a : Replied). a.reply) serves.as_meant
+
+pub link_calling : (x : Outline) (s : Supervised) (whole : List (List Step)) (room : ℕ) (cells : List Contents) (processes : List Process) (w : World) (p : ℕ)
+    (l : Line) (o : Operand) (place : Place) → IsKept x s whole room cells processes → world_in x s whole cells processes ≡ w → IsAtLine w p l
+    → operand_of l ≡ Some o → IsAsking w p o (First (way.Link place))
     → IsCalling w p l place.ring (Link place.segno place.word)
-link_calling w p l o place own c = record {
+link_calling x s whole room cells processes w p l o place k view a own c = record {
+  awake = λ waits. awake waits.seat waits.seated waits.told;
   seat = c.seat;
   seated = c.seated;
-  asks = λ seen placed. link_asks c.seat.registers l o c.seat.progress place own c.asks seen placed;
-  answers = λ reply is.
-      subst (λ (r : Reply). answered c.seat.registers l r ≡ Ends (result_of r) c.seat.registers) (sym is)
-      (link_answers c.seat.registers l o NotLinkage own);
+  asks = asks;
+  answers = λ reply below is.
+      inl (subst (λ (r : Reply). answered c.seat.registers l (Link place.segno place.word) r ≡ Ends (result_of r) c.seat.registers)
+      (sym (refused_link (state_in w) p place.ring place.segno place.word reply a.some is))
+      (link_answers c.seat.registers l o (Link place.segno place.word) NotLinkage own));
+  first = λ blocks. absurd (no_block blocks);
+  logs_out = λ out. absurd (no_request l o own Logout out);
 }
+  where
+    no_block : Link place.segno place.word ≡ Block → ⊥
+    no_block h = cc
+
+    awake : (seat : Seat) → slice_get w.seats (p - 1) ≡ Some seat → seat.progress ≡ Waiting → ⊥
+    awake seat e told =
+        not_told w (p - 1) a.seat a.number l a.left (subst IsRunning view k.running) (at_place w p l a) (no_request l o own)
+        (ap (λ (seat : Seat). seat.progress) (same_seats w p a.seat seat a.seated e) ∙ told)
+
+    asks : (course : Course) → IsCome c.seat.registers l course c.seat.progress
+        → next c.seat.registers l course ≡ Calls place.ring (Link place.segno place.word)
+    asks (Attempt seen) come = link_asks c.seat.registers l o c.seat.progress place own c.asks seen come
+    asks (Answer entry) come = absurd (no_request l o own Block come.3)

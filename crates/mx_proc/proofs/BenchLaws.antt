@@ -17,7 +17,8 @@ use Rattle.mx_proc.specs.Benches.{world_in, first_of, IsKept}
 use Rattle.mx_proc.specs.Operands.{IsGoodProgress, steps_in}
 use Rattle.mx_proc.specs.Processes.{seat_in, IsGood, AreGood, IsStill, HasEnded, HasGoneOn}
 use Rattle.mx_proc.specs.Running.{left_of, IsRunning}
-use Rattle.mx_proc.specs.Stepping.{IsSeat, IsAtLine, HasMoved, HasStepped}
+use Rattle.mx_proc.specs.Standing.{AreStanding}
+use Rattle.mx_proc.specs.Stepping.{IsSeat, IsAtLine, IsWaiting, HasMoved, HasStepped}
 use Rattle.mx_proc.specs.Worlds.{Seat}
 use Rattle.mx_proc.specs.declared.memory.Contents.{Contents}
 use Rattle.mx_proc.specs.declared.operands.Progress.{Progress}
@@ -39,7 +40,7 @@ set_twice [] i x y = refl
 set_twice (z ∷ xs) zero x y = refl
 set_twice (z ∷ xs) (suc i) x y = ap (λ ys. z ∷ ys) (set_twice xs i x y)
 
-set_same : {A : Type 0} (xs : List A) (i : ℕ) (x : A) → slice_get xs i ≡ Some x → slice_set xs i x ≡ xs
+pub set_same : {A : Type 0} (xs : List A) (i : ℕ) (x : A) → slice_get xs i ≡ Some x → slice_set xs i x ≡ xs
 set_same [] i x e = refl
 set_same (z ∷ xs) zero x e = cc
 set_same (z ∷ xs) (suc i) x e = ap (λ ys. z ∷ ys) (set_same xs i x e)
@@ -99,15 +100,19 @@ still_kept x s whole room cells processes processes' i still k = record {
   room_for = let r = k.room_for in let l = ap length still.set ∙ set_length processes i still.after in omega (arith, r, l);
   good = subst (AreGood x) (sym still.set)
       (good_set x processes i still.before still.after still.at k.good (good_still (k.good i still.before still.at)));
-  running = subst IsRunning (ap (λ (seats : List Seat). record {
-    session = x;
-    journal = s.journal;
-    set_up = first_of whole;
-    cells = cells;
-    seats = seats;
-  }) (sym (still_seats processes processes' i still))) k.running;
+  running = subst IsRunning world k.running;
+  standing = subst AreStanding world k.standing;
 }
   where
+    world : world_in x s whole cells processes ≡ world_in x s whole cells processes'
+    world = ap (λ (seats : List Seat). record {
+      session = x;
+      journal = s.journal;
+      set_up = first_of whole;
+      cells = cells;
+      seats = seats;
+    }) (sym (still_seats processes processes' i still))
+
     good_still : IsGood x i still.before → IsGood x i still.after
     good_still is = record {
       first = still.first ∙ is.first;
@@ -219,8 +224,10 @@ pub done_kept : (x : Outline) (s s' : Supervised) (whole : List (List Step)) (ro
     → (d : IsLineDone processes i events ends registers processes')
     → IsRunning (stepped (world_in x s whole cells processes) i s'.journal cells'
     (after_line (seat_in d.before) (d.before.first + length d.before.recording.steps) events ends registers))
+    → AreStanding (stepped (world_in x s whole cells processes) i s'.journal cells'
+    (after_line (seat_in d.before) (d.before.first + length d.before.recording.steps) events ends registers))
     → IsKept x s' whole room cells' processes'
-done_kept x s s' whole room cells cells' processes processes' i events ends registers k same wide packable d r = record {
+done_kept x s s' whole room cells cells' processes processes' i events ends registers k same wide packable d r st = record {
   session = k.session;
   same = same;
   wide = wide;
@@ -231,28 +238,35 @@ done_kept x s s' whole room cells cells' processes processes' i events ends regi
     packable = subst ArePackable (sym d.done) packable;
     progress = fresh_progress d.after d.fresh;
   }));
-  running = subst IsRunning (ap (λ (seats : List Seat). record {
-    session = x;
-    journal = s'.journal;
-    set_up = first_of whole;
-    cells = cells';
-    seats = seats;
-  }) (ap (slice_set (map seat_in processes) i) (sym d.seat) ∙ sym (map_set seat_in processes i d.after) ∙ ap (map seat_in) (sym d.set))) r;
+  running = subst IsRunning world r;
+  standing = subst AreStanding world st;
 }
   where
+    world : stepped (world_in x s whole cells processes) i s'.journal cells'
+        (after_line (seat_in d.before) (d.before.first + length d.before.recording.steps) events ends registers)
+        ≡ world_in x s' whole cells' processes'
+    world = ap (λ (seats : List Seat). record {
+      session = x;
+      journal = s'.journal;
+      set_up = first_of whole;
+      cells = cells';
+      seats = seats;
+    }) (ap (slice_set (map seat_in processes) i) (sym d.seat) ∙ sym (map_set seat_in processes i d.after) ∙ ap (map seat_in) (sym d.set))
+
     fresh_progress : (p : Process) → p.progress ≡ Before → IsGoodProgress p.registers p.progress
     fresh_progress p e = subst (IsGoodProgress p.registers) (sym e) tt
 
 -- the bench after a line that has one event more
-pub moved_kept : (x : Outline) (s : Supervised) (whole : List (List Step)) (room : ℕ) (cells : List Contents) (processes processes' : List Process) (i : ℕ)
+pub moved_kept : (x : Outline) (s s' : Supervised) (whole : List (List Step)) (room : ℕ) (cells : List Contents) (processes processes' : List Process) (i : ℕ)
     (event : Event2) (progress : Progress)
-    → IsKept x s whole room cells processes → (d : IsLineMoved processes i event progress processes')
+    → IsKept x s whole room cells processes → s'.session ≡ x → (d : IsLineMoved processes i event progress processes')
     → IsGoodProgress d.before.registers progress
-    → IsRunning (stepped (world_in x s whole cells processes) i s.journal cells (moved (seat_in d.before) event progress))
-    → IsKept x s whole room cells processes'
-moved_kept x s whole room cells processes processes' i event progress k d fits r = record {
+    → IsRunning (stepped (world_in x s whole cells processes) i s'.journal cells (moved (seat_in d.before) event progress))
+    → AreStanding (stepped (world_in x s whole cells processes) i s'.journal cells (moved (seat_in d.before) event progress))
+    → IsKept x s' whole room cells processes'
+moved_kept x s s' whole room cells processes processes' i event progress k same d fits r st = record {
   session = k.session;
-  same = k.same;
+  same = same;
   wide = k.wide;
   one = k.one;
   room_for = let f = k.room_for in let l = ap length d.set ∙ set_length processes i d.after in omega (arith, f, l);
@@ -261,15 +275,20 @@ moved_kept x s whole room cells processes processes' i event progress k d fits r
     packable = subst ArePackable (sym d.registers) (k.good i d.before d.at).packable;
     progress = good_progress_is d.before d.after d.registers d.progress_is fits;
   }));
-  running = subst IsRunning (ap (λ (seats : List Seat). record {
-    session = x;
-    journal = s.journal;
-    set_up = first_of whole;
-    cells = cells;
-    seats = seats;
-  }) (ap (slice_set (map seat_in processes) i) (sym d.seat) ∙ sym (map_set seat_in processes i d.after) ∙ ap (map seat_in) (sym d.set))) r;
+  running = subst IsRunning world r;
+  standing = subst AreStanding world st;
 }
   where
+    world : stepped (world_in x s whole cells processes) i s'.journal cells (moved (seat_in d.before) event progress)
+        ≡ world_in x s' whole cells processes'
+    world = ap (λ (seats : List Seat). record {
+      session = x;
+      journal = s'.journal;
+      set_up = first_of whole;
+      cells = cells;
+      seats = seats;
+    }) (ap (slice_set (map seat_in processes) i) (sym d.seat) ∙ sym (map_set seat_in processes i d.after) ∙ ap (map seat_in) (sym d.set))
+
     good_progress_is : (before after : Process) → after.registers ≡ before.registers → after.progress ≡ progress
         → IsGoodProgress before.registers progress → IsGoodProgress after.registers after.progress
     good_progress_is before after e f g =
@@ -290,15 +309,16 @@ seat_is x s whole cells processes p i seat before place seated at = same_seat_at
 pub done_stepped : (x : Outline) (s s' : Supervised) (whole : List (List Step)) (cells cells' : List Contents) (processes processes' : List Process) (p i : ℕ)
     (events : List Event2) (ends : Result2) (registers : Registers) (line : Line) (more : List journaled.Entry)
     → AreGood x processes → i ≡ p - 1 → IsAtLine (world_in x s whole cells processes) p line → s'.journal ≡ s.journal ++ more → length more ≤ 1
-    → length events ≤ 1 → IsLineDone processes i events ends registers processes'
+    → length events ≤ 1 → (IsWaiting (world_in x s whole cells processes) p → ⊥) → IsLineDone processes i events ends registers processes'
     → HasStepped (world_in x s whole cells processes) p (world_in x s' whole cells' processes')
-done_stepped x s s' whole cells cells' processes processes' p i events ends registers line more good place a grown few little d =
+done_stepped x s s' whole cells cells' processes processes' p i events ends registers line more good place a grown few little awake d =
     let is : a.seat ≡ seat_in d.before = same_seat_at processes p i a.seat d.before place a.seated d.at in
     let at : left_of x p (seat_in d.before) ≡ (a.number, line) ∷ a.left = ap (left_of x p) (sym is) ∙ a.at in
     let own : p ≡ suc i = let one = a.some in omega (arith, place, one) in
     let number : a.number ≡ first_line x (suc i) + length d.before.recording.steps
     = number_is x i (seat_in d.before) a.number line a.left (ap (λ n. left_of x n (seat_in d.before)) (sym own) ∙ at) in
     record {
+      awake = awake;
       session = refl;
       set_up = refl;
       before = seat_in d.before;
@@ -321,14 +341,15 @@ done_stepped x s s' whole cells cells' processes processes' p i events ends regi
       one = few;
     }
 
-pub moved_stepped : (x : Outline) (s : Supervised) (whole : List (List Step)) (cells : List Contents) (processes processes' : List Process) (p i : ℕ)
-    (event : Event2) (progress : Progress) → i ≡ p - 1 → (d : IsLineMoved processes i event progress processes')
+pub moved_stepped : (x : Outline) (s s' : Supervised) (whole : List (List Step)) (cells : List Contents) (processes processes' : List Process) (p i : ℕ)
+    (event : Event2) (progress : Progress) (more : List journaled.Entry) → i ≡ p - 1 → s'.journal ≡ s.journal ++ more → length more ≤ 1
+    → (IsWaiting (world_in x s whole cells processes) p → ⊥) → (d : IsLineMoved processes i event progress processes')
     → steps_in progress < steps_in d.before.progress
-    → HasMoved (world_in x s whole cells processes) p (world_in x s whole cells processes')
-moved_stepped x s whole cells processes processes' p i event progress place d closer = record {
+    → HasMoved (world_in x s whole cells processes) p (world_in x s' whole cells processes')
+moved_stepped x s s' whole cells processes processes' p i event progress more place grown few awake d closer = record {
+  awake = awake;
   session = refl;
   set_up = refl;
-  journal = refl;
   before = seat_in d.before;
   seated = ap (slice_get (map seat_in processes)) (sym place) ∙ map_get seat_in processes i d.before d.at;
   event = event;
@@ -338,6 +359,9 @@ moved_stepped x s whole cells processes processes' p i event progress place d cl
   more = ap (λ (seat : Seat). seat.events) d.seat;
   closer = subst (λ (q : Progress). steps_in q < steps_in d.before.progress) (sym d.progress_is) closer;
   seats = ap (map seat_in) d.set ∙ map_set seat_in processes i d.after ∙ ap (λ n. slice_set (map seat_in processes) n (seat_in d.after)) place;
+  entries = more;
+  grown = grown;
+  one = few;
 }
 
 -- the process that is at a line, among those of the bench

@@ -1,12 +1,11 @@
 -- Each kind of step keeps the bench.
-use Rattle.std.proofs.Common.{◌≡◌, ℕ, suc, ◌<◌, ◌≤◌, ◌+◌, ◌-◌, List, [], ◌∷◌, ◌++◌, length, Some, refl, sym, ◌∙◌, ap, subst, arith, append-nil}
+use Rattle.std.proofs.Common.{◌≡◌, inl, inr, ℕ, suc, ◌<◌, ◌≤◌, ◌+◌, ◌-◌, List, [], ◌∷◌, ◌++◌, map, length, Some, refl, sym, ◌∙◌, ap, subst, arith, append-nil, length-append}
 use Rattle.std.proofs.lemmas.List.{take_all}
 use Rattle.std.specs.List.{slice_get}
 use Rattle.std.specs.Option.{option_map}
 use Rattle.mx_call.specs.Registers.{Registers, ArePackable}
 use Rattle.mx_core.specs.declared.elements.Element.{Element}
 use Rattle.mx_core.specs.declared.elements.Event.TheVariants.{Seen}
-use Rattle.mx_hier.specs.declared.refusals.Refusal.TheVariants.{NotLinkage}
 use Rattle.mx_legal.specs.Access.{descriptor_of}
 use Rattle.mx_legal.specs.Asking.{next, answered, result_of}
 use Rattle.mx_legal.specs.Courses.{Attempt, Judged}
@@ -18,31 +17,34 @@ use Rattle.mx_legal.specs.declared.transcripts.Event2.TheVariants.{Core, Entry}
 use Rattle.mx_legal.specs.declared.transcripts.Result2.{Result2}
 use Rattle.mx_legal.specs.declared.transcripts.Result2.TheVariants as result
 use Rattle.mx_request.specs.declared.replies.Reply.{Reply}
-use Rattle.mx_request.specs.declared.replies.Reply.TheVariants.{Refused}
+use Rattle.mx_request.specs.declared.replies.Reply.TheVariants as replies
 use Rattle.mx_request.specs.declared.requests.Request.{Request}
-use Rattle.mx_request.specs.declared.requests.Request.TheVariants.{Link}
+use Rattle.mx_request.specs.declared.requests.Request.TheVariants.{Logout}
 use Rattle.mx_script.specs.Sessions.{Outline, limit_of}
 use Rattle.mx_script.specs.declared.lines.Line.{Line}
+use Rattle.mx_script.specs.declared.lines.Line.TheVariants as lines
 use Rattle.mx_sdw.specs.Descriptors.{Descriptor}
-use Rattle.mx_state.proofs.LinkLaws.{link_serves}
 use Rattle.mx_state.specs.History.{opening, replay, IsRightEntry}
-use Rattle.mx_state.specs.Plain.{Plain, Answer}
 use Rattle.mx_state.specs.Table.{descriptor}
 use Rattle.mx_state.specs.declared.journal.Entry as journaled
 use Rattle.mx_sup.specs.Entering.{HasEntered}
 use Rattle.mx_sup.specs.Supervised.{Supervised, state_of}
 use Rattle.mx_proc.proofs.BenchLaws.{line_done, line_moved, done_kept, done_stepped, moved_kept, moved_stepped, at_process, seat_is}
-use Rattle.mx_proc.proofs.WorldLaws.{Asking, after_line, stepped, end_law, full_law, call_law, refer_law, look_law}
+use Rattle.mx_proc.proofs.WorldLaws.{Asking, Calling, IsAt, after_line, moved, stepped, end_law, full_law, call_law, wait_law, refer_law, look_law, not_told, look_awake}
+use Rattle.mx_proc.proofs.StandingLaws.{line_standing, event_standing, still_there, entered_there, waits_after, out_after}
 use Rattle.mx_proc.specs.Access.{IsAccess}
-use Rattle.mx_proc.specs.Asking.{IsEnding, IsCalling, IsReplyTo}
+use Rattle.mx_legal.proofs.AwaitLaws.{awaits_no_end}
+use Rattle.mx_proc.specs.Asking.{IsNoRequest, IsEnding, IsCalling, IsToldToWait}
 use Rattle.mx_proc.specs.Benches.{world_in, IsKept}
 use Rattle.mx_proc.specs.Operands.{IsPlaced, IsGoodProgress, steps_in}
 use Rattle.mx_proc.specs.Processes.{seat_in, IsStill, HasEnded, HasGoneOn}
 use Rattle.mx_proc.specs.Running.{IsRunning}
-use Rattle.mx_proc.specs.Stepping.{IsAtLine, HasMoved, HasStepped}
+use Rattle.mx_proc.specs.Standing.{AreStanding}
+use Rattle.mx_proc.specs.Stepping.{IsAtLine, IsWaiting, HasMoved, HasStepped}
 use Rattle.mx_proc.specs.Worlds.{Seat}
 use Rattle.mx_proc.specs.declared.memory.Contents.{Contents}
 use Rattle.mx_proc.specs.declared.operands.Progress.{Progress}
+use Rattle.mx_proc.specs.declared.operands.Progress.TheVariants.{Before, Walking, AtLink, Waiting}
 use Rattle.mx_proc.specs.declared.processes.Process.{Process}
 
 -- the bench is kept, and the process has done its line
@@ -59,6 +61,38 @@ same_process processes i q r e f = same_some q r (sym e ∙ f)
     same_some : (q r : Process) → Some q ≡ Some r → q ≡ r
     same_some q r e = cc
 
+-- a process at a line that is no request does not wait
+memory_awake : (x : Outline) (s : Supervised) (whole : List (List Step)) (cells : List Contents) (processes : List Process) (p i : ℕ) (line : Line)
+    (left : List (ℕ × Line)) (before : Process) → IsRunning (world_in x s whole cells processes) → i ≡ p - 1
+    → IsAt (world_in x s whole cells processes) i (seat_in before) (before.first + length before.recording.steps) line left → IsNoRequest line
+    → IsWaiting (world_in x s whole cells processes) p → ⊥
+memory_awake x s whole cells processes p i line left before r place there other = λ waits.
+    let same : waits.seat ≡ seat_in before = one waits.seat (seat_in before) (sym waits.seated ∙ ap (slice_get (map seat_in processes)) (sym place) ∙ there.seated) in
+    not_told (world_in x s whole cells processes) i (seat_in before) (before.first + length before.recording.steps) line left r there other
+    (ap (λ (seat : Seat). seat.progress) (sym same) ∙ waits.told)
+  where
+    one : (a b : Seat) → Some a ≡ Some b → a ≡ b
+    one a b e = cc
+
+-- a line does not end that waits
+not_ended : (g : Registers) (line : Line) (request : Request) → answered g line request replies.Waiting ≡ Ends (result_of replies.Waiting) g → ⊥
+not_ended g (lines.Ask asked) request e = awaits_no_end g request _ g e
+not_ended g (lines.Set word) request e = cc
+not_ended g (lines.Epp n o) request e = cc
+not_ended g (lines.Lda o) request e = cc
+not_ended g (lines.Sta o) request e = cc
+not_ended g (lines.Spri n o) request e = cc
+not_ended g lines.Fetch request e = cc
+not_ended g (lines.Call o) request e = cc
+not_ended g (lines.Return o) request e = cc
+
+-- whoever was not told to wait has steps left in its line
+some_left : (g : Registers) (progress : Progress) → IsGoodProgress g progress → (progress ≡ Waiting → ⊥) → 0 < steps_in progress
+some_left g Before good never = omega arith
+some_left g (Walking walk) good never = let short = good.bounded.short in omega arith
+some_left g (AtLink place) good never = omega arith
+some_left g Waiting good never = absurd (never refl)
+
 -- a line that needs no further event
 pub end_goes : (x : Outline) (s : Supervised) (whole : List (List Step)) (room : ℕ) (cells : List Contents) (processes middle processes' : List Process)
     (p i : ℕ) (line : Line) (ends : Result2) (registers : Registers)
@@ -70,11 +104,15 @@ end_goes x s whole room cells processes middle processes' p i line ends register
     let d = line_done processes middle processes' i [] ends registers still ended in
     let asks : Asking (seat_in d.before) line (Ends ends registers)
     = subst (λ (seat : Seat). Asking seat line (Ends ends registers)) (seat_is x s whole cells processes p i e.seat d.before place e.seated d.at) e.asks in
+    let here = at_process x s whole cells processes p i line d.before k.good place a d.at in
     let w = end_law (world_in x s whole cells processes) i (seat_in d.before) (d.before.first + length d.before.recording.steps) line a.left
-    ends registers k.running (at_process x s whole cells processes p i line d.before k.good place a d.at) asks in (
-      done_kept x s s whole room cells cells processes processes' i [] ends registers k k.same k.wide e.packable d w,
+    ends registers k.running here e.other asks in
+    let st = line_standing (world_in x s whole cells processes) i (seat_in d.before) (d.before.first + length d.before.recording.steps) line a.left
+    s.journal cells [] ends registers k.session here k.standing (still_there s.journal i) (omega arith)
+    (λ out below. absurd (e.other Logout out)) in (
+      done_kept x s s whole room cells cells processes processes' i [] ends registers k k.same k.wide e.packable d w st,
       done_stepped x s s whole cells cells processes processes' p i [] ends registers line [] k.good place a (none_more s.journal) (omega arith)
-          (omega arith) d,
+          (omega arith) (memory_awake x s whole cells processes p i line a.left d.before k.running place here e.other) d,
     )
 
 -- a call that found the journal full
@@ -88,37 +126,61 @@ pub full_goes : (x : Outline) (s : Supervised) (whole : List (List Step)) (room 
 full_goes x s whole room cells processes middle processes' p i line ring request q registers k place a e here is full still ended =
     let d = line_done processes middle processes' i [] result.HistoryFull registers still ended in
     let after : d.before.registers ≡ registers = sym (is ∙ ap (λ (r : Process). r.registers) (same_process processes i q d.before here d.at)) in
-    let asks : Asking (seat_in d.before) line (Calls ring request)
-    = subst (λ (seat : Seat). Asking seat line (Calls ring request)) (seat_is x s whole cells processes p i e.seat d.before place e.seated d.at) e.asks in
+    let asks : Calling (seat_in d.before) line ring request
+    = subst (λ (seat : Seat). Calling seat line ring request) (seat_is x s whole cells processes p i e.seat d.before place e.seated d.at) e.asks in
+    let there = at_process x s whole cells processes p i line d.before k.good place a d.at in
+    let at_limit : length s.journal ≡ limit_of x = full ∙ ap limit_of k.same in
     let w = full_law (world_in x s whole cells processes) i (seat_in d.before) (d.before.first + length d.before.recording.steps) line a.left
-    ring request k.running (at_process x s whole cells processes p i line d.before k.good place a d.at) asks
-    (full ∙ ap limit_of k.same) in (
+    ring request k.running there asks at_limit in
+    let st = line_standing (world_in x s whole cells processes) i (seat_in d.before) (d.before.first + length d.before.recording.steps) line a.left
+    s.journal cells [] result.HistoryFull registers k.session there k.standing (still_there s.journal i) (omega arith)
+    (λ out below. absurd (omega (arith, at_limit, below))) in (
       done_kept x s s whole room cells cells processes processes' i [] result.HistoryFull registers k k.same k.wide
           (subst ArePackable after (k.good i d.before d.at).packable) d
           (subst (λ (r : Registers). IsRunning (stepped (world_in x s whole cells processes) i s.journal cells
-          (after_line (seat_in d.before) (d.before.first + length d.before.recording.steps) [] result.HistoryFull r))) after w),
+          (after_line (seat_in d.before) (d.before.first + length d.before.recording.steps) [] result.HistoryFull r))) after w) st,
       done_stepped x s s whole cells cells processes processes' p i [] result.HistoryFull registers line [] k.good place a (none_more s.journal)
-          (omega arith) (omega arith) d,
+          (omega arith) (omega arith) e.awake d,
     )
 
--- a link is refused
-reply_is : (s : Plain) (p ring : ℕ) (request : Request) (reply : Reply) → 1 ≤ p
-    → IsRightEntry s (record { process = p; ring = ring; request = request; reply = reply }) → IsReplyTo request reply
-reply_is s p ring (Link segno word) reply some right =
-    let serves = link_serves s p ring segno word (record { reply = Refused NotLinkage; changes = [] }) some right.maker.0 refl in
-    sym right.reply ∙ ap (λ (a : Answer). a.reply) serves.as_meant
-reply_is _ _ _ _ _ _ _ = tt
+-- the last entry of a journal
+last_at : (journal : List journaled.Entry) (entry : journaled.Entry) → entry_at (journal ++ entry ∷ []) (length journal + 1) ≡ Some entry
+last_at journal entry = subst (λ n. entry_at (journal ++ entry ∷ []) n ≡ Some entry) (next (length journal)) (at journal)
+  where
+    next : (n : ℕ) → suc n ≡ n + 1
+    next n = omega arith
 
--- a call that was entered
+    at : (journal : List journaled.Entry) → slice_get (journal ++ entry ∷ []) (length journal) ≡ Some entry
+    at [] = refl
+    at (first ∷ journal) = at journal
+
+last_reply : (journal journal' : List journaled.Entry) (entry : journaled.Entry) (number : ℕ) (reply : Reply) → journal' ≡ journal ++ entry ∷ []
+    → number ≡ length journal + 1 → option_map (λ (e : journaled.Entry). e.reply) (entry_at journal' number) ≡ Some reply → entry.reply ≡ reply
+last_reply journal journal' entry number reply e f g =
+    let there : entry_at journal' number ≡ Some entry
+    = subst (λ (j : List journaled.Entry). entry_at j number ≡ Some entry) (sym e)
+    (subst (λ n. entry_at (journal ++ entry ∷ []) n ≡ Some entry) (sym f) (last_at journal entry)) in
+    let replied : option_map (λ (e : journaled.Entry). e.reply) (entry_at journal' number) ≡ Some entry.reply
+    = ap (option_map (λ (e : journaled.Entry). e.reply)) there in
+    same_reply entry.reply reply (sym replied ∙ g)
+  where
+    same_reply : (a b : Reply) → Some a ≡ Some b → a ≡ b
+    same_reply a b e = cc
+
+-- longer by an entry
+one_longer : (journal journal' : List journaled.Entry) (entry : journaled.Entry) → journal' ≡ journal ++ entry ∷ [] → length journal ≤ length journal'
+one_longer journal journal' entry e = omega (arith, ap length e, length-append journal (entry ∷ []))
+
+-- a call that was entered, and ends the line
 pub call_goes : (x : Outline) (s s' : Supervised) (whole : List (List Step)) (room : ℕ) (cells : List Contents) (processes middle processes' : List Process)
     (p i number : ℕ) (line : Line) (ring : ℕ) (request : Request) (reply : Reply) (ends : Result2) (q : Process) (registers : Registers)
     → IsKept x s whole room cells processes → i ≡ p - 1 → IsAtLine (world_in x s whole cells processes) p line
     → IsCalling (world_in x s whole cells processes) p line ring request
     → slice_get processes i ≡ Some q → registers ≡ q.registers → HasEntered s p ring request number s'
-    → option_map (λ (e : journaled.Entry). e.reply) (entry_at s'.journal number) ≡ Some reply → ends ≡ result_of reply
+    → option_map (λ (e : journaled.Entry). e.reply) (entry_at s'.journal number) ≡ Some reply → (reply ≡ replies.Waiting → ⊥) → ends ≡ result_of reply
     → IsStill processes i middle → HasEnded middle i (Entry number ∷ []) ends registers processes'
     → Goes x s s' whole room cells cells processes processes' p
-call_goes x s s' whole room cells processes middle processes' p i number line ring request reply ends q registers k place a c here is e replied result still ended =
+call_goes x s s' whole room cells processes middle processes' p i number line ring request reply ends q registers k place a c here is e replied never result still ended =
     let d = line_done processes middle processes' i (Entry number ∷ []) ends registers still ended in
     let after : d.before.registers ≡ registers = sym (is ∙ ap (λ (r : Process). r.registers) (same_process processes i q d.before here d.at)) in
     let own : p ≡ suc i = let one = a.some in omega (arith, place, one) in
@@ -126,52 +188,87 @@ call_goes x s s' whole room cells processes middle processes' p i number line ri
     let journal : s'.journal ≡ s.journal ++ entry ∷ [] = ap (λ (t : Supervised). t.journal) e.entry in
     let told : e.reply ≡ reply = last_reply s.journal s'.journal entry number reply journal e.number replied in
     let seat = seat_is x s whole cells processes p i c.seat d.before place c.seated d.at in
-    let asks : Asking (seat_in d.before) line (Calls ring request)
-    = subst (λ (seat : Seat). Asking seat line (Calls ring request)) seat c.asks in
-    let answers : answered d.before.registers line e.reply ≡ Ends (result_of e.reply) d.before.registers
-    = subst (λ (seat : Seat). answered seat.registers line e.reply ≡ Ends (result_of e.reply) seat.registers) seat
-    (c.answers e.reply (reply_is (state_of s) p ring request e.reply a.some e.right)) in
+    let asks : Calling (seat_in d.before) line ring request = subst (λ (seat : Seat). Calling seat line ring request) seat c.asks in
+    let below : length s.journal < limit_of x = subst (λ (y : Outline). length s.journal < limit_of y) k.same e.below in
+    let answers : answered d.before.registers line request e.reply ≡ Ends (result_of e.reply) d.before.registers
+    = subst (λ (seat : Seat). answered seat.registers line request e.reply ≡ Ends (result_of e.reply) seat.registers) seat
+    (elim (c.answers e.reply below (subst (λ (y : Outline). IsRightEntry (replay (opening y.principals) s.journal) entry) k.same e.right)) [
+      | inl f ↦ f
+      | inr t ↦ absurd (never (sym told ∙ t.waits))
+    ]) in
+    let there = at_process x s whole cells processes p i line d.before k.good place a d.at in
     let w = call_law (world_in x s whole cells processes) i (seat_in d.before) (d.before.first + length d.before.recording.steps) line a.left entry
-    k.running (at_process x s whole cells processes p i line d.before k.good place a d.at)
-    own asks answers (subst (λ (y : Outline). length s.journal < limit_of y) k.same e.below)
-    (subst (λ (y : Outline). IsRightEntry (replay (opening y.principals) s.journal) entry) k.same e.right) in (
+    k.running there own asks answers below
+    (subst (λ (y : Outline). IsRightEntry (replay (opening y.principals) s.journal) entry) k.same e.right) in
+    let st = line_standing (world_in x s whole cells processes) i (seat_in d.before) (d.before.first + length d.before.recording.steps) line a.left
+    (s.journal ++ entry ∷ []) cells (Entry (length s.journal + 1) ∷ []) (result_of e.reply) d.before.registers k.session there k.standing
+    (λ j. entered_there s.journal entry i j own) (one_longer s.journal (s.journal ++ entry ∷ []) entry refl)
+    (λ out more. out_after s.journal entry i own (c.logs_out out)) in
+    let made = as_done s s' cells d.before number entry ends registers i after journal e.number (result ∙ ap result_of (sym told)) in (
       done_kept x s s' whole room cells cells processes processes' i (Entry number ∷ []) ends registers k
           (ap (λ (t : Supervised). t.session) e.entry ∙ k.same) k.wide (subst ArePackable after (k.good i d.before d.at).packable) d
-          (as_done s s' cells d.before number entry ends registers i after journal e.number (result ∙ ap result_of (sym told)) w),
+          (subst IsRunning made w) (subst AreStanding made st),
       done_stepped x s s' whole cells cells processes processes' p i (Entry number ∷ []) ends registers line (entry ∷ []) k.good place a journal
-          (omega arith) (omega arith) d,
+          (omega arith) (omega arith) c.awake d,
     )
   where
-    last_at : (journal : List journaled.Entry) (entry : journaled.Entry) → entry_at (journal ++ entry ∷ []) (length journal + 1) ≡ Some entry
-    last_at journal entry = subst (λ n. entry_at (journal ++ entry ∷ []) n ≡ Some entry) (next (length journal)) (at journal)
-      where
-        next : (n : ℕ) → suc n ≡ n + 1
-        next n = omega arith
-
-        at : (journal : List journaled.Entry) → slice_get (journal ++ entry ∷ []) (length journal) ≡ Some entry
-        at [] = refl
-        at (first ∷ journal) = at journal
-
-    last_reply : (journal journal' : List journaled.Entry) (entry : journaled.Entry) (number : ℕ) (reply : Reply) → journal' ≡ journal ++ entry ∷ []
-        → number ≡ length journal + 1 → option_map (λ (e : journaled.Entry). e.reply) (entry_at journal' number) ≡ Some reply → entry.reply ≡ reply
-    last_reply journal journal' entry number reply e f g =
-        let there : entry_at journal' number ≡ Some entry
-        = subst (λ (j : List journaled.Entry). entry_at j number ≡ Some entry) (sym e)
-        (subst (λ n. entry_at (journal ++ entry ∷ []) n ≡ Some entry) (sym f) (last_at journal entry)) in
-        let replied : option_map (λ (e : journaled.Entry). e.reply) (entry_at journal' number) ≡ Some entry.reply
-        = ap (option_map (λ (e : journaled.Entry). e.reply)) there in
-        same_reply entry.reply reply (sym replied ∙ g)
-      where
-        same_reply : (a b : Reply) → Some a ≡ Some b → a ≡ b
-        same_reply a b e = cc
-
     as_done : (s s' : Supervised) (cells : List Contents) (before : Process) (number : ℕ) (entry : journaled.Entry) (ends : Result2) (registers : Registers) (i : ℕ)
         → before.registers ≡ registers → s'.journal ≡ s.journal ++ entry ∷ [] → number ≡ length s.journal + 1 → ends ≡ result_of entry.reply
-        → IsRunning (stepped (world_in x s whole cells processes) i (s.journal ++ entry ∷ []) cells
-        (after_line (seat_in before) (before.first + length before.recording.steps) (Entry (length s.journal + 1) ∷ []) (result_of entry.reply) before.registers))
-        → IsRunning (stepped (world_in x s whole cells processes) i s'.journal cells
-        (after_line (seat_in before) (before.first + length before.recording.steps) (Entry number ∷ []) ends registers))
-    as_done s s' cells before number entry ends registers i after journal at is w = rw (sym after, journal, at, is) w
+        → stepped (world_in x s whole cells processes) i (s.journal ++ entry ∷ []) cells
+        (after_line (seat_in before) (before.first + length before.recording.steps) (Entry (length s.journal + 1) ∷ []) (result_of entry.reply) before.registers)
+        ≡ stepped (world_in x s whole cells processes) i s'.journal cells
+        (after_line (seat_in before) (before.first + length before.recording.steps) (Entry number ∷ []) ends registers)
+    as_done s s' cells before number entry ends registers i after journal at is = rw (sym after, journal, at, is) refl
+
+-- a call that was entered, and told its process to wait
+pub wait_goes : (x : Outline) (s s' : Supervised) (whole : List (List Step)) (room : ℕ) (cells : List Contents) (processes middle processes' : List Process)
+    (p i number : ℕ) (line : Line) (ring : ℕ) (request : Request) (reply : Reply) (q : Process)
+    → IsKept x s whole room cells processes → i ≡ p - 1 → IsAtLine (world_in x s whole cells processes) p line
+    → IsCalling (world_in x s whole cells processes) p line ring request
+    → slice_get processes i ≡ Some q → HasEntered s p ring request number s'
+    → option_map (λ (e : journaled.Entry). e.reply) (entry_at s'.journal number) ≡ Some reply → reply ≡ replies.Waiting
+    → IsStill processes i middle → HasGoneOn middle i (Entry number ∷ []) Waiting processes'
+    → IsKept x s' whole room cells processes' × HasMoved (world_in x s whole cells processes) p (world_in x s' whole cells processes')
+wait_goes x s s' whole room cells processes middle processes' p i number line ring request reply q k place a c here e replied waits still gone =
+    let d = line_moved processes middle processes' i (Entry number) Waiting still gone in
+    let own : p ≡ suc i = let one = a.some in omega (arith, place, one) in
+    let entry : journaled.Entry = record { process = p; ring = ring; request = request; reply = e.reply } in
+    let journal : s'.journal ≡ s.journal ++ entry ∷ [] = ap (λ (t : Supervised). t.journal) e.entry in
+    let said : e.reply ≡ reply = last_reply s.journal s'.journal entry number reply journal e.number replied in
+    let seat = seat_is x s whole cells processes p i c.seat d.before place c.seated d.at in
+    let asks : Calling (seat_in d.before) line ring request = subst (λ (seat : Seat). Calling seat line ring request) seat c.asks in
+    let below : length s.journal < limit_of x = subst (λ (y : Outline). length s.journal < limit_of y) k.same e.below in
+    let told : IsToldToWait line request e.reply
+    = elim (c.answers e.reply below (subst (λ (y : Outline). IsRightEntry (replay (opening y.principals) s.journal) entry) k.same e.right)) [
+      | inl f ↦ absurd (waits_on c.seat.registers line request e.reply (said ∙ waits) f)
+      | inr t ↦ t
+    ] in
+    let there = at_process x s whole cells processes p i line d.before k.good place a d.at in
+    let w = wait_law (world_in x s whole cells processes) i (seat_in d.before) (d.before.first + length d.before.recording.steps) line a.left entry
+    k.running there own asks told below
+    (subst (λ (y : Outline). IsRightEntry (replay (opening y.principals) s.journal) entry) k.same e.right) in
+    let st = event_standing (world_in x s whole cells processes) i (seat_in d.before) (d.before.first + length d.before.recording.steps) line a.left
+    (s.journal ++ entry ∷ []) cells (Entry (length s.journal + 1)) Waiting there k.standing
+    (λ j. entered_there s.journal entry i j own) (one_longer s.journal (s.journal ++ entry ∷ []) entry refl)
+    (λ t. waits_after s.journal entry line i own told) in
+    let made = wait_same s s' d.before number entry i journal e.number in (
+      moved_kept x s s' whole room cells processes processes' i (Entry number) Waiting k (ap (λ (t : Supervised). t.session) e.entry ∙ k.same) d tt
+          (subst IsRunning made w) (subst AreStanding made st),
+      moved_stepped x s s' whole cells processes processes' p i (Entry number) Waiting (entry ∷ []) place journal (omega arith) c.awake d
+          (some_left d.before.registers d.before.progress (k.good i d.before d.at).progress
+          (subst (λ (seat : Seat). seat.progress ≡ Waiting → ⊥) seat (c.first told.blocks))),
+    )
+  where
+    wait_same : (s s' : Supervised) (before : Process) (number : ℕ) (entry : journaled.Entry) (i : ℕ) → s'.journal ≡ s.journal ++ entry ∷ []
+        → number ≡ length s.journal + 1
+        → stepped (world_in x s whole cells processes) i (s.journal ++ entry ∷ []) cells (moved (seat_in before) (Entry (length s.journal + 1)) Waiting)
+        ≡ stepped (world_in x s whole cells processes) i s'.journal cells (moved (seat_in before) (Entry number) Waiting)
+    wait_same s s' before number entry i journal at = rw (journal, at) refl
+
+    waits_on : (g : Registers) (line : Line) (request : Request) (given : Reply) → given ≡ replies.Waiting
+        → answered g line request given ≡ Ends (result_of given) g → ⊥
+    waits_on g line request given w f =
+        not_ended g line request (ap (λ (r : Reply). answered g line request r) (sym w) ∙ f ∙ ap (λ (r : Reply). Ends (result_of r) g) w)
 
 -- what an element is judged on is the access at its point
 pub present : (x : Outline) (s : Supervised) (desc : Descriptor) (segno p i point : ℕ) (e : Element) → s.session ≡ x → p ≡ suc i
@@ -195,53 +292,65 @@ pub record IsPresent (s : Supervised) (p segno point : ℕ) (j : Judged) : Type 
 pub refer_goes : (x : Outline) (s : Supervised) (whole : List (List Step)) (room : ℕ) (cells cells' : List Contents) (processes middle processes' : List Process)
     (p i segno point : ℕ) (line : Line) (q : Process) (asked : Reference) (j : Judged) (ends : Result2) (registers : Registers)
     → IsKept x s whole room cells processes → i ≡ p - 1 → IsAtLine (world_in x s whole cells processes) p line
-    → slice_get processes i ≡ Some q → Asking (seat_in q) line (Asks asked) → IsJudged asked j.desc j.element
+    → slice_get processes i ≡ Some q → IsNoRequest line → Asking (seat_in q) line (Asks asked) → IsJudged asked j.desc j.element
     → IsPresent s p segno point j → length cells' ≡ 65536 → IsAccess cells cells' p j
     → ((seen : List Judged) → IsPlaced q.registers line seen q.progress → next q.registers line (Attempt (seen ++ j ∷ [])) ≡ Ends ends registers)
     → ArePackable registers
     → IsStill processes i middle → HasEnded middle i (Core (Seen j.element) ∷ []) ends registers processes'
     → Goes x s s whole room cells cells' processes processes' p
-refer_goes x s whole room cells cells' processes middle processes' p i segno point line q asked j ends registers k place a here asks judged present_is wide access goes packable still ended =
+refer_goes x s whole room cells cells' processes middle processes' p i segno point line q asked j ends registers k place a here other asks judged present_is wide access goes packable still ended =
     let d = line_done processes middle processes' i (Core (Seen j.element) ∷ []) ends registers still ended in
     let same : q ≡ d.before = same_process processes i q d.before here d.at in
     let own : p ≡ suc i = let one = a.some in omega (arith, place, one) in
     let judged_on : j.desc ≡ descriptor_of x s.journal (suc i) j.element
     = present x s j.desc segno p i point j.element k.same own present_is.on present_is.at_end present_is.segno_is present_is.point_is in
+    let there = at_process x s whole cells processes p i line d.before k.good place a d.at in
     let w = refer_law (world_in x s whole cells processes) i (seat_in d.before) (d.before.first + length d.before.recording.steps) line a.left asked j
-    cells' ends registers k.running (at_process x s whole cells processes p i line d.before k.good place a d.at)
+    cells' ends registers k.running there other
     (subst (λ (r : Process). Asking (seat_in r) line (Asks asked)) same asks) judged judged_on (present_is.point_is ∙ present_is.at_end)
     (subst (λ n. IsAccess cells cells' n j) own access)
     (subst (λ (r : Process). (seen : List Judged) → IsPlaced r.registers line seen r.progress
-    → next r.registers line (Attempt (seen ++ j ∷ [])) ≡ Ends ends registers) same goes) in (
-      done_kept x s s whole room cells cells' processes processes' i (Core (Seen j.element) ∷ []) ends registers k k.same wide packable d w,
+    → next r.registers line (Attempt (seen ++ j ∷ [])) ≡ Ends ends registers) same goes) in
+    let st = line_standing (world_in x s whole cells processes) i (seat_in d.before) (d.before.first + length d.before.recording.steps) line a.left
+    s.journal cells' (Core (Seen j.element) ∷ []) ends registers k.session there k.standing (still_there s.journal i) (omega arith)
+    (λ out below. absurd (other Logout out)) in (
+      done_kept x s s whole room cells cells' processes processes' i (Core (Seen j.element) ∷ []) ends registers k k.same wide packable d w st,
       done_stepped x s s whole cells cells' processes processes' p i (Core (Seen j.element) ∷ []) ends registers line [] k.good place a
-          (none_more s.journal) (omega arith) (omega arith) d,
+          (none_more s.journal) (omega arith) (omega arith) (memory_awake x s whole cells processes p i line a.left d.before k.running place there other) d,
     )
 
 -- after which the line goes on
 pub look_goes : (x : Outline) (s : Supervised) (whole : List (List Step)) (room : ℕ) (cells : List Contents) (processes middle processes' : List Process)
     (p i segno point : ℕ) (line : Line) (q : Process) (asked : Reference) (j : Judged) (progress : Progress)
     → IsKept x s whole room cells processes → i ≡ p - 1 → IsAtLine (world_in x s whole cells processes) p line
-    → slice_get processes i ≡ Some q → Asking (seat_in q) line (Asks asked) → IsJudged asked j.desc j.element
+    → slice_get processes i ≡ Some q → IsNoRequest line → Asking (seat_in q) line (Asks asked) → IsJudged asked j.desc j.element
     → IsPresent s p segno point j → IsAccess cells cells p j
     → ((seen : List Judged) → IsPlaced q.registers line seen q.progress → IsPlaced q.registers line (seen ++ j ∷ []) progress)
     → IsGoodProgress q.registers progress → steps_in progress < steps_in q.progress
     → IsStill processes i middle → HasGoneOn middle i (Core (Seen j.element) ∷ []) progress processes'
     → IsKept x s whole room cells processes' × HasMoved (world_in x s whole cells processes) p (world_in x s whole cells processes')
-look_goes x s whole room cells processes middle processes' p i segno point line q asked j progress k place a here asks judged present_is access placed fits closer still gone =
+look_goes x s whole room cells processes middle processes' p i segno point line q asked j progress k place a here other asks judged present_is access placed fits closer still gone =
     let d = line_moved processes middle processes' i (Core (Seen j.element)) progress still gone in
     let same : q ≡ d.before = same_process processes i q d.before here d.at in
     let own : p ≡ suc i = let one = a.some in omega (arith, place, one) in
     let judged_on : j.desc ≡ descriptor_of x s.journal (suc i) j.element
     = present x s j.desc segno p i point j.element k.same own present_is.on present_is.at_end present_is.segno_is present_is.point_is in
+    let there = at_process x s whole cells processes p i line d.before k.good place a d.at in
     let w = look_law (world_in x s whole cells processes) i (seat_in d.before) (d.before.first + length d.before.recording.steps) line a.left asked j
-    cells progress k.running (at_process x s whole cells processes p i line d.before k.good place a d.at)
+    cells progress k.running there other
     (subst (λ (r : Process). Asking (seat_in r) line (Asks asked)) same asks) judged judged_on (present_is.point_is ∙ present_is.at_end)
     (subst (λ n. IsAccess cells cells n j) own access)
     (subst (λ (r : Process). (seen : List Judged) → IsPlaced r.registers line seen r.progress
-    → IsPlaced r.registers line (seen ++ j ∷ []) progress) same placed) in (
-      moved_kept x s whole room cells processes processes' i (Core (Seen j.element)) progress k d
-          (subst (λ (r : Process). IsGoodProgress r.registers progress) same fits) w,
-      moved_stepped x s whole cells processes processes' p i (Core (Seen j.element)) progress place d
+    → IsPlaced r.registers line (seen ++ j ∷ []) progress) same placed) in
+    let st = event_standing (world_in x s whole cells processes) i (seat_in d.before) (d.before.first + length d.before.recording.steps) line a.left
+    s.journal cells (Core (Seen j.element)) progress there k.standing (still_there s.journal i) (omega arith)
+    (λ told. absurd (look_awake (world_in x s whole cells processes) i (seat_in d.before) (d.before.first + length d.before.recording.steps) line a.left j
+    progress k.running there other
+    (subst (λ (r : Process). (seen : List Judged) → IsPlaced r.registers line seen r.progress
+    → IsPlaced r.registers line (seen ++ j ∷ []) progress) same placed) told)) in (
+      moved_kept x s s whole room cells processes processes' i (Core (Seen j.element)) progress k k.same d
+          (subst (λ (r : Process). IsGoodProgress r.registers progress) same fits) w st,
+      moved_stepped x s s whole cells processes processes' p i (Core (Seen j.element)) progress [] place (none_more s.journal) (omega arith)
+          (memory_awake x s whole cells processes p i line a.left d.before k.running place there other) d
           (subst (λ (r : Process). steps_in progress < steps_in r.progress) same closer),
     )

@@ -1,15 +1,18 @@
 -- A bench before the first line of each process.
-use Rattle.std.proofs.Common.{◌≡◌, ℕ, zero, suc, ◌≤◌, ◌==◌, Bool, true, false, List, [], ◌∷◌, map, take, length, Some, refl, sym, ◌∙◌, ap, subst, arith, append-nil}
+use Rattle.std.proofs.Common.{◌≡◌, ℕ, zero, suc, ◌<◌, ◌≤◌, ◌==◌, Bool, true, false, List, [], ◌∷◌, map, take, length, Some, refl, sym, ◌∙◌, ap, subst, arith, append-nil}
 use Rattle.std.proofs.lemmas.List.{take_all, length-map}
-use Rattle.std.specs.List.{slice_get}
+use Rattle.std.proofs.lemmas.Option.{slice_get_within}
+use Rattle.std.specs.List.{slice_get, list_all}
+use Rattle.mx_legal.specs.Courses.{Attempt}
 use Rattle.mx_legal.specs.Legal.{Call, call_of, setup_call, setup_entries}
 use Rattle.mx_legal.specs.Openings.{opening_registers}
-use Rattle.mx_legal.specs.Scripts.{lines_of}
+use Rattle.mx_legal.specs.Scripts.{first_line, lines_of, numbered, script_at}
+use Rattle.mx_request.proofs.StepLaws.{both}
 use Rattle.mx_legal.specs.Transcripts.{Step}
 use Rattle.mx_reads.specs.Deeds.{CellUse}
 use Rattle.mx_reads.specs.Held.{Held, IsHeld}
 use Rattle.mx_request.specs.declared.requests.Request.{Request}
-use Rattle.mx_script.specs.Sessions.{Outline, IsSession, limit_of}
+use Rattle.mx_script.specs.Sessions.{Outline, IsSession, limit_of, is_script, is_script_line, ends}
 use Rattle.mx_script.specs.declared.lines.Line.{Line}
 use Rattle.mx_state.specs.History.{opening, IsRight}
 use Rattle.mx_state.specs.declared.journal.Entry as journaled
@@ -28,7 +31,7 @@ use Rattle.mx_proc.specs.Running.{IsBefore, left_of}
 use Rattle.mx_proc.specs.Stepping.{IsOpening}
 use Rattle.mx_proc.specs.Worlds.{Seat, held, held_when, held_in, contents_at, empty_contents, always}
 use Rattle.mx_proc.specs.declared.memory.Contents.{Contents}
-use Rattle.mx_proc.specs.declared.operands.Progress.TheVariants.{Before}
+use Rattle.mx_proc.specs.declared.operands.Progress.TheVariants.{Before, Waiting}
 use Rattle.mx_proc.specs.declared.processes.Process.{Process}
 
 -- entries with the setup's calls are the initializer's
@@ -78,9 +81,9 @@ first_before : (x : Outline) (setup : List journaled.Entry) (i : ℕ) (lines : L
     → IsBefore x setup (suc i) (record { registers = opening_registers (suc i); steps = []; events = []; progress = Before }) lines (opening_view (length setup))
 first_before x setup i [] e begun = no_line_law x setup (suc i) (length setup) e
 first_before x setup i (next ∷ left) e begun = record {
-  seen = [];
+  course = Attempt [];
   benched = first_line_law x setup (suc i) next.0 next.1 left (length setup) (λ segno. limit_of x) e begun;
-  placed = refl;
+  come = (refl, λ none. refl);
 }
 
 -- which process a seat is of
@@ -99,6 +102,30 @@ fresh_seat x processes i seat fresh e =
     let s = seat_of processes i seat e in
     let f = fresh.each i s.0 s.1 in
     sym s.2 ∙ rw (f.registers, f.steps, f.events, f.progress) refl
+
+-- each process has a line
+some_line : (x : Outline) (i : ℕ) → IsSession x → i < length x.scripts → lines_of x (suc i) ≡ [] → ⊥
+some_line x i session within none = by_script x.scripts i session.each within none
+  where
+    none_numbered : (first : ℕ) (script : List Line) → ends script ≡ true → numbered first script ≡ [] → ⊥
+    none_numbered first [] e f = cc
+    none_numbered first (line ∷ script) e f = cc
+
+    by_script : (scripts : List (List Line)) (j : ℕ) → list_all is_script scripts ≡ true → j < length scripts
+        → numbered (first_line x (suc i)) (script_at scripts j) ≡ [] → ⊥
+    by_script [] j all h f = omega arith
+    by_script (script ∷ scripts) zero all h f =
+        none_numbered (first_line x (suc i)) script
+        (both (list_all is_script_line script) (ends script) (both (is_script script) (list_all is_script scripts) all).0).1 f
+    by_script (script ∷ scripts) (suc j) all h f =
+        by_script scripts j (both (is_script script) (list_all is_script scripts) all).1 (omega (arith, h)) f
+
+sized : (x : Outline) (s : Supervised) (processes : List Process) (i : ℕ) (seat : Seat) → AreFresh x processes → IsSession x
+    → slice_get (map seat_in processes) i ≡ Some seat → i < length x.scripts
+sized x s processes i seat fresh session e =
+    let n = slice_get_within (map seat_in processes) i seat e in
+    let m = length-map processes seat_in in
+    let c = fresh.count in omega (arith, n, m, c)
 
 pub opening_kept : (x : Outline) (s : Supervised) (set_up : List Step) (whole : List (List Step)) (room : ℕ) (cells : List Contents) (processes : List Process)
     → IsSession x → IsOpened x s set_up → whole ≡ set_up ∷ [] → length cells ≡ 65536 → ((cell : ℕ) → contents_at cells cell ≡ empty_contents)
@@ -133,7 +160,18 @@ opening_kept x s set_up whole room cells processes session opened one wide empty
             (sym (fresh_seat x processes i seat fresh e))
             (first_before x s.journal i (lines_of x (suc i)) refl (omega (arith, n)));
       };
+      standing = λ i seat e.
+          let f = fresh_seat x processes i seat fresh e in
+          record {
+            waits = λ told. absurd (never (sym (ap (λ (q : Seat). q.progress) f) ∙ told));
+            ended = λ none below.
+                absurd (some_line x i session (sized x s processes i seat fresh session e)
+                (sym (ap (λ (q : Seat). left_of x (suc i) q) f) ∙ none));
+          };
     }
+  where
+    never : Before ≡ Waiting → ⊥
+    never e = cc
 
 pub is_opening : (x : Outline) (s : Supervised) (set_up : List Step) (whole : List (List Step)) (cells : List Contents) (processes : List Process)
     → IsSession x → IsOpened x s set_up → AreFresh x processes → IsOpening x (world_in x s whole cells processes)

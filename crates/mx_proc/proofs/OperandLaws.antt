@@ -2,6 +2,8 @@
 use Rattle.std.proofs.Common.{◌≡◌, ℕ, ◌-◌, ◌≤◌, List, [], ◌∷◌, ◌++◌, length, Option, Some, None, refl, sym, ◌∙◌, ap, subst, arith, append-nil}
 use Rattle.mx_call.specs.Loading.{loaded}
 use Rattle.mx_call.specs.Registers.{Registers, ArePackable}
+use Rattle.mx_call.specs.Transfers.{called, returned}
+use Rattle.mx_call.proofs.RegisterLaws.{called_packable, returned_stays_packable}
 use Rattle.mx_core.specs.declared.elements.Outcome.{Outcome}
 use Rattle.mx_core.specs.declared.elements.Outcome.TheVariants as outcome
 use Rattle.mx_effring.specs.Chains as chains
@@ -15,13 +17,14 @@ use Rattle.mx_legal.proofs.WalkLaws.{walk_begun_law, walk_law}
 use Rattle.mx_legal.specs.Asking.{next}
 use Rattle.mx_legal.specs.Attempts.{wants, taken, after_word, after_seen, along, attempt}
 use Rattle.mx_legal.specs.Courses.{Attempt, Judged}
-use Rattle.mx_legal.specs.Next.{Next, Asks, Calls, Ends, Nowhere}
+use Rattle.mx_legal.specs.Next.{Next, Reference, Asks, Calls, Ends, Nowhere}
 use Rattle.mx_legal.specs.Operands.{walk_of, operand_walk}
 use Rattle.mx_legal.specs.Standing.{IsWalked}
 use Rattle.mx_legal.specs.Targets.{at_target, after_target}
 use Rattle.mx_legal.specs.declared.transcripts.Result2.{Result2}
 use Rattle.mx_legal.specs.declared.transcripts.Result2.TheVariants as result
-use Rattle.mx_ptr.specs.Pointers.{PointerParts, parts_of}
+use Rattle.mx_ptr.specs.Pointers.{PointerParts, IsPackable, parts_of}
+use Rattle.mx_request.specs.declared.requests.Request.{Request}
 use Rattle.mx_request.specs.declared.requests.Request.TheVariants.{Link}
 use Rattle.mx_script.specs.declared.lines.Line.{Line}
 use Rattle.mx_script.specs.declared.lines.Line.TheVariants as line
@@ -30,11 +33,12 @@ use Rattle.mx_sdw.specs.Descriptors.{Descriptor}
 use Rattle.mx_sdw.specs.declared.denials.Denial.{Denial}
 use Rattle.mx_sdw.specs.declared.denials.Denial.TheVariants.{NotPointer, IndirectLimit}
 use Rattle.mx_proc.specs.Making.{looks}
+use Rattle.mx_proc.specs.Asking.{IsNoRequest}
 use Rattle.mx_proc.specs.Operands.{operand_of, walk_at, IsPlaced, asked_by, asked_at, AsksFor, IsLed, steps_in}
 use Rattle.mx_proc.specs.declared.operands.Asked.TheVariants.{Target, First}
 use Rattle.mx_proc.specs.declared.operands.Place.{Place}
 use Rattle.mx_proc.specs.declared.operands.Progress.{Progress}
-use Rattle.mx_proc.specs.declared.operands.Progress.TheVariants.{Before, Walking, AtLink}
+use Rattle.mx_proc.specs.declared.operands.Progress.TheVariants.{Before, Walking, AtLink, Waiting}
 use Rattle.mx_proc.specs.declared.operands.Way.TheVariants as way
 
 -- a memory line asks for what its attempt does
@@ -46,6 +50,9 @@ memory_next g (line.Epp n operand) o seen e = refl
 memory_next g (line.Lda operand) o seen e = refl
 memory_next g (line.Sta operand) o seen e = refl
 memory_next g (line.Spri n operand) o seen e = refl
+memory_next g line.Fetch o seen e = absurd (cc)
+memory_next g (line.Call operand) o seen e = refl
+memory_next g (line.Return operand) o seen e = refl
 
 -- and its walk is its operand's
 own_walk : (g : Registers) (l : Line) (o : Operand) → operand_of l ≡ Some o → walk_of g l ≡ operand_walk g o
@@ -67,17 +74,27 @@ own_walk g (line.Spri n operand) o e = ap (operand_walk g) (same operand o e)
   where
     same : (a b : Operand) → Some a ≡ Some b → a ≡ b
     same a b e = cc
+own_walk g line.Fetch o e = absurd (cc)
+own_walk g (line.Call operand) o e = ap (operand_walk g) (same operand o e)
+  where
+    same : (a b : Operand) → Some a ≡ Some b → a ≡ b
+    same a b e = cc
+own_walk g (line.Return operand) o e = ap (operand_walk g) (same operand o e)
+  where
+    same : (a b : Operand) → Some a ≡ Some b → a ≡ b
+    same a b e = cc
 
 -- where the operand has come so far, the attempt goes on as its walk does
 pub walked : (g : Registers) (l : Line) (o : Operand) (progress : Progress) (walk : chains.Operand) (seen : List Judged)
     → operand_of l ≡ Some o → walk_at g o progress ≡ Some walk → IsPlaced g l seen progress → IsWalked g l seen walk
 walked g l o Before walk seen own at placed =
-    subst (λ (s : List Judged). IsWalked g l s walk) (sym placed) (walk_begun_law g l walk (own_walk g l o own ∙ at))
-walked g l o (Walking there) walk seen own at placed = subst (IsWalked g l seen) (same there walk at) placed
+    subst (λ (s : List Judged). IsWalked g l s walk) (sym placed.0) (walk_begun_law g l walk (own_walk g l o own ∙ at))
+walked g l o (Walking there) walk seen own at placed = subst (IsWalked g l seen) (same there walk at) placed.0
   where
     same : (a b : chains.Operand) → Some a ≡ Some b → a ≡ b
     same a b e = cc
 walked g l o (AtLink place) walk seen own at placed = absurd (cc)
+walked g l o Waiting walk seen own at placed = absurd (cc)
 
 -- so a memory line asks for what its walk does
 pub walk_next : (g : Registers) (l : Line) (o : Operand) (walk : chains.Operand) (seen : List Judged) → operand_of l ≡ Some o
@@ -111,6 +128,7 @@ at_its_target g o progress target asks = by_walk (walk_at g o progress) refl ask
     none Before a = a
     none (Walking walk) a = a
     none (AtLink place) a = cc
+    none Waiting a = a
 
     by_walk : (walk : Option chains.Operand) → walk_at g o progress ≡ walk → asked_at walk progress (Target target)
         → IsAtTarget g o progress target
@@ -129,6 +147,7 @@ led_to g o progress place asks = by_walk (walk_at g o progress) refl asks
     none Before a = a
     none (Walking walk) a = a
     none (AtLink other) a = cc
+    none Waiting a = a
 
     by_walk : (walk : Option chains.Operand) → walk_at g o progress ≡ walk → asked_at walk progress (First (way.Word place))
         → IsLed g o progress place
@@ -184,7 +203,8 @@ link_asks g l o progress place own asks seen placed = by_walk (walk_at g o progr
         → attempt g l seen ≡ Calls place.ring (Link place.segno place.word)
     none Before p a = absurd a
     none (Walking walk) p a = absurd a
-    none (AtLink other) p a = p ∙ ap (λ (x : Place). Calls x.ring (Link x.segno x.word)) (sym (same place other a))
+    none Waiting p a = absurd a
+    none (AtLink other) p a = p.0 ∙ ap (λ (x : Place). Calls x.ring (Link x.segno x.word)) (sym (same place other a))
 
     by_walk : (walk : Option chains.Operand) → walk_at g o progress ≡ walk → asked_at walk progress (First (way.Link place))
         → next g l (Attempt seen) ≡ Calls place.ring (Link place.segno place.word)
@@ -200,6 +220,7 @@ fewer_steps g o (Walking there) walk e =
     let chain : length there.chain ≡ length walk.chain = ap (λ (w : chains.Operand). length w.chain) same in
     omega (arith, chain)
 fewer_steps g o (AtLink place) walk e = absurd (cc)
+fewer_steps g o Waiting walk e = absurd (cc)
 
 -- the registers after a line's own reference
 with_a : (g : Registers) (word : ℕ) → ArePackable g → ArePackable (record g { a = word })
@@ -209,13 +230,19 @@ same_after : (given now : Registers) (a b : Result2) → Ends a given ≡ Ends b
 same_after given now a b e = cc
 
 pub after_packable : (g : Registers) (l : Line) (target : PointerParts) (d : Descriptor) (came : Outcome) (ends : Result2) (now : Registers)
-    → ArePackable g → after_target g l target d came ≡ Ends ends now → ArePackable now
-after_packable g l target d (outcome.Denied denial) ends now p e = subst ArePackable (same_after g now _ ends e) p
-after_packable g (line.Lda o) target d (outcome.Read value writer stamp) ends now p e =
+    → ArePackable g → IsPackable target → after_target g l target d came ≡ Ends ends now → ArePackable now
+after_packable g l target d (outcome.Denied denial) ends now p t e = subst ArePackable (same_after g now _ ends e) p
+after_packable g (line.Lda o) target d (outcome.Read value writer stamp) ends now p t e =
     subst ArePackable (same_after (record g { a = value }) now _ ends e) (with_a g value p)
-after_packable g (line.Sta o) target d (outcome.Written value) ends now p e = subst ArePackable (same_after g now _ ends e) p
-after_packable g (line.Spri n o) target d (outcome.Written value) ends now p e = subst ArePackable (same_after g now _ ends e) p
-after_packable _ _ _ _ _ _ _ _ e = absurd (cc)
+after_packable g line.Fetch target d (outcome.Read value writer stamp) ends now p t e = subst ArePackable (same_after g now _ ends e) p
+after_packable g (line.Sta o) target d (outcome.Written value) ends now p t e = subst ArePackable (same_after g now _ ends e) p
+after_packable g (line.Spri n o) target d (outcome.Written value) ends now p t e = subst ArePackable (same_after g now _ ends e) p
+after_packable g (line.Call o) target d (outcome.Entered ring) ends now p t e =
+    subst ArePackable (same_after (called g target d) now _ ends e) (called_packable g target d p t)
+after_packable g (line.Return o) target d (outcome.Entered ring) ends now p t e =
+    subst ArePackable (same_after (returned g target) now _ ends e)
+    (returned_stays_packable g (returned g target) target p t (record { current = refl; procedure = refl; pointers = refl; accumulator = refl }))
+after_packable _ _ _ _ _ _ _ _ _ e = absurd (cc)
 
 -- what an indirect word makes of a walk
 pub led_end : (g : Registers) (l : Line) (walk : chains.Operand) (n : ℕ) (o : Operand) (target : PointerParts) → l ≡ line.Epp n o
@@ -271,3 +298,17 @@ pub fed_limit : (g : Registers) (l : Line) (walk : chains.Operand) (place : Plac
     → attempt g l (seen ++ j ∷ []) ≡ Ends (result.Denied IndirectLimit) g
 fed_limit g l walk place value wants fits seen j writer stamp is came =
     fed_stuck g l walk place value stuck.Limit wants fits seen j writer stamp is came Nowhere
+
+-- a line with an operand is no request
+pub no_request : (l : Line) (o : Operand) → operand_of l ≡ Some o → IsNoRequest l
+no_request l o own request is = none (sym (ap operand_of is) ∙ own)
+  where
+    none : None ≡ Some o → ⊥
+    none e = cc
+
+-- nor is one that refers to its target
+pub aims_no_request : (g : Registers) (l : Line) (target : PointerParts) (asked : Reference) → at_target g l target ≡ Asks asked → IsNoRequest l
+aims_no_request g l target asked asks request is = nowhere (sym (ap (λ (l : Line). at_target g l target) is) ∙ asks)
+  where
+    nowhere : Nowhere ≡ Asks asked → ⊥
+    nowhere e = cc

@@ -1,5 +1,5 @@
 -- One process of a list is changed in its place.
-use Rattle.std.proofs.Common.{◌≡◌, ◌⊎◌, inl, inr, ℕ, zero, suc, ◌<◌, ◌+◌, ◌^◌, IsTrue, List, [], ◌∷◌, ◌++◌, length, Some, refl, sym, ◌∙◌, ap, subst, arith, length-append}
+use Rattle.std.proofs.Common.{◌≡◌, ◌⊎◌, inl, inr, ℕ, zero, suc, ◌<◌, ◌+◌, ◌^◌, Bool, IsTrue, IsFalse, List, [], ◌∷◌, ◌++◌, length, Some, refl, sym, ◌∙◌, ap, subst, arith, length-append}
 use Rattle.std.specs.List.{slice_get, slice_set, slice_index_or}
 use Rattle.mx_call.specs.Registers.{Registers, ArePackable}
 use Rattle.mx_legal.specs.Openings.{opening_registers}
@@ -12,11 +12,11 @@ use Rattle.mx_script.specs.declared.lines.Line.{Line}
 use Rattle.mx_script.specs.declared.lines.Operand.{Operand}
 use Rattle.mx_proc.proofs.SeatLaws.{set_here}
 use Rattle.mx_proc.specs.Operands.{IsGoodProgress, AsksFor, IsGoodAsked, IsLed}
-use Rattle.mx_proc.specs.Processes.{IsFresh, AreFreshUpTo, IsStill, HasRoom, IsCountable, IsGoodAt, IsLedAt, IsFed, HasAsked, HasFed, HasEnded, HasRegisters, HasLines}
+use Rattle.mx_proc.specs.Processes.{IsFresh, AreFreshUpTo, IsStill, HasRoom, IsCountable, IsGoodAt, IsLedAt, IsFed, HasAsked, HasFed, HasEnded, HasGoneOn, HasProgress, ReadsOperand, HasRegisters, HasLines, HasNumber}
 use Rattle.mx_proc.specs.declared.benches.Stepped.{Stepped}
 use Rattle.mx_proc.specs.declared.operands.Asked.{Asked}
 use Rattle.mx_proc.specs.declared.operands.Place.{Place}
-use Rattle.mx_proc.specs.declared.operands.Progress.TheVariants.{Before}
+use Rattle.mx_proc.specs.declared.operands.Progress.TheVariants.{Before, Waiting}
 use Rattle.mx_proc.specs.declared.processes.Process.{Process}
 
 get_at : {A : Type 0} (xs : List A) (i : ℕ) (d : A) → i < length xs → slice_get xs i ≡ Some (slice_index_or xs i d)
@@ -85,12 +85,44 @@ has_ended processes i q p events ends registers h first done steps idle fresh = 
   set = refl;
 }
 
+-- it was told to wait
+pub has_waited : (processes : List Process) (i : ℕ) (q p : Process) (event : Event2) → i < length processes
+    → p.first ≡ (slice_index_or processes i q).first → p.registers ≡ (slice_index_or processes i q).registers
+    → p.recording.steps ≡ (slice_index_or processes i q).recording.steps
+    → p.recording.events ≡ (slice_index_or processes i q).recording.events ++ event ∷ [] → p.progress ≡ Waiting
+    → HasGoneOn processes i (event ∷ []) Waiting (slice_set processes i p)
+has_waited processes i q p event h first registers steps more waits = record {
+  before = slice_index_or processes i q;
+  at = get_at processes i q h;
+  after = p;
+  first = first;
+  registers = registers;
+  steps = steps;
+  more = more;
+  progress_is = waits;
+  set = refl;
+}
+
+pub progress_of : (processes : List Process) (i : ℕ) (q : Process) (waits : Bool) → i < length processes
+    → (IsTrue waits → (slice_index_or processes i q).progress ≡ Waiting)
+    → (IsFalse waits → (slice_index_or processes i q).progress ≡ Waiting → ⊥) → HasProgress processes i waits
+progress_of processes i q waits h waited awake =
+    record { process = slice_index_or processes i q; at = get_at processes i q h; yes = waited; no = awake }
+
+pub reads_of : (processes : List Process) (i : ℕ) (q : Process) → i < length processes → ReadsOperand processes i
+    → (slice_index_or processes i q).progress ≡ Waiting → ⊥
+reads_of processes i q h reads = reads (slice_index_or processes i q) (get_at processes i q h)
+
 pub registers_of : (processes : List Process) (i : ℕ) (q : Process) → i < length processes → HasRegisters processes i (slice_index_or processes i q).registers
 registers_of processes i q h = record { process = slice_index_or processes i q; at = get_at processes i q h; registers = refl }
 
 pub lines_of_one : (processes : List Process) (i n : ℕ) (q : Process) → i < length processes
     → n ≡ length (slice_index_or processes i q).recording.steps → HasLines processes i n
 lines_of_one processes i n q h e = record { process = slice_index_or processes i q; at = get_at processes i q h; lines = e }
+
+pub number_of_one : (processes : List Process) (i n : ℕ) (q : Process) → i < length processes
+    → n ≡ (slice_index_or processes i q).first + length (slice_index_or processes i q).recording.steps → HasNumber processes i n
+number_of_one processes i n q h e = record { process = slice_index_or processes i q; at = get_at processes i q h; number = e }
 
 -- what is good, asked and led of the one that is read
 pub good_of : (processes : List Process) (i : ℕ) (q : Process) → i < length processes → IsGoodAt processes i

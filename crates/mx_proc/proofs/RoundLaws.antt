@@ -1,7 +1,6 @@
 -- A round of steps leaves fewer steps to make, as long as a line is left.
 use Rattle.std.proofs.Common.{◌≡◌, ◌⊎◌, inl, inr, ℕ, zero, suc, ◌<◌, ◌≤◌, ◌+◌, ◌-◌, ◌*◌, List, [], ◌∷◌, drop, length, Some, refl, sym, ◌∙◌, ap, subst, arith, length-append}
 use Rattle.std.proofs.lemmas.Bool.{cases_lt}
-use Rattle.std.proofs.lemmas.Option.{slice_get_within}
 use Rattle.std.specs.List.{slice_get, slice_set}
 use Rattle.mx_legal.specs.Scripts.{lines_of}
 use Rattle.mx_legal.specs.Transcripts.{Step}
@@ -9,12 +8,14 @@ use Rattle.mx_script.specs.Sessions.{Outline}
 use Rattle.mx_script.specs.declared.lines.Line.{Line}
 use Rattle.mx_proc.proofs.SeatLaws.{set_length, left_more}
 use Rattle.mx_proc.specs.Operands.{steps_in}
-use Rattle.mx_proc.specs.Rounds.{steps_of, steps_left, all_left, HaveEndedUpTo, IsAsked}
-use Rattle.mx_proc.specs.Running.{left_of}
-use Rattle.mx_proc.specs.Stepping.{HasMoved, HasStepped, HasEnded, HaveEnded}
+use Rattle.mx_proc.proofs.AwakeLaws.{not_all_wait}
+use Rattle.mx_proc.specs.Rounds.{steps_of, steps_left, all_left, HaveStoppedUpTo, IsAsked}
+use Rattle.mx_proc.specs.Running.{left_of, IsRunning}
+use Rattle.mx_proc.specs.Standing.{AreStanding}
+use Rattle.mx_proc.specs.Stepping.{IsWaiting, HasMoved, HasStepped, HasEnded, HaveEnded}
 use Rattle.mx_proc.specs.Worlds.{Seat, World}
 use Rattle.mx_proc.specs.declared.benches.Stepped.{Stepped}
-use Rattle.mx_proc.specs.declared.benches.Stepped.TheVariants.{More, LineDone, Ended}
+use Rattle.mx_proc.specs.declared.benches.Stepped.TheVariants.{More, LineDone, Waits, Ended}
 use Rattle.mx_proc.specs.declared.operands.Progress.{Progress}
 
 -- fewer steps of one process
@@ -100,8 +101,9 @@ asked_move start i now next h a =
     on_one start i now next h.session (ap length h.seats ∙ set_length now.seats (i + 1 - 1) h.after)
     (moved_less now (i + 1) next (omega arith) h) a
 
-asked_ended : (start : World) (i : ℕ) (now : World) → HasEnded now (i + 1) → IsAsked start i now → IsAsked start (i + 1) now
-asked_ended start i now h a = record {
+-- a process stopped: it has no line left, or waits
+asked_stopped : (start : World) (i : ℕ) (now : World) → HasEnded now (i + 1) ⊎ IsWaiting now (i + 1) → IsAsked start i now → IsAsked start (i + 1) now
+asked_stopped start i now h a = record {
   session = a.session;
   seats = a.seats;
   progress = elim a.progress [
@@ -119,14 +121,18 @@ asked_ended start i now h a = record {
     next : i + 1 ≡ suc i
     next = omega arith
 
-    here : (seat : Seat) → now ≡ start → slice_get start.seats i ≡ Some seat → left_of start.session (suc i) seat ≡ []
-    here seat e at =
-        let at' : slice_get now.seats i ≡ Some seat = ap (λ (w : World). slice_get w.seats i) e ∙ at in
-        let it : h.seat ≡ seat = same_seat h.seat seat (sym h.seated ∙ ap (slice_get now.seats) place ∙ at') in
-        subst (λ (w : World). left_of w.session (suc i) seat ≡ []) e
-        (subst (λ n. left_of now.session n seat ≡ []) next (subst (λ (s : Seat). left_of now.session (i + 1) s ≡ []) it h.none))
+    here : (seat : Seat) → now ≡ start → slice_get start.seats i ≡ Some seat
+        → (left_of start.session (suc i) seat ≡ []) ⊎ IsWaiting start (suc i)
+    here seat e at = elim h [
+      | inl ended ↦
+          let at' : slice_get now.seats i ≡ Some seat = ap (λ (w : World). slice_get w.seats i) e ∙ at in
+          let it : ended.seat ≡ seat = same_seat ended.seat seat (sym ended.seated ∙ ap (slice_get now.seats) place ∙ at') in
+          inl (subst (λ (w : World). left_of w.session (suc i) seat ≡ []) e
+          (subst (λ n. left_of now.session n seat ≡ []) next (subst (λ (s : Seat). left_of now.session (i + 1) s ≡ []) it ended.none)))
+      | inr waits ↦ inr (subst (λ (w : World). IsWaiting w (suc i)) e (subst (IsWaiting now) next waits))
+    ]
 
-    more : now ≡ start → HaveEndedUpTo start i → HaveEndedUpTo start (i + 1)
+    more : now ≡ start → HaveStoppedUpTo start i → HaveStoppedUpTo start (i + 1)
     more e up j seat below at = by_case (below_or j i below)
       where
         below_or : (j i : ℕ) → j < i + 1 → (j < i) ⊎ (j ≡ i)
@@ -135,24 +141,28 @@ asked_ended start i now h a = record {
           | inr g ↦ inr (omega (arith, h, g))
         ]
 
-        by_case : (j < i) ⊎ (j ≡ i) → left_of start.session (suc j) seat ≡ []
+        by_case : (j < i) ⊎ (j ≡ i) → (left_of start.session (suc j) seat ≡ []) ⊎ IsWaiting start (suc j)
         by_case (inl l) = up j seat l at
         by_case (inr is) =
-            subst (λ n. left_of start.session (suc n) seat ≡ []) (sym is)
+            subst (λ n. (left_of start.session (suc n) seat ≡ []) ⊎ IsWaiting start (suc n)) (sym is)
             (here seat e (ap (slice_get start.seats) (sym is) ∙ at))
 
--- a whole round leaves fewer lines, unless none was left
-pub round_less : (start now : World) → IsAsked start (length start.seats) now → (HaveEnded start → ⊥) → all_left now < all_left start
-round_less start now a some = elim a.progress [
+-- a whole round leaves fewer steps, unless no line was left: where one process waits another goes on
+pub round_less : (start now : World) → IsRunning start → AreStanding start → IsAsked start (length start.seats) now → (HaveEnded start → ⊥)
+    → all_left now < all_left start
+round_less start now running stand a some = elim a.progress [
   | inl l ↦ l
-  | inr s ↦ absurd (some (λ i seat e. s.1 i seat (slice_get_within start.seats i seat e) e))
+  | inr s ↦ absurd (some (not_all_wait start running stand s.1))
 ]
 
 -- what a step answers
 pub asked_on : (start now next : World) (i : ℕ) (answered : Stepped) → (answered ≡ Ended → HasEnded now (i + 1))
+    → (answered ≡ Waits → IsWaiting now (i + 1))
     → (answered ≡ More → HasMoved now (i + 1) next) → (answered ≡ LineDone → HasStepped now (i + 1) next)
-    → (answered ≡ Ended → next ≡ now) → IsAsked start i now → IsAsked start (i + 1) next
-asked_on start now next i More ended more done still a = asked_move start i now next (more refl) a
-asked_on start now next i LineDone ended more done still a = asked_step start i now next (done refl) a
-asked_on start now next i Ended ended more done still a =
-    subst (IsAsked start (i + 1)) (sym (still refl)) (asked_ended start i now (ended refl) a)
+    → (answered ≡ Ended → next ≡ now) → (answered ≡ Waits → next ≡ now) → IsAsked start i now → IsAsked start (i + 1) next
+asked_on start now next i More ended waits more done still asleep a = asked_move start i now next (more refl) a
+asked_on start now next i LineDone ended waits more done still asleep a = asked_step start i now next (done refl) a
+asked_on start now next i Ended ended waits more done still asleep a =
+    subst (IsAsked start (i + 1)) (sym (still refl)) (asked_stopped start i now (inl (ended refl)) a)
+asked_on start now next i Waits ended waits more done still asleep a =
+    subst (IsAsked start (i + 1)) (sym (asleep refl)) (asked_stopped start i now (inr (waits refl)) a)

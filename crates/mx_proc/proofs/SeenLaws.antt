@@ -1,14 +1,14 @@
 -- The same as a caller sees it, whose old world is the bench's.
-use Rattle.std.proofs.Common.{◌≡◌, ℕ, ◌<◌, ◌≤◌, ◌-◌, List, [], ◌∷◌, ◌++◌, length, Some, sym, ◌∙◌, ap, subst, arith}
+use Rattle.std.proofs.Common.{◌≡◌, ℕ, ◌<◌, ◌≤◌, ◌-◌, List, [], ◌∷◌, ◌++◌, length, Some, None, sym, ◌∙◌, ap, subst, arith}
 use Rattle.std.specs.List.{slice_get}
 use Rattle.std.specs.Prelude.{Result, Ok, Err, OnErr}
 use Rattle.std.specs.Option.{option_map}
 use Rattle.mx_call.specs.Registers.{Registers, ArePackable}
 use Rattle.mx_core.specs.declared.elements.Event.TheVariants.{Seen}
 use Rattle.mx_core.specs.declared.elements.Outcome.TheVariants.{Denied}
-use Rattle.mx_legal.specs.Asking.{result_of}
-use Rattle.mx_legal.specs.Courses.{Judged}
-use Rattle.mx_legal.specs.Next.{Reference, Asks, Ends, at_place, storing}
+use Rattle.mx_legal.specs.Asking.{next, result_of}
+use Rattle.mx_legal.specs.Courses.{Attempt, Judged}
+use Rattle.mx_legal.specs.Next.{Reference, Asks, Ends, storing}
 use Rattle.mx_legal.specs.Settings.{entry_at}
 use Rattle.mx_legal.specs.Targets.{at_target, after_target}
 use Rattle.mx_legal.specs.Transcripts.{Step}
@@ -17,6 +17,7 @@ use Rattle.mx_legal.specs.declared.transcripts.Result2.{Result2}
 use Rattle.mx_legal.specs.declared.transcripts.Result2.TheVariants as result
 use Rattle.mx_ptr.specs.Pointers.{PointerParts}
 use Rattle.mx_request.specs.declared.replies.Reply.{Reply}
+use Rattle.mx_request.specs.declared.replies.Reply.TheVariants as replies
 use Rattle.mx_request.specs.declared.requests.Request.{Request}
 use Rattle.mx_script.specs.Sessions.{Outline, limit_of}
 use Rattle.mx_script.specs.declared.lines.Line.{Line}
@@ -24,31 +25,31 @@ use Rattle.mx_script.specs.declared.lines.Line.TheVariants as lines
 use Rattle.mx_script.specs.declared.lines.Operand.{Operand}
 use Rattle.mx_sdw.specs.Descriptors.{Descriptor}
 use Rattle.mx_sdw.specs.declared.denials.Denial.{Denial}
-use Rattle.mx_sdw.specs.declared.operations.Op.TheVariants as op
 use Rattle.mx_state.specs.Table.{descriptor}
 use Rattle.mx_state.specs.declared.journal.Entry as journaled
 use Rattle.mx_sup.specs.Entering.{HasEntered}
 use Rattle.mx_sup.specs.Supervised.{Supervised, state_of}
 use Rattle.mx_proc.proofs.BenchLaws.{still_seats, seat_is}
 use Rattle.mx_proc.proofs.BoundLaws.{at_within, at_principal, at_countable, still_within}
-use Rattle.mx_proc.proofs.KindLaws.{end_goes, full_goes, call_goes, refer_goes, look_goes}
-use Rattle.mx_proc.proofs.MadeLaws.{stores_made}
-use Rattle.mx_proc.proofs.OperandLaws.{memory_next, walked, led_to, target_asks, target_goes, word_asks, word_denied, fewer_steps, after_packable}
+use Rattle.mx_proc.proofs.KindLaws.{end_goes, full_goes, call_goes, wait_goes, refer_goes, look_goes}
+use Rattle.mx_proc.proofs.MadeLaws.{refers_asks, stores_made}
+use Rattle.mx_proc.proofs.OperandLaws.{memory_next, no_request, aims_no_request, walked, led_to, word_asks, word_denied, fewer_steps, after_packable}
 use Rattle.mx_proc.proofs.SeatLaws.{set_here}
-use Rattle.mx_proc.specs.Asking.{IsAsking, IsEnding, IsCalling, IsStoring}
+use Rattle.mx_proc.specs.Asking.{IsNoRequest, IsAsking, IsAiming, IsEnding, IsCalling, IsReferring, IsStoring}
 use Rattle.mx_proc.specs.Benches.{world_in, first_of, IsKept}
 use Rattle.mx_proc.specs.Making.{IsMade, IsLooked, HasRead, HasCome, looks, beside}
-use Rattle.mx_proc.specs.Operands.{operand_of, walk_at, IsPlaced, AsksFor, IsOnward, IsGoodOnward, IsCloser}
-use Rattle.mx_proc.specs.Processes.{seat_in, IsStill, IsCountable, HasEnded, HasFed, Feeds, Goes}
-use Rattle.mx_proc.specs.Stepping.{IsAtLine, HasStepped, HasGone}
+use Rattle.mx_proc.specs.Operands.{operand_of, walk_at, IsPlaced, AsksFor, IsTarget, IsOnward, IsGoodOnward, IsCloser}
+use Rattle.mx_proc.specs.Processes.{seat_in, IsStill, IsCountable, HasEnded, HasGoneOn, HasFed, Feeds, Goes}
+use Rattle.mx_proc.specs.Stepping.{IsAtLine, HasMoved, HasStepped, HasGone}
 use Rattle.mx_proc.specs.Worlds.{Seat, World}
 use Rattle.mx_proc.specs.declared.benches.Stepped.{Stepped}
 use Rattle.mx_proc.specs.declared.memory.Contents.{Contents}
-use Rattle.mx_proc.specs.declared.operands.Asked.TheVariants.{Target, First}
+use Rattle.mx_proc.specs.declared.operands.Asked.TheVariants.{First}
 use Rattle.mx_proc.specs.declared.operands.Onward.{Onward}
 use Rattle.mx_proc.specs.declared.operands.Onward.TheVariants.{More, End}
 use Rattle.mx_proc.specs.declared.operands.Place.{Place}
 use Rattle.mx_proc.specs.declared.operands.Progress.{Progress}
+use Rattle.mx_proc.specs.declared.operands.Progress.TheVariants.{Waiting}
 use Rattle.mx_proc.specs.declared.operands.Way.TheVariants as way
 use Rattle.mx_proc.specs.declared.processes.Process.{Process}
 use Rattle.mx_proc.specs.declared.references.Looked.{Looked}
@@ -76,90 +77,114 @@ full_done x s whole room cells processes middle processes' p i line ring request
     → IsKept x s whole room cells processes' × HasStepped v p (world_in x s whole cells processes')) view
     (λ a e. full_goes x s whole room cells processes middle processes' p i line ring request q registers k place a e here is full still ended) a e
 
+pub wait_done : (x : Outline) (s s' : Supervised) (whole : List (List Step)) (room : ℕ) (cells : List Contents) (processes middle processes' : List Process)
+    (p i number : ℕ) (line : Line) (ring : ℕ) (request : Request) (reply : Reply) (q : Process) (w : World)
+    → IsKept x s whole room cells processes → world_in x s whole cells processes ≡ w → i ≡ p - 1 → IsAtLine w p line
+    → IsCalling w p line ring request
+    → slice_get processes i ≡ Some q → HasEntered s p ring request number s'
+    → option_map (λ (e : journaled.Entry). e.reply) (entry_at s'.journal number) ≡ Some reply → reply ≡ replies.Waiting
+    → IsStill processes i middle → HasGoneOn middle i (Entry number ∷ []) Waiting processes'
+    → IsKept x s' whole room cells processes' × HasMoved w p (world_in x s' whole cells processes')
+wait_done x s s' whole room cells processes middle processes' p i number line ring request reply q w k view place a c here e replied waits still gone =
+    subst (λ (v : World). IsAtLine v p line → IsCalling v p line ring request
+    → IsKept x s' whole room cells processes' × HasMoved v p (world_in x s' whole cells processes')) view
+    (λ a c. wait_goes x s s' whole room cells processes middle processes' p i number line ring request reply q k place a c here e replied waits still gone) a c
+
 pub call_done : (x : Outline) (s s' : Supervised) (whole : List (List Step)) (room : ℕ) (cells : List Contents) (processes middle processes' : List Process)
     (p i number : ℕ) (line : Line) (ring : ℕ) (request : Request) (reply : Reply) (ends : Result2) (q : Process) (registers : Registers) (w : World)
     → IsKept x s whole room cells processes → world_in x s whole cells processes ≡ w → i ≡ p - 1 → IsAtLine w p line
     → IsCalling w p line ring request
     → slice_get processes i ≡ Some q → registers ≡ q.registers → HasEntered s p ring request number s'
-    → option_map (λ (e : journaled.Entry). e.reply) (entry_at s'.journal number) ≡ Some reply → ends ≡ result_of reply
+    → option_map (λ (e : journaled.Entry). e.reply) (entry_at s'.journal number) ≡ Some reply → (reply ≡ replies.Waiting → ⊥) → ends ≡ result_of reply
     → IsStill processes i middle → HasEnded middle i (Entry number ∷ []) ends registers processes'
     → IsKept x s' whole room cells processes' × HasStepped w p (world_in x s' whole cells processes')
-call_done x s s' whole room cells processes middle processes' p i number line ring request reply ends q registers w k view place a c here is e replied result still ended =
+call_done x s s' whole room cells processes middle processes' p i number line ring request reply ends q registers w k view place a c here is e replied never result still ended =
     subst (λ (v : World). IsAtLine v p line → IsCalling v p line ring request
     → IsKept x s' whole room cells processes' × HasStepped v p (world_in x s' whole cells processes')) view
-    (λ a c. call_goes x s s' whole room cells processes middle processes' p i number line ring request reply ends q registers k place a c here is e replied result still ended) a c
+    (λ a c. call_goes x s s' whole room cells processes middle processes' p i number line ring request reply ends q registers k place a c here is e replied never result still ended) a c
 
 -- a line does its own at its target
 pub own_done : (x : Outline) (s : Supervised) (whole : List (List Step)) (room : ℕ) (cells cells' : List Contents) (processes middle processes' : List Process)
-    (p i point : ℕ) (line : Line) (o : Operand) (q : Process) (registers : Registers) (target : PointerParts) (asked : Reference) (desc : Descriptor) (made : Made)
+    (p i point : ℕ) (line : Line) (q : Process) (registers : Registers) (target : PointerParts) (asked : Reference) (desc : Descriptor) (made : Made)
     (w : World)
     → IsKept x s whole room cells processes → world_in x s whole cells processes ≡ w → i ≡ p - 1 → IsAtLine w p line
-    → operand_of line ≡ Some o → IsAsking w p o (Target target) → at_target registers line target ≡ Asks asked
+    → IsAiming w p line target → at_target registers line target ≡ Asks asked
     → slice_get processes i ≡ Some q → registers ≡ q.registers
     → desc ≡ descriptor (state_of s) p target.segno → point ≡ length s.journal → length cells' ≡ 65536
     → IsMade line asked registers desc target p point cells cells' made
     → IsStill processes i middle → HasEnded middle i (Core (Seen made.element) ∷ []) made.ends made.after processes'
     → IsKept x s whole room cells' processes' × HasStepped w p (world_in x s whole cells' processes')
-own_done x s whole room cells cells' processes middle processes' p i point line o q registers target asked desc made w k view place a own c does here is on_desc at_end wide m still ended =
-    subst (λ (v : World). IsAtLine v p line → IsAsking v p o (Target target)
+own_done x s whole room cells cells' processes middle processes' p i point line q registers target asked desc made w k view place a t does here is on_desc at_end wide m still ended =
+    subst (λ (v : World). IsAtLine v p line → IsAiming v p line target
     → IsKept x s whole room cells' processes' × HasStepped v p (world_in x s whole cells' processes')) view
-    (λ a c. goes a c) a c
+    (λ a t. goes a t) a t
   where
     j : Judged
     j = beside made desc
 
-    goes : IsAtLine (world_in x s whole cells processes) p line → IsAsking (world_in x s whole cells processes) p o (Target target)
+    other : IsNoRequest line
+    other = aims_no_request registers line target asked does
+
+    Asking : Seat → Type 0
+    Asking seat = (seen : List Judged) → IsPlaced seat.registers line seen seat.progress
+        → next seat.registers line (Attempt seen) ≡ at_target seat.registers line target
+
+    Going : Seat → Type 0
+    Going seat = (j : Judged) (seen : List Judged) → IsPlaced seat.registers line seen seat.progress
+        → next seat.registers line (Attempt (seen ++ j ∷ [])) ≡ after_target seat.registers line target j.desc j.element.outcome
+
+    goes : IsAtLine (world_in x s whole cells processes) p line → IsAiming (world_in x s whole cells processes) p line target
         → IsKept x s whole room cells' processes' × HasStepped (world_in x s whole cells processes) p (world_in x s whole cells' processes')
-    goes a c =
-        let seat : c.seat ≡ seat_in q = seat_is x s whole cells processes p i c.seat q place c.seated here in
-        let asks : AsksFor q.registers o q.progress (Target target)
-        = subst (λ (seat : Seat). AsksFor seat.registers o seat.progress (Target target)) seat c.asks in
+    goes a t =
+        let seat : t.seat ≡ seat_in q = seat_is x s whole cells processes p i t.seat q place t.seated here in
+        let asks : Asking (seat_in q) = subst Asking seat t.asks in
+        let going : Going (seat_in q) = subst Going seat t.goes in
+        let good : IsTarget q.registers target = subst (λ (seat : Seat). IsTarget seat.registers target) seat t.good in
         let end : after_target q.registers line target desc made.element.outcome ≡ Ends made.ends made.after
         = subst (λ (g : Registers). after_target g line target desc made.element.outcome ≡ Ends made.ends made.after) is m.end in
         refer_goes x s whole room cells cells' processes middle processes' p i target.segno point line q asked (beside made desc) made.ends made.after
-        k place a here
-        (λ seen placed. target_asks q.registers line o q.progress target own asks seen placed
-        ∙ subst (λ (g : Registers). at_target g line target ≡ Asks asked) is does)
+        k place a here other
+        (λ seen placed. asks seen placed ∙ subst (λ (g : Registers). at_target g line target ≡ Asks asked) is does)
         m.judged (record { on = on_desc; segno_is = m.segno; at_end = at_end; point_is = m.point_is }) wide (m.access k.wide)
-        (λ seen placed. target_goes q.registers line o q.progress target own asks (beside made desc) seen placed ∙ end)
-        (after_packable q.registers line target desc made.element.outcome made.ends made.after (k.good i q here).packable end)
+        (λ seen placed. going (beside made desc) seen placed ∙ end)
+        (after_packable q.registers line target desc made.element.outcome made.ends made.after (k.good i q here).packable good.packable end)
         still ended
 
--- `lda` at its target
-pub load_done : (x : Outline) (s : Supervised) (whole : List (List Step)) (room : ℕ) (cells cells' : List Contents) (processes middle processes' : List Process)
-    (p i point : ℕ) (line : Line) (o : Operand) (q : Process) (registers : Registers) (target : PointerParts) (desc : Descriptor) (made : Made)
+-- a line that stores nothing, at its target
+pub refer_done : (x : Outline) (s : Supervised) (whole : List (List Step)) (room : ℕ) (cells cells' : List Contents) (processes middle processes' : List Process)
+    (p i point : ℕ) (line : Line) (q : Process) (registers : Registers) (target : PointerParts) (desc : Descriptor) (made : Made)
     (w : World)
     → IsKept x s whole room cells processes → world_in x s whole cells processes ≡ w → i ≡ p - 1 → IsAtLine w p line
-    → line ≡ lines.Lda o → IsAsking w p o (Target target)
+    → IsAiming w p line target → IsReferring line
     → slice_get processes i ≡ Some q → registers ≡ q.registers
     → desc ≡ descriptor (state_of s) p target.segno → point ≡ length s.journal → length cells' ≡ 65536
-    → IsMade (lines.Lda o) (at_place op.Read target) registers desc target p point cells cells' made
+    → ((asked : Reference) → at_target registers line target ≡ Asks asked → IsMade line asked registers desc target p point cells cells' made)
     → IsStill processes i middle → HasEnded middle i (Core (Seen made.element) ∷ []) made.ends made.after processes'
     → IsKept x s whole room cells' processes' × HasStepped w p (world_in x s whole cells' processes')
-load_done x s whole room cells cells' processes middle processes' p i point line o q registers target desc made w k view place a e c here is on_desc at_end wide m still ended =
-    own_done x s whole room cells cells' processes middle processes' p i point line o q registers target (at_place op.Read target) desc made w k view place a
-    (ap operand_of e) c (ap (λ (l : Line). at_target registers l target) e) here is on_desc at_end wide
-    (subst (λ (l : Line). IsMade l (at_place op.Read target) registers desc target p point cells cells' made) (sym e) m) still ended
+refer_done x s whole room cells cells' processes middle processes' p i point line q registers target desc made w k view place a t refers here is on_desc at_end wide m still ended =
+    let asks = refers_asks registers line target refers in
+    own_done x s whole room cells cells' processes middle processes' p i point line q registers target asks.0 desc made w k view place a
+    t asks.1 here is on_desc at_end wide (m asks.0 asks.1) still ended
 
 -- `sta` and `spri` at their targets
 pub store_done : (x : Outline) (s : Supervised) (whole : List (List Step)) (room : ℕ) (cells cells' : List Contents) (processes middle processes' : List Process)
-    (p i point value : ℕ) (line : Line) (o : Operand) (q : Process) (registers : Registers) (target : PointerParts) (desc : Descriptor) (made : Made)
+    (p i point value : ℕ) (line : Line) (q : Process) (registers : Registers) (target : PointerParts) (desc : Descriptor) (made : Made)
     (w : World)
     → IsKept x s whole room cells processes → world_in x s whole cells processes ≡ w → i ≡ p - 1 → IsAtLine w p line
-    → operand_of line ≡ Some o → IsAsking w p o (Target target) → IsStoring w p line target value
+    → IsAiming w p line target → IsStoring w p line target value
     → slice_get processes i ≡ Some q → registers ≡ q.registers
     → desc ≡ descriptor (state_of s) p target.segno → point ≡ length s.journal → length cells' ≡ 65536
     → ((o : Operand) → IsMade (lines.Sta o) (storing value target) registers desc target p point cells cells' made)
     → ((n : ℕ) (o : Operand) → IsMade (lines.Spri n o) (storing value target) registers desc target p point cells cells' made)
     → IsStill processes i middle → HasEnded middle i (Core (Seen made.element) ∷ []) made.ends made.after processes'
     → IsKept x s whole room cells' processes' × HasStepped w p (world_in x s whole cells' processes')
-store_done x s whole room cells cells' processes middle processes' p i point value line o q registers target desc made w k view place a own c st here is on_desc at_end wide sta spri still ended =
+store_done x s whole room cells cells' processes middle processes' p i point value line q registers target desc made w k view place a t st here is on_desc at_end wide sta spri still ended =
     let seat : st.seat ≡ seat_in q
     = seat_is x s whole cells processes p i st.seat q place (ap (λ (v : World). slice_get v.seats (p - 1)) view ∙ st.seated) here in
     let does : at_target registers line target ≡ Asks (storing value target)
     = ap (λ (g : Registers). at_target g line target) (is ∙ sym (ap (λ (t : Seat). t.registers) seat)) ∙ st.asks in
-    own_done x s whole room cells cells' processes middle processes' p i point line o q registers target (storing value target) desc made w k view place a
-    own c does here is on_desc at_end wide
+    own_done x s whole room cells cells' processes middle processes' p i point line q registers target (storing value target) desc made w k view place a
+    t does here is on_desc at_end wide
     (stores_made line (storing value target) registers desc target p point cells cells' made st.stores sta spri) still ended
 
 -- an indirect word is denied
@@ -187,7 +212,7 @@ denied_done x s whole room cells processes middle processes' p i point line o q 
         let led = led_to q.registers o q.progress place asks in
         let denied : looked.element.outcome ≡ Denied denial = subst (λ (r : Result ℕ Denial). HasCome r looked.element.outcome) came l.came in
         refer_goes x s whole room cells cells processes middle processes' p i place.segno point line q (looks place)
-        (record { element = looked.element; desc = desc }) (result.Denied denial) registers k at a here
+        (record { element = looked.element; desc = desc }) (result.Denied denial) registers k at a here (no_request line o own)
         (λ seen placed. word_asks q.registers line o q.progress place own led seen placed)
         l.judged (record { on = on_desc; segno_is = l.segno; at_end = at_end; point_is = l.point_is }) k.wide (l.access k.wide)
         (λ seen placed. word_denied q.registers line o q.progress place denial own led (record { element = looked.element; desc = desc }) denied seen placed
@@ -239,6 +264,9 @@ fed_done x s whole room cells processes middle processes' p i point value r1 lin
     feeds : Feeds q.registers line f.fed.walk value r1 f.fed.onward
     feeds = subst (λ (g : Registers). Feeds g line f.fed.walk value r1 f.fed.onward) same_registers f.fed.feeds
 
+    own_operand : (seen : List Judged) → operand_of line ≡ None → seen ≡ []
+    own_operand seen none = let same = own in absurd (cc)
+
     leads : (seen : List Judged) → IsPlaced q.registers line seen q.progress → IsOnward q.registers line (seen ++ j ∷ []) f.fed.onward
     leads seen placed =
         feeds.leads seen j read.writer read.stamp (walked q.registers line o q.progress f.fed.walk seen own walks placed) read.is (sym r1_is)
@@ -252,10 +280,10 @@ fed_done x s whole room cells processes middle processes' p i point value r1 lin
     by_onward (More progress) g on good closer a asks =
         let led = led_to q.registers o q.progress place asks in
         let fewer = fewer_steps q.registers o q.progress f.fed.walk walks in
-        let moves = look_goes x s whole room cells processes middle processes' p i place.segno point line q (looks place) j progress k at a here
+        let moves = look_goes x s whole room cells processes middle processes' p i place.segno point line q (looks place) j progress k at a here (no_request line o own)
         (λ seen placed. word_asks q.registers line o q.progress place own led seen placed)
         l.judged (record { on = on_desc; segno_is = l.segno; at_end = at_end; point_is = l.point_is }) (l.access k.wide)
-        on good (omega (arith, fewer, closer)) still
+        (λ seen placed. (on seen placed, own_operand (seen ++ j ∷ []))) good (omega (arith, fewer, closer)) still
         (record {
           before = f.before;
           at = f.at;
@@ -270,7 +298,7 @@ fed_done x s whole room cells processes middle processes' p i point value r1 lin
         (moves.0, subst (λ (r : Stepped). HasGone (world_in x s whole cells processes) p r (world_in x s whole cells processes')) (sym g.0) moves.1)
     by_onward (End ends after) g on good closer a asks =
         let led = led_to q.registers o q.progress place asks in
-        let done = refer_goes x s whole room cells cells processes middle processes' p i place.segno point line q (looks place) j ends after k at a here
+        let done = refer_goes x s whole room cells cells processes middle processes' p i place.segno point line q (looks place) j ends after k at a here (no_request line o own)
         (λ seen placed. word_asks q.registers line o q.progress place own led seen placed)
         l.judged (record { on = on_desc; segno_is = l.segno; at_end = at_end; point_is = l.point_is }) k.wide (l.access k.wide)
         (λ seen placed. memory_next q.registers line o (seen ++ j ∷ []) own ∙ on seen placed)

@@ -10,7 +10,7 @@ use Rattle.mx_core.specs.declared.elements.Event.TheVariants.{Seen}
 use Rattle.mx_core.specs.declared.elements.Outcome.TheVariants.{Read}
 use Rattle.mx_sdw.specs.Descriptors.{Descriptor}
 use Rattle.mx_legal.specs.Access.{descriptor_of}
-use Rattle.mx_legal.specs.Asking.{next, answered, result_of}
+use Rattle.mx_legal.specs.Asking.{next, awaits, replied, answered, result_of}
 use Rattle.mx_legal.specs.Courses.{Course, Attempt, Answer, Judged}
 use Rattle.mx_legal.specs.Elements.{IsJudged}
 use Rattle.mx_legal.specs.Lines.{IsEnd}
@@ -22,8 +22,11 @@ use Rattle.mx_legal.specs.declared.transcripts.Event2.TheVariants.{Core, Entry}
 use Rattle.mx_legal.specs.declared.transcripts.Result2.{Result2}
 use Rattle.mx_legal.specs.declared.transcripts.Result2.TheVariants as result
 use Rattle.mx_request.specs.declared.requests.Request.{Request}
+use Rattle.mx_request.specs.declared.replies.Reply.{Reply}
+use Rattle.mx_request.specs.declared.requests.Request.TheVariants.{Block, Resume}
 use Rattle.mx_script.specs.Sessions.{Outline, limit_of}
 use Rattle.mx_script.specs.declared.lines.Line.{Line}
+use Rattle.mx_script.specs.declared.lines.Line.TheVariants as lines
 use Rattle.mx_state.specs.History.{opening, replay, IsRightEntry}
 use Rattle.mx_state.specs.declared.journal.Entry as journaled
 use Rattle.mx_reads.specs.Deeds.{Stores, Loads}
@@ -40,11 +43,12 @@ use Rattle.mx_proc.proofs.RaisedLaws.{raise, raised, raised_bench}
 use Rattle.mx_proc.proofs.SeatLaws.{set_here, set_there, set_length, left_more}
 use Rattle.mx_proc.specs.Access.{IsAccess, stored}
 use Rattle.mx_proc.specs.Operands.{IsPlaced}
-use Rattle.mx_proc.specs.Running.{IsAtWork, IsBefore, left_of, IsRunning}
+use Rattle.mx_proc.specs.Asking.{IsNoRequest, IsToldToWait}
+use Rattle.mx_proc.specs.Running.{IsCome, IsAtWork, IsBefore, left_of, IsRunning}
 use Rattle.mx_proc.specs.Worlds.{Seat, World, held, held_in, contents_at, always}
 use Rattle.mx_proc.specs.declared.memory.Contents.{Contents}
 use Rattle.mx_proc.specs.declared.operands.Progress.{Progress}
-use Rattle.mx_proc.specs.declared.operands.Progress.TheVariants.{Before}
+use Rattle.mx_proc.specs.declared.operands.Progress.TheVariants.{Before, Waiting}
 
 -- a seat after one line more, which had these events more
 abbrev pub after_line : Seat → ℕ → List Event2 → Result2 → Registers → Seat
@@ -95,19 +99,35 @@ ended : (x : Outline) (setup : List journaled.Entry) (p : ℕ) (seat : Seat) (nu
 ended x setup p seat number line [] events course ends after v end r =
     last_line_law x setup p seat.steps number line seat.registers after (seat.events ++ events) course ends v (λ segno. limit_of x) end r
 ended x setup p seat number line (other ∷ left) events course ends after v end r = record {
-  seen = [];
+  course = Attempt [];
   benched = line_step_law x setup p seat.steps number other.0 line other.1 left seat.registers after (seat.events ++ events) course ends v
       (λ segno. limit_of x) end r;
-  placed = refl;
+  come = (refl, λ none. refl);
 }
 
 -- at the line that is left
-at_line : (x : Outline) (setup : List journaled.Entry) (p : ℕ) (seat : Seat) (lines : List (ℕ × Line)) (number : ℕ) (line : Line) (left : List (ℕ × Line)) (v : View)
+pub at_line : (x : Outline) (setup : List journaled.Entry) (p : ℕ) (seat : Seat) (lines : List (ℕ × Line)) (number : ℕ) (line : Line) (left : List (ℕ × Line)) (v : View)
     → lines ≡ (number, line) ∷ left → IsBefore x setup p seat lines v
     → IsAtWork x setup p seat number line left v
 at_line x setup p seat lines number line left v e is = subst (λ (l : List (ℕ × Line)). IsBefore x setup p seat l v) e is
 
-after_it : (x : Outline) (p : ℕ) (seat : Seat) (number : ℕ) (line : Line) (left : List (ℕ × Line)) (events : List Event2) (ends : Result2) (after : Registers)
+-- a line that is no request is in an attempt
+pub record IsAttempting (x : Outline) (setup : List journaled.Entry) (p : ℕ) (seat : Seat) (number : ℕ) (line : Line)
+    (left : List (ℕ × Line)) (v : View) : Type 0 where
+  pub seen : List Judged
+  pub benched : IsBenched x setup p seat.steps number line left seat.registers seat.events (Attempt seen) v
+  pub placed : IsPlaced seat.registers line seen seat.progress
+
+pub attempting : (x : Outline) (setup : List journaled.Entry) (p : ℕ) (seat : Seat) (number : ℕ) (line : Line) (left : List (ℕ × Line)) (v : View)
+    → IsNoRequest line → IsAtWork x setup p seat number line left v → IsAttempting x setup p seat number line left v
+attempting x setup p seat number line left v other now = by_course now.course now.benched now.come
+  where
+    by_course : (course : Course) → IsBenched x setup p seat.steps number line left seat.registers seat.events course v
+        → IsCome seat.registers line course seat.progress → IsAttempting x setup p seat number line left v
+    by_course (Attempt seen) benched come = record { seen = seen; benched = benched; placed = come }
+    by_course (Answer entry) benched come = absurd (other Block come.3)
+
+pub after_it : (x : Outline) (p : ℕ) (seat : Seat) (number : ℕ) (line : Line) (left : List (ℕ × Line)) (events : List Event2) (ends : Result2) (after : Registers)
     → left_of x p seat ≡ (number, line) ∷ left → left_of x p (after_line seat number events ends after) ≡ left
 after_it x p seat number line left events ends after e =
     ap (λ n. drop n (lines_of x p)) (length-append seat.steps ((number, seat.events ++ events, ends) ∷ []) ∙ one (length seat.steps))
@@ -173,12 +193,18 @@ no_more x setup p seat number line left course v r =
     subst (λ (events : List Event2). IsBenched x setup p seat.steps number line left seat.registers events course v)
     (sym (append-nil seat.events)) r
 
+-- whatever the line has done, it makes this call
+abbrev pub Calling : Seat → Line → ℕ → Request → Type 0
+Calling seat line ring request = (course : Course) → IsCome seat.registers line course seat.progress
+    → next seat.registers line course ≡ Calls ring request
+
 -- a line that needs no further event
 pub end_law : (w : World) (i : ℕ) (seat : Seat) (number : ℕ) (line : Line) (left : List (ℕ × Line)) (ends : Result2) (after : Registers)
-    → IsRunning w → IsAt w i seat number line left → Asking seat line (Ends ends after)
+    → IsRunning w → IsAt w i seat number line left → IsNoRequest line → Asking seat line (Ends ends after)
     → IsRunning (stepped w i w.journal w.cells (after_line seat number [] ends after))
-end_law w i seat number line left ends after r a asks =
-    let now = at_line w.session r.setup (suc i) seat (left_of w.session (suc i) seat) number line left (r.views (suc i)) a.at (r.each i seat a.seated) in
+end_law w i seat number line left ends after r a other asks =
+    let now = attempting w.session r.setup (suc i) seat number line left (r.views (suc i)) other
+    (at_line w.session r.setup (suc i) seat (left_of w.session (suc i) seat) number line left (r.views (suc i)) a.at (r.each i seat a.seated)) in
     let e = asks now.seen now.placed in
     record {
       setup = r.setup;
@@ -221,13 +247,13 @@ floor_other p floor views u n = by_test (u == p) refl
     by_test false e = rw e refl
 
 pub full_law : (w : World) (i : ℕ) (seat : Seat) (number : ℕ) (line : Line) (left : List (ℕ × Line)) (ring : ℕ) (request : Request)
-    → IsRunning w → IsAt w i seat number line left → Asking seat line (Calls ring request)
+    → IsRunning w → IsAt w i seat number line left → Calling seat line ring request
     → length w.journal ≡ limit_of w.session
     → IsRunning (stepped w i w.journal w.cells (after_line seat number [] result.HistoryFull seat.registers))
 full_law w i seat number line left ring request r a asks full =
     let p : ℕ = suc i in
     let now = at_line w.session r.setup p seat (left_of w.session p seat) number line left (r.views p) a.at (r.each i seat a.seated) in
-    let e = asks now.seen now.placed in
+    let e = asks now.course now.come in
     let most : ℕ = length (followed r.setup r.history) in
     let at_limit : most ≡ limit_of w.session = sym (ap length r.journal) ∙ full in
     let floors : ℕ → ℕ = full_floors p most r.views in
@@ -235,8 +261,8 @@ full_law w i seat number line left ring request r a asks full =
     let low : (r.views p).floor ≤ most = (r.bench.closed.retired p (omega arith) within).floor in
     let each_low : (u : ℕ) → 1 ≤ u → u ≤ length w.session.principals → floors u ≤ most
     = λ u some least. below u (u == p) refl (r.bench.closed.retired u some least).floor in
-    let own : IsBenched w.session r.setup p seat.steps number line left seat.registers seat.events (Attempt now.seen) (record (r.views p) { floor = most })
-    = raised w.session r.setup p seat.steps number line left seat.registers seat.events (Attempt now.seen) (r.views p) most low now.benched in
+    let own : IsBenched w.session r.setup p seat.steps number line left seat.registers seat.events now.course (record (r.views p) { floor = most })
+    = raised w.session r.setup p seat.steps number line left seat.registers seat.events now.course (r.views p) most low now.benched in
     let after : Seat = after_line seat number [] result.HistoryFull seat.registers in
     let is_full : nat_le (limit_of w.session) most ≡ true = reached (limit_of w.session) most at_limit in
     record {
@@ -252,9 +278,9 @@ full_law w i seat number line left ring request r a asks full =
           (subst (λ (l : List (ℕ × Line)). IsBefore w.session r.setup p after l (raise floors r.views p))
           (sym (after_it w.session p seat number line left [] result.HistoryFull seat.registers a.at))
           (subst (λ (n : ℕ). IsBefore w.session r.setup p after left (record (r.views p) { floor = n })) (sym (floor_own p most r.views))
-          (ended w.session r.setup p seat number line left [] (Attempt now.seen) result.HistoryFull seat.registers (record (r.views p) { floor = most })
+          (ended w.session r.setup p seat number line left [] now.course result.HistoryFull seat.registers (record (r.views p) { floor = most })
           (λ d. rw e (is_full, refl, refl))
-          (no_more w.session r.setup p seat number line left (Attempt now.seen) (record (r.views p) { floor = most }) own))));
+          (no_more w.session r.setup p seat number line left now.course (record (r.views p) { floor = most }) own))));
     }
   where
     reached : (limit most : ℕ) → most ≡ limit → nat_le limit most ≡ true
@@ -265,15 +291,23 @@ full_law w i seat number line left ring request r a asks full =
     below u true t h = rw t (omega arith)
     below u false t h = rw t h
 
--- a call below the limit is entered, and the line ends with its reply
-pub call_law : (w : World) (i : ℕ) (seat : Seat) (number : ℕ) (line : Line) (left : List (ℕ × Line)) (entry : journaled.Entry)
-    → IsRunning w → IsAt w i seat number line left
-    → entry.process ≡ suc i → Asking seat line (Calls entry.ring entry.request)
-    → answered seat.registers line entry.reply ≡ Ends (result_of entry.reply) seat.registers
+-- what stands after a call of the line at work was entered
+record IsCalled (w : World) (r : IsRunning w) (i : ℕ) (seat : Seat) (number : ℕ) (line : Line) (left : List (ℕ × Line))
+    (entry : journaled.Entry) : Type 0 where
+  pub history : List Marked
+  pub views : ℕ → View
+  pub journal : w.journal ++ entry ∷ [] ≡ followed r.setup history
+  pub bench : IsBench w.session r.setup history views always (held_in w.cells)
+  pub benched : IsBenched w.session r.setup (suc i) seat.steps number line left seat.registers
+      (seat.events ++ Entry (length w.journal + 1) ∷ []) (Answer entry) (views (suc i))
+  pub others : (u : ℕ) → u ≢ suc i → views u ≡ r.views u
+
+called_at : (w : World) (r : IsRunning w) (i : ℕ) (seat : Seat) (number : ℕ) (line : Line) (left : List (ℕ × Line)) (entry : journaled.Entry)
+    → IsAt w i seat number line left
+    → entry.process ≡ suc i → Calling seat line entry.ring entry.request
     → length w.journal < limit_of w.session → IsRightEntry (replay (opening w.session.principals) w.journal) entry
-    → IsRunning (stepped w i (w.journal ++ entry ∷ []) w.cells
-    (after_line seat number (Entry (length w.journal + 1) ∷ []) (result_of entry.reply) seat.registers))
-call_law w i seat number line left entry r a maker asks answers below right =
+    → IsCalled w r i seat number line left entry
+called_at w r i seat number line left entry a maker asks below right =
     let p : ℕ = suc i in
     let front : List journaled.Entry = followed r.setup r.history in
     let marked : Marked = record { entry = entry; mark = length (r.views p).trace } in
@@ -286,25 +320,17 @@ call_law w i seat number line left entry r a maker asks answers below right =
     = subst (λ (j : List journaled.Entry). IsRightEntry (replay (opening w.session.principals) j) entry) r.journal right in
     let now = at_line w.session r.setup p seat (left_of w.session p seat) number line left (r.views p) a.at (r.each i seat a.seated) in
     let called = bench_call_law w.session r.setup r.history r.views views always (held_in w.cells) p marked seat.steps number line left
-    seat.registers seat.events (Attempt now.seen) r.bench (omega arith) within maker refl below' (asks now.seen now.placed) (put_own p v r.views)
+    seat.registers seat.events now.course r.bench (omega arith) within maker refl below' (asks now.course now.come) (put_own p v r.views)
     now.benched in
-    let after : ℕ → Seat = λ n. after_line seat number (Entry n ∷ []) (result_of entry.reply) seat.registers in
-    let own : IsBefore w.session r.setup p (after (length front + 1)) left (views p)
-    = ended w.session r.setup p seat number line left (Entry (length front + 1) ∷ []) (Answer entry) (result_of entry.reply)
-    seat.registers (views p) (λ d. rw answers (refl, refl)) called in
     record {
-      setup = r.setup;
       history = history;
       views = views;
       journal = grown r.setup r.history marked w.journal r.journal;
       bench = bench_entry_law w.session r.setup r.history r.views views always always (held_in w.cells) p marked r.bench (omega arith) within maker
           refl below' right' (λ cell t. inl t) (put_own p v r.views) (put_other p v r.views);
-      set_up = r.set_up;
-      count = set_length w.seats i (after (length w.journal + 1)) ∙ r.count;
-      each = each_after w.session r.setup w.seats r.views views i (after (length w.journal + 1)) seat a.seated (put_other p v r.views) r.each
-          (subst (λ (l : List (ℕ × Line)). IsBefore w.session r.setup p (after (length w.journal + 1)) l (views p))
-          (sym (after_it w.session p seat number line left (Entry (length w.journal + 1) ∷ []) (result_of entry.reply) seat.registers a.at))
-          (subst (λ (j : List journaled.Entry). IsBefore w.session r.setup p (after (length j + 1)) left (views p)) (sym r.journal) own));
+      benched = subst (λ (j : List journaled.Entry). IsBenched w.session r.setup p seat.steps number line left seat.registers
+          (seat.events ++ Entry (length j + 1) ∷ []) (Answer entry) (views p)) (sym r.journal) called;
+      others = put_other p v r.views;
     }
   where
     grown : (setup : List journaled.Entry) (history : List Marked) (marked : Marked) (journal : List journaled.Entry)
@@ -312,6 +338,61 @@ call_law w i seat number line left entry r a maker asks answers below right =
     grown setup history marked journal e =
         ap (λ (j : List journaled.Entry). j ++ marked.entry ∷ []) e ∙ append_assoc setup (map entry_in history) (marked.entry ∷ [])
         ∙ ap (λ (more : List journaled.Entry). setup ++ more) (sym (map-append entry_in history (marked ∷ [])))
+
+-- a call below the limit is entered, and the line ends with its reply
+pub call_law : (w : World) (i : ℕ) (seat : Seat) (number : ℕ) (line : Line) (left : List (ℕ × Line)) (entry : journaled.Entry)
+    → IsRunning w → IsAt w i seat number line left
+    → entry.process ≡ suc i → Calling seat line entry.ring entry.request
+    → answered seat.registers line entry.request entry.reply ≡ Ends (result_of entry.reply) seat.registers
+    → length w.journal < limit_of w.session → IsRightEntry (replay (opening w.session.principals) w.journal) entry
+    → IsRunning (stepped w i (w.journal ++ entry ∷ []) w.cells
+    (after_line seat number (Entry (length w.journal + 1) ∷ []) (result_of entry.reply) seat.registers))
+call_law w i seat number line left entry r a maker asks answers below right =
+    let p : ℕ = suc i in
+    let t = called_at w r i seat number line left entry a maker asks below right in
+    let next_seat : Seat = after_line seat number (Entry (length w.journal + 1) ∷ []) (result_of entry.reply) seat.registers in
+    let own : IsBefore w.session r.setup p next_seat left (t.views p)
+    = ended w.session r.setup p seat number line left (Entry (length w.journal + 1) ∷ []) (Answer entry) (result_of entry.reply)
+    seat.registers (t.views p) (λ d. rw answers (refl, refl)) t.benched in
+    record {
+      setup = r.setup;
+      history = t.history;
+      views = t.views;
+      journal = t.journal;
+      bench = t.bench;
+      set_up = r.set_up;
+      count = set_length w.seats i next_seat ∙ r.count;
+      each = each_after w.session r.setup w.seats r.views t.views i next_seat seat a.seated t.others r.each
+          (subst (λ (l : List (ℕ × Line)). IsBefore w.session r.setup p next_seat l (t.views p))
+          (sym (after_it w.session p seat number line left (Entry (length w.journal + 1) ∷ []) (result_of entry.reply) seat.registers a.at)) own);
+    }
+
+-- or its process is told to wait
+pub wait_law : (w : World) (i : ℕ) (seat : Seat) (number : ℕ) (line : Line) (left : List (ℕ × Line)) (entry : journaled.Entry)
+    → IsRunning w → IsAt w i seat number line left
+    → entry.process ≡ suc i → Calling seat line entry.ring entry.request → IsToldToWait line entry.request entry.reply
+    → length w.journal < limit_of w.session → IsRightEntry (replay (opening w.session.principals) w.journal) entry
+    → IsRunning (stepped w i (w.journal ++ entry ∷ []) w.cells (moved seat (Entry (length w.journal + 1)) Waiting))
+wait_law w i seat number line left entry r a maker asks told below right =
+    let p : ℕ = suc i in
+    let t = called_at w r i seat number line left entry a maker asks below right in
+    let next_seat : Seat = moved seat (Entry (length w.journal + 1)) Waiting in
+    let own : IsBefore w.session r.setup p next_seat ((number, line) ∷ left) (t.views p) = record {
+      course = Answer entry;
+      benched = t.benched;
+      come = (refl, told.waits, told.blocks, told.line_is);
+    } in
+    record {
+      setup = r.setup;
+      history = t.history;
+      views = t.views;
+      journal = t.journal;
+      bench = t.bench;
+      set_up = r.set_up;
+      count = set_length w.seats i next_seat ∙ r.count;
+      each = each_after w.session r.setup w.seats r.views t.views i next_seat seat a.seated t.others r.each
+          (subst (λ (l : List (ℕ × Line)). IsBefore w.session r.setup p next_seat l (t.views p)) (sym a.at) own);
+    }
 
 -- what stands after a reference of the line at work
 record IsReferredTo (w : World) (r : IsRunning w) (i : ℕ) (seat : Seat) (number : ℕ) (line : Line) (left : List (ℕ × Line))
@@ -324,7 +405,7 @@ record IsReferredTo (w : World) (r : IsRunning w) (i : ℕ) (seat : Seat) (numbe
 
 referred_to : (w : World) (r : IsRunning w) (i : ℕ) (seat : Seat) (number : ℕ) (line : Line) (left : List (ℕ × Line)) (asked : Reference)
     (j : Judged) (cells : List Contents) → slice_get w.seats i ≡ Some seat
-    → (now : IsAtWork w.session r.setup (suc i) seat number line left (r.views (suc i)))
+    → (now : IsAttempting w.session r.setup (suc i) seat number line left (r.views (suc i)))
     → next seat.registers line (Attempt now.seen) ≡ Asks asked → IsJudged asked j.desc j.element
     → j.desc ≡ descriptor_of w.session w.journal (suc i) j.element → j.element.point ≡ length w.journal
     → IsAccess w.cells cells (suc i) j → IsReferredTo w r i seat number line left now.seen j cells
@@ -384,15 +465,16 @@ referred_to w r i seat number line left asked j cells seated now asks judged des
 -- a reference after which the line ends
 pub refer_law : (w : World) (i : ℕ) (seat : Seat) (number : ℕ) (line : Line) (left : List (ℕ × Line)) (asked : Reference) (j : Judged)
     (cells : List Contents) (ends : Result2) (after : Registers)
-    → IsRunning w → IsAt w i seat number line left → Asking seat line (Asks asked) → IsJudged asked j.desc j.element
+    → IsRunning w → IsAt w i seat number line left → IsNoRequest line → Asking seat line (Asks asked) → IsJudged asked j.desc j.element
     → j.desc ≡ descriptor_of w.session w.journal (suc i) j.element → j.element.point ≡ length w.journal
     → IsAccess w.cells cells (suc i) j
     → ((seen : List Judged) → IsPlaced seat.registers line seen seat.progress
     → next seat.registers line (Attempt (seen ++ j ∷ [])) ≡ Ends ends after)
     → IsRunning (stepped w i w.journal cells (after_line seat number (Core (Seen j.element) ∷ []) ends after))
-refer_law w i seat number line left asked j cells ends after r a asks judged desc point access end =
+refer_law w i seat number line left asked j cells ends after r a other asks judged desc point access end =
     let p : ℕ = suc i in
-    let now = at_line w.session r.setup p seat (left_of w.session p seat) number line left (r.views p) a.at (r.each i seat a.seated) in
+    let now = attempting w.session r.setup p seat number line left (r.views p) other
+    (at_line w.session r.setup p seat (left_of w.session p seat) number line left (r.views p) a.at (r.each i seat a.seated)) in
     let t = referred_to w r i seat number line left asked j cells a.seated now (asks now.seen now.placed) judged desc point access in
     let e = end now.seen now.placed in
     let own = ended w.session r.setup p seat number line left (Core (Seen j.element) ∷ []) (Attempt (now.seen ++ j ∷ [])) ends after (t.views p)
@@ -414,20 +496,21 @@ refer_law w i seat number line left asked j cells ends after r a asks judged des
 -- a reference after which the line goes on
 pub look_law : (w : World) (i : ℕ) (seat : Seat) (number : ℕ) (line : Line) (left : List (ℕ × Line)) (asked : Reference) (j : Judged)
     (cells : List Contents) (progress : Progress)
-    → IsRunning w → IsAt w i seat number line left → Asking seat line (Asks asked) → IsJudged asked j.desc j.element
+    → IsRunning w → IsAt w i seat number line left → IsNoRequest line → Asking seat line (Asks asked) → IsJudged asked j.desc j.element
     → j.desc ≡ descriptor_of w.session w.journal (suc i) j.element → j.element.point ≡ length w.journal
     → IsAccess w.cells cells (suc i) j
     → ((seen : List Judged) → IsPlaced seat.registers line seen seat.progress → IsPlaced seat.registers line (seen ++ j ∷ []) progress)
     → IsRunning (stepped w i w.journal cells (moved seat (Core (Seen j.element)) progress))
-look_law w i seat number line left asked j cells progress r a asks judged desc point access placed =
+look_law w i seat number line left asked j cells progress r a other asks judged desc point access placed =
     let p : ℕ = suc i in
-    let now = at_line w.session r.setup p seat (left_of w.session p seat) number line left (r.views p) a.at (r.each i seat a.seated) in
+    let now = attempting w.session r.setup p seat number line left (r.views p) other
+    (at_line w.session r.setup p seat (left_of w.session p seat) number line left (r.views p) a.at (r.each i seat a.seated)) in
     let t = referred_to w r i seat number line left asked j cells a.seated now (asks now.seen now.placed) judged desc point access in
     let next_seat : Seat = moved seat (Core (Seen j.element)) progress in
     let own : IsBefore w.session r.setup p next_seat ((number, line) ∷ left) (t.views p) = record {
-      seen = now.seen ++ j ∷ [];
+      course = Attempt (now.seen ++ j ∷ []);
       benched = t.benched;
-      placed = placed now.seen now.placed;
+      come = placed now.seen now.placed;
     } in
     record {
       setup = r.setup;
@@ -440,3 +523,40 @@ look_law w i seat number line left asked j cells progress r a asks judged desc p
       each = each_after w.session r.setup w.seats r.views t.views i next_seat seat a.seated t.others r.each
           (subst (λ (l : List (ℕ × Line)). IsBefore w.session r.setup p next_seat l (t.views p)) (sym a.at) own);
     }
+
+-- what the process at work shows: at a line that is no request it was not told to wait
+pub not_told : (w : World) (i : ℕ) (seat : Seat) (number : ℕ) (line : Line) (left : List (ℕ × Line)) → IsRunning w
+    → IsAt w i seat number line left → IsNoRequest line → seat.progress ≡ Waiting → ⊥
+not_told w i seat number line left r a other told =
+    let now = attempting w.session r.setup (suc i) seat number line left (r.views (suc i)) other
+    (at_line w.session r.setup (suc i) seat (left_of w.session (suc i) seat) number line left (r.views (suc i)) a.at (r.each i seat a.seated)) in
+    (subst (IsPlaced seat.registers line now.seen) told now.placed).0
+
+-- who was told to wait is at a `block`
+pub told_blocks : (w : World) (i : ℕ) (seat : Seat) (number : ℕ) (line : Line) (left : List (ℕ × Line)) → IsRunning w
+    → IsAt w i seat number line left → seat.progress ≡ Waiting → line ≡ lines.Ask Block
+told_blocks w i seat number line left r a told = by_course now.course now.come
+  where
+    now : IsAtWork w.session r.setup (suc i) seat number line left (r.views (suc i))
+    now = at_line w.session r.setup (suc i) seat (left_of w.session (suc i) seat) number line left (r.views (suc i)) a.at (r.each i seat a.seated)
+
+    by_course : (course : Course) → IsCome seat.registers line course seat.progress → line ≡ lines.Ask Block
+    by_course (Attempt seen) come = absurd (subst (IsPlaced seat.registers line seen) told come).0
+    by_course (Answer entry) come = come.3
+
+-- an indirect word leaves nobody waiting
+pub look_awake : (w : World) (i : ℕ) (seat : Seat) (number : ℕ) (line : Line) (left : List (ℕ × Line)) (j : Judged) (progress : Progress)
+    → IsRunning w → IsAt w i seat number line left → IsNoRequest line
+    → ((seen : List Judged) → IsPlaced seat.registers line seen seat.progress → IsPlaced seat.registers line (seen ++ j ∷ []) progress)
+    → progress ≡ Waiting → ⊥
+look_awake w i seat number line left j progress r a other placed told =
+    let now = attempting w.session r.setup (suc i) seat number line left (r.views (suc i)) other
+    (at_line w.session r.setup (suc i) seat (left_of w.session (suc i) seat) number line left (r.views (suc i)) a.at (r.each i seat a.seated)) in
+    (subst (IsPlaced seat.registers line (now.seen ++ j ∷ [])) told (placed now.seen now.placed)).0
+
+-- what a line asks for whose process was told to wait
+pub waits_next : (g : Registers) (line : Line) (entry : journaled.Entry) (progress : Progress) → IsCome g line (Answer entry) progress
+    → next g line (Answer entry) ≡ Calls g.ring Resume
+waits_next g line entry progress come =
+    ap (λ (l : Line). next g l (Answer entry)) come.3 ∙ ap (λ (given : Reply). replied g entry.request given) come.1
+    ∙ ap (awaits g) come.2

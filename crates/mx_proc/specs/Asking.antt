@@ -1,24 +1,28 @@
 -- Helpers: what a line of a process asks for, on the bench.
-use Rattle.std.specs.Prelude.{◌≡◌, ℕ, List}
+use Rattle.std.specs.Prelude.{◌≡◌, ◌⊎◌, ℕ, ◌<◌, true, false, List, length, [], ◌∷◌, ◌++◌}
 use Rattle.mx_call.specs.Registers.{Registers, ArePackable}
-use Rattle.mx_hier.specs.declared.refusals.Refusal.TheVariants.{NotLinkage}
 use Rattle.mx_legal.specs.Asking.{next, answered, result_of}
-use Rattle.mx_legal.specs.Courses.{Attempt, Judged}
+use Rattle.mx_legal.specs.Courses.{Course, Attempt, Judged}
 use Rattle.mx_legal.specs.Next.{Asks, Calls, Ends, storing}
-use Rattle.mx_legal.specs.Targets.{at_target}
+use Rattle.mx_legal.specs.Targets.{at_target, after_target}
 use Rattle.mx_legal.specs.declared.transcripts.Result2.{Result2}
 use Rattle.mx_ptr.specs.Pointers.{PointerParts}
 use Rattle.mx_request.specs.declared.replies.Reply.{Reply}
-use Rattle.mx_request.specs.declared.replies.Reply.TheVariants.{Refused}
+use Rattle.mx_request.specs.declared.replies.Reply.TheVariants as replies
 use Rattle.mx_request.specs.declared.requests.Request.{Request}
-use Rattle.mx_request.specs.declared.requests.Request.TheVariants.{Link}
+use Rattle.mx_request.specs.declared.requests.Request.TheVariants.{Block, Logout}
+use Rattle.mx_script.specs.Sessions.{limit_of}
 use Rattle.mx_script.specs.declared.lines.Line.{Line}
 use Rattle.mx_script.specs.declared.lines.Line.TheVariants as line
 use Rattle.mx_script.specs.declared.lines.Operand.{Operand}
-use Rattle.mx_proc.specs.Operands.{IsPlaced, AsksFor, IsGoodAsked}
-use Rattle.mx_proc.specs.Stepping.{IsSeat}
+use Rattle.mx_proc.specs.Operands.{IsPlaced, AsksFor, IsGoodAsked, IsTarget}
+use Rattle.mx_proc.specs.Stepping.{IsSeat, IsWaiting, state_in}
+use Rattle.mx_proc.specs.Running.{IsCome}
 use Rattle.mx_proc.specs.Worlds.{Seat, World}
 use Rattle.mx_proc.specs.declared.operands.Asked.{Asked}
+use Rattle.mx_proc.specs.declared.operands.Progress.TheVariants.{Waiting}
+use Rattle.mx_state.specs.History.{IsRightEntry}
+use Rattle.mx_state.specs.Messages.{is_ready}
 
 -- process p, counted from 1, is on the bench, with these registers
 abbrev pub HasSeat : World → ℕ → Type 0
@@ -30,6 +34,10 @@ pub record HasSeatWith (w : World) (p : ℕ) (g : Registers) : Type 0 where
   pub registers : g ≡ seat.registers
   pub packable : ArePackable g
 
+-- a line that is no request, at which no process waits
+abbrev pub IsNoRequest : Line → Type 0
+IsNoRequest l = (request : Request) → l ≡ line.Ask request → ⊥
+
 -- its operand asks for this
 pub record IsAsking (w : World) (p : ℕ) (o : Operand) (asked : Asked) : Type 0 where
   pub seat : Seat
@@ -37,27 +45,73 @@ pub record IsAsking (w : World) (p : ℕ) (o : Operand) (asked : Asked) : Type 0
   pub asks : AsksFor seat.registers o seat.progress asked
   pub good : IsGoodAsked seat.registers asked
 
--- its line asks for its end, whatever it has seen
+-- its line is at this target, whatever it has seen, and does its own there
+pub record IsAiming (w : World) (p : ℕ) (l : Line) (target : PointerParts) : Type 0 where
+  pub seat : Seat
+  pub seated : IsSeat w p seat
+  pub good : IsTarget seat.registers target
+  pub asks : (seen : List Judged) → IsPlaced seat.registers l seen seat.progress
+      → next seat.registers l (Attempt seen) ≡ at_target seat.registers l target
+  pub goes : (j : Judged) (seen : List Judged) → IsPlaced seat.registers l seen seat.progress
+      → next seat.registers l (Attempt (seen ++ j ∷ [])) ≡ after_target seat.registers l target j.desc j.element.outcome
+
+-- it was told to wait
+pub record IsTold (w : World) (p : ℕ) : Type 0 where
+  pub seat : Seat
+  pub seated : IsSeat w p seat
+  pub told : seat.progress ≡ Waiting
+
+abbrev pub IsUntold : World → ℕ → Type 0
+IsUntold w p = (seat : Seat) → IsSeat w p seat → seat.progress ≡ Waiting → ⊥
+
+-- it is ready, or the journal is full; or neither
+abbrev pub IsReadyBelow : World → ℕ → Type 0
+IsReadyBelow w p = length w.journal < limit_of w.session → is_ready (state_in w) p ≡ true
+
+pub record IsUnreadyBelow (w : World) (p : ℕ) : Type 0 where
+  pub below : length w.journal < limit_of w.session
+  pub unready : is_ready (state_in w) p ≡ false
+
+-- its line, which is no request, asks for its end, whatever it has seen
 pub record IsEnding (w : World) (p : ℕ) (l : Line) (ends : Result2) (after : Registers) : Type 0 where
+  pub other : IsNoRequest l
   pub seat : Seat
   pub seated : IsSeat w p seat
   pub asks : (seen : List Judged) → IsPlaced seat.registers l seen seat.progress
       → next seat.registers l (Attempt seen) ≡ Ends ends after
   pub packable : ArePackable after
 
--- the replies to a request: a link is refused
-abbrev pub IsReplyTo : Request → Reply → Type 0
-IsReplyTo (Link segno word) reply = reply ≡ Refused NotLinkage
-IsReplyTo _ reply = Unit {0}
+-- a line ends with a reply; or it is a `block`, and its process is told to wait
+abbrev pub EndsWith : Registers → Line → Request → Reply → Type 0
+EndsWith g l request reply = answered g l request reply ≡ Ends (result_of reply) g
 
--- its line asks for this call, whatever it has seen, and ends with the reply
+pub record IsToldToWait (l : Line) (request : Request) (reply : Reply) : Type 0 where
+  pub waits : reply ≡ replies.Waiting
+  pub blocks : request ≡ Block
+  pub line_is : l ≡ line.Ask Block
+
+-- its line asks for this call, whatever it has done, and ends with the plain supervisor's reply to it, or goes on to wait
 pub record IsCalling (w : World) (p : ℕ) (l : Line) (ring : ℕ) (request : Request) : Type 0 where
+  pub awake : IsWaiting w p → ⊥
   pub seat : Seat
   pub seated : IsSeat w p seat
-  pub asks : (seen : List Judged) → IsPlaced seat.registers l seen seat.progress
-      → next seat.registers l (Attempt seen) ≡ Calls ring request
-  pub answers : (reply : Reply) → IsReplyTo request reply
-      → answered seat.registers l reply ≡ Ends (result_of reply) seat.registers
+  pub asks : (course : Course) → IsCome seat.registers l course seat.progress
+      → next seat.registers l course ≡ Calls ring request
+  pub answers : (reply : Reply) → length w.journal < limit_of w.session
+      → IsRightEntry (state_in w) (record { process = p; ring = ring; request = request; reply = reply })
+      → EndsWith seat.registers l request reply ⊎ IsToldToWait l request reply
+  -- who is told to wait was not told so before
+  pub first : request ≡ Block → seat.progress ≡ Waiting → ⊥
+  -- a request of its own is the line's
+  pub logs_out : l ≡ line.Ask Logout → request ≡ Logout
+
+-- its line makes a reference at its target that stores nothing
+abbrev pub IsReferring : Line → Type 0
+IsReferring (line.Lda o) = Unit {0}
+IsReferring line.Fetch = Unit {0}
+IsReferring (line.Call o) = Unit {0}
+IsReferring (line.Return o) = Unit {0}
+IsReferring _ = ⊥
 
 -- its line stores this value at its target
 abbrev pub IsStore : Line → Type 0

@@ -5,6 +5,7 @@ use Rattle.mx_script.specs.Sessions.{Outline, IsSession}
 use Rattle.mx_sup.specs.Supervised.{Supervised}
 use Rattle.mx_proc.specs.Processes.{seat_in, AreGood}
 use Rattle.mx_proc.specs.Running.{IsRunning}
+use Rattle.mx_proc.specs.Standing.{AreStanding}
 use Rattle.mx_proc.specs.Worlds.{World}
 use Rattle.mx_proc.specs.declared.memory.Contents.{Contents}
 use Rattle.mx_proc.specs.declared.processes.Process.{Process}
@@ -32,3 +33,4 @@ pub record IsKept (x : Outline) (s : Supervised) (whole : List (List Step)) (roo
   pub room_for : suc (length processes) ≤ room
   pub good : AreGood x processes
   pub running : IsRunning (world_in x s whole cells processes)
+  pub standing : AreStanding (world_in x s whole cells processes)

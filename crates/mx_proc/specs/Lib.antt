@@ -6,5 +6,6 @@ pub mod Processes
 pub mod Making
 pub mod Benches
 pub mod Stepping
+pub mod Standing
 pub mod Asking
 pub mod Rounds

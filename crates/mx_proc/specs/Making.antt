@@ -5,7 +5,7 @@ use Rattle.mx_core.specs.declared.elements.Element.{Element}
 use Rattle.mx_core.specs.declared.elements.Kind.{Kind}
 use Rattle.mx_core.specs.declared.elements.Kind.TheVariants.{Ind}
 use Rattle.mx_core.specs.declared.elements.Outcome.{Outcome}
-use Rattle.mx_core.specs.declared.elements.Outcome.TheVariants.{Read, Denied}
+use Rattle.mx_core.specs.declared.elements.Outcome.TheVariants.{Read, Entered, Denied}
 use Rattle.mx_legal.specs.Courses.{Judged}
 use Rattle.mx_legal.specs.Elements.{IsJudged}
 use Rattle.mx_legal.specs.Next.{Reference, Ends}
@@ -30,6 +30,13 @@ element kind target point outcome = record {
   ring = target.ring;
   point = point;
   outcome = outcome;
+}
+
+abbrev pub moved : Kind → PointerParts → ℕ → Registers → Made
+moved kind target point after = record {
+  element = element kind target point (Entered after.ring);
+  ends = result.Moved after.ring after.procedure;
+  after = after;
 }
 
 abbrev pub denied : Kind → PointerParts → Registers → ℕ → Denial → Made

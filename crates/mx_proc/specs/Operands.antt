@@ -1,4 +1,4 @@
--- Helpers: how far the operand of the line at work has come, and what it asks for.
+-- Helpers: how far the line at work has come, and what its operand asks for.
 use Rattle.std.specs.Prelude.{◌≡◌, ℕ, ◌-◌, ◌<◌, ◌≤◌, false, List, [], Option, Some, None, length, slice_get}
 use Rattle.mx_call.specs.Registers.{Registers, ArePackable}
 use Rattle.mx_effring.specs.Chains as chains
@@ -22,7 +22,7 @@ use Rattle.mx_proc.specs.declared.operands.Onward.{Onward}
 use Rattle.mx_proc.specs.declared.operands.Onward.TheVariants.{More, End}
 use Rattle.mx_proc.specs.declared.operands.Place.{Place}
 use Rattle.mx_proc.specs.declared.operands.Progress.{Progress}
-use Rattle.mx_proc.specs.declared.operands.Progress.TheVariants.{Before, Walking, AtLink}
+use Rattle.mx_proc.specs.declared.operands.Progress.TheVariants.{Before, Walking, AtLink, Waiting}
 use Rattle.mx_proc.specs.declared.operands.Way.TheVariants as way
 
 -- the operand of a memory line
@@ -33,18 +33,27 @@ operand_of (line.Epp n o) = Some o
 operand_of (line.Lda o) = Some o
 operand_of (line.Sta o) = Some o
 operand_of (line.Spri n o) = Some o
+operand_of line.Fetch = None
+operand_of (line.Call o) = Some o
+operand_of (line.Return o) = Some o
 
 -- the walk that it is at
 abbrev pub walk_at : Registers → Operand → Progress → Option chains.Operand
 walk_at g o Before = operand_walk g o
 walk_at g o (Walking walk) = Some walk
 walk_at g o (AtLink place) = None
+walk_at g o Waiting = None
 
 -- after all this was seen, the operand has come so far
+abbrev pub HasWalked : Registers → Line → List Judged → Progress → Type 0
+HasWalked g l seen Before = seen ≡ []
+HasWalked g l seen (Walking walk) = IsWalked g l seen walk
+HasWalked g l seen (AtLink place) = attempt g l seen ≡ Calls place.ring (Link place.segno place.word)
+HasWalked g l seen Waiting = ⊥
+
+-- and a line without an operand has seen nothing
 abbrev pub IsPlaced : Registers → Line → List Judged → Progress → Type 0
-IsPlaced g l seen Before = seen ≡ []
-IsPlaced g l seen (Walking walk) = IsWalked g l seen walk
-IsPlaced g l seen (AtLink place) = attempt g l seen ≡ Calls place.ring (Link place.segno place.word)
+IsPlaced g l seen progress = HasWalked g l seen progress × (operand_of l ≡ None → seen ≡ [])
 
 -- a walk began in the current ring, at a pointer that has a word
 pub record HasBegun (g : Registers) (walk : chains.Operand) : Type 0 where
@@ -59,6 +68,7 @@ abbrev pub IsGoodProgress : Registers → Progress → Type 0
 IsGoodProgress g Before = Unit {0}
 IsGoodProgress g (Walking walk) = IsGoodWalk g walk
 IsGoodProgress g (AtLink place) = Unit {0}
+IsGoodProgress g Waiting = Unit {0}
 
 -- an effective pointer: it has a word, a ring not below the current one, and no further bit
 pub record IsTarget (g : Registers) (target : PointerParts) : Type 0 where
@@ -79,6 +89,7 @@ asked_at (Some walk) progress asked = asked ≡ asked_by (wanted walk)
 asked_at None (AtLink place) asked = asked ≡ First (way.Link place)
 asked_at None Before asked = ⊥
 asked_at None (Walking walk) asked = ⊥
+asked_at None Waiting asked = ⊥
 
 -- what the operand asks for
 abbrev pub AsksFor : Registers → Operand → Progress → Asked → Type 0
@@ -96,7 +107,7 @@ pub record IsLed (g : Registers) (o : Operand) (progress : Progress) (p : Place)
 
 -- after all this was seen the line goes on, or has ended
 abbrev pub IsOnward : Registers → Line → List Judged → Onward → Type 0
-IsOnward g l seen (More progress) = IsPlaced g l seen progress
+IsOnward g l seen (More progress) = HasWalked g l seen progress
 IsOnward g l seen (End ends after) = attempt g l seen ≡ Ends ends after
 
 abbrev pub IsGoodOnward : Registers → Onward → Type 0
@@ -109,11 +120,13 @@ pub record IsRegisterWord (g : Registers) (n value : ℕ) : Type 0 where
   pub at : slice_get g.pr n ≡ Some pointer
   pub is : value ≡ pointer_word (record pointer { further = false })
 
--- how many steps a line can still take, at most: eight indirect words, and then its own reference or a link
+-- how many events a line can still have before its last step, at most: eight indirect words, and its own reference or a
+-- link; none where its process was told to wait
 abbrev pub steps_in : Progress → ℕ
 steps_in Before = 10
 steps_in (Walking walk) = 9 - length walk.chain
 steps_in (AtLink place) = 1
+steps_in Waiting = 0
 
 abbrev pub IsCloser : ℕ → Onward → Type 0
 IsCloser steps (More progress) = steps_in progress < steps

@@ -1,5 +1,5 @@
 -- Helpers: the processes of a bench, and what is recorded of one as it goes on.
-use Rattle.std.specs.Prelude.{◌≡◌, ℕ, suc, ◌+◌, ◌-◌, ◌<◌, ◌^◌, IsTrue, List, [], ◌∷◌, ◌++◌, Option, Some, None, length, slice_get, slice_set}
+use Rattle.std.specs.Prelude.{◌≡◌, ℕ, suc, ◌+◌, ◌-◌, ◌<◌, ◌^◌, Bool, IsTrue, IsFalse, List, [], ◌∷◌, ◌++◌, Option, Some, None, length, slice_get, slice_set}
 use Rattle.mx_call.specs.Registers.{Registers, ArePackable}
 use Rattle.mx_core.specs.declared.elements.Outcome.TheVariants.{Read}
 use Rattle.mx_effring.specs.Chains as chains
@@ -22,7 +22,7 @@ use Rattle.mx_proc.specs.declared.operands.Onward.{Onward}
 use Rattle.mx_proc.specs.declared.operands.Onward.TheVariants.{More, End}
 use Rattle.mx_proc.specs.declared.operands.Place.{Place}
 use Rattle.mx_proc.specs.declared.operands.Progress.{Progress}
-use Rattle.mx_proc.specs.declared.operands.Progress.TheVariants.{Before}
+use Rattle.mx_proc.specs.declared.operands.Progress.TheVariants.{Before, Waiting}
 use Rattle.mx_proc.specs.declared.processes.Process.{Process}
 
 -- a process as contracts see it
@@ -85,6 +85,17 @@ pub record IsCountable (processes : List Process) (i : ℕ) : Type 0 where
   pub at : slice_get processes i ≡ Some process
   pub number : process.first + length process.recording.steps < 2 ^ 32
 
+-- whether process i was told to wait
+pub record HasProgress (processes : List Process) (i : ℕ) (waits : Bool) : Type 0 where
+  pub process : Process
+  pub at : slice_get processes i ≡ Some process
+  pub yes : IsTrue waits → process.progress ≡ Waiting
+  pub no : IsFalse waits → process.progress ≡ Waiting → ⊥
+
+-- process i was not told to wait
+abbrev pub ReadsOperand : List Process → ℕ → Type 0
+ReadsOperand processes i = (process : Process) → slice_get processes i ≡ Some process → process.progress ≡ Waiting → ⊥
+
 -- what is read of process i
 pub record HasRegisters (processes : List Process) (i : ℕ) (g : Registers) : Type 0 where
   pub process : Process
@@ -95,6 +106,12 @@ pub record HasLines (processes : List Process) (i n : ℕ) : Type 0 where
   pub process : Process
   pub at : slice_get processes i ≡ Some process
   pub lines : n ≡ length process.recording.steps
+
+-- the number of its next line
+pub record HasNumber (processes : List Process) (i n : ℕ) : Type 0 where
+  pub process : Process
+  pub at : slice_get processes i ≡ Some process
+  pub number : n ≡ process.first + length process.recording.steps
 
 abbrev pub events_in : Option Event2 → List Event2
 events_in None = []

@@ -3,6 +3,7 @@ use Rattle.std.specs.Prelude.{◌≡◌, ◌⊎◌, ℕ, suc, ◌+◌, ◌*◌, 
 use Rattle.mx_script.specs.Sessions.{Outline}
 use Rattle.mx_proc.specs.Operands.{steps_in}
 use Rattle.mx_proc.specs.Running.{left_of}
+use Rattle.mx_proc.specs.Stepping.{IsWaiting}
 use Rattle.mx_proc.specs.Worlds.{Seat, World}
 
 -- the steps that are left to a process, at most: eleven a line, but for those made of the line at work
@@ -25,8 +26,14 @@ HasNone w i = (seat : Seat) → slice_get w.seats i ≡ Some seat → left_of w.
 abbrev pub HaveEndedUpTo : World → ℕ → Type 0
 HaveEndedUpTo w count = (i : ℕ) (seat : Seat) → i < count → slice_get w.seats i ≡ Some seat → left_of w.session (suc i) seat ≡ []
 
--- so many processes were asked for a step: either steps were made, or these had no line left and nothing was done
+-- these first processes have no line left, or wait
+abbrev pub HaveStoppedUpTo : World → ℕ → Type 0
+HaveStoppedUpTo w count = (i : ℕ) (seat : Seat) → i < count → slice_get w.seats i ≡ Some seat
+    → (left_of w.session (suc i) seat ≡ []) ⊎ IsWaiting w (suc i)
+
+-- so many processes were asked for a step: either steps were made, or these had no line left or wait, and nothing was
+-- done
 pub record IsAsked (start : World) (count : ℕ) (now : World) : Type 0 where
   pub session : now.session ≡ start.session
   pub seats : length now.seats ≡ length start.seats
-  pub progress : (all_left now < all_left start) ⊎ ((now ≡ start) × HaveEndedUpTo start count)
+  pub progress : (all_left now < all_left start) ⊎ ((now ≡ start) × HaveStoppedUpTo start count)

@@ -1,9 +1,13 @@
 -- What is true of a bench, whatever has been stepped: all that a legal run asks, so far.
 use Rattle.std.specs.Prelude.{◌≡◌, ℕ, suc, List, [], ◌∷◌, drop, length, Some, slice_get}
-use Rattle.mx_legal.specs.Courses.{Attempt, Judged}
+use Rattle.mx_call.specs.Registers.{Registers}
+use Rattle.mx_legal.specs.Courses.{Course, Attempt, Answer}
 use Rattle.mx_legal.specs.Scripts.{lines_of}
 use Rattle.mx_script.specs.Sessions.{Outline}
+use Rattle.mx_request.specs.declared.replies.Reply.TheVariants as reply
+use Rattle.mx_request.specs.declared.requests.Request.TheVariants.{Block}
 use Rattle.mx_script.specs.declared.lines.Line.{Line}
+use Rattle.mx_script.specs.declared.lines.Line.TheVariants.{Ask}
 use Rattle.mx_state.specs.declared.journal.Entry as journaled
 use Rattle.mx_ties.specs.Bench.{IsBench}
 use Rattle.mx_ties.specs.BenchGoing.{IsBenched}
@@ -12,13 +16,22 @@ use Rattle.mx_ties.specs.Ran.{HasRun, IsSetUp}
 use Rattle.mx_ties.specs.Views.{Marked, View}
 use Rattle.mx_proc.specs.Operands.{IsPlaced}
 use Rattle.mx_proc.specs.Worlds.{Seat, World, held_in, always}
+use Rattle.mx_proc.specs.declared.operands.Progress.{Progress}
+use Rattle.mx_proc.specs.declared.operands.Progress.TheVariants.{Waiting}
 
--- a line is at work: its attempt has seen so much, and its operand has come so far
+-- A line has done this, and has come so far: its attempt has seen what its operand asked for; or the line is a `block`,
+-- and its process was told to wait.
+abbrev pub IsCome : Registers → Line → Course → Progress → Type 0
+IsCome g l (Attempt seen) progress = IsPlaced g l seen progress
+IsCome g l (Answer entry) progress =
+    (progress ≡ Waiting) × (entry.reply ≡ reply.Waiting) × (entry.request ≡ Block) × (l ≡ Ask Block)
+
+-- a line is at work: it has done this, and has come so far
 pub record IsAtWork (x : Outline) (setup : List journaled.Entry) (p : ℕ) (seat : Seat) (number : ℕ) (line : Line)
     (left : List (ℕ × Line)) (v : View) : Type 0 where
-  pub seen : List Judged
-  pub benched : IsBenched x setup p seat.steps number line left seat.registers seat.events (Attempt seen) v
-  pub placed : IsPlaced seat.registers line seen seat.progress
+  pub course : Course
+  pub benched : IsBenched x setup p seat.steps number line left seat.registers seat.events course v
+  pub come : IsCome seat.registers line course seat.progress
 
 -- before these lines: the first of them is at work; where none is left, the process has run
 abbrev pub IsBefore : Outline → List journaled.Entry → ℕ → Seat → List (ℕ × Line) → View → Type 0

@@ -1,10 +1,13 @@
 -- What a bench does: it opens after the setup, and steps one process at a time.
-use Rattle.std.specs.Prelude.{◌≡◌, ℕ, suc, ◌-◌, ◌<◌, ◌≤◌, List, [], ◌∷◌, ◌++◌, length, Some, slice_get, slice_set}
+use Rattle.std.specs.Prelude.{◌≡◌, ℕ, suc, ◌-◌, ◌<◌, ◌≤◌, false, List, [], ◌∷◌, ◌++◌, length, Some, slice_get, slice_set}
 use Rattle.mx_legal.specs.Legal.{setup_entries}
 use Rattle.mx_legal.specs.Openings.{opening_registers}
 use Rattle.mx_legal.specs.Transcripts.{Step}
-use Rattle.mx_script.specs.Sessions.{Outline}
+use Rattle.mx_script.specs.Sessions.{Outline, limit_of}
 use Rattle.mx_script.specs.declared.lines.Line.{Line}
+use Rattle.mx_state.specs.History.{opening, replay}
+use Rattle.mx_state.specs.Messages.{is_ready}
+use Rattle.mx_state.specs.Plain.{Plain}
 use Rattle.mx_state.specs.declared.journal.Entry as journaled
 use Rattle.mx_legal.specs.declared.transcripts.Event2.{Event2}
 use Rattle.mx_proc.specs.Operands.{steps_in}
@@ -12,7 +15,7 @@ use Rattle.mx_proc.specs.Running.{left_of}
 use Rattle.mx_proc.specs.Worlds.{Seat, World}
 use Rattle.mx_proc.specs.declared.benches.Stepped.{Stepped}
 use Rattle.mx_proc.specs.declared.benches.Stepped.TheVariants as went
-use Rattle.mx_proc.specs.declared.operands.Progress.TheVariants.{Before}
+use Rattle.mx_proc.specs.declared.operands.Progress.TheVariants.{Before, Waiting}
 
 -- after the setup, before the first line of each process
 pub record IsOpening (x : Outline) (w : World) : Type 0 where
@@ -35,6 +38,14 @@ pub record IsAtLine (w : World) (p : ℕ) (line : Line) : Type 0 where
   pub left : List (ℕ × Line)
   pub at : left_of w.session p seat ≡ (number, line) ∷ left
 
+-- process p is before the line with this number
+pub record IsNumbered (w : World) (p number : ℕ) : Type 0 where
+  pub seat : Seat
+  pub seated : IsSeat w p seat
+  pub line : Line
+  pub left : List (ℕ × Line)
+  pub at : left_of w.session p seat ≡ (number, line) ∷ left
+
 -- process p has no line left
 pub record HasEnded (w : World) (p : ℕ) : Type 0 where
   pub seat : Seat
@@ -45,12 +56,25 @@ pub record HasEnded (w : World) (p : ℕ) : Type 0 where
 abbrev pub HaveEnded : World → Type 0
 HaveEnded w = (i : ℕ) (seat : Seat) → slice_get w.seats i ≡ Some seat → left_of w.session (suc i) seat ≡ []
 
--- Process p has gone on with its next line: the line has one event more, and is closer to its end. Nothing was entered,
--- and no other process did anything.
+-- the state of the plain supervisor after all calls so far
+abbrev pub state_in : World → Plain
+state_in w = replay (opening w.session.principals) w.journal
+
+-- Process p waits: the last reply to it was `waiting`, that to `resume` would be neither a message nor `nobody`, and the
+-- journal is below its limit.
+pub record IsWaiting (w : World) (p : ℕ) : Type 0 where
+  pub seat : Seat
+  pub seated : IsSeat w p seat
+  pub told : seat.progress ≡ Waiting
+  pub unready : is_ready (state_in w) p ≡ false
+  pub below : length w.journal < limit_of w.session
+
+-- Process p, which did not wait, has gone on with its next line: the line has one event more, and is closer to its end. It
+-- made at most one entry, at the journal's end, and no other process did anything.
 pub record HasMoved (old : World) (p : ℕ) (new : World) : Type 0 where
+  pub awake : IsWaiting old p → ⊥
   pub session : new.session ≡ old.session
   pub set_up : new.set_up ≡ old.set_up
-  pub journal : new.journal ≡ old.journal
   pub before : Seat
   pub seated : IsSeat old p before
   pub event : Event2
@@ -60,10 +84,14 @@ pub record HasMoved (old : World) (p : ℕ) (new : World) : Type 0 where
   pub more : after.events ≡ before.events ++ event ∷ []
   pub closer : steps_in after.progress < steps_in before.progress
   pub seats : new.seats ≡ slice_set old.seats (p - 1) after
+  pub entries : List journaled.Entry
+  pub grown : new.journal ≡ old.journal ++ entries
+  pub one : length entries ≤ 1
 
--- Process p has done one line more: its next one. It made at most one entry, at the journal's end; no other process did
--- anything.
+-- Process p, which did not wait, has done one line more: its next one. It made at most one entry, at the journal's end; no
+-- other process did anything.
 pub record HasStepped (old : World) (p : ℕ) (new : World) : Type 0 where
+  pub awake : IsWaiting old p → ⊥
   pub session : new.session ≡ old.session
   pub set_up : new.set_up ≡ old.set_up
   pub before : Seat
@@ -89,4 +117,5 @@ pub record HasStepped (old : World) (p : ℕ) (new : World) : Type 0 where
 abbrev pub HasGone : World → ℕ → Stepped → World → Type 0
 HasGone old p went.More new = HasMoved old p new
 HasGone old p went.LineDone new = HasStepped old p new
+HasGone old p went.Waits new = IsWaiting old p × (new ≡ old)
 HasGone old p went.Ended new = ⊥

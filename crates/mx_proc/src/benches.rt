@@ -1,28 +1,29 @@
 //! The bench: all processes of a session over one supervisor and one memory, stepped one at a time.
 
-ghost use Rattle.std.specs.Prelude.{◌≡◌, true, ◌<◌, ◌≤◌, ◌↔◌, Ok, IfOk, OnOk, OnErr, IsTrue, IsFalse, MatchOption, Some, ◌+◌, ◌++◌, map, slice_get, vec_len, vec_capacity, length};
+ghost use Rattle.std.specs.Prelude.{◌≡◌, ◌⊎◌, true, ◌<◌, ◌≤◌, ◌↔◌, Ok, IfOk, IfSome, IsSome, IsNone, OnOk, OnErr, IsTrue, IsFalse, MatchOption, Some, ◌+◌, ◌++◌, map, slice_get, vec_len, vec_capacity, length};
 ghost use Rattle.mx_legal.specs.Legal.{IsLegal, HasGatedFalls, HasSoundRegisters};
-ghost use Rattle.mx_proc.specs.Asking.{HasSeat, HasSeatWith, IsAsking, IsEnding, IsCalling, IsStoring};
+ghost use Rattle.mx_proc.specs.Asking.{HasSeat, HasSeatWith, IsAsking, IsTold, IsUntold, IsReadyBelow, IsUnreadyBelow, IsAiming, IsEnding, IsCalling, IsReferring, IsStoring};
 ghost use Rattle.mx_proc.specs.Operands.{operand_of};
-ghost use Rattle.mx_proc.specs.Stepping.{IsOpening, IsAtLine, HasMoved, HasStepped, HasGone, HasEnded, HaveEnded};
+ghost use Rattle.mx_proc.specs.Stepping.{IsOpening, IsAtLine, IsNumbered, IsWaiting, HasMoved, HasStepped, HasGone, HasEnded, HaveEnded};
 ghost use Rattle.std.specs.Option.{option_map};
 ghost use Rattle.mx_proc.specs.Processes.{recorded_steps};
 ghost use Rattle.mx_proc.specs.Rounds.{HasNone, all_left};
+ghost use Rattle.mx_request.specs.declared.replies.Reply.TheVariants as replies;
 ghost use Rattle.mx_script.specs.Sessions.{is_script_line};
 ghost use Rattle.mx_script.specs.declared.lines.Line.TheVariants as lines;
-ghost use Rattle.mx_proc.specs.declared.benches.Stepped.TheVariants.{More, Ended, LineDone};
+ghost use Rattle.mx_proc.specs.declared.benches.Stepped.TheVariants.{More, Ended, LineDone, Waits};
 ghost use Rattle.mx_proc.specs.declared.operands.Asked.TheVariants.{Target, First};
 ghost use Rattle.mx_proc.specs.declared.operands.Way.TheVariants as ways;
 
 use crate::memory::Memory;
-use crate::operands::{Asked, Place, Way, loaded, register_word};
+use crate::operands::{Asked, Place, Way, here, loaded, register_word};
 use crate::processes::{Process, Processes};
-use crate::references::{load, look, store};
+use crate::references::{look, refer, store};
 use mx_call::Regs;
 use mx_legal::{Event, Event2, Result2, Transcript, Transcripts};
 use mx_list::Sequence;
 use mx_ptr::Pointer;
-use mx_request::Request;
+use mx_request::{Reply, Request};
 use mx_script::{Line, Operand, Script, Session};
 use mx_sdw::{Ring, Word};
 use mx_state::Journal;
@@ -37,6 +38,8 @@ pub enum Stepped {
     More,
     /// A line ended with this step.
     LineDone,
+    /// The process waits for a message; nothing was done.
+    Waits,
     /// The process had no line left; nothing was done.
     Ended,
 }
@@ -88,16 +91,20 @@ impl<'a> Bench<'a> {
     /// Makes one step of process `p`: one element with its access to a cell, or one entry, or a call that finds the
     /// journal at its limit, or the whole of a line that needs neither. A step after which its line asks for nothing more
     /// ends the line. It costs no more for the last line of a script than for the first. `Ended` comes exactly where the
-    /// process has no line left. That and want of memory change nothing.
+    /// process has no line left, and `Waits`, where memory suffices, exactly where it was told to wait, is not ready to
+    /// resume, and the journal is below its limit. These and want of memory change nothing.
     pub fn step(&mut self, alloc: Global, p: u8) -> Result<Stepped, AllocError>
         requires some { 1 ≤ p }
         requires process { p ≤ length self.old.session.principals }
         ensures ended { (result ≡ Ok Ended) ↔ HasEnded self.old p }
+        ensures waits { IfOk result (λ stepped. (stepped ≡ Waits) ↔ IsWaiting self.old p) }
         ensures more { result ≡ Ok More → HasMoved self.old p self.new }
         ensures done { result ≡ Ok LineDone → HasStepped self.old p self.new }
         ensures still { result ≡ Ok Ended → self.new ≡ self.old }
+        ensures asleep { result ≡ Ok Waits → self.new ≡ self.old }
         ensures err { OnErr result (self.new ≡ self.old) }
     {
+        let _ = &self.session;
         match self.next_line(p) {
             Some(line) => self.do_line(alloc, p, line),
             None => Ok(Stepped::Ended),
@@ -124,13 +131,16 @@ impl<'a> Bench<'a> {
             Line::Ask(boxed) => self.ask(alloc, p, line, boxed.request()),
             Line::Set { word } => self.set(p, line, *word),
             Line::Epp { n, operand } => self.epp(alloc, p, line, *n, operand),
-            Line::Lda { operand } => self.lda(alloc, p, line, operand),
+            Line::Lda { operand } => self.refer_by(alloc, p, line, operand),
             Line::Sta { operand } => self.sta(alloc, p, line, operand),
             Line::Spri { n, operand } => self.spri(alloc, p, line, *n, operand),
+            Line::Fetch => self.fetch(p, line),
+            Line::Call { operand } => self.refer_by(alloc, p, line, operand),
+            Line::Return { operand } => self.refer_by(alloc, p, line, operand),
         }
     }
 
-    // A request is a call in the current ring.
+    // A request is a call in the current ring; who was told to wait resumes.
     fn ask(
         &mut self,
         alloc: Global,
@@ -143,9 +153,47 @@ impl<'a> Bench<'a> {
         ensures gone { IfOk result (λ stepped. HasGone self.old p stepped self.new) }
         ensures err { OnErr result (self.new ≡ self.old) }
     {
+        let _ = &self.session;
+        if self.is_waiting(p) {
+            self.resume(alloc, p, line)
+        } else {
+            let ring = self.registers(p).ring;
+            self.enter(alloc, p, line, ring, request)
+        }
+    }
+
+    // Who was told to wait resumes once it is ready, or finds the journal full.
+    fn resume(&mut self, alloc: Global, p: u8, line: &Line) -> Result<Stepped, AllocError>
+        requires at { IsAtLine self.old p line.now }
+        requires told { IsTold self.old p }
+        ensures gone { IfOk result (λ stepped. HasGone self.old p stepped self.new) }
+        ensures err { OnErr result (self.new ≡ self.old) }
+    {
+        let _ = &self.session;
+        if !self.may_resume(p, line) {
+            return Ok(Stepped::Waits);
+        }
         let ring = self.registers(p).ring;
-        self.enter(alloc, p, line, ring, request)?;
-        Ok(Stepped::LineDone)
+        self.enter(alloc, p, line, ring, &Request::Resume)
+    }
+
+    // Whether a process was told to wait.
+    fn is_waiting(&self, p: u8) -> bool
+        requires some { 1 ≤ p }
+        requires seat { HasSeat self.now p }
+        ensures yes { IsTrue result → IsTold self.now p }
+        ensures no { IsFalse result → IsUntold self.now p }
+    {
+        self.processes.is_waiting(usize::from(p) - 1)
+    }
+
+    // Whether one that was told to wait goes on: it is ready, or the journal is full.
+    fn may_resume(&self, p: u8, line: &Line) -> bool
+        requires { IsAtLine self.now p line.now }
+        ensures yes { IsTrue result → IsReadyBelow self.now p }
+        ensures no { IsFalse result → IsUnreadyBelow self.now p }
+    {
+        self.supervisor.length() >= self.supervisor.limit() || self.supervisor.ready(p)
     }
 
     // `set`: A becomes the word.
@@ -188,8 +236,8 @@ impl<'a> Bench<'a> {
         }
     }
 
-    // `lda`: A becomes the word at the target.
-    fn lda(
+    // `lda`, `call` and `return`: a reference at the target that stores nothing.
+    fn refer_by(
         &mut self,
         alloc: Global,
         p: u8,
@@ -197,13 +245,14 @@ impl<'a> Bench<'a> {
         operand: &Operand,
     ) -> Result<Stepped, AllocError>
         requires at { IsAtLine self.old p line.now }
-        requires line { line.now ≡ lines.Lda operand.now }
+        requires operand { operand_of line.now ≡ Some operand.now }
+        requires refers { IsReferring line.now }
         ensures gone { IfOk result (λ stepped. HasGone self.old p stepped self.new) }
         ensures err { OnErr result (self.new ≡ self.old) }
     {
         match self.asks(p, line, operand) {
             Asked::Target(target) => {
-                self.load(p, line, operand, &target)?;
+                self.refer(p, line, &target)?;
                 Ok(Stepped::LineDone)
             }
             Asked::First(way) => self.go(alloc, p, line, operand, way),
@@ -226,7 +275,7 @@ impl<'a> Bench<'a> {
         match self.asks(p, line, operand) {
             Asked::Target(target) => {
                 let value = self.registers(p).a;
-                self.store(p, line, operand, &target, value)?;
+                self.store(p, line, &target, value)?;
                 Ok(Stepped::LineDone)
             }
             Asked::First(way) => self.go(alloc, p, line, operand, way),
@@ -250,11 +299,23 @@ impl<'a> Bench<'a> {
         match self.asks(p, line, operand) {
             Asked::Target(target) => {
                 let value = register_word(&self.registers(p), n);
-                self.store(p, line, operand, &target, value)?;
+                self.store(p, line, &target, value)?;
                 Ok(Stepped::LineDone)
             }
             Asked::First(way) => self.go(alloc, p, line, operand, way),
         }
+    }
+
+    // `fetch`: the word at the procedure pointer is read, in the current ring.
+    fn fetch(&mut self, p: u8, line: &Line) -> Result<Stepped, AllocError>
+        requires at { IsAtLine self.old p line.now }
+        requires line { line.now ≡ lines.Fetch }
+        ensures gone { IfOk result (λ stepped. HasGone self.old p stepped self.new) }
+        ensures err { OnErr result (self.new ≡ self.old) }
+    {
+        let target = here(&self.registers(p));
+        self.refer(p, line, &target)?;
+        Ok(Stepped::LineDone)
     }
 
     // What stands on the way of an operand: an indirect word is read, and a link is to be snapped first.
@@ -279,8 +340,7 @@ impl<'a> Bench<'a> {
                     segno: place.segno,
                     word: place.word,
                 };
-                self.enter(alloc, p, line, place.ring, &request)?;
-                Ok(Stepped::LineDone)
+                self.enter(alloc, p, line, place.ring, &request)
             }
         }
     }
@@ -317,7 +377,8 @@ impl<'a> Bench<'a> {
         Ok(())
     }
 
-    // A call: where the journal is at its limit it is not entered, and the line says so.
+    // A call: where the journal is at its limit it is not entered, and the line says so. Who is told to wait goes on with
+    // its line later.
     fn enter(
         &mut self,
         alloc: Global,
@@ -325,10 +386,10 @@ impl<'a> Bench<'a> {
         line: &Line,
         ring: Ring,
         request: &Request,
-    ) -> Result<(), AllocError>
+    ) -> Result<Stepped, AllocError>
         requires at { IsAtLine self.old p line.now }
         requires calls { IsCalling self.old p line.now ring request.now }
-        ensures done { OnOk result (HasStepped self.old p self.new) }
+        ensures gone { IfOk result (λ stepped. HasGone self.old p stepped self.new) }
         ensures err { OnErr result (self.new ≡ self.old) }
     {
         let i = usize::from(p) - 1;
@@ -336,15 +397,21 @@ impl<'a> Bench<'a> {
         self.processes.reserve(i)?;
         match self.supervisor.enter(alloc, p, ring, request) {
             Ok(number) => {
-                let ends = Result2::of(self.supervisor.reply(number));
-                self.processes
-                    .end_line(i, Some(Event2::Entry(number)), ends, &registers);
-                Ok(())
+                let reply = self.supervisor.reply(number);
+                if is_waiting(reply) {
+                    self.processes.wait(i, Event2::Entry(number));
+                    Ok(Stepped::More)
+                } else {
+                    let ends = Result2::of(reply);
+                    self.processes
+                        .end_line(i, Some(Event2::Entry(number)), ends, &registers);
+                    Ok(Stepped::LineDone)
+                }
             }
             Err(EnterError::HistoryFull) => {
                 self.processes
                     .end_line(i, None, Result2::HistoryFull, &registers);
-                Ok(())
+                Ok(Stepped::LineDone)
             }
             Err(EnterError::Memory) => Err(AllocError),
         }
@@ -387,17 +454,11 @@ impl<'a> Bench<'a> {
         }
     }
 
-    // The word at the target is read on the present access, and A becomes it.
-    fn load(
-        &mut self,
-        p: u8,
-        line: &Line,
-        operand: &Operand,
-        target: &Pointer,
-    ) -> Result<(), AllocError>
+    // A reference that stores nothing is made at the target on the present access.
+    fn refer(&mut self, p: u8, line: &Line, target: &Pointer) -> Result<(), AllocError>
         requires at { IsAtLine self.old p line.now }
-        requires line { line.now ≡ lines.Lda operand.now }
-        requires asked { IsAsking self.old p operand.now (Target target.now) }
+        requires target { IsAiming self.old p line.now target.now }
+        requires refers { IsReferring line.now }
         ensures done { OnOk result (HasStepped self.old p self.new) }
         ensures err { OnErr result (self.new ≡ self.old) }
     {
@@ -406,7 +467,7 @@ impl<'a> Bench<'a> {
         self.processes.reserve(i)?;
         let desc = self.supervisor.descriptor(p, target.segno);
         let point = self.supervisor.length();
-        let made = load(&self.cells, &desc, target, &registers, point);
+        let made = refer(&self.cells, &desc, line, target, &registers, point);
         let event = Event2::Core(Event::Seen(made.element));
         self.processes
             .end_line(i, Some(event), made.ends, &made.after);
@@ -414,17 +475,9 @@ impl<'a> Bench<'a> {
     }
 
     // A word is stored at the target on the present access.
-    fn store(
-        &mut self,
-        p: u8,
-        line: &Line,
-        operand: &Operand,
-        target: &Pointer,
-        value: Word,
-    ) -> Result<(), AllocError>
+    fn store(&mut self, p: u8, line: &Line, target: &Pointer, value: Word) -> Result<(), AllocError>
         requires at { IsAtLine self.old p line.now }
-        requires operand { operand_of line.now ≡ Some operand.now }
-        requires asked { IsAsking self.old p operand.now (Target target.now) }
+        requires target { IsAiming self.old p line.now target.now }
         requires stores { IsStoring self.old p line.now target.now value }
         ensures done { OnOk result (HasStepped self.old p self.new) }
         ensures err { OnErr result (self.new ≡ self.old) }
@@ -462,7 +515,8 @@ impl<'a> Bench<'a> {
         self.processes.lines(i) < script_of(self.session, i).len()
     }
 
-    /// Steps the processes over and over, in the order of their numbers, until all have ended. The only error is want of
+    /// Steps the processes over and over, in the order of their numbers, until all have ended. One that waits does not stop
+    /// the others: where one waits, there is another that has a line left and does not wait. The only error is want of
     /// memory; the steps made before it stand.
     pub fn complete(&mut self, alloc: Global) -> Result<(), AllocError>
         ensures ended { OnOk result (HaveEnded self.new) }
@@ -479,10 +533,44 @@ impl<'a> Bench<'a> {
         ensures session { self.new.session ≡ self.old.session }
         ensures less { OnOk result ((HaveEnded self.old → ⊥) → all_left self.new < all_left self.old) }
     {
+        let _ = &self.session;
         for i in 0..self.count() {
             self.step(alloc, i + 1)?;
         }
         Ok(())
+    }
+
+    /// The number in the session text of the next line of a process; none where no line is left, and where the process waits in
+    /// a line that it has begun.
+    pub(crate) fn beginning(&self, p: u8) -> Option<u32>
+        requires some { 1 ≤ p }
+        requires process { p ≤ length self.now.session.principals }
+        ensures some { IfSome result (IsNumbered self.now p) }
+        ensures untold { IsSome result → IsUntold self.now p }
+        ensures none { IsNone result → HasEnded self.now p ⊎ IsTold self.now p }
+    {
+        let line = self.next_line(p)?;
+        let waits = self.is_waiting(p);
+        if waits {
+            None
+        } else {
+            Some(self.number(p, line))
+        }
+    }
+
+    // The number of the line that a process is before.
+    fn number(&self, p: u8, line: &Line) -> u32
+        requires { IsAtLine self.now p line.now }
+        ensures { IsNumbered self.now p result }
+    {
+        self.processes.number(usize::from(p) - 1)
+    }
+
+    /// How many entries the journal has.
+    pub(crate) fn entries(&self) -> u32
+        ensures { result ≡ length self.now.journal }
+    {
+        self.supervisor.length()
     }
 
     /// How many processes there are.
@@ -510,6 +598,13 @@ impl<'a> Bench<'a> {
         let whole = gather(whole, processes.into_items());
         (supervisor.into_journal(), Sequence::of(whole))
     }
+}
+
+fn is_waiting(reply: &Reply) -> bool
+    ensures yes { IsTrue result → reply.now ≡ replies.Waiting }
+    ensures no { IsFalse result → reply.now ≡ replies.Waiting → ⊥ }
+{
+    matches!(reply, Reply::Waiting)
 }
 
 // The script of a process, counted from 0.

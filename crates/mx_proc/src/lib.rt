@@ -8,6 +8,8 @@
 #![tactic(auto)]
 
 mod benches;
+mod gates;
+mod halls;
 mod memory;
 mod operands;
 mod processes;
@@ -15,6 +17,8 @@ mod references;
 mod running;
 
 pub use benches::{Bench, Stepped};
+pub use gates::{Gate, NoGate};
+pub use halls::{Hall, Naming};
 pub use memory::Contents;
 pub use running::run;
 

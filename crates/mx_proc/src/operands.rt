@@ -1,8 +1,8 @@
-//! The operand of the line at work: how far it has come, what it asks for, and what an indirect word makes of it.
+//! How far the line at work has come; what its operand asks for, and what an indirect word makes of it.
 
 ghost use Rattle.std.specs.Prelude.{◌≡◌, ◌≤◌, ◌-◌, ℕ, true, List, [], ◌∷◌, ◌++◌, Some, length};
 ghost use Rattle.mx_call.specs.Loading.{loaded};
-ghost use Rattle.mx_call.specs.Registers.{ArePackable};
+ghost use Rattle.mx_call.specs.Registers.{ArePackable, going_on};
 ghost use Rattle.mx_core.specs.declared.elements.Outcome.TheVariants.{Read as WasRead};
 ghost use Rattle.mx_effring.specs.Walks.{wanted};
 ghost use Rattle.mx_effring.specs.declared.walks.Want.TheVariants.{Word as WantsWord};
@@ -14,6 +14,7 @@ ghost use Rattle.mx_ptr.specs.Pointers.{IsPackable};
 ghost use Rattle.mx_script.specs.Sessions.{is_address, is_script_line};
 ghost use Rattle.mx_proc.specs.Operands.{HasBegun, IsGoodWalk, IsGoodProgress, IsTarget, asked_by, AsksFor, IsGoodAsked, IsOnward, IsGoodOnward, IsCloser, IsRegisterWord};
 ghost use Rattle.mx_proc.specs.declared.operands.Onward.TheVariants.{End};
+ghost use Rattle.mx_proc.specs.declared.operands.Progress.TheVariants.{Waiting};
 
 use mx_call::Regs;
 use mx_effring::{Stuck, Walk, Want};
@@ -30,15 +31,17 @@ pub(crate) struct Place {
     pub(crate) ring: Ring,
 }
 
-/// How far the operand of the line at work has come.
+/// How far the line at work has come.
 #[derive(Debug, Drop)]
 pub(crate) enum Progress {
-    /// Nothing of it was read yet.
+    /// Nothing of its operand was read yet.
     Before,
     /// It has read some indirect words.
     Walking(Walk),
     /// The word at this place was a link, which is to be snapped.
     AtLink(Place),
+    /// It is a `block`, and its process was told to wait.
+    Waiting,
 }
 
 /// What an operand asks for.
@@ -112,6 +115,7 @@ pub(crate) fn asks(registers: &Regs, operand: &Operand, progress: &Progress) -> 
     requires address { is_address operand.now ≡ true }
     requires packable { ArePackable registers.now }
     requires good { IsGoodProgress registers.now progress.now }
+    requires reads { progress.now ≡ Waiting → ⊥ }
     ensures asks { AsksFor registers.now operand.now progress.now result }
     ensures good { IsGoodAsked registers.now result }
 {
@@ -119,6 +123,7 @@ pub(crate) fn asks(registers: &Regs, operand: &Operand, progress: &Progress) -> 
         Progress::Before => asked_by(registers, &start(registers, operand)),
         Progress::Walking(walk) => asked_by(registers, walk),
         Progress::AtLink(place) => Asked::First(Way::Link(*place)),
+        Progress::Waiting => unreachable!(),
     }
 }
 
@@ -191,6 +196,18 @@ fn led(line: &Line, registers: &Regs, walk: Walk) -> Onward
             },
             _ => Onward::More(Progress::Walking(walk)),
         },
+    }
+}
+
+/// The place where the process runs, in its current ring.
+pub(crate) fn here(registers: &Regs) -> Pointer
+    ensures { result ≡ going_on registers.now.procedure registers.now.ring }
+{
+    Pointer {
+        ring: registers.ring,
+        segno: registers.procedure.segno,
+        word: registers.procedure.word,
+        further: false,
     }
 }
 

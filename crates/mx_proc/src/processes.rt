@@ -1,12 +1,12 @@
 //! The processes of a bench: their registers, and what was recorded of them.
 
-ghost use Rattle.std.specs.Prelude.{◌≡◌, ◌<◌, ◌+◌, ◌^◌, true, [], ◌∷◌, ◌++◌, IfOk, IsTrue, IsSome, OnOk, Some, length};
+ghost use Rattle.std.specs.Prelude.{◌≡◌, ◌<◌, ◌+◌, ◌^◌, true, [], ◌∷◌, ◌++◌, IfOk, IsTrue, IsFalse, IsSome, OnOk, Some, length};
 ghost use Rattle.mx_call.specs.Registers.{ArePackable};
 ghost use Rattle.mx_legal.specs.Openings.{opening_registers};
 ghost use Rattle.mx_script.specs.Sessions.{IsSession, is_address, is_script_line};
 ghost use Rattle.mx_proc.specs.Operands.{IsGoodProgress, IsGoodWalk, IsLed, walk_at};
-ghost use Rattle.mx_proc.specs.Processes.{AreFresh, IsStill, HasRoom, IsCountable, IsGoodAt, HasEnded, HasFed, IsFed, HasRegisters, HasLines, HasAsked, IsLedAt, events_in};
-ghost use Rattle.mx_proc.specs.declared.operands.Progress.TheVariants.{Before};
+ghost use Rattle.mx_proc.specs.Processes.{AreFresh, IsStill, HasRoom, IsCountable, IsGoodAt, HasEnded, HasGoneOn, HasFed, IsFed, HasProgress, ReadsOperand, HasRegisters, HasLines, HasNumber, HasAsked, IsLedAt, events_in};
+ghost use Rattle.mx_proc.specs.declared.operands.Progress.TheVariants.{Before, Waiting};
 
 use crate::benches::Stepped;
 use crate::operands::{Asked, Onward, Place, Progress, asks, feed, start};
@@ -20,7 +20,7 @@ use std::marker::Model;
 use std::mem;
 
 /// A process: the number of its first line in the session text, its registers at the start of the line at work, what was
-/// recorded of its lines, and how far the operand of the line at work has come.
+/// recorded of its lines, and how far the line at work has come.
 #[derive(Drop)]
 pub(crate) struct Process {
     first: u32,
@@ -77,6 +77,15 @@ impl Processes {
         lines_at(&self.items, i)
     }
 
+    /// The number of the next line of a process, if one is left.
+    pub(crate) fn number(&self, i: usize) -> u32
+        requires within { i < length self.now }
+        requires number { IsCountable self.now i }
+        ensures { HasNumber self.now i result }
+    {
+        number_at(&self.items, i)
+    }
+
     /// Makes room for the next line of a process; nothing else changes.
     pub(crate) fn reserve(&mut self, i: usize) -> Result<(), AllocError>
         requires { i < length self.old }
@@ -96,10 +105,28 @@ impl Processes {
         end_line(self.items.as_mut_slice(), i, event, ends, after);
     }
 
+    /// The line at work of a process, a `block`, has this event, and goes on once the process is ready.
+    pub(crate) fn wait(&mut self, i: usize, event: Event2)
+        requires within { i < length self.old }
+        requires room { HasRoom self.old i }
+        ensures { HasGoneOn self.old i (event ∷ []) Waiting self.new }
+    {
+        wait(self.items.as_mut_slice(), i, event);
+    }
+
+    /// Whether a process was told to wait.
+    pub(crate) fn is_waiting(&self, i: usize) -> bool
+        requires { i < length self.now }
+        ensures { HasProgress self.now i result }
+    {
+        is_waiting(&self.items, i)
+    }
+
     /// What the operand of the line at work of a process asks for.
     pub(crate) fn asks(&self, i: usize, operand: &Operand) -> Asked
         requires within { i < length self.now }
         requires good { IsGoodAt self.now i }
+        requires reads { ReadsOperand self.now i }
         requires address { is_address operand.now ≡ true }
         ensures { HasAsked self.now i operand.now result }
     {
@@ -179,9 +206,40 @@ fn lines_at(processes: &[Process], i: usize) -> usize
     processes[i].recording.lines()
 }
 
+fn number_at(processes: &[Process], i: usize) -> u32
+    requires within { i < length processes.now }
+    requires number { IsCountable processes.now i }
+    ensures { HasNumber processes.now i result }
+{
+    processes[i].number()
+}
+
+fn is_waiting(processes: &[Process], i: usize) -> bool
+    requires { i < length processes.now }
+    ensures { HasProgress processes.now i result }
+{
+    waits(&processes[i].progress)
+}
+
+fn waits(progress: &Progress) -> bool
+    ensures yes { IsTrue result → progress.now ≡ Waiting }
+    ensures no { IsFalse result → progress.now ≡ Waiting → ⊥ }
+{
+    matches!(progress, Progress::Waiting)
+}
+
+fn wait(processes: &mut [Process], i: usize, event: Event2)
+    requires within { i < length processes.old }
+    requires room { HasRoom processes.old i }
+    ensures { HasGoneOn processes.old i (event ∷ []) Waiting processes.new }
+{
+    processes[i].wait(event);
+}
+
 fn asks_at(processes: &[Process], i: usize, operand: &Operand) -> Asked
     requires within { i < length processes.now }
     requires good { IsGoodAt processes.now i }
+    requires reads { ReadsOperand processes.now i }
     requires address { is_address operand.now ≡ true }
     ensures { HasAsked processes.now i operand.now result }
 {
@@ -236,6 +294,14 @@ impl Process {
         recording.finish()
     }
 
+    // The number of its next line.
+    fn number(&self) -> u32
+        requires { self.now.first + length self.now.recording.steps < 2 ^ 32 }
+        ensures { result ≡ self.now.first + length self.now.recording.steps }
+    {
+        self.first + self.recording.lines() as u32
+    }
+
     // Its line at work ends.
     fn end_line(&mut self, event: Option<Event2>, ends: Result2, after: &Regs)
         requires event { IsTrue self.old.recording.event_room }
@@ -248,11 +314,24 @@ impl Process {
         ensures idle { self.new.recording.events ≡ [] }
         ensures fresh { self.new.progress ≡ Before }
     {
-        let number = self.first + self.recording.lines() as u32;
+        let number = self.number();
         push_if(&mut self.recording, event);
         self.recording.end_line(number, ends);
         self.registers = *after;
         self.progress = Progress::Before;
+    }
+
+    // Its line at work has this event, and it was told to wait.
+    fn wait(&mut self, event: Event2)
+        requires event { IsTrue self.old.recording.event_room }
+        ensures first { self.new.first ≡ self.old.first }
+        ensures registers { self.new.registers ≡ self.old.registers }
+        ensures steps { self.new.recording.steps ≡ self.old.recording.steps }
+        ensures more { self.new.recording.events ≡ self.old.recording.events ++ event ∷ [] }
+        ensures progress { self.new.progress ≡ Waiting }
+    {
+        self.recording.push(event);
+        self.progress = Progress::Waiting;
     }
 
     // The indirect word for which its operand asks was read.
@@ -305,7 +384,7 @@ impl Process {
         match mem::replace(&mut self.progress, Progress::Before) {
             Progress::Before => start(&self.registers, operand),
             Progress::Walking(walk) => walk,
-            Progress::AtLink(_) => unreachable!(),
+            Progress::AtLink(_) | Progress::Waiting => unreachable!(),
         }
     }
 }

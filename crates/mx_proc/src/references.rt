@@ -1,19 +1,24 @@
 //! References to memory: judged, made on the cells, and what they make of the registers.
 
-ghost use Rattle.std.specs.Prelude.{◌≡◌, ◌<◌, ℕ, length, IfOk};
-ghost use Rattle.mx_legal.specs.Next.{at_place, storing};
+ghost use Rattle.std.specs.Prelude.{◌≡◌, ◌<◌, ℕ, List, length, IfOk};
+ghost use Rattle.mx_call.specs.Transfers.{calling};
+ghost use Rattle.mx_legal.specs.Next.{Reference, Asks, at_place, storing};
+ghost use Rattle.mx_legal.specs.Targets.{at_target};
 ghost use Rattle.mx_script.specs.declared.lines.Operand.{Operand as PlainOperand};
 ghost use Rattle.mx_script.specs.declared.lines.Line.TheVariants as lines;
 ghost use Rattle.mx_sdw.specs.Admissible.{IsAdmissible};
 ghost use Rattle.mx_sdw.specs.Judging.{judgement};
 ghost use Rattle.mx_sdw.specs.declared.operations.Op.TheVariants as ops;
-ghost use Rattle.mx_proc.specs.Making.{IsMade, IsLooked, element, indirect, denied};
+ghost use Rattle.mx_proc.specs.Asking.{IsReferring};
+ghost use Rattle.mx_proc.specs.Making.{IsMade, IsLooked, element, indirect, moved, denied};
+ghost use Rattle.mx_proc.specs.declared.memory.Contents.{Contents as PlainContents};
 
 use crate::memory::{Contents, Memory};
 use crate::operands::Place;
-use mx_call::Regs;
+use mx_call::{Regs, call, ret};
 use mx_legal::{Element, Kind, Outcome, Result2};
 use mx_ptr::Pointer;
+use mx_script::Line;
 use mx_sdw::{Cell, Denial, Desc, Op, Ring, Word, judge};
 
 /// A reference that was made: its element, and the result of its line and the registers after it.
@@ -69,14 +74,32 @@ fn indirect(place: &Place, point: u32, outcome: Outcome) -> Element
     }
 }
 
-/// Reads the word at the target, on this descriptor and at this point: A becomes it.
-pub(crate) fn load(
+/// Makes a line's own reference, one that stores nothing, at its target, on this descriptor and at this point.
+pub(crate) fn refer(
     cells: &Memory,
     desc: &Desc,
+    line: &Line,
     target: &Pointer,
     registers: &Regs,
     point: u32,
 ) -> Made
+    requires desc { IsAdmissible desc.now }
+    requires line { IsReferring line.now }
+    ensures { (asked : Reference) (p : ℕ) → at_target registers.now line.now target.now ≡ Asks asked
+        → IsMade line.now asked registers.now desc.now target.now p point cells.now cells.now result }
+{
+    match line {
+        Line::Lda { .. } => load(cells, desc, target, registers, point),
+        Line::Fetch => fetch(cells, desc, target, registers, point),
+        Line::Call { .. } => enter(desc, target, registers, point),
+        Line::Return { .. } => go_back(desc, target, registers, point),
+        Line::Ask(_) | Line::Set { .. } | Line::Epp { .. } | Line::Sta { .. } | Line::Spri { .. } =>
+            unreachable!(),
+    }
+}
+
+// Reads the word at the target: A becomes it.
+fn load(cells: &Memory, desc: &Desc, target: &Pointer, registers: &Regs, point: u32) -> Made
     requires { IsAdmissible desc.now }
     ensures { (o : PlainOperand) → (p : ℕ) → IsMade (lines.Lda o) (at_place ops.Read target.now) registers.now desc.now target.now p point cells.now cells.now result }
 {
@@ -98,6 +121,49 @@ pub(crate) fn load(
             }
         }
         Err(denial) => denied(Kind::Read, target, registers, point, denial),
+    }
+}
+
+// Fetches the word at the target.
+fn fetch(cells: &Memory, desc: &Desc, target: &Pointer, registers: &Regs, point: u32) -> Made
+    requires { IsAdmissible desc.now }
+    ensures { (p : ℕ) → IsMade lines.Fetch (at_place ops.Fetch target.now) registers.now desc.now target.now p point cells.now cells.now result }
+{
+    match ruling(desc, Op::Fetch, target.ring, target.word) {
+        Ok(cell) => {
+            let held = cells.contents(cell.0);
+            let outcome = Outcome::Read {
+                value: held.value,
+                writer: held.writer,
+                stamp: held.stamp,
+            };
+            Made {
+                element: element(Kind::Fetch, target, point, outcome),
+                ends: Result2::Done,
+                after: *registers,
+            }
+        }
+        Err(denial) => denied(Kind::Fetch, target, registers, point, denial),
+    }
+}
+
+// Calls the target: the process goes on there.
+fn enter(desc: &Desc, target: &Pointer, registers: &Regs, point: u32) -> Made
+    ensures { (o : PlainOperand) (p : ℕ) (cells : List PlainContents) → IsMade (lines.Call o) (at_place (calling registers.now target.now) target.now) registers.now desc.now target.now p point cells cells result }
+{
+    match call(registers, target, desc) {
+        Ok(after) => moved(Kind::Call, target, point, after),
+        Err(denial) => denied(Kind::Call, target, registers, point, denial),
+    }
+}
+
+// Returns to the target: the process goes on there.
+fn go_back(desc: &Desc, target: &Pointer, registers: &Regs, point: u32) -> Made
+    ensures { (o : PlainOperand) (p : ℕ) (cells : List PlainContents) → IsMade (lines.Return o) (at_place ops.Return target.now) registers.now desc.now target.now p point cells cells result }
+{
+    match ret(registers, target, desc) {
+        Ok(after) => moved(Kind::Return, target, point, after),
+        Err(denial) => denied(Kind::Return, target, registers, point, denial),
     }
 }
 
@@ -155,6 +221,20 @@ fn element(kind: Kind, target: &Pointer, point: u32, outcome: Outcome) -> Elemen
         ring: target.ring,
         point,
         outcome,
+    }
+}
+
+// The process goes on with these registers.
+fn moved(kind: Kind, target: &Pointer, point: u32, after: Regs) -> Made
+    ensures { result ≡ moved kind target.now point after }
+{
+    Made {
+        element: element(kind, target, point, Outcome::Entered { ring: after.ring }),
+        ends: Result2::Moved {
+            ring: after.ring,
+            procedure: after.procedure,
+        },
+        after,
     }
 }
 

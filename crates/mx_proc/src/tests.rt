@@ -3,7 +3,7 @@
 ghost use Rattle.std.specs.Prelude.{◌≡◌, IfSome, length};
 ghost use Rattle.std.specs.List.{sum_by};
 
-use crate::Bench;
+use crate::{Bench, Stepped};
 use mx_legal::{Event, Event2, Outcome, Result2, Transcript};
 use mx_list::Sequence;
 use mx_name::Principal;
@@ -61,8 +61,11 @@ fn session(alloc: Global, history: Option<u32>, scripts: &[&[&[u8]]]) -> Result<
     if count > 1000 || setup.items().len() > 1000 || principals.items().len() > 1000 {
         return Err("few lines".into());
     }
-    let session = Session::of_processes(history, setup, principals, lines).ok_or("a session")?;
-    Ok(session)
+    let session = match history {
+        None => Session::new(1, None, setup, principals, lines),
+        Some(limit) => Session::new(1, Some(limit), setup, principals, lines),
+    };
+    Ok(session.ok_or("a session")?)
 }
 
 // How many lines these scripts have.
@@ -212,7 +215,7 @@ fn access_is_taken_away_between_two_reads(rt: HostRuntime) -> Result<(), Fail> {
 #[test]
 fn memory_lines_go_on_when_the_journal_is_full(rt: HostRuntime) -> Result<(), Fail> {
     let alloc = rt.alloc();
-    // Process 1 has lines 6 to 9, process 2 lines 11 to 13.
+    // The limit is line 2, so process 1 has lines 7 to 10, process 2 lines 12 to 14.
     let scripts: [&[&[u8]]; 2] = [
         &[b"initiate >a", b"status >a", b"lda", b"logout"],
         &[b"initiate >a", b"sta", b"logout"],
@@ -220,17 +223,102 @@ fn memory_lines_go_on_when_the_journal_is_full(rt: HostRuntime) -> Result<(), Fa
     let session = session(alloc, Some(5), &scripts)?;
     let all = run_in(alloc, &session, &[1, 2, 1, 2, 1])?;
     let want: [&[Told]; 3] = [
-        &[(2, b'e', 1, 0, 0), (3, b'e', 2, 0, 0), (4, b'e', 3, 0, 0)],
+        &[(3, b'e', 1, 0, 0), (4, b'e', 2, 0, 0), (5, b'e', 3, 0, 0)],
         &[
-            (6, b'e', 4, 0, 0),
-            (7, b'f', 0, 0, 0),
-            (8, b'r', 5, 0, 0x205),
-            (9, b'f', 0, 0, 0),
+            (7, b'e', 4, 0, 0),
+            (8, b'f', 0, 0, 0),
+            (9, b'r', 5, 0, 0x205),
+            (10, b'f', 0, 0, 0),
         ],
         &[
-            (11, b'e', 5, 0, 0),
-            (12, b'w', 5, 0, 0),
-            (13, b'f', 0, 0, 0),
+            (12, b'e', 5, 0, 0),
+            (13, b'w', 5, 0, 0),
+            (14, b'f', 0, 0, 0),
+        ],
+    ];
+    assert!(rt; are_told(&all, &want));
+    Ok(())
+}
+
+#[test]
+fn whoever_blocks_second_is_told_that_nobody_is_left(rt: HostRuntime) -> Result<(), Fail> {
+    let alloc = rt.alloc();
+    // Process 1 has lines 6 and 7, process 2 lines 9 to 11.
+    let scripts: [&[&[u8]]; 2] = [
+        &[b"block", b"logout"],
+        &[b"block", b"wakeup 1 7", b"logout"],
+    ];
+    let setup: &[Told] = &[(2, b'e', 1, 0, 0), (3, b'e', 2, 0, 0), (4, b'e', 3, 0, 0)];
+    let session = session(alloc, None, &scripts)?;
+    // Process 1 waits, and waits once more, until it has the message.
+    let first = run_in(alloc, &session, &[1, 1, 2, 2, 1, 1, 2])?;
+    let want: [&[Told]; 3] = [
+        setup,
+        &[(6, b'e', 4, 0, 0), (6, b'e', 7, 0, 0), (7, b'e', 8, 0, 0)],
+        &[(9, b'e', 5, 0, 0), (10, b'e', 6, 0, 0), (11, b'e', 9, 0, 0)],
+    ];
+    assert!(rt; are_told(&first, &want));
+    // Process 2 waits, until process 1 has ended.
+    let second = run_in(alloc, &session, &[2, 1, 2, 1, 2, 2, 2])?;
+    let want: [&[Told]; 3] = [
+        setup,
+        &[(6, b'e', 5, 0, 0), (7, b'e', 6, 0, 0)],
+        &[
+            (9, b'e', 4, 0, 0),
+            (9, b'e', 7, 0, 0),
+            (10, b'e', 8, 0, 0),
+            (11, b'e', 9, 0, 0),
+        ],
+    ];
+    assert!(rt; are_told(&second, &want));
+    Ok(())
+}
+
+// What a step of a process answers.
+fn stepped(bench: &mut Bench, alloc: Global, p: u8) -> Result<Stepped, Fail> {
+    if p == 0 || p > bench.count() {
+        return Err("a process".into());
+    }
+    Ok(bench.step(alloc, p)?)
+}
+
+#[test]
+fn a_process_waits_for_a_message_and_no_longer(rt: HostRuntime) -> Result<(), Fail> {
+    let alloc = rt.alloc();
+    let scripts: [&[&[u8]]; 2] = [&[b"block", b"logout"], &[b"wakeup 1 7", b"logout"]];
+    let session = session(alloc, None, &scripts)?;
+    let mut bench = Bench::new(alloc, &session)?;
+    for (p, want) in [
+        (1, Stepped::More),
+        (1, Stepped::Waits),
+        (1, Stepped::Waits),
+        (2, Stepped::LineDone),
+        (1, Stepped::LineDone),
+        (1, Stepped::LineDone),
+        (1, Stepped::Ended),
+        (2, Stepped::LineDone),
+        (2, Stepped::Ended),
+    ] {
+        assert_eq!(rt; stepped(&mut bench, alloc, p)?, want);
+    }
+    assert!(rt; bench.has_ended());
+    Ok(())
+}
+
+#[test]
+fn a_process_that_waits_finds_the_journal_full(rt: HostRuntime) -> Result<(), Fail> {
+    let alloc = rt.alloc();
+    // The limit is line 2, so process 1 has lines 7 and 8, process 2 lines 10 to 12.
+    let scripts: [&[&[u8]]; 2] = [&[b"block", b"logout"], &[b"list >", b"list >", b"logout"]];
+    let session = session(alloc, Some(5), &scripts)?;
+    let all = run_in(alloc, &session, &[1, 1, 2, 1, 1])?;
+    let want: [&[Told]; 3] = [
+        &[(3, b'e', 1, 0, 0), (4, b'e', 2, 0, 0), (5, b'e', 3, 0, 0)],
+        &[(7, b'e', 4, 0, 0), (7, b'f', 0, 0, 0), (8, b'f', 0, 0, 0)],
+        &[
+            (10, b'e', 5, 0, 0),
+            (11, b'f', 0, 0, 0),
+            (12, b'f', 0, 0, 0),
         ],
     ];
     assert!(rt; are_told(&all, &want));

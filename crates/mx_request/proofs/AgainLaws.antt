@@ -13,19 +13,20 @@ use Rattle.mx_sdw.specs.Octal.{octal}
 use Rattle.mx_search.specs.Rules.{rules_of}
 use Rattle.mx_search.specs.declared.rules.Rule.{Rule}
 use Rattle.mx_request.specs.declared.requests.Request.{Request}
-use Rattle.mx_request.specs.declared.requests.Request.TheVariants.{CreateDir, CreateSeg, CreateLink, Rename, Delete, SetAcl, DelAcl, SetBrackets, SetDirBrackets, Status, List as ListNames, ChangeWdir, SetRules, Initiate, Link, Terminate, Logout}
+use Rattle.mx_request.specs.declared.requests.Request.TheVariants.{CreateDir, CreateSeg, CreateObject, CreateLink, Rename, Delete, SetAcl, DelAcl, SetBrackets, SetDirBrackets, Status, List as ListNames, ChangeWdir, SetRules, Initiate, Terminate, Wakeup, Block, Link, Resume, Logout}
 use Rattle.mx_request.specs.declared.reading.kinds.Kind.{Kind}
-use Rattle.mx_request.specs.declared.reading.kinds.Kind.TheVariants.{CreateDir as OfCreateDir, CreateSeg as OfCreateSeg, CreateLink as OfCreateLink, Rename as OfRename, Delete as OfDelete, SetAcl as OfSetAcl, DelAcl as OfDelAcl, SetBrackets as OfSetBrackets, SetDirBrackets as OfSetDirBrackets, Status as OfStatus, List as OfList, ChangeWdir as OfChangeWdir, SetRules as OfSetRules, Initiate as OfInitiate, Link as OfLink, Terminate as OfTerminate}
+use Rattle.mx_request.specs.declared.reading.kinds.Kind.TheVariants.{CreateDir as OfCreateDir, CreateSeg as OfCreateSeg, CreateObject as OfCreateObject, CreateLink as OfCreateLink, Rename as OfRename, Delete as OfDelete, SetAcl as OfSetAcl, DelAcl as OfDelAcl, SetBrackets as OfSetBrackets, SetDirBrackets as OfSetDirBrackets, Status as OfStatus, List as OfList, ChangeWdir as OfChangeWdir, SetRules as OfSetRules, Initiate as OfInitiate, Terminate as OfTerminate, Wakeup as OfWakeup, Link as OfLink}
 use Rattle.mx_request.specs.Fields.{line_of, ring_text}
 use Rattle.mx_request.specs.Kinds.{kind_word}
-use Rattle.mx_request.specs.Reading.{create_dir_at, create_seg_at, create_link_at, rename_at, set_acl_at, del_acl_at, set_brackets_at, set_dir_brackets_at, set_rules_at, initiate_at, terminate_at, fields_at, request_at}
+use Rattle.mx_request.specs.Reading.{create_dir_at, create_seg_at, create_object_at, create_link_at, rename_at, set_acl_at, del_acl_at, set_brackets_at, set_dir_brackets_at, set_rules_at, initiate_at, terminate_at, fields_at, request_at}
 use Rattle.mx_request.specs.RequestTexts.{request_text, rule_text, name_fields, is_pathname, is_name, is_name_or_none, is_identifier, is_ring, is_rule, are_brackets, are_rules, fits_request}
 use Rattle.mx_request.proofs.StepLaws.{both, some_is}
 use Rattle.mx_name.proofs.CutLaws.{cut_again}
-use Rattle.mx_request.proofs.FieldLaws.{words_again, words_free, ring_again, ring_free, brackets_again, brackets_behind, segno_again}
+use Rattle.mx_request.proofs.FieldLaws.{words_again, words_free, ring_again, ring_free, brackets_again, brackets_behind, gated_fields, gated_again, gated_behind, segno_again}
 use Rattle.mx_request.proofs.RuleLaws.{cut_none, rules_again, rules_behind}
 use Rattle.mx_request.proofs.AddressLaws.{link_again}
-use Rattle.mx_request.proofs.KindLaws.{kind_again, kind_bytes, kind_not_logout}
+use Rattle.mx_request.proofs.MessageLaws.{wakeup_again}
+use Rattle.mx_request.proofs.KindLaws.{kind_again, kind_bytes, kind_not_bare}
 use Rattle.mx_request.proofs.TakenLaws.{faultless, path_again, path_free, id_again, id_free, request_takes}
 
 -- the word of a line says how its fields are read
@@ -33,7 +34,7 @@ by_kind : (kind : Kind) (text : List ℕ) → request_at (kind_word kind ++ 32 �
 unfolding request_at
 by_kind kind text =
     let free = all_free is_name_byte 32 (kind_word kind) refl (kind_bytes kind) in
-    rw (kind_not_logout kind text, cut_again 32 (kind_word kind) text free, kind_again kind) refl
+    rw (kind_not_bare kind text, cut_again 32 (kind_word kind) text free, kind_again kind) refl
 
 -- each kind of line is read back
 create_dir_again : (path : List ℕ) (d1 d2 : ℕ) → fits_request (CreateDir path d1 d2) ≡ true
@@ -60,6 +61,21 @@ create_seg_again path words brackets e =
       cut_again 32 (decimal words) (line_of (map ring_text brackets)) (words_free 32 words refl g.0),
       words_again words g.0,
       brackets_again brackets g.1,
+      path_again path f.0,
+    ) refl
+
+create_object_again : (path : List ℕ) (words : ℕ) (brackets : List ℕ) (gate : ℕ) → fits_request (CreateObject path words brackets gate) ≡ true
+    → create_object_at (path ++ 32 ∷ line_of (decimal words ∷ gated_fields brackets gate)) ≡ Some (CreateObject path words brackets gate)
+create_object_again path words brackets gate e =
+    let f = both (is_pathname path) (nat_le words 99999 && (are_brackets brackets && nat_le gate 9999)) e in
+    let g = both (nat_le words 99999) (are_brackets brackets && nat_le gate 9999) f.1 in
+    let h = both (are_brackets brackets) (nat_le gate 9999) g.1 in
+    rw (
+      gated_behind (decimal words) brackets gate h.0,
+      cut_again 32 path (decimal words ++ 32 ∷ line_of (gated_fields brackets gate)) (path_free path f.0),
+      cut_again 32 (decimal words) (line_of (gated_fields brackets gate)) (words_free 32 words refl g.0),
+      words_again words g.0,
+      gated_again brackets gate h.0 h.1,
       path_again path f.0,
     ) refl
 
@@ -138,6 +154,14 @@ initiate_again path (Some name) e =
     by_kind OfInitiate (path ++ 32 ∷ name)
     ∙ rw (cut_again 32 path name (path_free path f.0), name_again name (faultless (name_fault name) f.1), path_again path f.0) refl
 
+block_again : request_at (codes "block") ≡ Some Block
+unfolding request_at
+block_again = refl
+
+resume_again : request_at (codes "resume") ≡ Some Resume
+unfolding request_at
+resume_again = refl
+
 logout_again : request_at (codes "logout") ≡ Some Logout
 unfolding request_at
 logout_again = refl
@@ -146,6 +170,7 @@ logout_again = refl
 pub request_again : (request : Request) → fits_request request ≡ true → request_at (request_text request) ≡ Some request
 request_again (CreateDir path d1 d2) e = by_kind OfCreateDir _ ∙ create_dir_again path d1 d2 e
 request_again (CreateSeg path words brackets) e = by_kind OfCreateSeg _ ∙ create_seg_again path words brackets e
+request_again (CreateObject path words brackets gate) e = by_kind OfCreateObject _ ∙ create_object_again path words brackets gate e
 request_again (CreateLink path target) e = by_kind OfCreateLink _ ∙ create_link_again path target e
 request_again (Rename path name) e = by_kind OfRename _ ∙ rename_again path name e
 request_again (Delete path) e = by_kind OfDelete path ∙ rw (path_again path e) refl
@@ -159,7 +184,10 @@ request_again (ChangeWdir path) e = by_kind OfChangeWdir path ∙ rw (path_again
 request_again (SetRules rules) e = set_rules_again rules e
 request_again (Initiate path name) e = initiate_again path name e
 request_again (Terminate segno) e = by_kind OfTerminate (octal segno) ∙ rw (segno_again segno e) refl
+request_again (Wakeup to word) e = by_kind OfWakeup _ ∙ wakeup_again to word e
+request_again Block e = block_again
 request_again (Link segno word) e = by_kind OfLink _ ∙ link_again segno word e
+request_again Resume e = resume_again
 request_again Logout e = logout_again
 
 -- two requests that fit and have one line are the same

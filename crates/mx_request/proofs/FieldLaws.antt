@@ -1,5 +1,6 @@
 -- Laws of fields: what a field is read as is spelled so, and a field that fits is read back.
 use Rattle.std.proofs.Common.{◌≡◌, ◌≢◌, ℕ, zero, suc, ◌+◌, ◌-◌, ◌^◌, ◌<◌, ◌≤◌, nat_le, nat_eq, Bool, true, false, not, ◌&&◌, List, [], ◌∷◌, ◌++◌, map, length, get_or, Some, refl, sym, subst, arith, rules, lit<}
+use Rattle.std.proofs.Math.Nat.{pow-le-pow_right}
 use Rattle.std.proofs.lemmas.Bool.Decides.{nat_tests}
 use Rattle.std.proofs.lemmas.Fmt.{decimal-digits_value, digits_value-decimal, digits_decimal, decimal_digit, decimal_nonempty, first_decimal, length-decimal-le}
 use Rattle.std.proofs.lemmas.Str.Parse.{IsNumeralModel, numerals_by_fold, digits_value_short}
@@ -13,7 +14,8 @@ use Rattle.mx_request.proofs.StepLaws.{both, some_is, bind_some, when_some}
 use Rattle.mx_name.proofs.CutLaws.{cut_takes, cut_again}
 use Rattle.mx_name.specs.Cuts.{cut_at}
 use Rattle.mx_request.specs.Fields.{line_of, ring_text}
-use Rattle.mx_request.specs.Reading.{is_digit, decimal_after, decimal_number, ring_at, brackets_at}
+use Rattle.mx_request.specs.Decimals.{is_digit, decimal_after, decimal_number}
+use Rattle.mx_request.specs.Reading.{ring_at, brackets_at, gated_brackets_at}
 use Rattle.mx_request.specs.RequestTexts.{is_ring, is_segno, are_brackets}
 
 -- decimal numbers
@@ -52,18 +54,50 @@ at_most a b e = grind (arith, nat_tests)
 at_most_test : (a b : ℕ) → a ≤ b → nat_le a b ≡ true
 at_most_test a b h = grind (arith, nat_tests)
 
--- what was read of a text of at most five digits
-pub words_takes : (text : List ℕ) (n : ℕ) → decimal_number 5 text ≡ Some n → (decimal n ≡ text) × (nat_le n 99999 ≡ true)
+-- a number of so many digits is one of at most more digits
+pub below_with_more : (n i k : ℕ) → n < 10 ^ i → i ≤ k → n < 10 ^ k
+below_with_more n i k h more = let room : 10 ^ i ≤ 10 ^ k = pow-le-pow_right (lit< tt) more in omega arith
+
+-- what was read of a text of at most so many digits
+pub number_takes : (digits : ℕ) (text : List ℕ) (n : ℕ) → 10 ^ digits ≤ 2 ^ 64 → decimal_number digits text ≡ Some n
+    → (decimal n ≡ text) × (n < 10 ^ digits)
 unfolding decimal_number
-words_takes text n e =
+number_takes digits text n wide e =
     let found = when_some _ _ n e in
-    let f = both (begins_number text) (list_all is_digit text && nat_le (length text) 5) found.0 in
-    let g = both (list_all is_digit text) (nat_le (length text) 5) f.1 in
+    let f = both (begins_number text) (list_all is_digit text && nat_le (length text) digits) found.0 in
+    let g = both (list_all is_digit text) (nat_le (length text) digits) f.1 in
     let begins = numbers_begin text f.0 in
-    let short : decimal_after 0 text < 10 ^ 5 = digits_value_short own text 5 g.0 (at_most (length text) 5 g.1) in
-    let large : decimal_after 0 text < 2 ^ 64 = omega arith in
-    let P : ℕ → Type 0 = λ m. (decimal m ≡ text) × (nat_le m 99999 ≡ true) in
-    subst P found.1 (decimal-digits_value own text g.0 begins.0 begins.1 large, at_most_test (decimal_after 0 text) 99999 (omega arith))
+    let short : decimal_after 0 text < 10 ^ digits =
+    digits_value_short own text digits g.0 (at_most (length text) digits g.1) in
+    let large : decimal_after 0 text < 2 ^ 64 = below_both (decimal_after 0 text) (10 ^ digits) (2 ^ 64) short wide in
+    let P : ℕ → Type 0 = λ m. (decimal m ≡ text) × (m < 10 ^ digits) in
+    subst P found.1 (decimal-digits_value own text g.0 begins.0 begins.1 large, short)
+  where
+    below_both : (a b c : ℕ) → a < b → b ≤ c → a < c
+    below_both a b c h k = omega arith
+
+pub number_again : (digits n : ℕ) → 0 < digits → n < 10 ^ digits → n < 2 ^ 64 → decimal_number digits (decimal n) ≡ Some n
+unfolding decimal_number
+number_again digits n some few large =
+    let short = at_most_test (length (decimal n)) digits (length-decimal-le digits n some few large) in
+    rw (begins_decimal n large, digits_decimal own n large, short, digits_value-decimal own n large) refl
+
+pub number_free : (byte n : ℕ) → is_digit byte ≡ false → n < 2 ^ 64 → is_free byte (decimal n) ≡ true
+number_free byte n other large = all_free is_digit byte (decimal n) other (digits_decimal own n large)
+
+-- WORDS
+pub words_takes : (text : List ℕ) (n : ℕ) → decimal_number 5 text ≡ Some n → (decimal n ≡ text) × (nat_le n 99999 ≡ true)
+words_takes text n e =
+    let f = number_takes 5 text n (omega arith) e in
+    let few : n < 10 ^ 5 = f.1 in (f.0, at_most_test n 99999 (omega arith))
+
+pub gate_takes : (text : List ℕ) (n : ℕ) → decimal_number 4 text ≡ Some n → (decimal n ≡ text) × (nat_le n 9999 ≡ true)
+gate_takes text n e =
+    let f = number_takes 4 text n (omega arith) e in
+    let few : n < 10 ^ 4 = f.1 in (f.0, at_most_test n 9999 (omega arith))
+
+pub gate_below : (text : List ℕ) (n : ℕ) → decimal_number 4 text ≡ Some n → n ≤ 9999
+gate_below text n e = at_most n 9999 (gate_takes text n e).1
 
 few_words : (n : ℕ) → nat_le n 99999 ≡ true → n < 2 ^ 64
 few_words n e = omega (arith, at_most n 99999 e)
@@ -71,18 +105,20 @@ few_words n e = omega (arith, at_most n 99999 e)
 few_digits : (n : ℕ) → nat_le n 99999 ≡ true → n < 10 ^ 5
 few_digits n e = omega (arith, at_most n 99999 e)
 
-words_digits : (n : ℕ) → nat_le n 99999 ≡ true → list_all is_digit (decimal n) ≡ true
-words_digits n e = digits_decimal own n (few_words n e)
-
 pub words_again : (n : ℕ) → nat_le n 99999 ≡ true → decimal_number 5 (decimal n) ≡ Some n
-unfolding decimal_number
-words_again n e =
-    let five : 0 < 5 = omega arith in
-    let short = at_most_test (length (decimal n)) 5 (length-decimal-le 5 n five (few_digits n e) (few_words n e)) in
-    rw (begins_decimal n (few_words n e), words_digits n e, short, digits_value-decimal own n (few_words n e)) refl
+words_again n e = number_again 5 n (omega arith) (few_digits n e) (few_words n e)
+
+few_gates : (n : ℕ) → nat_le n 9999 ≡ true → n < 10 ^ 4
+few_gates n e = omega (arith, at_most n 9999 e)
+
+pub gate_again : (n : ℕ) → nat_le n 9999 ≡ true → decimal_number 4 (decimal n) ≡ Some n
+gate_again n e = let few = few_gates n e in number_again 4 n (omega arith) few (omega (arith, few))
+
+pub gate_free : (byte n : ℕ) → is_digit byte ≡ false → nat_le n 9999 ≡ true → is_free byte (decimal n) ≡ true
+gate_free byte n other e = number_free byte n other (let few = few_gates n e in omega (arith, few))
 
 pub words_free : (byte n : ℕ) → is_digit byte ≡ false → nat_le n 99999 ≡ true → is_free byte (decimal n) ≡ true
-words_free byte n other e = all_free is_digit byte (decimal n) other (words_digits n e)
+words_free byte n other e = number_free byte n other (few_words n e)
 
 -- rings
 digit_takes : (c r : ℕ) (test : Bool) → is_octal_digit c ≡ test → ring_at (c ∷ []) ≡ Some r → (ring_text r ≡ c ∷ []) × (is_ring r ≡ true)
@@ -206,4 +242,65 @@ pub brackets_behind : (field brackets : List ℕ) → are_brackets brackets ≡ 
 brackets_behind field brackets e =
     let three = three_of brackets e in
     let P : List ℕ → Type 0 = λ b. line_of (field ∷ map ring_text b) ≡ field ++ 32 ∷ line_of (map ring_text b) in
+    subst P (sym three.are) refl
+
+-- three rings with a number behind them
+abbrev pub gated_fields : List ℕ → ℕ → List (List ℕ)
+gated_fields rings gate = map ring_text rings ++ decimal gate ∷ []
+
+pub record IsGated (text rings : List ℕ) (gate : ℕ) : Type 0 where
+  pub spelled : line_of (gated_fields rings gate) ≡ text
+  pub brackets : are_brackets rings ≡ true
+  pub few : nat_le gate 9999 ≡ true
+  pub behind : (field : List ℕ) → line_of (field ∷ gated_fields rings gate) ≡ field ++ 32 ∷ line_of (gated_fields rings gate)
+
+three_gated : (r1 r2 r3 gate : ℕ) (text x rest y more z last : List ℕ) → text ≡ x ++ 32 ∷ rest → rest ≡ y ++ 32 ∷ more → more ≡ z ++ 32 ∷ last
+    → (ring_text r1 ≡ x) × (is_ring r1 ≡ true) → (ring_text r2 ≡ y) × (is_ring r2 ≡ true) → (ring_text r3 ≡ z) × (is_ring r3 ≡ true)
+    → (decimal gate ≡ last) × (nat_le gate 9999 ≡ true) → IsGated text (r1 ∷ r2 ∷ r3 ∷ []) gate
+three_gated r1 r2 r3 gate text x rest y more z last e f g h i j k = record {
+  spelled = rw (e, f, g, ← h.0, ← i.0, ← j.0, ← k.0) refl;
+  brackets = rw (h.1, i.1, j.1) refl;
+  few = k.1;
+  behind = λ field. refl;
+}
+
+pub gated_takes : (text : List ℕ) (gated : List ℕ × ℕ) → gated_brackets_at text ≡ Some gated → IsGated text gated.0 gated.1
+gated_takes text gated e =
+    let p = bind_some (cut_at 32 text) _ gated e in
+    let q = bind_some (cut_at 32 p.0.1) _ gated p.2 in
+    let r = bind_some (cut_at 32 q.0.1) _ gated q.2 in
+    let r1 = bind_some (ring_at p.0.0) _ gated r.2 in
+    let r2 = bind_some (ring_at q.0.0) _ gated r1.2 in
+    let r3 = bind_some (ring_at r.0.0) _ gated r2.2 in
+    let gate = bind_some (decimal_number 4 r.0.1) _ gated r3.2 in
+    subst (λ (g : List ℕ × ℕ). IsGated text g.0 g.1) (some_is _ _ gate.2)
+    (three_gated r1.0 r2.0 r3.0 gate.0 text p.0.0 p.0.1 q.0.0 q.0.1 r.0.0 r.0.1
+    (cut_takes 32 text p.0 p.1).0 (cut_takes 32 p.0.1 q.0 q.1).0 (cut_takes 32 q.0.1 r.0 r.1).0
+    (ring_takes p.0.0 r1.0 r1.1) (ring_takes q.0.0 r2.0 r2.1) (ring_takes r.0.0 r3.0 r3.1) (gate_takes r.0.1 gate.0 gate.1))
+
+gated_rings_again : (r1 r2 r3 gate : ℕ) → is_ring r1 ≡ true → is_ring r2 ≡ true → is_ring r3 ≡ true → nat_le gate 9999 ≡ true
+    → gated_brackets_at (ring_text r1 ++ 32 ∷ (ring_text r2 ++ 32 ∷ (ring_text r3 ++ 32 ∷ decimal gate))) ≡ Some (r1 ∷ r2 ∷ r3 ∷ [], gate)
+gated_rings_again r1 r2 r3 gate e f g h =
+    rw (
+      cut_again 32 (ring_text r1) (ring_text r2 ++ 32 ∷ (ring_text r3 ++ 32 ∷ decimal gate)) (ring_free 32 r1 refl e),
+      cut_again 32 (ring_text r2) (ring_text r3 ++ 32 ∷ decimal gate) (ring_free 32 r2 refl f),
+      cut_again 32 (ring_text r3) (decimal gate) (ring_free 32 r3 refl g),
+      ring_again r1 e,
+      ring_again r2 f,
+      ring_again r3 g,
+      gate_again gate h,
+    ) refl
+
+pub gated_again : (brackets : List ℕ) (gate : ℕ) → are_brackets brackets ≡ true → nat_le gate 9999 ≡ true
+    → gated_brackets_at (line_of (gated_fields brackets gate)) ≡ Some (brackets, gate)
+gated_again brackets gate e few =
+    let three = three_of brackets e in
+    let P : List ℕ → Type 0 = λ b. gated_brackets_at (line_of (gated_fields b gate)) ≡ Some (b, gate) in
+    subst P (sym three.are) (gated_rings_again three.r1 three.r2 three.r3 gate three.first three.second three.third few)
+
+pub gated_behind : (field brackets : List ℕ) (gate : ℕ) → are_brackets brackets ≡ true
+    → line_of (field ∷ gated_fields brackets gate) ≡ field ++ 32 ∷ line_of (gated_fields brackets gate)
+gated_behind field brackets gate e =
+    let three = three_of brackets e in
+    let P : List ℕ → Type 0 = λ b. line_of (field ∷ gated_fields b gate) ≡ field ++ 32 ∷ line_of (gated_fields b gate) in
     subst P (sym three.are) refl

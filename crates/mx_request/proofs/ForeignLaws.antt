@@ -1,5 +1,5 @@
 -- Laws of bytes that no line has, such as the newline.
-use Rattle.std.proofs.Common.{◌≡◌, ℕ, ◌==◌, nat_le, nat_eq, ltb, true, false, ◌&&◌, List, [], ◌∷◌, ◌++◌, map, length, Option, Some, None, codes, refl, ◌∙◌}
+use Rattle.std.proofs.Common.{◌≡◌, ℕ, ◌==◌, nat_le, nat_eq, ltb, true, false, ◌&&◌, List, [], ◌∷◌, ◌++◌, map, length, Option, Some, None, codes, refl, ◌∙◌, decimal}
 use Rattle.std.proofs.lemmas.List.Folds.{list_all-append}
 use Rattle.std.specs.List.{list_all}
 use Rattle.mx_name.proofs.TextLaws.{all_free, name_is_free, pathname_is_free, acl_id_is_free}
@@ -10,18 +10,19 @@ use Rattle.mx_name.specs.Principals.{is_principal_byte}
 use Rattle.mx_acl.proofs.ModesLaws.{modes_is_free}
 use Rattle.mx_search.specs.declared.rules.Rule.{Rule}
 use Rattle.mx_request.specs.declared.requests.Request.{Request}
-use Rattle.mx_request.specs.declared.requests.Request.TheVariants.{CreateDir, CreateSeg, CreateLink, Rename, Delete, SetAcl, DelAcl, SetBrackets, SetDirBrackets, Status, List as ListNames, ChangeWdir, SetRules, Initiate, Link, Terminate, Logout}
+use Rattle.mx_request.specs.declared.requests.Request.TheVariants.{CreateDir, CreateSeg, CreateObject, CreateLink, Rename, Delete, SetAcl, DelAcl, SetBrackets, SetDirBrackets, Status, List as ListNames, ChangeWdir, SetRules, Initiate, Terminate, Wakeup, Block, Link, Resume, Logout}
 use Rattle.mx_request.specs.declared.reading.kinds.Kind.{Kind}
-use Rattle.mx_request.specs.declared.reading.kinds.Kind.TheVariants.{CreateDir as OfCreateDir, CreateSeg as OfCreateSeg, CreateLink as OfCreateLink, Rename as OfRename, Delete as OfDelete, SetAcl as OfSetAcl, DelAcl as OfDelAcl, SetBrackets as OfSetBrackets, SetDirBrackets as OfSetDirBrackets, Status as OfStatus, List as OfList, ChangeWdir as OfChangeWdir, SetRules as OfSetRules, Initiate as OfInitiate, Link as OfLink, Terminate as OfTerminate}
+use Rattle.mx_request.specs.declared.reading.kinds.Kind.TheVariants.{CreateDir as OfCreateDir, CreateSeg as OfCreateSeg, CreateObject as OfCreateObject, CreateLink as OfCreateLink, Rename as OfRename, Delete as OfDelete, SetAcl as OfSetAcl, DelAcl as OfDelAcl, SetBrackets as OfSetBrackets, SetDirBrackets as OfSetDirBrackets, Status as OfStatus, List as OfList, ChangeWdir as OfChangeWdir, SetRules as OfSetRules, Initiate as OfInitiate, Terminate as OfTerminate, Wakeup as OfWakeup, Link as OfLink}
 use Rattle.mx_sdw.specs.Octal.{is_octal_digit}
 use Rattle.mx_request.specs.Fields.{line_of, ring_text}
 use Rattle.mx_request.specs.Kinds.{kind_word}
-use Rattle.mx_request.specs.Reading.{is_digit}
+use Rattle.mx_request.specs.Decimals.{is_digit}
 use Rattle.mx_request.specs.RequestTexts.{request_text, request_fields, rule_text, name_fields, is_pathname, is_name, is_name_or_none, is_identifier, is_ring, is_rule, are_brackets, fits_request}
 use Rattle.mx_request.proofs.StepLaws.{both, both_hold}
-use Rattle.mx_request.proofs.FieldLaws.{words_free, ring_free, segno_free}
+use Rattle.mx_request.proofs.FieldLaws.{words_free, gate_free, ring_free, segno_free}
 use Rattle.mx_request.proofs.RuleLaws.{rule_free}
 use Rattle.mx_request.proofs.AddressLaws.{address_free}
+use Rattle.mx_request.proofs.MessageLaws.{message_free}
 use Rattle.mx_request.proofs.KindLaws.{kind_bytes}
 use Rattle.mx_request.proofs.TakenLaws.{faultless}
 
@@ -88,6 +89,14 @@ fields_free byte foreign (CreateSeg path words brackets) e =
     let g = both (nat_le words 99999) (are_brackets brackets) f.1 in
     both_hold _ _ (word_free byte foreign OfCreateSeg) (both_hold _ _ (path_fields byte foreign path f.0)
     (both_hold _ _ (words_free byte words foreign.no_digit g.0) (brackets_free byte brackets foreign.no_digit g.1)))
+fields_free byte foreign (CreateObject path words brackets gate) e =
+    let f = both (is_pathname path) (nat_le words 99999 && (are_brackets brackets && nat_le gate 9999)) e in
+    let g = both (nat_le words 99999) (are_brackets brackets && nat_le gate 9999) f.1 in
+    let h = both (are_brackets brackets) (nat_le gate 9999) g.1 in
+    both_hold _ _ (word_free byte foreign OfCreateObject) (both_hold _ _ (path_fields byte foreign path f.0)
+    (both_hold _ _ (words_free byte words foreign.no_digit g.0)
+    (list_all-append _ (map ring_text brackets) (decimal gate ∷ [])
+    ∙ both_hold _ _ (brackets_free byte brackets foreign.no_digit h.0) (both_hold _ _ (gate_free byte gate foreign.no_digit h.1) refl))))
 fields_free byte foreign (CreateLink path target) e =
     let f = both (is_pathname path) (is_pathname target) e in
     both_hold _ _ (word_free byte foreign OfCreateLink) (both_hold _ _ (path_fields byte foreign path f.0)
@@ -126,9 +135,13 @@ fields_free byte foreign (Initiate path name) e =
     both_hold _ _ (word_free byte foreign OfInitiate) (both_hold _ _ (path_fields byte foreign path f.0) (name_free byte foreign name f.1))
 fields_free byte foreign (Terminate segno) e =
     both_hold _ _ (word_free byte foreign OfTerminate) (both_hold _ _ (segno_free byte segno foreign.no_digit) refl)
+fields_free byte foreign (Wakeup to word) e =
+    both_hold _ _ (word_free byte foreign OfWakeup) (message_free byte to word foreign.no_digit foreign.no_octal_digit e)
+fields_free byte foreign Block e = both_hold _ _ (all_free is_name_byte byte (codes "block") foreign.no_name refl) refl
 fields_free byte foreign (Link segno word) e =
     both_hold _ _ (word_free byte foreign OfLink)
     (both_hold _ _ (address_free byte segno word foreign.no_octal_digit foreign.no_bar) refl)
+fields_free byte foreign Resume e = both_hold _ _ (all_free is_name_byte byte (codes "resume") foreign.no_name refl) refl
 fields_free byte foreign Logout e = both_hold _ _ (all_free is_name_byte byte (codes "logout") foreign.no_name refl) refl
 
 pub request_free : (byte : ℕ) → IsForeign byte → (request : Request) → fits_request request ≡ true → is_free byte (request_text request) ≡ true

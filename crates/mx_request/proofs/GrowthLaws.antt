@@ -25,6 +25,17 @@ pub words_grow : (old new added more word path words : List ℕ) (fields : List 
 words_grow old new added more word path words fields e f g =
     g ∙ rw (f, e, line_grows words fields) (simp append_assoc)
 
+-- after rings, where a number is added behind them
+pub gate_grows : (old new added word path words gate : List ℕ) (rings : List (List ℕ))
+    → added ≡ old ++ line_of (word ∷ path ∷ words ∷ rings) → new ≡ added ++ 32 ∷ gate
+    → new ≡ old ++ line_of (word ∷ path ∷ words ∷ rings ++ gate ∷ [])
+gate_grows old new added word path words gate rings e f =
+    f ∙ rw (e, line_grows words rings, line_grows words (rings ++ gate ∷ []), blanks rings) (simp append_assoc)
+  where
+    blanks : (rings : List (List ℕ)) → blank_before (rings ++ gate ∷ []) ≡ blank_before rings ++ 32 ∷ gate
+    blanks [] = ap (λ xs. 32 ∷ xs) (append-nil gate)
+    blanks (ring ∷ rings) = ap (λ xs. 32 ∷ (ring ++ xs)) (blanks rings) ∙ ap (λ xs. 32 ∷ xs) (sym (append_assoc ring (blank_before rings) (32 ∷ gate)))
+
 -- what has grown twice has grown, also where the second time fails
 pub grown_on : {A E : Type 0} (result : Result A E) (old mid new : List ℕ) → IsGrown old mid → IsGrown mid new → OnErr result (IsGrown old new)
 grown_on (Ok a) old mid new first second = tt
@@ -36,3 +47,8 @@ pub three_pieces : {A E : Type 0} (result : Result A E) (old first second new x 
     → OnOk result (new ≡ second ++ z) → OnOk result (new ≡ old ++ (x ++ (y ++ z)))
 three_pieces (Ok a) old first second new x y z e f g = g ∙ rw (f, e) (simp append_assoc)
 three_pieces (Err e) old first second new x y z _ _ _ = tt
+
+pub four_pieces : {A E : Type 0} (result : Result A E) (old first second third new w x y z : List ℕ) → first ≡ old ++ w → second ≡ first ++ x
+    → third ≡ second ++ y → OnOk result (new ≡ third ++ z) → OnOk result (new ≡ old ++ (w ++ (x ++ (y ++ z))))
+four_pieces (Ok a) old first second third new w x y z e f g h = h ∙ rw (g, f, e) (simp append_assoc)
+four_pieces (Err e) old first second third new w x y z _ _ _ _ = tt

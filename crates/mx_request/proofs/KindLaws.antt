@@ -1,11 +1,12 @@
 -- Laws of the kinds of lines: each has one word, and no other word has a kind.
-use Rattle.std.proofs.Common.{◌≡◌, ℕ, ◌==◌, Bool, true, false, cond, List, [], ◌∷◌, ◌++◌, Some, codes, refl, sym}
+use Rattle.std.proofs.Common.{◌≡◌, ℕ, ◌==◌, Bool, true, false, cond, List, [], ◌∷◌, ◌++◌, Some, None, refl, sym}
 use Rattle.std.specs.List.{find, list_all}
 use Rattle.std.specs.Cmp.Lexicographic.{pointwise, same_text}
 use Rattle.mx_name.specs.Names.{is_name_byte}
 use Rattle.mx_request.specs.declared.reading.kinds.Kind.{Kind}
-use Rattle.mx_request.specs.declared.reading.kinds.Kind.TheVariants.{CreateDir, CreateSeg, CreateLink, Rename, Delete, SetAcl, DelAcl, SetBrackets, SetDirBrackets, Status, List as ListNames, ChangeWdir, SetRules, Initiate, Link, Terminate}
+use Rattle.mx_request.specs.declared.reading.kinds.Kind.TheVariants.{CreateDir, CreateSeg, CreateObject, CreateLink, Rename, Delete, SetAcl, DelAcl, SetBrackets, SetDirBrackets, Status, List as ListNames, ChangeWdir, SetRules, Initiate, Terminate, Wakeup, Link}
 use Rattle.mx_request.specs.Kinds.{kind_of, kind_word, all_kinds}
+use Rattle.mx_request.specs.Reading.{bare_at}
 use Rattle.mx_request.proofs.StepLaws.{some_is}
 
 found_passes : (p : Kind → Bool) (all : List Kind) (kind : Kind) → find p all ≡ Some kind → p kind ≡ true
@@ -23,6 +24,7 @@ kind_takes word kind e =
 pub kind_again : (kind : Kind) → kind_of (kind_word kind) ≡ Some kind
 kind_again CreateDir = refl
 kind_again CreateSeg = refl
+kind_again CreateObject = refl
 kind_again CreateLink = refl
 kind_again Rename = refl
 kind_again Delete = refl
@@ -36,11 +38,13 @@ kind_again ChangeWdir = refl
 kind_again SetRules = refl
 kind_again Initiate = refl
 kind_again Terminate = refl
+kind_again Wakeup = refl
 kind_again Link = refl
 
 pub kind_bytes : (kind : Kind) → list_all is_name_byte (kind_word kind) ≡ true
 kind_bytes CreateDir = refl
 kind_bytes CreateSeg = refl
+kind_bytes CreateObject = refl
 kind_bytes CreateLink = refl
 kind_bytes Rename = refl
 kind_bytes Delete = refl
@@ -54,22 +58,26 @@ kind_bytes ChangeWdir = refl
 kind_bytes SetRules = refl
 kind_bytes Initiate = refl
 kind_bytes Terminate = refl
+kind_bytes Wakeup = refl
 kind_bytes Link = refl
 
-pub kind_not_logout : (kind : Kind) (text : List ℕ) → pointwise ◌==◌ (kind_word kind ++ 32 ∷ text) (codes "logout") ≡ false
-kind_not_logout CreateDir text = refl
-kind_not_logout CreateSeg text = refl
-kind_not_logout CreateLink text = refl
-kind_not_logout Rename text = refl
-kind_not_logout Delete text = refl
-kind_not_logout SetAcl text = refl
-kind_not_logout DelAcl text = refl
-kind_not_logout SetBrackets text = refl
-kind_not_logout SetDirBrackets text = refl
-kind_not_logout Status text = refl
-kind_not_logout ListNames text = refl
-kind_not_logout ChangeWdir text = refl
-kind_not_logout SetRules text = refl
-kind_not_logout Initiate text = refl
-kind_not_logout Terminate text = refl
-kind_not_logout Link text = refl
+-- a word with fields is no line of one word
+pub kind_not_bare : (kind : Kind) (text : List ℕ) → bare_at (kind_word kind ++ 32 ∷ text) ≡ None
+kind_not_bare CreateDir text = refl
+kind_not_bare CreateSeg text = refl
+kind_not_bare CreateObject text = refl
+kind_not_bare CreateLink text = refl
+kind_not_bare Rename text = refl
+kind_not_bare Delete text = refl
+kind_not_bare SetAcl text = refl
+kind_not_bare DelAcl text = refl
+kind_not_bare SetBrackets text = refl
+kind_not_bare SetDirBrackets text = refl
+kind_not_bare Status text = refl
+kind_not_bare ListNames text = refl
+kind_not_bare ChangeWdir text = refl
+kind_not_bare SetRules text = refl
+kind_not_bare Initiate text = refl
+kind_not_bare Terminate text = refl
+kind_not_bare Wakeup text = refl
+kind_not_bare Link text = refl

@@ -2,6 +2,7 @@ pub mod StepLaws
 pub mod FieldLaws
 pub mod RuleLaws
 pub mod AddressLaws
+pub mod MessageLaws
 pub mod KindLaws
 pub mod ClassLaws
 pub mod TakenLaws

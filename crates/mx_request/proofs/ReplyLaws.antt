@@ -18,7 +18,7 @@ use Rattle.mx_acl.specs.Modes.{modes_of_text, modes_text}
 use Rattle.mx_acl.specs.declared.modes.Modes.{Modes}
 use Rattle.mx_hier.specs.Refusals.{refusal_number, refusal_text}
 use Rattle.mx_hier.specs.declared.asking.Status as said
-use Rattle.mx_hier.specs.declared.asking.Status.TheVariants.{Segment, Directory, Link}
+use Rattle.mx_hier.specs.declared.asking.Status.TheVariants.{Segment, Object, Directory, Link}
 use Rattle.mx_hier.specs.declared.refusals.Refusal.{Refusal}
 use Rattle.mx_hier.specs.declared.refusals.Refusal.TheVariants.{BadPath, NoEntry, NoInfo, NotADir, LinkLoop, IncorrectAccess, NameDup, NotASeg, DirNotEmpty, DirFull, BadLength, BadBrackets, InvalidMode, AclFull, NoAclEntry, NoPages, KstFull, UnknownSegno, NotLinkage, SegmentNotFound, NotObject, NoDefinition, NoProcess, MailFull, Ended}
 use Rattle.mx_request.proofs.FieldLaws.{own, ring_free}
@@ -27,9 +27,9 @@ use Rattle.mx_request.proofs.LineLaws.{same_fields}
 use Rattle.mx_request.proofs.StepLaws.{both, both_hold, fails, some_is}
 use Rattle.mx_request.proofs.TakenLaws.{faultless}
 use Rattle.mx_request.specs.declared.replies.Reply.{Reply}
-use Rattle.mx_request.specs.declared.replies.Reply.TheVariants.{Done, Refused, Status, Names, Segno}
+use Rattle.mx_request.specs.declared.replies.Reply.TheVariants.{Done, Refused, Status, Names, Segno, Sent, Message, Nobody, Waiting}
 use Rattle.mx_request.specs.Fields.{ring_text}
-use Rattle.mx_request.specs.Reading.{decimal_after, is_digit}
+use Rattle.mx_request.specs.Decimals.{decimal_after, is_digit}
 use Rattle.mx_request.specs.ReplyTexts.{fits_reply, fits_status, fresh_text, linkage_fields, reply_fields, reply_text, status_fields}
 use Rattle.mx_request.specs.RequestTexts.{is_name, is_ring}
 use Rattle.mx_request.specs.Steps.{◌>>=◌}
@@ -184,6 +184,13 @@ segment_at (w ∷ words ∷ b ∷ r1 ∷ r2 ∷ r3 ∷ m ∷ modes ∷ []) =
     Some (Status (Segment (decimal_after 0 words) (record { r1 = digit_at r1; r2 = digit_at r2; r3 = digit_at r3 }) modes))
 segment_at _ = None
 
+abbrev object_at : List (List ℕ) → Option Reply
+object_at (w ∷ words ∷ b ∷ r1 ∷ r2 ∷ r3 ∷ g ∷ gate ∷ d ∷ definitions ∷ l ∷ links ∷ m ∷ modes ∷ []) =
+    modes_of_text modes >>= λ modes.
+    Some (Status (Object (decimal_after 0 words) (record { r1 = digit_at r1; r2 = digit_at r2; r3 = digit_at r3 })
+    (decimal_after 0 gate) (decimal_after 0 definitions) (decimal_after 0 links) modes))
+object_at _ = None
+
 abbrev directory_at : List (List ℕ) → Option Reply
 directory_at (b ∷ d1 ∷ d2 ∷ m ∷ modes ∷ []) =
     modes_of_text modes >>= λ modes. Some (Status (Directory (digit_at d1) (digit_at d2) modes))
@@ -204,16 +211,25 @@ segno_at (segno ∷ fresh ∷ section) =
     Some (Segno (record { segno = octal_value segno; fresh = is fresh (codes "new"); linkage = linkage }))
 segno_at _ = None
 
+abbrev message_at : List (List ℕ) → Option Reply
+message_at (sender ∷ word ∷ []) = Some (Message (decimal_after 0 sender) (octal_value word))
+message_at _ = None
+
 abbrev reply_of : List ℕ → List (List ℕ) → Option Reply
 reply_of word fields =
     if is word (codes "ok") then Some Done
     else (if is word (codes "refused") then refused_at fields
     else (if is word (codes "segment") then segment_at fields
+    else (if is word (codes "object") then object_at fields
     else (if is word (codes "directory") then directory_at fields
     else (if is word (codes "link") then link_at fields
     else (if is word (codes "names") then Some (Names fields)
     else (if is word (codes "segno") then segno_at fields
-    else None))))))
+    else (if is word (codes "sent") then Some Sent
+    else (if is word (codes "message") then message_at fields
+    else (if is word (codes "nobody") then Some Nobody
+    else (if is word (codes "waiting") then Some Waiting
+    else None)))))))))))
 
 abbrev reply_at : List (List ℕ) → Option Reply
 reply_at [] = None
@@ -237,6 +253,21 @@ status_again (Segment words brackets modes) e =
       digit_again brackets.r2,
       digit_again brackets.r3,
     ) refl
+status_again (Object words brackets gate definitions links modes) e =
+    let f = both (nat_lt words (2 ^ 64)) _ e in
+    let g = both (nat_lt gate (2 ^ 64)) _ f.1 in
+    let h = both (nat_lt definitions (2 ^ 64)) _ g.1 in
+    let i = both (nat_lt links (2 ^ 64)) _ h.1 in
+    rw (
+      modes_again modes,
+      decimal_again words f.0,
+      decimal_again gate g.0,
+      decimal_again definitions h.0,
+      decimal_again links i.0,
+      digit_again brackets.r1,
+      digit_again brackets.r2,
+      digit_again brackets.r3,
+    ) refl
 status_again (Directory d1 d2 modes) e = rw (modes_again modes, digit_again d1, digit_again d2) refl
 status_again (Link target) e = ap (λ path. Some (Status (Link path))) (path_again target e)
 
@@ -248,6 +279,10 @@ reply_again (Status status) e = status_again status e
 reply_again (Names names) e = refl
 reply_again (Segno known) e =
     rw (linkage_again known.linkage, octal_value-octal known.segno, fresh_again known.fresh) refl
+reply_again Sent e = refl
+reply_again (Message sender word) e = rw (decimal_again sender e, octal_value-octal word) refl
+reply_again Nobody e = refl
+reply_again Waiting e = refl
 
 -- bytes that no reply has
 pub record IsApart (byte : ℕ) : Type 0 where
@@ -306,6 +341,28 @@ module _ (byte : ℕ) (apart : IsApart byte) where
       (both_hold _ _ (ring_free byte brackets.r3 apart.no_digit h.1)
       (both_hold _ _ (word_free (codes "modes") refl)
       (both_hold _ _ (modes_is_free byte modes apart.no_letter) refl))))))))
+  status_free (Object words brackets gate definitions links modes) e =
+      let f = both (nat_lt words (2 ^ 64)) _ e in
+      let g = both (nat_lt gate (2 ^ 64)) _ f.1 in
+      let h = both (nat_lt definitions (2 ^ 64)) _ g.1 in
+      let i = both (nat_lt links (2 ^ 64)) _ h.1 in
+      let j = both (is_ring brackets.r1) _ i.1 in
+      let k = both (is_ring brackets.r2) (is_ring brackets.r3) j.1 in
+      both_hold _ _ (word_free (codes "object") refl)
+      (both_hold _ _ (word_free (codes "words") refl)
+      (both_hold _ _ (decimal_free byte words apart.no_digit f.0)
+      (both_hold _ _ (word_free (codes "brackets") refl)
+      (both_hold _ _ (ring_free byte brackets.r1 apart.no_digit j.0)
+      (both_hold _ _ (ring_free byte brackets.r2 apart.no_digit k.0)
+      (both_hold _ _ (ring_free byte brackets.r3 apart.no_digit k.1)
+      (both_hold _ _ (word_free (codes "gate") refl)
+      (both_hold _ _ (decimal_free byte gate apart.no_digit g.0)
+      (both_hold _ _ (word_free (codes "definitions") refl)
+      (both_hold _ _ (decimal_free byte definitions apart.no_digit h.0)
+      (both_hold _ _ (word_free (codes "links") refl)
+      (both_hold _ _ (decimal_free byte links apart.no_digit i.0)
+      (both_hold _ _ (word_free (codes "modes") refl)
+      (both_hold _ _ (modes_is_free byte modes apart.no_letter) refl))))))))))))))
   status_free (Directory d1 d2 modes) e =
       let f = both (is_ring d1) (is_ring d2) e in
       both_hold _ _ (word_free (codes "directory") refl)
@@ -341,6 +398,13 @@ module _ (byte : ℕ) (apart : IsApart byte) where
       both_hold _ _ (word_free (codes "segno") refl)
       (both_hold _ _ (octal_free byte known.segno apart.no_octal)
       (both_hold _ _ (word_free (fresh_text known.fresh) (fresh_bytes known.fresh)) (linkage_free known.linkage)))
+  fields_free Sent e = both_hold _ _ (word_free (codes "sent") refl) refl
+  fields_free (Message sender word) e =
+      both_hold _ _ (word_free (codes "message") refl)
+      (both_hold _ _ (decimal_free byte sender apart.no_digit e)
+      (both_hold _ _ (octal_free byte word apart.no_octal) refl))
+  fields_free Nobody e = both_hold _ _ (word_free (codes "nobody") refl) refl
+  fields_free Waiting e = both_hold _ _ (word_free (codes "waiting") refl) refl
 
 blank : IsApart 32
 blank = record { no_name = refl; no_digit = refl; no_octal = refl; no_letter = refl; no_mark = refl }
@@ -355,10 +419,15 @@ some_field : (reply : Reply) → 1 ≤ length (reply_fields reply)
 some_field Done = omega arith
 some_field (Refused why) = omega arith
 some_field (Status (Segment words brackets modes)) = omega arith
+some_field (Status (Object words brackets gate definitions links modes)) = omega arith
 some_field (Status (Directory d1 d2 modes)) = omega arith
 some_field (Status (Link target)) = omega arith
 some_field (Names names) = omega arith
 some_field (Segno known) = omega arith
+some_field Sent = omega arith
+some_field (Message sender word) = omega arith
+some_field Nobody = omega arith
+some_field Waiting = omega arith
 
 -- two replies that fit and have one text are the same
 pub one_reply : (one other : Reply) → fits_reply one ≡ true → fits_reply other ≡ true → reply_text one ≡ reply_text other → one ≡ other

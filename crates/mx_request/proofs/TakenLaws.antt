@@ -14,19 +14,21 @@ use Rattle.mx_acl.specs.Modes.{modes_text, modes_of_text}
 use Rattle.mx_search.specs.Rules.{rules_of}
 use Rattle.mx_search.specs.declared.rules.Rule.{Rule}
 use Rattle.mx_request.specs.declared.requests.Request.{Request}
-use Rattle.mx_request.specs.declared.requests.Request.TheVariants.{Delete, Status, List as ListNames, ChangeWdir, SetRules, Initiate, Link, Terminate, Logout}
+use Rattle.mx_request.specs.declared.requests.Request.TheVariants.{Delete, Status, List as ListNames, ChangeWdir, SetRules, Initiate, Terminate, Wakeup, Block, Link, Resume, Logout}
 use Rattle.mx_request.specs.declared.reading.kinds.Kind.{Kind}
-use Rattle.mx_request.specs.declared.reading.kinds.Kind.TheVariants.{CreateDir as OfCreateDir, CreateSeg as OfCreateSeg, CreateLink as OfCreateLink, Rename as OfRename, Delete as OfDelete, SetAcl as OfSetAcl, DelAcl as OfDelAcl, SetBrackets as OfSetBrackets, SetDirBrackets as OfSetDirBrackets, Status as OfStatus, List as OfList, ChangeWdir as OfChangeWdir, SetRules as OfSetRules, Initiate as OfInitiate, Link as OfLink, Terminate as OfTerminate}
+use Rattle.mx_request.specs.declared.reading.kinds.Kind.TheVariants.{CreateDir as OfCreateDir, CreateSeg as OfCreateSeg, CreateObject as OfCreateObject, CreateLink as OfCreateLink, Rename as OfRename, Delete as OfDelete, SetAcl as OfSetAcl, DelAcl as OfDelAcl, SetBrackets as OfSetBrackets, SetDirBrackets as OfSetDirBrackets, Status as OfStatus, List as OfList, ChangeWdir as OfChangeWdir, SetRules as OfSetRules, Initiate as OfInitiate, Terminate as OfTerminate, Wakeup as OfWakeup, Link as OfLink}
 use Rattle.mx_name.specs.Cuts.{cut_at}
 use Rattle.mx_request.specs.Fields.{line_of, ring_text}
 use Rattle.mx_request.specs.Kinds.{kind_of, kind_word}
-use Rattle.mx_request.specs.Reading.{decimal_number, ring_at, brackets_at, create_dir_at, create_seg_at, create_link_at, rename_at, delete_at, set_acl_at, del_acl_at, set_brackets_at, set_dir_brackets_at, status_at, list_at, change_wdir_at, rules_at, set_rules_at, initiate_by, initiate_at, link_at, terminate_at, fields_at, worded_at, request_at}
+use Rattle.mx_request.specs.Decimals.{decimal_number}
+use Rattle.mx_request.specs.Reading.{ring_at, brackets_at, gated_brackets_at, create_dir_at, create_seg_at, create_object_at, create_link_at, rename_at, delete_at, set_acl_at, del_acl_at, set_brackets_at, set_dir_brackets_at, status_at, list_at, change_wdir_at, rules_at, set_rules_at, initiate_by, initiate_at, terminate_at, wakeup_at, link_at, fields_at, worded_at, bare_at, bare_or_worded, request_at}
 use Rattle.mx_request.specs.RequestTexts.{request_text, rule_text, is_pathname, is_identifier, is_rule, is_segno, are_rules, fits_request}
 use Rattle.mx_request.proofs.StepLaws.{both, both_hold, some_is, bind_some, when_some}
 use Rattle.mx_name.proofs.CutLaws.{cut_takes}
-use Rattle.mx_request.proofs.FieldLaws.{words_takes, ring_takes, brackets_takes, segno_takes}
+use Rattle.mx_request.proofs.FieldLaws.{words_takes, ring_takes, brackets_takes, gated_fields, gated_takes, segno_takes}
 use Rattle.mx_request.proofs.RuleLaws.{AreText, rules_take}
 use Rattle.mx_request.proofs.AddressLaws.{link_reads}
+use Rattle.mx_request.proofs.MessageLaws.{wakeup_reads}
 use Rattle.mx_request.proofs.KindLaws.{kind_takes}
 
 -- a line spells a request that fits
@@ -102,6 +104,25 @@ create_seg_takes text request e =
           ∙ three_parts (codes "create_seg") path.0 (decimal words.0) (line_of (map ring_text brackets.0)) text p.0.0 p.0.1 q.0.0 q.0.1
           (cut_takes 32 text p.0 p.1).0 (cut_takes 32 p.0.1 q.0 q.1).0 a.0 b.0 c.spelled;
       fits = both_hold _ _ a.1 (both_hold _ _ b.1 c.fits);
+    })
+
+create_object_takes : (text : List ℕ) (request : Request) → create_object_at text ≡ Some request
+    → IsLine (codes "create_object" ++ 32 ∷ text) request
+create_object_takes text request e =
+    let p = bind_some (cut_at 32 text) _ request e in
+    let q = bind_some (cut_at 32 p.0.1) _ request p.2 in
+    let words = bind_some (decimal_number 5 q.0.0) _ request q.2 in
+    let gated = bind_some (gated_brackets_at q.0.1) _ request words.2 in
+    let path = bind_some (pathname_of p.0.0) _ request gated.2 in
+    let a = path_takes p.0.0 path.0 path.1 in
+    let b = words_takes q.0.0 words.0 words.1 in
+    let c = gated_takes q.0.1 gated.0 gated.1 in
+    subst (IsLine (codes "create_object" ++ 32 ∷ text)) (some_is _ _ path.2)
+    (record {
+      spelled = ap (λ xs. codes "create_object" ++ 32 ∷ (path.0 ++ 32 ∷ xs)) (c.behind (decimal words.0))
+          ∙ three_parts (codes "create_object") path.0 (decimal words.0) (line_of (gated_fields gated.0.0 gated.0.1)) text p.0.0 p.0.1 q.0.0 q.0.1
+          (cut_takes 32 text p.0 p.1).0 (cut_takes 32 p.0.1 q.0 q.1).0 a.0 b.0 c.spelled;
+      fits = both_hold _ _ a.1 (both_hold _ _ b.1 (both_hold _ _ c.brackets c.few));
     })
 
 create_link_takes : (text : List ℕ) (request : Request) → create_link_at text ≡ Some request → IsLine (codes "create_link" ++ 32 ∷ text) request
@@ -261,6 +282,12 @@ terminate_takes text request e =
     subst (IsLine (codes "terminate" ++ 32 ∷ text)) (some_is _ _ segno.2)
     (record { spelled = ap (λ xs. codes "terminate" ++ 32 ∷ xs) a.0; fits = a.1 })
 
+wakeup_takes : (text : List ℕ) (request : Request) → wakeup_at text ≡ Some request → IsLine (codes "wakeup" ++ 32 ∷ text) request
+wakeup_takes text request e =
+    let a = wakeup_reads text request e in
+    subst (IsLine (codes "wakeup" ++ 32 ∷ text)) a.is
+    (record { spelled = ap (λ xs. codes "wakeup" ++ 32 ∷ xs) a.spelled; fits = a.fits })
+
 link_takes : (text : List ℕ) (request : Request) → link_at text ≡ Some request → IsLine (codes "link" ++ 32 ∷ text) request
 link_takes text request e =
     let a = link_reads text request e in
@@ -270,6 +297,7 @@ link_takes text request e =
 fields_takes : (kind : Kind) (text : List ℕ) (request : Request) → fields_at kind text ≡ Some request → IsLine (kind_word kind ++ 32 ∷ text) request
 fields_takes OfCreateDir text request e = create_dir_takes text request e
 fields_takes OfCreateSeg text request e = create_seg_takes text request e
+fields_takes OfCreateObject text request e = create_object_takes text request e
 fields_takes OfCreateLink text request e = create_link_takes text request e
 fields_takes OfRename text request e = rename_takes text request e
 fields_takes OfDelete text request e = delete_takes text request e
@@ -283,6 +311,7 @@ fields_takes OfChangeWdir text request e = change_wdir_takes text request e
 fields_takes OfSetRules text request e = set_rules_takes text request e
 fields_takes OfInitiate text request e = initiate_takes text request e
 fields_takes OfTerminate text request e = terminate_takes text request e
+fields_takes OfWakeup text request e = wakeup_takes text request e
 fields_takes OfLink text request e = link_takes text request e
 
 word_takes : (line : List ℕ) (request : Request) (p : List ℕ × List ℕ) → cut_at 32 line ≡ Some p
@@ -291,15 +320,38 @@ word_takes line request p cut kind =
     let same : kind_word kind.0 ++ 32 ∷ p.1 ≡ line = ap (λ word. word ++ 32 ∷ p.1) (kind_takes p.0 kind.0 kind.1) ∙ sym (cut_takes 32 line p cut).0 in
     subst (λ l. IsLine l request) same (fields_takes kind.0 p.1 request kind.2)
 
+-- a line that is a word
+bare_takes : (line : List ℕ) (request : Request) → bare_at line ≡ Some request → IsLine line request
+bare_takes line request e = by_block (pointwise ◌==◌ line (codes "block")) refl e
+  where
+    by_logout : (test : Bool) → pointwise ◌==◌ line (codes "logout") ≡ test
+        → cond test (Some Logout) None ≡ Some request → IsLine line request
+    by_logout true t e =
+        subst (IsLine line) (some_is _ _ e) (record { spelled = sym (same_text line (codes "logout") (sym t)); fits = refl })
+    by_logout false t e = cc
+
+    by_resume : (test : Bool) → pointwise ◌==◌ line (codes "resume") ≡ test
+        → cond test (Some Resume) (cond (pointwise ◌==◌ line (codes "logout")) (Some Logout) None) ≡ Some request
+        → IsLine line request
+    by_resume true t e =
+        subst (IsLine line) (some_is _ _ e) (record { spelled = sym (same_text line (codes "resume") (sym t)); fits = refl })
+    by_resume false t e = by_logout (pointwise ◌==◌ line (codes "logout")) refl e
+
+    by_block : (test : Bool) → pointwise ◌==◌ line (codes "block") ≡ test
+        → cond test (Some Block) (cond (pointwise ◌==◌ line (codes "resume")) (Some Resume)
+        (cond (pointwise ◌==◌ line (codes "logout")) (Some Logout) None)) ≡ Some request
+        → IsLine line request
+    by_block true t e =
+        subst (IsLine line) (some_is _ _ e) (record { spelled = sym (same_text line (codes "block") (sym t)); fits = refl })
+    by_block false t e = by_resume (pointwise ◌==◌ line (codes "resume")) refl e
+
 -- a line that is read spells its request
 pub request_takes : (line : List ℕ) (request : Request) → request_at line ≡ Some request → IsLine line request
 unfolding request_at
-request_takes line request e = by_test (pointwise ◌==◌ line (codes "logout")) refl e
+request_takes line request e = by_bare (bare_at line) refl e
   where
-    by_test : (test : Bool) → pointwise ◌==◌ line (codes "logout") ≡ test
-        → cond test (Some Logout) (worded_at line) ≡ Some request → IsLine line request
-    by_test true t e =
-        subst (IsLine line) (some_is _ _ e) (record { spelled = sym (same_text line (codes "logout") (sym t)); fits = refl })
-    by_test false t e =
+    by_bare : (bare : Option Request) → bare_at line ≡ bare → bare_or_worded bare line ≡ Some request → IsLine line request
+    by_bare (Some own) t e = subst (IsLine line) (some_is _ _ e) (bare_takes line own t)
+    by_bare None t e =
         let p = bind_some (cut_at 32 line) _ request e in
         word_takes line request p.0 p.1 (bind_some (kind_of p.0.0) _ request p.2)

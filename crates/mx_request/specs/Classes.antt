@@ -3,11 +3,12 @@ use Rattle.std.specs.Prelude.{ℕ, List, [], ◌∷◌, codes}
 use Rattle.mx_request.specs.declared.classes.RequestClass.{RequestClass}
 use Rattle.mx_request.specs.declared.classes.RequestClass.TheVariants.{OfPath, OfProcess, OfSupervisor}
 use Rattle.mx_request.specs.declared.requests.Request.{Request}
-use Rattle.mx_request.specs.declared.requests.Request.TheVariants.{CreateDir, CreateSeg, CreateLink, Rename, Delete, SetAcl, DelAcl, SetBrackets, SetDirBrackets, Status, List as ListNames, ChangeWdir, SetRules, Initiate, Link, Terminate, Logout}
+use Rattle.mx_request.specs.declared.requests.Request.TheVariants.{CreateDir, CreateSeg, CreateObject, CreateLink, Rename, Delete, SetAcl, DelAcl, SetBrackets, SetDirBrackets, Status, List as ListNames, ChangeWdir, SetRules, Initiate, Terminate, Wakeup, Block, Link, Resume, Logout}
 
 abbrev pub class_of : Request → RequestClass
 class_of (CreateDir path d1 d2) = OfPath
 class_of (CreateSeg path words brackets) = OfPath
+class_of (CreateObject path words brackets gate) = OfPath
 class_of (CreateLink path target) = OfPath
 class_of (Rename path name) = OfPath
 class_of (Delete path) = OfPath
@@ -21,14 +22,19 @@ class_of (ChangeWdir path) = OfProcess
 class_of (SetRules rules) = OfProcess
 class_of (Initiate path name) = OfProcess
 class_of (Terminate segno) = OfProcess
+class_of (Wakeup to word) = OfProcess
+class_of Block = OfProcess
 class_of (Link segno word) = OfSupervisor
+class_of Resume = OfSupervisor
 class_of Logout = OfProcess
 
 -- the same by the first words of their lines
 abbrev pub words_of : RequestClass → List (List ℕ)
 words_of OfPath =
-    codes "create_dir" ∷ codes "create_seg" ∷ codes "create_link" ∷ codes "rename" ∷ codes "delete" ∷ codes "set_acl"
-    ∷ codes "del_acl" ∷ codes "set_brackets" ∷ codes "set_dir_brackets" ∷ codes "status" ∷ codes "list" ∷ []
+    codes "create_dir" ∷ codes "create_seg" ∷ codes "create_object" ∷ codes "create_link" ∷ codes "rename"
+    ∷ codes "delete" ∷ codes "set_acl" ∷ codes "del_acl" ∷ codes "set_brackets" ∷ codes "set_dir_brackets"
+    ∷ codes "status" ∷ codes "list" ∷ []
 words_of OfProcess =
-    codes "change_wdir" ∷ codes "set_rules" ∷ codes "initiate" ∷ codes "terminate" ∷ codes "logout" ∷ []
-words_of OfSupervisor = codes "link" ∷ []
+    codes "change_wdir" ∷ codes "set_rules" ∷ codes "initiate" ∷ codes "terminate" ∷ codes "wakeup" ∷ codes "block"
+    ∷ codes "logout" ∷ []
+words_of OfSupervisor = codes "link" ∷ codes "resume" ∷ []

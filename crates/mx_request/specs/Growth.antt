@@ -9,3 +9,7 @@ IsGrown old new = (more : List ℕ) × (new ≡ old ++ more)
 -- fields with a blank before each
 abbrev pub blank_before : List (List ℕ) → List ℕ
 blank_before fields = flat_map (λ field. 32 ∷ field) fields
+
+-- a text behind its label
+abbrev pub labelled : List ℕ → List ℕ → List ℕ
+labelled label text = label ++ 32 ∷ text

@@ -3,11 +3,12 @@ use Rattle.std.specs.Prelude.{ℕ, ◌==◌, List, [], ◌∷◌, Option, codes}
 use Rattle.std.specs.List.{find}
 use Rattle.std.specs.Cmp.Lexicographic.{pointwise}
 use Rattle.mx_request.specs.declared.reading.kinds.Kind.{Kind}
-use Rattle.mx_request.specs.declared.reading.kinds.Kind.TheVariants.{CreateDir, CreateSeg, CreateLink, Rename, Delete, SetAcl, DelAcl, SetBrackets, SetDirBrackets, Status, List as ListNames, ChangeWdir, SetRules, Initiate, Link, Terminate}
+use Rattle.mx_request.specs.declared.reading.kinds.Kind.TheVariants.{CreateDir, CreateSeg, CreateObject, CreateLink, Rename, Delete, SetAcl, DelAcl, SetBrackets, SetDirBrackets, Status, List as ListNames, ChangeWdir, SetRules, Initiate, Terminate, Wakeup, Link}
 
 abbrev pub kind_word : Kind → List ℕ
 kind_word CreateDir = codes "create_dir"
 kind_word CreateSeg = codes "create_seg"
+kind_word CreateObject = codes "create_object"
 kind_word CreateLink = codes "create_link"
 kind_word Rename = codes "rename"
 kind_word Delete = codes "delete"
@@ -21,12 +22,13 @@ kind_word ChangeWdir = codes "change_wdir"
 kind_word SetRules = codes "set_rules"
 kind_word Initiate = codes "initiate"
 kind_word Terminate = codes "terminate"
+kind_word Wakeup = codes "wakeup"
 kind_word Link = codes "link"
 
 abbrev pub all_kinds : List Kind
 all_kinds =
-    CreateDir ∷ CreateSeg ∷ CreateLink ∷ Rename ∷ Delete ∷ SetAcl ∷ DelAcl ∷ SetBrackets ∷ SetDirBrackets ∷ Status
-    ∷ ListNames ∷ ChangeWdir ∷ SetRules ∷ Initiate ∷ Terminate ∷ Link ∷ []
+    CreateDir ∷ CreateSeg ∷ CreateObject ∷ CreateLink ∷ Rename ∷ Delete ∷ SetAcl ∷ DelAcl ∷ SetBrackets
+    ∷ SetDirBrackets ∷ Status ∷ ListNames ∷ ChangeWdir ∷ SetRules ∷ Initiate ∷ Terminate ∷ Wakeup ∷ Link ∷ []
 
 -- the kind that a word names
 abbrev pub kind_of : List ℕ → Option Kind

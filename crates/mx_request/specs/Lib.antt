@@ -1,4 +1,5 @@
 pub mod Fields
+pub mod Decimals
 pub mod Classes
 pub mod RequestTexts
 pub mod ReplyTexts

@@ -1,6 +1,5 @@
 -- Helpers that only private contracts cite: what a line is read as, by its first word, and the fields of each kind.
-use Rattle.std.specs.Prelude.{ℕ, zero, suc, ◌+◌, ◌-◌, ◌*◌, ◌==◌, nat_le, nat_lt, Bool, ◌&&◌, List, [], ◌∷◌, ◌++◌, length, Option, None, Some, codes, if◌then◌else◌}
-use Rattle.std.specs.List.{list_all}
+use Rattle.std.specs.Prelude.{ℕ, zero, suc, ◌-◌, ◌==◌, nat_le, List, [], ◌∷◌, ◌++◌, Option, None, Some, codes, if◌then◌else◌}
 use Rattle.std.specs.Cmp.Lexicographic.{pointwise}
 use Rattle.std.specs.Result.{result_ok}
 use Rattle.mx_name.specs.Cuts.{cut_at}
@@ -8,31 +7,19 @@ use Rattle.mx_name.specs.Names.{name_of}
 use Rattle.mx_name.specs.Pathnames.{is_absolute, pathname_of}
 use Rattle.mx_name.specs.Paths.{resolution}
 use Rattle.mx_name.specs.Identifiers.{acl_id_of}
-use Rattle.mx_sdw.specs.Octal.{begins_number, is_octal_digit, octal_number}
+use Rattle.mx_sdw.specs.Octal.{is_octal_digit, octal_number}
 use Rattle.mx_acl.specs.Modes.{modes_of_text}
 use Rattle.mx_search.specs.Rules.{rules_of}
 use Rattle.mx_search.specs.declared.rules.Rule.{Rule}
 use Rattle.mx_search.specs.declared.rules.Rule.TheVariants.{InitiatedSegments, ReferencingDir, WorkingDir, Directory}
 use Rattle.mx_request.specs.declared.requests.Request.{Request}
-use Rattle.mx_request.specs.declared.requests.Request.TheVariants.{CreateDir, CreateSeg, CreateLink, Rename, Delete, SetAcl, DelAcl, SetBrackets, SetDirBrackets, Status, List as ListNames, ChangeWdir, SetRules, Initiate, Link, Terminate, Logout}
+use Rattle.mx_request.specs.declared.requests.Request.TheVariants.{CreateDir, CreateSeg, CreateObject, CreateLink, Rename, Delete, SetAcl, DelAcl, SetBrackets, SetDirBrackets, Status, List as ListNames, ChangeWdir, SetRules, Initiate, Terminate, Wakeup, Block, Link, Resume, Logout}
 use Rattle.mx_request.specs.declared.reading.kinds.Kind.{Kind}
-use Rattle.mx_request.specs.declared.reading.kinds.Kind.TheVariants.{CreateDir as OfCreateDir, CreateSeg as OfCreateSeg, CreateLink as OfCreateLink, Rename as OfRename, Delete as OfDelete, SetAcl as OfSetAcl, DelAcl as OfDelAcl, SetBrackets as OfSetBrackets, SetDirBrackets as OfSetDirBrackets, Status as OfStatus, List as OfList, ChangeWdir as OfChangeWdir, SetRules as OfSetRules, Initiate as OfInitiate, Link as OfLink, Terminate as OfTerminate}
+use Rattle.mx_request.specs.declared.reading.kinds.Kind.TheVariants.{CreateDir as OfCreateDir, CreateSeg as OfCreateSeg, CreateObject as OfCreateObject, CreateLink as OfCreateLink, Rename as OfRename, Delete as OfDelete, SetAcl as OfSetAcl, DelAcl as OfDelAcl, SetBrackets as OfSetBrackets, SetDirBrackets as OfSetDirBrackets, Status as OfStatus, List as OfList, ChangeWdir as OfChangeWdir, SetRules as OfSetRules, Initiate as OfInitiate, Terminate as OfTerminate, Wakeup as OfWakeup, Link as OfLink}
+use Rattle.mx_request.specs.Decimals.{decimal_number}
 use Rattle.mx_request.specs.Kinds.{kind_of}
+use Rattle.mx_request.specs.RequestTexts.{is_process_number}
 use Rattle.mx_request.specs.Steps.{◌>>=◌, when}
-
--- a byte from '0' to '9'
-abbrev pub is_digit : ℕ → Bool
-is_digit c = nat_le 48 c && nat_lt c 58
-
--- the number that decimal digits give after those of n
-abbrev pub decimal_after : ℕ → List ℕ → ℕ
-decimal_after n [] = n
-decimal_after n (c ∷ rest) = decimal_after (10 * n + (c - 48)) rest
-
--- the number that a text of at most so many decimal digits spells
-unfoldable pub decimal_number : ℕ → List ℕ → Option ℕ
-decimal_number digits text =
-    when (begins_number text && (list_all is_digit text && nat_le (length text) digits)) (decimal_after 0 text)
 
 abbrev pub ring_at : List ℕ → Option ℕ
 ring_at (c ∷ []) = when (is_octal_digit c) (c - 48)
@@ -46,6 +33,18 @@ brackets_at text =
     ring_at q.0 >>= λ r2.
     ring_at q.1 >>= λ r3.
     Some (r1 ∷ r2 ∷ r3 ∷ [])
+
+-- three rings, and a number of at most four digits behind them
+abbrev pub gated_brackets_at : List ℕ → Option (List ℕ × ℕ)
+gated_brackets_at text =
+    cut_at 32 text >>= λ p.
+    cut_at 32 p.1 >>= λ q.
+    cut_at 32 q.1 >>= λ r.
+    ring_at p.0 >>= λ r1.
+    ring_at q.0 >>= λ r2.
+    ring_at r.0 >>= λ r3.
+    decimal_number 4 r.1 >>= λ gate.
+    Some (r1 ∷ r2 ∷ r3 ∷ [], gate)
 
 -- what follows the word of each kind of line
 abbrev pub create_dir_at : List ℕ → Option Request
@@ -65,6 +64,15 @@ create_seg_at text =
     brackets_at q.1 >>= λ brackets.
     pathname_of p.0 >>= λ path.
     Some (CreateSeg path words brackets)
+
+abbrev pub create_object_at : List ℕ → Option Request
+create_object_at text =
+    cut_at 32 text >>= λ p.
+    cut_at 32 p.1 >>= λ q.
+    decimal_number 5 q.0 >>= λ words.
+    gated_brackets_at q.1 >>= λ gated.
+    pathname_of p.0 >>= λ path.
+    Some (CreateObject path words gated.0 gated.1)
 
 abbrev pub create_link_at : List ℕ → Option Request
 create_link_at text =
@@ -167,6 +175,13 @@ initiate_at text = initiate_by text (cut_at 32 text)
 abbrev pub terminate_at : List ℕ → Option Request
 terminate_at text = octal_number 4 text >>= λ segno. Some (Terminate segno)
 
+abbrev pub wakeup_at : List ℕ → Option Request
+wakeup_at text =
+    cut_at 32 text >>= λ p.
+    decimal_number 2 p.0 >>= λ to.
+    octal_number 12 p.1 >>= λ word.
+    when (is_process_number to) (Wakeup to word)
+
 abbrev pub link_at : List ℕ → Option Request
 link_at text =
     cut_at 124 text >>= λ p.
@@ -178,6 +193,7 @@ link_at text =
 abbrev pub fields_at : Kind → List ℕ → Option Request
 fields_at OfCreateDir text = create_dir_at text
 fields_at OfCreateSeg text = create_seg_at text
+fields_at OfCreateObject text = create_object_at text
 fields_at OfCreateLink text = create_link_at text
 fields_at OfRename text = rename_at text
 fields_at OfDelete text = delete_at text
@@ -191,12 +207,25 @@ fields_at OfChangeWdir text = change_wdir_at text
 fields_at OfSetRules text = set_rules_at text
 fields_at OfInitiate text = initiate_at text
 fields_at OfTerminate text = terminate_at text
+fields_at OfWakeup text = wakeup_at text
 fields_at OfLink text = link_at text
 
 -- a line with a word and fields
 abbrev pub worded_at : List ℕ → Option Request
 worded_at line = cut_at 32 line >>= λ p. kind_of p.0 >>= λ kind. fields_at kind p.1
 
+-- a line that is one word
+abbrev pub bare_at : List ℕ → Option Request
+bare_at line =
+    if pointwise ◌==◌ line (codes "block") then Some Block
+    else (if pointwise ◌==◌ line (codes "resume") then Some Resume
+    else (if pointwise ◌==◌ line (codes "logout") then Some Logout
+    else None))
+
+abbrev pub bare_or_worded : Option Request → List ℕ → Option Request
+bare_or_worded (Some request) line = Some request
+bare_or_worded None line = worded_at line
+
 -- what a line is read as
 unfoldable pub request_at : List ℕ → Option Request
-request_at line = if pointwise ◌==◌ line (codes "logout") then Some Logout else worded_at line
+request_at line = bare_or_worded (bare_at line) line

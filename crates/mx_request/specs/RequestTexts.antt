@@ -1,5 +1,5 @@
 -- The requests, each as its line in a script and in the journal.
-use Rattle.std.specs.Prelude.{ℕ, Bool, true, ◌&&◌, nat_le, nat_eq, List, [], ◌∷◌, map, length, Option, None, Some, is_none, codes}
+use Rattle.std.specs.Prelude.{ℕ, ◌^◌, Bool, true, ◌&&◌, nat_le, nat_lt, nat_eq, List, [], ◌∷◌, ◌++◌, map, length, Option, None, Some, is_none, codes}
 use Rattle.std.specs.Fmt.{decimal}
 use Rattle.std.specs.List.{list_all}
 use Rattle.mx_name.specs.Names.{name_fault}
@@ -11,7 +11,7 @@ use Rattle.mx_acl.specs.Modes.{modes_text}
 use Rattle.mx_search.specs.declared.rules.Rule.{Rule}
 use Rattle.mx_search.specs.declared.rules.Rule.TheVariants.{InitiatedSegments, ReferencingDir, WorkingDir, Directory}
 use Rattle.mx_request.specs.declared.requests.Request.{Request}
-use Rattle.mx_request.specs.declared.requests.Request.TheVariants.{CreateDir, CreateSeg, CreateLink, Rename, Delete, SetAcl, DelAcl, SetBrackets, SetDirBrackets, Status, List as ListNames, ChangeWdir, SetRules, Initiate, Link, Terminate, Logout}
+use Rattle.mx_request.specs.declared.requests.Request.TheVariants.{CreateDir, CreateSeg, CreateObject, CreateLink, Rename, Delete, SetAcl, DelAcl, SetBrackets, SetDirBrackets, Status, List as ListNames, ChangeWdir, SetRules, Initiate, Terminate, Wakeup, Block, Link, Resume, Logout}
 use Rattle.mx_request.specs.Fields.{line_of, ring_text, address_text}
 
 -- a search rule: a directory is given by its path from the root
@@ -26,10 +26,13 @@ abbrev pub name_fields : Option (List ℕ) → List (List ℕ)
 name_fields None = []
 name_fields (Some name) = name ∷ []
 
--- the fields of a request's line: WORDS is decimal, a ring one digit, a segment number octal
+-- the fields of a request's line: WORDS, GATE and a process's number are decimal, a ring one digit, a segment number and
+-- a word octal
 abbrev pub request_fields : Request → List (List ℕ)
 request_fields (CreateDir path d1 d2) = codes "create_dir" ∷ path ∷ ring_text d1 ∷ ring_text d2 ∷ []
 request_fields (CreateSeg path words brackets) = codes "create_seg" ∷ path ∷ decimal words ∷ map ring_text brackets
+request_fields (CreateObject path words brackets gate) =
+    codes "create_object" ∷ path ∷ decimal words ∷ map ring_text brackets ++ decimal gate ∷ []
 request_fields (CreateLink path target) = codes "create_link" ∷ path ∷ target ∷ []
 request_fields (Rename path name) = codes "rename" ∷ path ∷ name ∷ []
 request_fields (Delete path) = codes "delete" ∷ path ∷ []
@@ -43,14 +46,18 @@ request_fields (ChangeWdir path) = codes "change_wdir" ∷ path ∷ []
 request_fields (SetRules rules) = codes "set_rules" ∷ map rule_text rules
 request_fields (Initiate path name) = codes "initiate" ∷ path ∷ name_fields name
 request_fields (Terminate segno) = codes "terminate" ∷ octal segno ∷ []
+request_fields (Wakeup to word) = codes "wakeup" ∷ decimal to ∷ octal word ∷ []
+request_fields Block = codes "block" ∷ []
 request_fields (Link segno word) = codes "link" ∷ address_text segno word ∷ []
+request_fields Resume = codes "resume" ∷ []
 request_fields Logout = codes "logout" ∷ []
 
 abbrev pub request_text : Request → List ℕ
 request_text request = line_of (request_fields request)
 
 -- What a line may say: pathnames, names and identifiers of their grammar, rings to 7, three brackets (in any order),
--- WORDS of at most five digits, segment numbers to octal 7777, addresses to octal 7777|37777, and 1 to 16 search rules.
+-- WORDS of at most five digits, GATE of at most four, segment numbers to octal 7777, addresses to octal 7777|37777,
+-- processes from 1 to 99, words of 36 bits, and 1 to 16 search rules.
 abbrev pub is_pathname : List ℕ → Bool
 is_pathname path = is_none (pathname_fault path)
 
@@ -88,9 +95,17 @@ are_rules rules = nat_le 1 (length rules) && (nat_le (length rules) 16 && list_a
 abbrev pub is_word_address : ℕ → ℕ → Bool
 is_word_address segno word = nat_le segno 4095 && nat_le word 16383
 
+abbrev pub is_process_number : ℕ → Bool
+is_process_number p = nat_le 1 p && nat_le p 99
+
+abbrev pub is_word : ℕ → Bool
+is_word word = nat_lt word (2 ^ 36)
+
 abbrev pub fits_request : Request → Bool
 fits_request (CreateDir path d1 d2) = is_pathname path && (is_ring d1 && is_ring d2)
 fits_request (CreateSeg path words brackets) = is_pathname path && (nat_le words 99999 && are_brackets brackets)
+fits_request (CreateObject path words brackets gate) =
+    is_pathname path && (nat_le words 99999 && (are_brackets brackets && nat_le gate 9999))
 fits_request (CreateLink path target) = is_pathname path && is_pathname target
 fits_request (Rename path name) = is_pathname path && is_name name
 fits_request (Delete path) = is_pathname path
@@ -104,5 +119,8 @@ fits_request (ChangeWdir path) = is_pathname path
 fits_request (SetRules rules) = are_rules rules
 fits_request (Initiate path name) = is_pathname path && is_name_or_none name
 fits_request (Terminate segno) = is_segno segno
+fits_request (Wakeup to word) = is_process_number to && is_word word
+fits_request Block = true
 fits_request (Link segno word) = is_word_address segno word
+fits_request Resume = true
 fits_request Logout = true

@@ -25,6 +25,7 @@ impl Request {
         match self {
             Request::CreateDir { .. } => RequestClass::OfPath,
             Request::CreateSeg { .. } => RequestClass::OfPath,
+            Request::CreateObject { .. } => RequestClass::OfPath,
             Request::CreateLink { .. } => RequestClass::OfPath,
             Request::Rename { .. } => RequestClass::OfPath,
             Request::Delete { .. } => RequestClass::OfPath,
@@ -38,7 +39,10 @@ impl Request {
             Request::SetRules { .. } => RequestClass::OfProcess,
             Request::Initiate { .. } => RequestClass::OfProcess,
             Request::Terminate { .. } => RequestClass::OfProcess,
+            Request::Wakeup { .. } => RequestClass::OfProcess,
+            Request::Block => RequestClass::OfProcess,
             Request::Link { .. } => RequestClass::OfSupervisor,
+            Request::Resume => RequestClass::OfSupervisor,
             Request::Logout => RequestClass::OfProcess,
         }
     }

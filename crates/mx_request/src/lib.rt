@@ -17,6 +17,7 @@ pub use laws::{
     each_reply_has_its_own_text, each_request_has_its_own_line, the_first_word_tells_who_asks,
 };
 pub use mx_kst::Known;
+pub use reading::read_decimal;
 pub use replies::Reply;
 pub use requests::{Request, Requests};
 
@@ -26,7 +27,7 @@ mod tests {
     use mx_acl::Modes;
     use mx_hier::{Names, Refusal, Status};
     use mx_name::{EntryName, Path, Pathname};
-    use mx_sdw::{Brackets, Ring};
+    use mx_sdw::{Brackets, Ring, Word};
     use std::alloc::Global;
     use std::test::Fail;
 
@@ -51,6 +52,8 @@ mod tests {
     const PATH_REQUESTS: &[u8] = b"create_dir < 4 4
 create_seg >udd>a 99999 7 0 3
 create_seg a 0 4 4 4
+create_object >udd>a 99999 7 0 3 9999
+create_object a 0 4 4 4 0
 create_link >a <<b>c
 rename > x
 delete >
@@ -69,7 +72,14 @@ set_rules initiated_segments
 set_rules >a working_dir > referencing_dir >a>b
 terminate 0
 terminate 7777
+wakeup 1 0
+wakeup 99 777777777777
+block
 logout";
+
+    const SUPERVISOR_REQUESTS: &[u8] = b"link 0|0
+link 7777|37777
+resume";
 
     #[test]
     fn a_line_is_read_and_written_again(rt: HostRuntime) -> Result<(), Fail> {
@@ -77,6 +87,7 @@ logout";
         for (lines, own) in [
             (PATH_REQUESTS, RequestClass::OfPath),
             (PROCESS_REQUESTS, RequestClass::OfProcess),
+            (SUPERVISOR_REQUESTS, RequestClass::OfSupervisor),
         ] {
             for line in lines.split(|byte| *byte == b'\n') {
                 assert_eq!(rt; written(alloc, line)?.as_slice(), line);
@@ -108,6 +119,11 @@ create_seg >a 100000 4 4 4
 create_seg >a -1 4 4 4
 create_seg >a 10 4 4
 create_seg >a 10 4 4 4 4
+create_object >a 10 4 4 4
+create_object >a 10 4 4 4 01
+create_object >a 10 4 4 4 10000
+create_object >a 10 4 4 4 0 d:sqrt:0
+create_object >a 10 4 4 4 0 l:math$sqrt
 set_acl >a *.*.* er
 set_acl >a *.*.* rs
 set_acl >a *.*.*\x20
@@ -131,6 +147,16 @@ terminate 08
 terminate 00
 terminate 10000
 terminate 10 11
+wakeup 1
+wakeup 0 1
+wakeup 01 1
+wakeup 100 1
+wakeup 1 01
+wakeup 1 8
+wakeup 1 1000000000000
+wakeup 1 1 1
+block 1
+resume\x20
 end";
 
     #[test]
@@ -158,6 +184,10 @@ end";
             (known(8, true), b"segno 10 new"),
             (linked(8, 9), b"segno 10 new linkage 11"),
             (known(0o177, false), b"segno 177 old"),
+            (Reply::Sent, b"sent"),
+            (message(15, 0o52), b"message 15 52"),
+            (Reply::Nobody, b"nobody"),
+            (Reply::Waiting, b"waiting"),
         ] {
             assert!(rt; is_text(alloc, &reply, text)?);
         }
@@ -172,6 +202,13 @@ end";
                 alloc,
                 &segment()?,
                 b"segment words 10 brackets 3 4 5 modes rw"
+            )?
+        );
+        assert!(rt;
+            is_text(
+                alloc,
+                &object()?,
+                b"object words 64 brackets 1 3 5 gate 2 definitions 3 links 4 modes re"
             )?
         );
         assert!(rt; is_text(alloc, &directory()?, b"directory brackets 4 5 modes sma")?);
@@ -203,12 +240,29 @@ end";
         })
     }
 
+    fn message(sender: u8, value: u64) -> Reply {
+        let word = Word::new(value).unwrap_or(Word::zero());
+        Reply::Message { sender, word }
+    }
+
     fn segment() -> Result<Reply, Fail> {
         let brackets = Brackets::new(ring(3)?, ring(4)?, ring(5)?).ok_or("brackets")?;
         Ok(Reply::Status(Status::Segment {
             words: 10,
             brackets,
             modes: Modes::Rw,
+        }))
+    }
+
+    fn object() -> Result<Reply, Fail> {
+        let brackets = Brackets::new(ring(1)?, ring(3)?, ring(5)?).ok_or("brackets")?;
+        Ok(Reply::Status(Status::Object {
+            words: 64,
+            brackets,
+            gate: 2,
+            definitions: 3,
+            links: 4,
+            modes: Modes::Re,
         }))
     }
 

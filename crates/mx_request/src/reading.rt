@@ -1,19 +1,22 @@
 //! What a line is read as.
 
 ghost use Rattle.std.specs.Prelude.{◌≡◌, None, IfOk};
-ghost use Rattle.mx_request.specs.Reading.{create_dir_at, create_seg_at, create_link_at, rename_at, delete_at, set_acl_at, del_acl_at, set_brackets_at, set_dir_brackets_at, status_at, list_at, change_wdir_at, set_rules_at, initiate_by, initiate_at, link_at, terminate_at, fields_at, request_at};
+ghost use Rattle.mx_sdw.specs.Octal.{octal_number};
+ghost use Rattle.mx_request.specs.Reading.{create_dir_at, create_seg_at, create_object_at, create_link_at, rename_at, delete_at, set_acl_at, del_acl_at, set_brackets_at, set_dir_brackets_at, status_at, list_at, change_wdir_at, set_rules_at, initiate_by, initiate_at, terminate_at, wakeup_at, link_at, fields_at, bare_at, request_at};
 
+mod decimals;
 mod fields;
 mod kinds;
 mod rules;
 
 use crate::requests::Request;
-use fields::{read_brackets, read_id, read_name, read_path, read_ring, read_words};
+pub use decimals::read_decimal;
+use fields::{read_brackets, read_gated_brackets, read_id, read_name, read_path, read_ring};
 use kinds::Kind;
 use mx_acl::Modes;
 use mx_list::Sequence;
 use mx_name::cut;
-use mx_sdw::read_octal_number;
+use mx_sdw::{Word, read_octal_number};
 use mx_search::Rules;
 use rules::read_rules;
 use std::alloc::{AllocError, Global};
@@ -22,8 +25,8 @@ use std::alloc::{AllocError, Global};
 pub(crate) fn read_line(alloc: Global, line: &[u8]) -> Result<Option<Request>, AllocError>
     ensures { IfOk result (λ request. request ≡ request_at line.now) }
 {
-    if line == b"logout".as_slice() {
-        return Ok(Some(Request::Logout));
+    if let Some(request) = read_bare(line) {
+        return Ok(Some(request));
     }
     let Some((word, fields)) = cut(b' ', line) else {
         return Ok(None);
@@ -34,6 +37,21 @@ pub(crate) fn read_line(alloc: Global, line: &[u8]) -> Result<Option<Request>, A
     read_fields(alloc, kind, fields)
 }
 
+/// A line that is one word.
+fn read_bare(line: &[u8]) -> Option<Request>
+    ensures { result ≡ bare_at line.now }
+{
+    if line == b"block".as_slice() {
+        Some(Request::Block)
+    } else if line == b"resume".as_slice() {
+        Some(Request::Resume)
+    } else if line == b"logout".as_slice() {
+        Some(Request::Logout)
+    } else {
+        None
+    }
+}
+
 /// What follows the word of a line of this kind.
 fn read_fields(alloc: Global, kind: Kind, fields: &[u8]) -> Result<Option<Request>, AllocError>
     ensures { IfOk result (λ request. request ≡ fields_at kind fields.now) }
@@ -41,6 +59,7 @@ fn read_fields(alloc: Global, kind: Kind, fields: &[u8]) -> Result<Option<Reques
     match kind {
         Kind::CreateDir => read_create_dir(alloc, fields),
         Kind::CreateSeg => read_create_seg(alloc, fields),
+        Kind::CreateObject => read_create_object(alloc, fields),
         Kind::CreateLink => read_create_link(alloc, fields),
         Kind::Rename => read_rename(alloc, fields),
         Kind::Delete => read_delete(alloc, fields),
@@ -54,6 +73,7 @@ fn read_fields(alloc: Global, kind: Kind, fields: &[u8]) -> Result<Option<Reques
         Kind::SetRules => read_set_rules(alloc, fields),
         Kind::Initiate => read_initiate(alloc, fields),
         Kind::Terminate => Ok(read_terminate(fields)),
+        Kind::Wakeup => Ok(read_wakeup(fields)),
         Kind::Link => Ok(read_link(fields)),
     }
 }
@@ -90,7 +110,7 @@ fn read_create_seg(alloc: Global, fields: &[u8]) -> Result<Option<Request>, Allo
     let Some((words, brackets)) = cut(b' ', rest) else {
         return Ok(None);
     };
-    let Some(words) = read_words(words) else {
+    let Some(words) = read_decimal(words, 5) else {
         return Ok(None);
     };
     let Some(brackets) = read_brackets(brackets) else {
@@ -103,6 +123,35 @@ fn read_create_seg(alloc: Global, fields: &[u8]) -> Result<Option<Request>, Allo
         path,
         words,
         brackets,
+    }))
+}
+
+/// `PATH WORDS R1 R2 R3 GATE`
+fn read_create_object(alloc: Global, fields: &[u8]) -> Result<Option<Request>, AllocError>
+    ensures { IfOk result (λ request. request ≡ create_object_at fields.now) }
+{
+    let Some((path, rest)) = cut(b' ', fields) else {
+        return Ok(None);
+    };
+    let Some((words, gated)) = cut(b' ', rest) else {
+        return Ok(None);
+    };
+    let Some(words) = read_decimal(words, 5) else {
+        return Ok(None);
+    };
+    let Some(gated) = read_gated_brackets(gated) else {
+        return Ok(None);
+    };
+    let Some(path) = read_path(alloc, path)? else {
+        return Ok(None);
+    };
+    let brackets = gated.0;
+    let gate = gated.1;
+    Ok(Some(Request::CreateObject {
+        path,
+        words,
+        brackets,
+        gate,
     }))
 }
 
@@ -300,6 +349,27 @@ fn read_terminate(segno: &[u8]) -> Option<Request>
     Some(Request::Terminate {
         segno: segno as u16,
     })
+}
+
+/// `P WORD`
+fn read_wakeup(fields: &[u8]) -> Option<Request>
+    ensures { result ≡ wakeup_at fields.now }
+{
+    let (to, word) = cut(b' ', fields)?;
+    let to = read_decimal(to, 2)?;
+    let word = read_word(word)?;
+    if (1..=99).contains(&to) {
+        Some(Request::Wakeup { to: to as u8, word })
+    } else {
+        None
+    }
+}
+
+/// A word of 36 bits, which is one of at most twelve octal digits.
+fn read_word(text: &[u8]) -> Option<Word>
+    ensures { result ≡ octal_number 12 text.now }
+{
+    Word::new(read_octal_number(text, 12)?)
 }
 
 /// `S|W`

@@ -6,9 +6,11 @@ ghost use Rattle.mx_request.specs.ReplyTexts.{reply_text};
 use crate::writing::push_reply;
 use mx_hier::{Names, Refusal, Status};
 use mx_kst::Known;
+use mx_sdw::Word;
 use std::alloc::AllocError;
 
-/// The reply to a request. `Done` is printed `ok`.
+/// The reply to a request. `Done` is printed `ok`. A message tells its sender; where no message waits, `Nobody` says
+/// that no other process could send one, and `Waiting` that the process waits.
 #[derive(Debug, Drop, PartialEq, Eq)]
 pub enum Reply {
     Done,
@@ -16,6 +18,10 @@ pub enum Reply {
     Status(Status),
     Names(Names),
     Segno(Known),
+    Sent,
+    Message { sender: u8, word: Word },
+    Nobody,
+    Waiting,
 }
 
 impl Reply {

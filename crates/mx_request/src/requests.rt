@@ -9,7 +9,7 @@ use crate::writing::push_request;
 use mx_acl::Modes;
 use mx_list::Sequence;
 use mx_name::{AclId, EntryName, Pathname};
-use mx_sdw::Ring;
+use mx_sdw::{Ring, Word};
 use mx_search::Rules;
 use std::alloc::{AllocError, Global};
 
@@ -27,6 +27,14 @@ pub enum Request {
         path: Pathname,
         words: u32,
         brackets: [Ring; 3],
+    },
+    /// `create_object PATH WORDS R1 R2 R3 GATE`: make an object segment of so many words, of which the first are gates. Its
+    /// map has no definitions and no links.
+    CreateObject {
+        path: Pathname,
+        words: u32,
+        brackets: [Ring; 3],
+        gate: u16,
     },
     /// `create_link PATH TARGET`: make a link.
     CreateLink {
@@ -90,12 +98,22 @@ pub enum Request {
     Terminate {
         segno: u16,
     },
+    /// `wakeup P WORD`: send a word to process P, which need not be there.
+    Wakeup {
+        to: u8,
+        word: Word,
+    },
+    /// `block`: take the oldest message, or wait for one.
+    Block,
     /// `link S|W`: snap the link of this word. No line of a session asks for it: a process makes it where it meets a
     /// link word.
     Link {
         segno: u16,
         word: u16,
     },
+    /// `resume`: go on after a wait. No line of a session asks for it: a process that waits makes it once a message is
+    /// there, or nobody who could send one.
+    Resume,
     /// `logout`: end the process.
     Logout,
 }
@@ -105,8 +123,9 @@ pub type Requests = Sequence<Request>;
 
 impl Request {
     /// The request whose line this is, without its newline; `None` exactly where no request has this line. WORDS is
-    /// decimal with at most five digits, a ring one digit, a segment number octal up to 7777, an address octal up to
-    /// 7777|37777; there are 1 to 16 search rules; the fields have exactly one blank between each two.
+    /// decimal with at most five digits, GATE with at most four, a ring one digit, a segment number octal up to 7777, an
+    /// address octal up to 7777|37777, a process decimal from 1 to 99, a word octal with 36 bits; there are 1 to 16
+    /// search rules; the fields have exactly one blank between each two.
     pub fn read(alloc: Global, line: &[u8]) -> Result<Option<Request>, AllocError>
         ensures found { (request : RequestValue) → result ≡ Ok (Some request)
             → (request_text request ≡ line.now) × (fits_request request ≡ true) }
@@ -150,6 +169,17 @@ impl Request {
                 words: *words,
                 brackets: *brackets,
             }),
+            Request::CreateObject {
+                path,
+                words,
+                brackets,
+                gate,
+            } => Ok(Request::CreateObject {
+                path: path.copy()?,
+                words: *words,
+                brackets: *brackets,
+                gate: *gate,
+            }),
             Request::CreateLink { path, target } => {
                 let path = path.copy()?;
                 let target = target.copy()?;
@@ -192,10 +222,16 @@ impl Request {
                 Ok(Request::Initiate { path, name: *name })
             }
             Request::Terminate { segno } => Ok(Request::Terminate { segno: *segno }),
+            Request::Wakeup { to, word } => Ok(Request::Wakeup {
+                to: *to,
+                word: *word,
+            }),
+            Request::Block => Ok(Request::Block),
             Request::Link { segno, word } => Ok(Request::Link {
                 segno: *segno,
                 word: *word,
             }),
+            Request::Resume => Ok(Request::Resume),
             Request::Logout => Ok(Request::Logout),
         }
     }

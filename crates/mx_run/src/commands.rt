@@ -9,8 +9,11 @@ ghost use Rattle.mx_run.specs.Verdicts.{IsRun};
 
 use crate::verdicts::{Unreached, Verdict};
 use mx_io::{Sink, Source};
+use mx_proc::Gate;
 use mx_text::TextError;
 use std::alloc::Global;
+use std::sync::Wait;
+use std::thread::Threads;
 
 /// The status of a program whose memory ran out.
 pub const OUT_OF_MEMORY: u8 = 1;
@@ -22,8 +25,9 @@ const SOURCE_FAULT: u8 = 3;
 const SINK_FAULT: u8 = 4;
 
 /// Does what the words of the command line ask for, and answers the status with which the program is to end. The one
-/// accepted list of words is `run`: the source is read to its end as the text of a session, the session is run, and the
-/// run text is written to the sink.
+/// accepted list of words is `run`: the source is read to its end as the text of a session, the session is run, each process
+/// on a thread of its own where one can be had, and the run text is written to the sink. The gate is told of each script line
+/// before it begins. The call may wait; what it promises holds when it returns.
 ///
 /// | Status | Comes | Written |
 /// |---|---|---|
@@ -34,12 +38,13 @@ const SINK_FAULT: u8 = 4;
 /// | 4 | the sink failed | the front of what the status otherwise due writes |
 /// | 5 | the bytes are no session | `bad line N`, N the first bad line |
 /// | 6 | the source gave more than 4,194,304 bytes | `too long` |
-pub fn multics<R, S: Source, K: Sink>(
-    _rt: &R,
+pub fn multics<R: Threads + Wait + Sync, S: Source, K: Sink, G: Gate>(
+    rt: &R,
     alloc: Global,
     words: &[String],
     source: &mut S,
     sink: &mut K,
+    gate: &G,
 ) -> u8
     // Status 0 is the headline.
     ensures done { result ≡ 0 → IsDone (S.left source.old) (S.left source.new) (K.out sink.old) (K.out sink.new) }
@@ -70,7 +75,7 @@ pub fn multics<R, S: Source, K: Sink>(
     ensures cut_short { result ≡ 4 → (status : ℕ)
         × GainsFront (map string_bytes words.now) (S.left source.old) (S.left source.new) (K.out sink.old) (K.out sink.new) status }
 {
-    match Verdict::reach(alloc, words, source) {
+    match Verdict::reach(rt, alloc, words, source, gate) {
         Ok(verdict) => match verdict.tell(alloc, sink) {
             Ok(()) => verdict.status(),
             Err(TextError::Fault) => SINK_FAULT,

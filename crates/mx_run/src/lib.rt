@@ -11,4 +11,5 @@ mod commands;
 mod verdicts;
 
 pub use commands::{OUT_OF_MEMORY, multics};
+pub use mx_proc::{Gate, NoGate};
 pub use verdicts::Verdict;

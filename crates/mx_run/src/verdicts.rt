@@ -11,11 +11,13 @@ ghost use Rattle.mx_run.specs.declared.verdicts.Unreached.TheVariants.{Fault, Me
 use itoa::Buffer;
 use mx_io::{ReadError, Sink, Source, read_all, write_all};
 use mx_legal::Transcripts;
-use mx_proc::run;
+use mx_proc::{Gate, run};
 use mx_script::{SessionError, read_session};
 use mx_state::Journal;
 use mx_text::{TextError, print};
 use std::alloc::{AllocError, Global};
+use std::sync::Wait;
+use std::thread::Threads;
 
 /// The greatest size of a session text, in bytes.
 const MOST_BYTES: usize = 4_194_304;
@@ -54,10 +56,12 @@ impl From<AllocError> for Unreached {
 impl Verdict {
     /// The verdict on a command. Where its words are accepted the source is read to its end, and its session is run; otherwise
     /// the source is left as it is and no memory is taken.
-    pub(crate) fn reach<S: Source>(
+    pub(crate) fn reach<R: Threads + Wait + Sync, S: Source, G: Gate>(
+        rt: &R,
         alloc: Global,
         words: &[String],
         source: &mut S,
+        gate: &G,
     ) -> Result<Verdict, Unreached>
         ensures right { IfOk result (IsVerdict (map string_bytes words.now) (S.left source.old) (S.left source.new)) }
         ensures refused { (IsRun (map string_bytes words.now) → ⊥) → result ≡ Ok Verdict.BadWords }
@@ -66,20 +70,25 @@ impl Verdict {
         ensures only { (IsErrOf result Unreached.Fault → ⊥) → S.faults source.new ≡ S.faults source.old }
     {
         if is_run(words) {
-            Verdict::of_source(alloc, source)
+            Verdict::of_source(rt, alloc, source, gate)
         } else {
             Ok(Verdict::BadWords)
         }
     }
 
     // The verdict on a source.
-    fn of_source<S: Source>(alloc: Global, source: &mut S) -> Result<Verdict, Unreached>
+    fn of_source<R: Threads + Wait + Sync, S: Source, G: Gate>(
+        rt: &R,
+        alloc: Global,
+        source: &mut S,
+        gate: &G,
+    ) -> Result<Verdict, Unreached>
         ensures right { IfOk result (IsVerdict (codes "run" ∷ []) (S.left source.old) (S.left source.new)) }
         ensures cause { IsErrOf result Unreached.Fault → Rose (S.faults source.old) (S.faults source.new) }
         ensures only { (IsErrOf result Unreached.Fault → ⊥) → S.faults source.new ≡ S.faults source.old }
     {
         match read_all(alloc, source, MOST_BYTES) {
-            Ok(bytes) => Verdict::of_bytes(alloc, &bytes),
+            Ok(bytes) => Verdict::of_bytes(rt, alloc, &bytes, gate),
             Err(ReadError::TooLong) => Ok(Verdict::TooLong),
             Err(ReadError::Fault) => Err(Unreached::Fault),
             Err(ReadError::Memory) => Err(Unreached::Memory),
@@ -87,14 +96,19 @@ impl Verdict {
     }
 
     // The verdict on bytes within the limit. The only error is `Memory`.
-    fn of_bytes(alloc: Global, bytes: &[u8]) -> Result<Verdict, Unreached>
+    fn of_bytes<R: Threads + Wait + Sync, G: Gate>(
+        rt: &R,
+        alloc: Global,
+        bytes: &[u8],
+        gate: &G,
+    ) -> Result<Verdict, Unreached>
         requires { length bytes.now ≤ 4194304 }
         ensures right { IfOk result (IsVerdict (codes "run" ∷ []) (Some bytes.now) (Some [])) }
         ensures cause { OnErr result (IsErrOf result Unreached.Memory) }
     {
         match read_session(alloc, bytes) {
             Ok(session) => {
-                let (journal, transcripts) = run(alloc, &session)?;
+                let (journal, transcripts) = run(rt, alloc, &session, gate)?;
                 Ok(Verdict::Ran {
                     journal,
                     transcripts,

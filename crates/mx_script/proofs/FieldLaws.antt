@@ -5,7 +5,11 @@ use Rattle.mx_name.proofs.TextLaws.{all_free}
 use Rattle.mx_name.specs.Names.{is_free}
 use Rattle.mx_sdw.proofs.OctalLaws.{octal_number_takes, octal_number_fits, octal_number_below, octal_has_digits}
 use Rattle.mx_sdw.specs.Octal.{is_octal_digit, octal, octal_number}
-use Rattle.mx_request.proofs.StepLaws.{bind_some, when_some}
+use Rattle.std.specs.Fmt.{decimal}
+use Rattle.mx_request.proofs.FieldLaws.{number_takes, number_again, number_free}
+use Rattle.mx_request.proofs.StepLaws.{both, bind_some, when_some}
+use Rattle.mx_request.specs.Decimals.{decimal_number}
+use Rattle.mx_script.specs.Sessions.{is_history}
 use Rattle.mx_script.specs.Fields.{word_at}
 
 pub at_most : (a b : ℕ) → nat_le a b ≡ true → a ≤ b
@@ -14,8 +18,11 @@ at_most a b e = grind (arith, nat_tests)
 pub at_most_test : (a b : ℕ) → a ≤ b → nat_le a b ≡ true
 at_most_test a b h = grind (arith, nat_tests)
 
-below : (a b : ℕ) → nat_lt a b ≡ true → a < b
+pub below : (a b : ℕ) → nat_lt a b ≡ true → a < b
 below a b e = grind (arith, nat_tests)
+
+pub below_test : (a b : ℕ) → a < b → nat_lt a b ≡ true
+below_test a b h = grind (arith, nat_tests)
 
 -- numbers have octal digits alone
 pub octal_free : (byte n : ℕ) → is_octal_digit byte ≡ false → is_free byte (octal n) ≡ true
@@ -37,3 +44,19 @@ word_again w e =
 
 pub word_free : (w : ℕ) → is_free 10 (octal w) ≡ true
 word_free w = octal_free 10 w refl
+
+-- the limit
+pub history_takes : (text : List ℕ) (n : ℕ) → decimal_number 6 text ≡ Some n → decimal n ≡ text
+history_takes text n e = let most : 10 ^ 6 ≤ 2 ^ 64 = omega arith in (number_takes 6 text n most e).0
+
+small_history : (n : ℕ) → is_history n ≡ true → n ≤ 262143
+small_history n e = at_most n 262143 (both (nat_le 1 n) (nat_le n 262143) e).1
+
+pub history_again : (n : ℕ) → is_history n ≡ true → decimal_number 6 (decimal n) ≡ Some n
+history_again n e =
+    let small = small_history n e in
+    let below : n < 10 ^ 6 = omega arith in
+    number_again 6 n (omega arith) below (omega arith)
+
+pub history_free : (n : ℕ) → is_history n ≡ true → is_free 10 (decimal n) ≡ true
+history_free n e = let small = small_history n e in number_free 10 n refl (omega arith)

@@ -1,27 +1,28 @@
 -- Laws of reading a text line by line.
-use Rattle.std.proofs.Common.{◌≡◌, ℕ, ◌+◌, ◌<◌, ◌≤◌, Bool, true, false, cond, List, [], ◌∷◌, ◌++◌, length, map, Some, None, refl, ap, sym, ◌∙◌, subst, append_assoc, append-nil, length-append, arith}
+use Rattle.std.proofs.Common.{◌≡◌, ℕ, ◌+◌, ◌<◌, ◌≤◌, Bool, true, false, cond, List, [], ◌∷◌, ◌++◌, length, map, Option, Some, None, refl, ap, sym, ◌∙◌, subst, append_assoc, append-nil, length-append, arith}
 use Rattle.std.proofs.lemmas.List.{map-append, length-map}
 use Rattle.std.proofs.lemmas.List.Folds.{list_all-append}
-use Rattle.std.specs.List.{list_all}
+use Rattle.std.proofs.lemmas.List.Sums.{sum_by-cons}
+use Rattle.std.specs.List.{list_all, sum_by}
 use Rattle.mx_name.specs.Names.{is_free}
 use Rattle.mx_name.specs.Principals.{PlainPrincipal}
 use Rattle.mx_name.proofs.CutLaws.{cut_takes, cut_again}
 use Rattle.mx_request.proofs.LineLaws.{same_cut}
 use Rattle.mx_request.proofs.StepLaws.{both, both_hold, some_is}
 use Rattle.mx_name.specs.Cuts.{cut_at}
-use Rattle.mx_request.specs.declared.requests.Request.{Request}
-use Rattle.mx_script.proofs.DraftLaws.{none_is_some, session_is_one, rows_ended, run_session, run_on, step_adds, goes_on}
+use Rattle.mx_script.proofs.DraftLaws.{none_is_some, parts_of_session, run_session, run_on, step_adds, goes_on}
 use Rattle.mx_script.proofs.RowLaws.{row_free}
-use Rattle.mx_script.specs.Drafts.{step, Goes, one_process, finished, IsCountable}
+use Rattle.mx_script.specs.Drafts.{step, Goes, finished, IsCountable}
 use Rattle.mx_script.specs.FirstBadLine.{BeginsText, IsFirstBad}
 use Rattle.mx_script.specs.Progress.{rows_so_far, texts_so_far, run, AreAlone, HasRead}
 use Rattle.mx_script.specs.Reading.{IsRow}
-use Rattle.mx_script.specs.Sessions.{Outline, is_session, is_script_line, ends, line_count}
-use Rattle.mx_script.specs.SessionTexts.{rows_of, row_text, fits, lines_text, IsText}
+use Rattle.mx_script.specs.Sessions.{Outline, is_session, history_lines, line_count}
+use Rattle.mx_script.specs.SessionTexts.{asked, history_rows, setup_rows, process_rows, rows_of, row_text, fits, lines_text, IsText}
 use Rattle.mx_script.specs.declared.lines.Line.{Line}
 use Rattle.mx_script.specs.declared.reading.drafts.Draft.{Draft}
 use Rattle.mx_script.specs.declared.reading.drafts.Draft.TheVariants.{Empty, Ended}
 use Rattle.mx_script.specs.declared.rows.Row.{Row}
+use Rattle.mx_script.specs.declared.rows.Row.TheVariants as row
 
 -- lines, each with its newline
 pub lines_text-append : (xs ys : List (List ℕ)) → lines_text (xs ++ ys) ≡ lines_text xs ++ lines_text ys
@@ -109,23 +110,11 @@ pub record IsWhole (x : Outline) : Type 0 where
   pub done : finished last [] ≡ Some x
 
 pub whole_of : (x : Outline) → is_session x ≡ true → IsWhole x
-whole_of x e =
-    let one = session_is_one x e in
-    let is : is_session (one_process one.setup one.principal one.script) ≡ true = sym (ap is_session one.same) ∙ e in
-    let there : finished (Ended one.setup one.principal one.script) [] ≡ Some (one_process one.setup one.principal one.script) = rw is refl in
-    record {
-      last = Ended one.setup one.principal one.script;
-      runs =
-          ap (λ x. run (rows_of x) Empty) one.same
-          ∙ run_session one.setup one.principal one.script one.sets_up
-          (both (list_all is_script_line one.script) (ends one.script) one.runs).0
-          (both (list_all is_script_line one.script) (ends one.script) one.runs).1;
-      done = there ∙ ap Some (sym one.same);
-    }
+whole_of x e = record { last = Ended x; runs = run_session x e; done = rw e refl }
 
 -- at the start
 pub nothing_read : (bytes : List ℕ) → HasRead bytes bytes 1 Empty
-nothing_read bytes = record { parts = refl; next = refl; fit = refl; alone = λ others f e. no_texts others e; runs = refl; sound = refl }
+nothing_read bytes = record { parts = refl; next = refl; fit = refl; alone = λ others f e. no_texts others e; runs = refl; sound = tt }
   where
     no_texts : (rows : List Row) → map row_text rows ≡ [] → rows ≡ []
     no_texts [] e = refl
@@ -185,21 +174,47 @@ counted spelled rest number draft p h c =
       length-append p.0 (10 ∷ p.1),
     )
 
-ended_length : (setup : List Request) (principal : PlainPrincipal) (script : List Line)
-    → length (texts_so_far (Ended setup principal script)) ≡ line_count (one_process setup principal script)
-ended_length setup principal script =
-    length-map (rows_so_far (Ended setup principal script)) row_text
-    ∙ simp (length-append, length-map) (omega arith)
+processes_length : (principals : List PlainPrincipal) (scripts : List (List Line)) → length scripts ≡ length principals
+    → length (process_rows principals scripts) ≡ length principals + sum_by length scripts
+processes_length [] [] same = refl
+processes_length [] (s ∷ scripts) same = absurd (omega (arith, same))
+processes_length (p ∷ principals) [] same = absurd (omega (arith, same))
+processes_length (p ∷ principals) (s ∷ scripts) same =
+    let more : sum_by length (s ∷ scripts) ≡ length s + sum_by length scripts = sum_by-cons length s scripts in
+    omega (
+      arith,
+      more,
+      length-append (row.Process p ∷ map row.Line s) (process_rows principals scripts),
+      length-map s row.Line,
+      processes_length principals scripts (omega (arith, same)),
+    )
+
+history_length : (history : Option ℕ) → length (history_rows history) ≡ history_lines history
+history_length None = refl
+history_length (Some limit) = refl
+
+ended_length : (x : Outline) → is_session x ≡ true → length (texts_so_far (Ended x)) ≡ line_count x
+ended_length x e =
+    omega (
+      arith,
+      length-map (rows_so_far (Ended x)) row_text,
+      length-append (setup_rows x.history x.setup ++ process_rows x.principals x.scripts) (row.End ∷ []),
+      length-append (setup_rows x.history x.setup) (process_rows x.principals x.scripts),
+      length-append (row.Header ∷ history_rows x.history) (map asked x.setup),
+      length-map x.setup asked,
+      history_length x.history,
+      processes_length x.principals x.scripts (parts_of_session x e).same,
+    )
 
 pub countable : (spelled rest : List ℕ) (number : ℕ) (draft : Draft) → HasRead spelled rest number draft
     → length spelled < 4294967295 → IsCountable draft
-countable spelled rest number (Ended setup principal script) h small =
+countable spelled rest number (Ended x) h small =
     omega (
       arith,
-      ended_length setup principal script,
+      ended_length x h.sound,
       ap length h.parts,
-      length-append (lines_text (texts_so_far (Ended setup principal script))) rest,
-      fewer_lines (texts_so_far (Ended setup principal script)),
+      length-append (lines_text (texts_so_far (Ended x))) rest,
+      fewer_lines (texts_so_far (Ended x)),
     )
 countable spelled rest number _ h small = tt
 
@@ -315,14 +330,9 @@ tested false a b e = cc
 
 ended_text : (draft : Draft) (rest spelled : List ℕ) (number : ℕ) (x : Outline) → HasRead spelled rest number draft
     → finished draft rest ≡ Some x → IsText spelled x
-ended_text (Ended setup principal script) [] spelled number x h e =
-    let found = tested (is_session (one_process setup principal script)) (one_process setup principal script) x e in
-    subst (IsText spelled) found.1
-    (record {
-      session = found.0;
-      fits_all = ap (list_all fits) (rows_ended setup principal script) ∙ h.fit;
-      text = h.parts ∙ append-nil _ ∙ sym (ap (λ rows. lines_text (map row_text rows)) (rows_ended setup principal script));
-    })
+ended_text (Ended x) [] spelled number y h e =
+    let found = tested (is_session x) x y e in
+    subst (IsText spelled) found.1 (record { session = found.0; fits_all = h.fit; text = h.parts ∙ append-nil _ })
 ended_text _ rest spelled number x h e = absurd (none_is_some x e)
 
 pub whole_text : (spelled rest : List ℕ) (number : ℕ) (draft : Draft) (x : Outline) → HasRead spelled rest number draft

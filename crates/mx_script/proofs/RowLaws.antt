@@ -5,22 +5,24 @@ use Rattle.mx_name.proofs.TextLaws.{principal_takes, principal_again, principal_
 use Rattle.mx_name.specs.Names.{is_free}
 use Rattle.mx_name.specs.Principals.{components_fault, principal_of, principal_text}
 use Rattle.mx_request.specs.declared.requests.Request.{Request}
-use Rattle.mx_request.specs.declared.requests.Request.TheVariants.{CreateDir, CreateSeg, CreateLink, Rename, Delete, SetAcl, DelAcl, SetBrackets, SetDirBrackets, Status, List as ListNames, ChangeWdir, SetRules, Initiate, Terminate, Link, Logout}
-use Rattle.mx_request.proofs.StepLaws.{some_is, bind_some, same_bytes}
+use Rattle.mx_request.specs.declared.requests.Request.TheVariants.{CreateDir, CreateSeg, CreateObject, CreateLink, Rename, Delete, SetAcl, DelAcl, SetBrackets, SetDirBrackets, Status, List as ListNames, ChangeWdir, SetRules, Initiate, Terminate, Wakeup, Block, Link, Resume, Logout}
+use Rattle.mx_request.proofs.StepLaws.{some_is, bind_some, when_some, same_bytes}
 use Rattle.mx_request.proofs.TakenLaws.{no_fault, faultless}
 use Rattle.mx_script.proofs.FrontLaws.{after_takes}
-use Rattle.mx_script.proofs.FieldLaws.{word_takes, word_again, word_free}
+use Rattle.mx_script.proofs.FieldLaws.{word_takes, word_again, word_free, history_takes, history_again, history_free}
 use Rattle.mx_script.proofs.OperandLaws.{operand_takes, operand_again, operand_free, register_operand_takes, register_operand_again, register_operand_free}
 use Rattle.mx_request.proofs.AgainLaws.{one_request}
 use Rattle.mx_request.proofs.ForeignLaws.{newline_free}
+use Rattle.mx_request.specs.Decimals.{decimal_number}
 use Rattle.mx_request.specs.Steps.{◌>>=◌}
 use Rattle.mx_script.specs.Fronts.{after, read_or}
 use Rattle.mx_script.specs.Fields.{operand_at, register_operand_at, word_at}
-use Rattle.mx_script.specs.Reading.{IsRow, set_at, epp_at, lda_at, sta_at, spri_at, memory_at, memory_row, plain_at, principal_row, process_at}
+use Rattle.mx_script.specs.Reading.{IsRow, set_at, epp_at, lda_at, sta_at, spri_at, call_at, return_at, memory_at, memory_row, history_row, plain_at, principal_row, process_at}
 use Rattle.mx_request.specs.RequestTexts.{request_text, fits_request}
+use Rattle.mx_script.specs.Sessions.{is_history}
 use Rattle.mx_script.specs.SessionTexts.{row_text, line_text, fits, fits_line}
 use Rattle.mx_script.specs.declared.lines.Line.{Line}
-use Rattle.mx_script.specs.declared.lines.Line.TheVariants.{Ask, Set, Epp, Lda, Sta, Spri}
+use Rattle.mx_script.specs.declared.lines.Line.TheVariants.{Ask, Set, Epp, Lda, Sta, Spri, Fetch, Call, Return}
 use Rattle.mx_script.specs.declared.rows.Row.{Row}
 use Rattle.mx_script.specs.declared.rows.Row.TheVariants as row
 
@@ -64,6 +66,20 @@ sta_takes text line e =
     subst (IsLine (codes "sta " ++ text)) (some_is _ _ operand.2)
     (record { spelled = ap (λ xs. codes "sta " ++ xs) f.0; fits = f.1 })
 
+call_takes : (text : List ℕ) (line : Line) → call_at text ≡ Some line → IsLine (codes "call " ++ text) line
+call_takes text line e =
+    let operand = bind_some (operand_at text) _ line e in
+    let f = operand_takes text operand.0 operand.1 in
+    subst (IsLine (codes "call " ++ text)) (some_is _ _ operand.2)
+    (record { spelled = ap (λ xs. codes "call " ++ xs) f.0; fits = f.1 })
+
+return_takes : (text : List ℕ) (line : Line) → return_at text ≡ Some line → IsLine (codes "return " ++ text) line
+return_takes text line e =
+    let operand = bind_some (operand_at text) _ line e in
+    let f = operand_takes text operand.0 operand.1 in
+    subst (IsLine (codes "return " ++ text)) (some_is _ _ operand.2)
+    (record { spelled = ap (λ xs. codes "return " ++ xs) f.0; fits = f.1 })
+
 -- behind its front, or as another reading has it
 read_or_takes : {A : Type 0} (Is : List ℕ → A → Type 0) (front text : List ℕ) (read : List ℕ → Option A) (other : Option A) (a : A)
     → ((rest : List ℕ) → read rest ≡ Some a → Is (front ++ rest) a) → (other ≡ Some a → Is text a)
@@ -83,7 +99,9 @@ memory_takes text line e =
     (read_or_takes IsLine (codes "epp ") text epp_at _ line (λ rest. epp_takes rest line)
     (read_or_takes IsLine (codes "lda ") text lda_at _ line (λ rest. lda_takes rest line)
     (read_or_takes IsLine (codes "sta ") text sta_at _ line (λ rest. sta_takes rest line)
-    (read_or_takes IsLine (codes "spri ") text spri_at None line (λ rest. spri_takes rest line) (λ e. cc))))) e
+    (read_or_takes IsLine (codes "spri ") text spri_at _ line (λ rest. spri_takes rest line)
+    (read_or_takes IsLine (codes "call ") text call_at _ line (λ rest. call_takes rest line)
+    (read_or_takes IsLine (codes "return ") text return_at None line (λ rest. return_takes rest line) (λ e. cc))))))) e
 
 memory_row_takes : (text : List ℕ) (r : Row) → memory_row text ≡ Some r → IsRow text r
 memory_row_takes text r e =
@@ -100,11 +118,21 @@ alone_takes text word own r other spelled fit on e = by_test (pointwise ◌==◌
         subst (IsRow text) (some_is _ _ e) (record { spelled = spelled ∙ sym (same_bytes text word t); fits = fit })
     by_test false t e = on e
 
+history_row_takes : (text : List ℕ) (r : Row) → history_row text ≡ Some r → IsRow (codes "history " ++ text) r
+history_row_takes text r e =
+    let limit = bind_some (decimal_number 6 text) _ r e in
+    let found = when_some (is_history limit.0) (row.History limit.0) r limit.2 in
+    subst (IsRow (codes "history " ++ text)) found.1
+    (record { spelled = ap (λ xs. codes "history " ++ xs) (history_takes text limit.0 limit.1); fits = found.0 })
+
 pub plain_takes : (text : List ℕ) (r : Row) → plain_at text ≡ Some r → IsRow text r
 unfolding plain_at
 plain_takes text r e =
     alone_takes text (codes "multics 1") row.Header r _ refl refl
-    (alone_takes text (codes "end") row.End r _ refl refl (memory_row_takes text r)) e
+    (alone_takes text (codes "end") row.End r _ refl refl
+    (alone_takes text (codes "fetch") (row.Line Fetch) r _ refl refl
+    (read_or_takes IsRow (codes "history ") text history_row (memory_row text) r (λ rest. history_row_takes rest r)
+    (memory_row_takes text r)))) e
 
 principal_row_takes : (text : List ℕ) (r : Row) → principal_row text ≡ Some r → IsRow (codes "process " ++ text) r
 principal_row_takes text r e =
@@ -125,6 +153,7 @@ process_takes text r e =
 abbrev plain_part : Row → Option Row
 plain_part row.Header = Some row.Header
 plain_part row.End = Some row.End
+plain_part (row.History limit) = Some (row.History limit)
 plain_part (row.Process who) = None
 plain_part (row.Line (Ask request)) = None
 plain_part (row.Line line) = Some (row.Line line)
@@ -132,6 +161,10 @@ plain_part (row.Line line) = Some (row.Line line)
 abbrev process_part : Row → Option Row
 process_part (row.Process who) = Some (row.Process who)
 process_part _ = None
+
+history_front : (rest : List ℕ) → plain_at (codes "history " ++ rest) ≡ history_row rest
+unfolding plain_at memory_at after
+history_front rest = refl
 
 set_front : (rest : List ℕ) → plain_at (codes "set " ++ rest) ≡ (set_at rest >>= λ line. Some (row.Line line))
 unfolding plain_at memory_at after
@@ -153,10 +186,19 @@ sta_front : (rest : List ℕ) → plain_at (codes "sta " ++ rest) ≡ (sta_at re
 unfolding plain_at memory_at after
 sta_front rest = refl
 
+call_front : (rest : List ℕ) → plain_at (codes "call " ++ rest) ≡ (call_at rest >>= λ line. Some (row.Line line))
+unfolding plain_at memory_at after
+call_front rest = refl
+
+return_front : (rest : List ℕ) → plain_at (codes "return " ++ rest) ≡ (return_at rest >>= λ line. Some (row.Line line))
+unfolding plain_at memory_at after
+return_front rest = refl
+
 plain_request : (request : Request) → plain_at (request_text request) ≡ None
 unfolding plain_at memory_at after
 plain_request (CreateDir path d1 d2) = refl
 plain_request (CreateSeg path words brackets) = refl
+plain_request (CreateObject path words brackets gate) = refl
 plain_request (CreateLink path target) = refl
 plain_request (Rename path name) = refl
 plain_request (Delete path) = refl
@@ -171,13 +213,17 @@ plain_request (SetRules []) = refl
 plain_request (SetRules (rule ∷ rules)) = refl
 plain_request (Initiate path name) = refl
 plain_request (Terminate segno) = refl
+plain_request (Wakeup to word) = refl
+plain_request Block = refl
 plain_request (Link segno word) = refl
+plain_request Resume = refl
 plain_request Logout = refl
 
 process_request : (request : Request) → process_at (request_text request) ≡ None
 unfolding process_at after
 process_request (CreateDir path d1 d2) = refl
 process_request (CreateSeg path words brackets) = refl
+process_request (CreateObject path words brackets gate) = refl
 process_request (CreateLink path target) = refl
 process_request (Rename path name) = refl
 process_request (Delete path) = refl
@@ -192,13 +238,17 @@ process_request (SetRules []) = refl
 process_request (SetRules (rule ∷ rules)) = refl
 process_request (Initiate path name) = refl
 process_request (Terminate segno) = refl
+process_request (Wakeup to word) = refl
+process_request Block = refl
 process_request (Link segno word) = refl
+process_request Resume = refl
 process_request Logout = refl
 
 pub plain_again : (r : Row) → fits r ≡ true → plain_at (row_text r) ≡ plain_part r
 unfolding plain_at memory_at after
 plain_again row.Header e = refl
 plain_again row.End e = refl
+plain_again (row.History limit) e = history_front _ ∙ rw (history_again limit e, e) refl
 plain_again (row.Process who) e = refl
 plain_again (row.Line (Ask request)) e = plain_request request
 plain_again (row.Line (Set word)) e = set_front _ ∙ rw (word_again word e) refl
@@ -206,6 +256,9 @@ plain_again (row.Line (Epp n operand)) e = epp_front _ ∙ rw (register_operand_
 plain_again (row.Line (Lda operand)) e = lda_front _ ∙ rw (operand_again operand e) refl
 plain_again (row.Line (Sta operand)) e = sta_front _ ∙ rw (operand_again operand e) refl
 plain_again (row.Line (Spri n operand)) e = spri_front _ ∙ rw (register_operand_again n operand e) refl
+plain_again (row.Line Fetch) e = refl
+plain_again (row.Line (Call operand)) e = call_front _ ∙ rw (operand_again operand e) refl
+plain_again (row.Line (Return operand)) e = return_front _ ∙ rw (operand_again operand e) refl
 
 process_front : (rest : List ℕ) → process_at (codes "process " ++ rest) ≡ principal_row rest
 unfolding process_at after
@@ -215,6 +268,7 @@ pub process_again : (r : Row) → fits r ≡ true → process_at (row_text r) �
 unfolding process_at after
 process_again row.Header e = refl
 process_again row.End e = refl
+process_again (row.History limit) e = refl
 process_again (row.Process who) e =
     process_front (principal_text who) ∙ rw (principal_again who (faultless (components_fault who) e)) refl
 process_again (row.Line (Ask request)) e = process_request request
@@ -223,11 +277,15 @@ process_again (row.Line (Epp n operand)) e = refl
 process_again (row.Line (Lda operand)) e = refl
 process_again (row.Line (Sta operand)) e = refl
 process_again (row.Line (Spri n operand)) e = refl
+process_again (row.Line Fetch) e = refl
+process_again (row.Line (Call operand)) e = refl
+process_again (row.Line (Return operand)) e = refl
 
 -- a text is that of one row at most
 plain_is : (r found : Row) → plain_part r ≡ Some found → found ≡ r
 plain_is row.Header found e = sym (some_is _ _ e)
 plain_is row.End found e = sym (some_is _ _ e)
+plain_is (row.History limit) found e = sym (some_is _ _ e)
 plain_is (row.Process who) found e = cc
 plain_is (row.Line (Ask request)) found e = cc
 plain_is (row.Line (Set word)) found e = sym (some_is _ _ e)
@@ -235,11 +293,15 @@ plain_is (row.Line (Epp n operand)) found e = sym (some_is _ _ e)
 plain_is (row.Line (Lda operand)) found e = sym (some_is _ _ e)
 plain_is (row.Line (Sta operand)) found e = sym (some_is _ _ e)
 plain_is (row.Line (Spri n operand)) found e = sym (some_is _ _ e)
+plain_is (row.Line Fetch) found e = sym (some_is _ _ e)
+plain_is (row.Line (Call operand)) found e = sym (some_is _ _ e)
+plain_is (row.Line (Return operand)) found e = sym (some_is _ _ e)
 
 process_is : (r found : Row) → process_part r ≡ Some found → found ≡ r
 process_is (row.Process who) found e = sym (some_is _ _ e)
 process_is row.Header found e = cc
 process_is row.End found e = cc
+process_is (row.History limit) found e = cc
 process_is (row.Line line) found e = cc
 
 pub plain_alone : (text : List ℕ) (found r : Row) → plain_at text ≡ Some found → IsRow text r → found ≡ r
@@ -256,6 +318,7 @@ asks text r p q is =
     by_kind : (r : Row) → plain_part r ≡ None → process_part r ≡ None → (request : Request) × (r ≡ row.Line (Ask request))
     by_kind row.Header e f = cc
     by_kind row.End e f = cc
+    by_kind (row.History limit) e f = cc
     by_kind (row.Process who) e f = cc
     by_kind (row.Line (Ask request)) e f = (request, refl)
     by_kind (row.Line (Set word)) e f = cc
@@ -263,6 +326,9 @@ asks text r p q is =
     by_kind (row.Line (Lda operand)) e f = cc
     by_kind (row.Line (Sta operand)) e f = cc
     by_kind (row.Line (Spri n operand)) e f = cc
+    by_kind (row.Line Fetch) e f = cc
+    by_kind (row.Line (Call operand)) e f = cc
+    by_kind (row.Line (Return operand)) e f = cc
 
 pub request_row_alone : (text : List ℕ) (request : Request) (r : Row) → plain_at text ≡ None → process_at text ≡ None
     → request_text request ≡ text → fits_request request ≡ true → IsRow text r → row.Line (Ask request) ≡ r
@@ -286,9 +352,13 @@ line_free (Epp n operand) e = register_operand_free n operand
 line_free (Lda operand) e = operand_free operand
 line_free (Sta operand) e = operand_free operand
 line_free (Spri n operand) e = register_operand_free n operand
+line_free Fetch e = refl
+line_free (Call operand) e = operand_free operand
+line_free (Return operand) e = operand_free operand
 
 pub row_free : (r : Row) → fits r ≡ true → is_free 10 (row_text r) ≡ true
 row_free row.Header e = refl
+row_free (row.History limit) e = history_free limit e
 row_free (row.Line line) e = line_free line e
 row_free (row.Process who) e = principal_is_free 10 who refl refl (faultless (components_fault who) e)
 row_free row.End e = refl

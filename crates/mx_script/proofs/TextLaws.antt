@@ -9,7 +9,7 @@ use Rattle.mx_script.specs.Progress.{run}
 use Rattle.mx_script.specs.Reading.{IsRow}
 use Rattle.mx_script.specs.Sessions.{Outline}
 use Rattle.mx_script.specs.SessionTexts.{rows_of, row_text, fits, lines_text, IsText}
-use Rattle.mx_script.specs.declared.lines.Line.TheVariants.{Ask, Set, Epp, Lda, Sta, Spri}
+use Rattle.mx_script.specs.declared.lines.Line.TheVariants.{Ask, Set, Epp, Lda, Sta, Spri, Fetch, Call, Return}
 use Rattle.mx_script.specs.declared.reading.drafts.Draft.TheVariants.{Empty}
 use Rattle.mx_script.specs.declared.rows.Row.{Row}
 use Rattle.mx_script.specs.declared.rows.Row.TheVariants as row
@@ -18,6 +18,8 @@ use Rattle.mx_script.specs.declared.rows.Row.TheVariants as row
 one_row : (r s : Row) → fits r ≡ true → IsRow (row_text r) s → r ≡ s
 one_row row.Header s f is = plain_alone (row_text row.Header) row.Header s (plain_again row.Header f) is
 one_row row.End s f is = plain_alone (row_text row.End) row.End s (plain_again row.End f) is
+one_row (row.History limit) s f is =
+    plain_alone (row_text (row.History limit)) (row.History limit) s (plain_again (row.History limit) f) is
 one_row (row.Process who) s f is = process_alone (row_text (row.Process who)) (row.Process who) s (process_again (row.Process who) f) is
 one_row (row.Line (Ask request)) s f is =
     request_row_alone (row_text (row.Line (Ask request))) request s (plain_again (row.Line (Ask request)) f)
@@ -32,6 +34,11 @@ one_row (row.Line (Lda operand)) s f is =
     plain_alone (row_text (row.Line (Lda operand))) (row.Line (Lda operand)) s (plain_again (row.Line (Lda operand)) f) is
 one_row (row.Line (Sta operand)) s f is =
     plain_alone (row_text (row.Line (Sta operand))) (row.Line (Sta operand)) s (plain_again (row.Line (Sta operand)) f) is
+one_row (row.Line Fetch) s f is = plain_alone (row_text (row.Line Fetch)) (row.Line Fetch) s (plain_again (row.Line Fetch) f) is
+one_row (row.Line (Call operand)) s f is =
+    plain_alone (row_text (row.Line (Call operand))) (row.Line (Call operand)) s (plain_again (row.Line (Call operand)) f) is
+one_row (row.Line (Return operand)) s f is =
+    plain_alone (row_text (row.Line (Return operand))) (row.Line (Return operand)) s (plain_again (row.Line (Return operand)) f) is
 
 one_list : (rows others : List Row) → list_all fits rows ≡ true → list_all fits others ≡ true → map row_text rows ≡ map row_text others
     → rows ≡ others

@@ -1,5 +1,5 @@
 -- Helpers that only private contracts cite: what the lines read so far say.
-use Rattle.std.specs.Prelude.{◌≡◌, ℕ, ◌<◌, ◌-◌, ◌^◌, Bool, true, List, [], ◌∷◌, ◌++◌, Option, None, Some, if◌then◌else◌}
+use Rattle.std.specs.Prelude.{◌≡◌, ℕ, nat_lt, ◌<◌, ◌-◌, ◌^◌, Bool, true, List, [], ◌∷◌, ◌++◌, length, Option, None, Some, if◌then◌else◌}
 use Rattle.mx_name.specs.Principals.{PlainPrincipal}
 use Rattle.mx_request.specs.declared.requests.Request.{Request}
 use Rattle.mx_request.specs.Classes.{class_of}
@@ -7,16 +7,34 @@ use Rattle.mx_request.specs.Steps.{when}
 use Rattle.mx_script.specs.Reading.{IsRow}
 use Rattle.mx_script.specs.Sessions.{Outline, outline, session_of, line_count, is_for_setup, is_for_script, is_logout}
 use Rattle.mx_script.specs.declared.lines.Line.{Line}
-use Rattle.mx_script.specs.declared.lines.Line.TheVariants.{Ask, Set, Epp, Lda, Sta, Spri}
+use Rattle.mx_script.specs.declared.lines.Line.TheVariants.{Ask, Set, Epp, Lda, Sta, Spri, Fetch, Call, Return}
 use Rattle.mx_script.specs.declared.reading.drafts.Draft.{Draft}
 use Rattle.mx_script.specs.declared.reading.drafts.Draft.TheVariants.{Empty, Headed, Running, LoggedOut, Ended}
 use Rattle.mx_script.specs.declared.rows.Row.{Row}
 use Rattle.mx_script.specs.declared.rows.Row.TheVariants as row
 
+-- the limit stands before the setup, once
+abbrev pub history_step : Option ℕ → List Request → ℕ → Option Draft
+history_step None [] limit = Some (Headed (Some limit) [])
+history_step _ _ limit = None
+
 -- a setup goes on with a path request
-abbrev pub setup_step : List Request → Line → Option Draft
-setup_step setup (Ask request) = when (is_for_setup (class_of request)) (Headed (setup ++ request ∷ []))
-setup_step setup _ = None
+abbrev pub setup_step : Option ℕ → List Request → Line → Option Draft
+setup_step history setup (Ask request) =
+    when (is_for_setup (class_of request)) (Headed history (setup ++ request ∷ []))
+setup_step history setup _ = None
+
+-- the parts of a session before its first process
+abbrev pub set_up : Option ℕ → List Request → Outline
+set_up history setup = outline 1 history setup [] []
+
+-- with these processes behind its own
+abbrev pub with_processes : Outline → List PlainPrincipal → List (List Line) → Outline
+with_processes x principals scripts =
+    outline x.version x.history x.setup (x.principals ++ principals) (x.scripts ++ scripts)
+
+abbrev pub with_process : Outline → PlainPrincipal → List Line → Outline
+with_process x principal script = with_processes x (principal ∷ []) (script ∷ [])
 
 -- a line of a script: of the requests, those that a script asks for
 abbrev pub may_stand : Line → Bool
@@ -26,22 +44,32 @@ may_stand (Epp n operand) = true
 may_stand (Lda operand) = true
 may_stand (Sta operand) = true
 may_stand (Spri n operand) = true
+may_stand Fetch = true
+may_stand (Call operand) = true
+may_stand (Return operand) = true
 
-abbrev pub script_on : List Request → PlainPrincipal → List Line → Line → Draft
-script_on setup principal script line =
-    if is_logout line then LoggedOut setup principal (script ++ line ∷ []) else Running setup principal (script ++ line ∷ [])
+abbrev pub script_on : Outline → PlainPrincipal → List Line → Line → Draft
+script_on x principal script line =
+    if is_logout line then LoggedOut (with_process x principal (script ++ line ∷ []))
+    else Running x principal (script ++ line ∷ [])
 
 -- a script goes on with a line of its own, up to its logout
-abbrev pub script_step : List Request → PlainPrincipal → List Line → Line → Option Draft
-script_step setup principal script line = when (may_stand line) (script_on setup principal script line)
+abbrev pub script_step : Outline → PlainPrincipal → List Line → Line → Option Draft
+script_step x principal script line = when (may_stand line) (script_on x principal script line)
+
+-- one more process, up to the fifteenth
+abbrev pub process_step : Outline → PlainPrincipal → Option Draft
+process_step x principal = when (nat_lt (length x.principals) 15) (Running x principal [])
 
 -- the draft after one more row, if it can stand there
 abbrev pub step : Draft → Row → Option Draft
-step Empty row.Header = Some (Headed [])
-step (Headed setup) (row.Line line) = setup_step setup line
-step (Headed setup) (row.Process principal) = Some (Running setup principal [])
-step (Running setup principal script) (row.Line line) = script_step setup principal script line
-step (LoggedOut setup principal script) row.End = Some (Ended setup principal script)
+step Empty row.Header = Some (Headed None [])
+step (Headed history setup) (row.History limit) = history_step history setup limit
+step (Headed history setup) (row.Line line) = setup_step history setup line
+step (Headed history setup) (row.Process principal) = Some (Running (set_up history setup) principal [])
+step (Running x principal script) (row.Line line) = script_step x principal script line
+step (LoggedOut x) (row.Process principal) = process_step x principal
+step (LoggedOut x) row.End = Some (Ended x)
 step _ _ = None
 
 -- the draft after one more line, by the one row that the line spells
@@ -56,16 +84,12 @@ abbrev pub Follows : Draft → List ℕ → Option Draft → Type 0
 Follows before text (Some after) = Goes before text after
 Follows before text None = (r : Row) → IsRow text r → step before r ≡ None
 
--- the session of one process
-abbrev pub one_process : List Request → PlainPrincipal → List Line → Outline
-one_process setup principal script = outline 1 None setup (principal ∷ []) (script ∷ [])
-
 -- the session that a draft has become, if it has ended and nothing follows
 abbrev pub finished : Draft → List ℕ → Option Outline
-finished (Ended setup principal script) [] = session_of (one_process setup principal script)
+finished (Ended x) [] = session_of x
 finished _ _ = None
 
 -- few enough lines to count
 abbrev pub IsCountable : Draft → Type 0
-IsCountable (Ended setup principal script) = line_count (one_process setup principal script) < 2 ^ 32 - 1
+IsCountable (Ended x) = line_count x < 2 ^ 32 - 1
 IsCountable _ = Unit {0}

@@ -1,24 +1,28 @@
 -- Helpers that only private contracts cite: how far a text was read.
-use Rattle.std.specs.Prelude.{◌≡◌, ℕ, ◌+◌, Bool, true, ◌&&◌, not, List, [], ◌∷◌, ◌++◌, length, map, Option, Some}
+use Rattle.std.specs.Prelude.{◌≡◌, ℕ, ◌+◌, ◌<◌, Bool, true, ◌&&◌, not, List, [], ◌∷◌, ◌++◌, length, map, Option, Some}
 use Rattle.std.specs.List.{list_all}
 use Rattle.mx_request.specs.Steps.{◌>>=◌}
 use Rattle.mx_script.specs.Drafts.{step}
-use Rattle.mx_script.specs.Sessions.{is_setup_request, is_script_line, is_logout, is_script}
-use Rattle.mx_script.specs.SessionTexts.{row_text, asked, fits, lines_text}
+use Rattle.mx_request.specs.declared.requests.Request.{Request}
+use Rattle.mx_script.specs.Sessions.{Outline, is_limit, is_setup_request, is_script_line, is_logout, is_script, is_session}
+use Rattle.mx_script.specs.SessionTexts.{row_text, setup_rows, process_rows, fits, lines_text}
 use Rattle.mx_script.specs.declared.lines.Line.{Line}
 use Rattle.mx_script.specs.declared.reading.drafts.Draft.{Draft}
 use Rattle.mx_script.specs.declared.reading.drafts.Draft.TheVariants.{Empty, Headed, Running, LoggedOut, Ended}
 use Rattle.mx_script.specs.declared.rows.Row.{Row}
 use Rattle.mx_script.specs.declared.rows.Row.TheVariants as row
 
+-- header, limit, setup and processes
+abbrev pub front_rows : Outline → List Row
+front_rows x = setup_rows x.history x.setup ++ process_rows x.principals x.scripts
+
 -- the rows that a draft has
 abbrev pub rows_so_far : Draft → List Row
 rows_so_far Empty = []
-rows_so_far (Headed setup) = row.Header ∷ map asked setup
-rows_so_far (Running setup principal script) = row.Header ∷ map asked setup ++ row.Process principal ∷ map row.Line script
-rows_so_far (LoggedOut setup principal script) = row.Header ∷ map asked setup ++ row.Process principal ∷ map row.Line script
-rows_so_far (Ended setup principal script) =
-    row.Header ∷ map asked setup ++ row.Process principal ∷ map row.Line script ++ row.End ∷ []
+rows_so_far (Headed history setup) = setup_rows history setup
+rows_so_far (Running x principal script) = front_rows x ++ row.Process principal ∷ map row.Line script
+rows_so_far (LoggedOut x) = front_rows x
+rows_so_far (Ended x) = front_rows x ++ row.End ∷ []
 
 -- their lines
 abbrev pub texts_so_far : Draft → List (List ℕ)
@@ -28,13 +32,26 @@ texts_so_far draft = map row_text (rows_so_far draft)
 abbrev pub goes_before : Line → Bool
 goes_before line = is_script_line line && not (is_logout line)
 
+-- a limit and a setup of a session
+pub record IsSetUp (history : Option ℕ) (setup : List Request) : Type 0 where
+  pub limit : is_limit history ≡ true
+  pub requests : list_all is_setup_request setup ≡ true
+
+-- parts of a session that may have one more process
+pub record IsOpen (x : Outline) : Type 0 where
+  pub version : x.version ≡ 1
+  pub set_up : IsSetUp x.history x.setup
+  pub room : length x.principals < 15
+  pub same : length x.scripts ≡ length x.principals
+  pub scripts : list_all is_script x.scripts ≡ true
+
 -- what stands in a draft stands there rightly
-abbrev pub is_sound : Draft → Bool
-is_sound Empty = true
-is_sound (Headed setup) = list_all is_setup_request setup
-is_sound (Running setup principal script) = list_all is_setup_request setup && list_all goes_before script
-is_sound (LoggedOut setup principal script) = list_all is_setup_request setup && is_script script
-is_sound (Ended setup principal script) = list_all is_setup_request setup && is_script script
+abbrev pub IsSound : Draft → Type 0
+IsSound Empty = Unit {0}
+IsSound (Headed history setup) = IsSetUp history setup
+IsSound (Running x principal script) = IsOpen x × (list_all goes_before script ≡ true)
+IsSound (LoggedOut x) = is_session x ≡ true
+IsSound (Ended x) = is_session x ≡ true
 
 -- the draft after so many rows
 abbrev pub run : List Row → Draft → Option Draft
@@ -52,4 +69,4 @@ pub record HasRead (spelled rest : List ℕ) (number : ℕ) (draft : Draft) : Ty
   pub fit : list_all fits (rows_so_far draft) ≡ true
   pub alone : AreAlone (rows_so_far draft) (texts_so_far draft)
   pub runs : run (rows_so_far draft) Empty ≡ Some draft
-  pub sound : is_sound draft ≡ true
+  pub sound : IsSound draft

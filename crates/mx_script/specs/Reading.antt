@@ -2,12 +2,14 @@
 use Rattle.std.specs.Prelude.{◌≡◌, ℕ, ◌==◌, true, List, Option, None, Some, codes, if◌then◌else◌}
 use Rattle.std.specs.Cmp.Lexicographic.{pointwise}
 use Rattle.mx_name.specs.Principals.{principal_of}
-use Rattle.mx_request.specs.Steps.{◌>>=◌}
+use Rattle.mx_request.specs.Decimals.{decimal_number}
+use Rattle.mx_request.specs.Steps.{◌>>=◌, when}
 use Rattle.mx_script.specs.Fronts.{after, read_or}
 use Rattle.mx_script.specs.Fields.{operand_at, register_operand_at, word_at}
+use Rattle.mx_script.specs.Sessions.{is_history}
 use Rattle.mx_script.specs.SessionTexts.{row_text, fits}
 use Rattle.mx_script.specs.declared.lines.Line.{Line}
-use Rattle.mx_script.specs.declared.lines.Line.TheVariants.{Set, Epp, Lda, Sta, Spri}
+use Rattle.mx_script.specs.declared.lines.Line.TheVariants.{Set, Epp, Lda, Sta, Spri, Fetch, Call, Return}
 use Rattle.mx_script.specs.declared.rows.Row.{Row}
 use Rattle.mx_script.specs.declared.rows.Row.TheVariants as row
 
@@ -31,24 +33,37 @@ sta_at text = operand_at text >>= λ operand. Some (Sta operand)
 abbrev pub spri_at : List ℕ → Option Line
 spri_at text = register_operand_at text >>= λ p. Some (Spri p.0 p.1)
 
--- a memory line, by its front
+abbrev pub call_at : List ℕ → Option Line
+call_at text = operand_at text >>= λ operand. Some (Call operand)
+
+abbrev pub return_at : List ℕ → Option Line
+return_at text = operand_at text >>= λ operand. Some (Return operand)
+
+-- a memory line with fields, by its front
 unfoldable pub memory_at : List ℕ → Option Line
 memory_at text =
     read_or (after (codes "set ") text) set_at
     (read_or (after (codes "epp ") text) epp_at
     (read_or (after (codes "lda ") text) lda_at
     (read_or (after (codes "sta ") text) sta_at
-    (read_or (after (codes "spri ") text) spri_at None))))
+    (read_or (after (codes "spri ") text) spri_at
+    (read_or (after (codes "call ") text) call_at
+    (read_or (after (codes "return ") text) return_at None))))))
 
 abbrev pub memory_row : List ℕ → Option Row
 memory_row text = memory_at text >>= λ line. Some (row.Line line)
 
--- a line that holds no text: the header, the end or a memory line
+-- the limit of the journal
+abbrev pub history_row : List ℕ → Option Row
+history_row text = decimal_number 6 text >>= λ limit. when (is_history limit) (row.History limit)
+
+-- a line that holds no text: the header, the end, the limit or a memory line
 unfoldable pub plain_at : List ℕ → Option Row
 plain_at text =
     if pointwise ◌==◌ text (codes "multics 1") then Some row.Header
     else (if pointwise ◌==◌ text (codes "end") then Some row.End
-    else memory_row text)
+    else (if pointwise ◌==◌ text (codes "fetch") then Some (row.Line Fetch)
+    else read_or (after (codes "history ") text) history_row (memory_row text)))
 
 abbrev pub principal_row : List ℕ → Option Row
 principal_row text = principal_of text >>= λ who. Some (row.Process who)

@@ -1,15 +1,16 @@
 -- The session text: what a session's lines are, in order, and how each is written.
-use Rattle.std.specs.Prelude.{◌≡◌, ◌^◌, ℕ, nat_lt, Bool, true, false, ◌&&◌, List, [], ◌∷◌, ◌++◌, map, is_none, codes}
+use Rattle.std.specs.Prelude.{◌≡◌, ◌^◌, ℕ, nat_lt, Bool, true, false, ◌&&◌, List, [], ◌∷◌, ◌++◌, map, Option, Some, None, is_none, codes}
+use Rattle.std.specs.Fmt.{decimal}
 use Rattle.std.specs.List.{list_all}
 use Rattle.mx_name.specs.Principals.{PlainPrincipal, components_fault, principal_text}
 use Rattle.mx_sdw.specs.Octal.{octal}
 use Rattle.mx_request.specs.declared.requests.Request.{Request}
 use Rattle.mx_request.specs.RequestTexts.{request_text, fits_request}
-use Rattle.mx_script.specs.Sessions.{Outline, is_session, is_register, is_address}
+use Rattle.mx_script.specs.Sessions.{Outline, is_session, is_history, is_register, is_address}
 use Rattle.mx_script.specs.declared.lines.Base.{Base}
 use Rattle.mx_script.specs.declared.lines.Base.TheVariants.{Segment, Register}
 use Rattle.mx_script.specs.declared.lines.Line.{Line}
-use Rattle.mx_script.specs.declared.lines.Line.TheVariants.{Ask, Set, Epp, Lda, Sta, Spri}
+use Rattle.mx_script.specs.declared.lines.Line.TheVariants.{Ask, Set, Epp, Lda, Sta, Spri, Fetch, Call, Return}
 use Rattle.mx_script.specs.declared.lines.Operand.{Operand}
 use Rattle.mx_script.specs.declared.rows.Row.{Row}
 use Rattle.mx_script.specs.declared.rows.Row.TheVariants as row
@@ -38,9 +39,13 @@ line_text (Epp n operand) = codes "epp " ++ octal n ++ codes " " ++ operand_text
 line_text (Lda operand) = codes "lda " ++ operand_text operand
 line_text (Sta operand) = codes "sta " ++ operand_text operand
 line_text (Spri n operand) = codes "spri " ++ octal n ++ codes " " ++ operand_text operand
+line_text Fetch = codes "fetch"
+line_text (Call operand) = codes "call " ++ operand_text operand
+line_text (Return operand) = codes "return " ++ operand_text operand
 
 abbrev pub row_text : Row → List ℕ
 row_text row.Header = codes "multics 1"
+row_text (row.History limit) = codes "history " ++ decimal limit
 row_text (row.Line line) = line_text line
 row_text (row.Process principal) = codes "process " ++ principal_text principal
 row_text row.End = codes "end"
@@ -49,22 +54,31 @@ row_text row.End = codes "end"
 abbrev pub asked : Request → Row
 asked request = row.Line (Ask request)
 
+-- the limit that a session sets, as a line
+abbrev pub history_rows : Option ℕ → List Row
+history_rows None = []
+history_rows (Some limit) = row.History limit ∷ []
+
+-- header, limit and setup
+abbrev pub setup_rows : Option ℕ → List Request → List Row
+setup_rows history setup = row.Header ∷ history_rows history ++ map asked setup
+
 -- each process's line, and then its script
 abbrev pub process_rows : List PlainPrincipal → List (List Line) → List Row
 process_rows (principal ∷ principals) (script ∷ scripts) =
     row.Process principal ∷ map row.Line script ++ process_rows principals scripts
 process_rows _ _ = []
 
--- the lines of a session: header, setup, processes, end
+-- the lines of a session: header, limit, setup, processes, end
 abbrev pub rows_of : Outline → List Row
-rows_of x = row.Header ∷ map asked x.setup ++ process_rows x.principals x.scripts ++ row.End ∷ []
+rows_of x = setup_rows x.history x.setup ++ process_rows x.principals x.scripts ++ row.End ∷ []
 
 -- lines, each with its newline
 abbrev pub lines_text : List (List ℕ) → List ℕ
 lines_text [] = []
 lines_text (line ∷ lines) = line ++ 10 ∷ lines_text lines
 
--- what a line may say: requests, addresses, words and principals of their grammar
+-- what a line may say: requests, addresses, words, limits and principals of their grammar
 abbrev pub fits_line : Line → Bool
 fits_line (Ask request) = fits_request request
 fits_line (Set word) = nat_lt word (2 ^ 36)
@@ -72,9 +86,13 @@ fits_line (Epp n operand) = is_register n && is_address operand
 fits_line (Lda operand) = is_address operand
 fits_line (Sta operand) = is_address operand
 fits_line (Spri n operand) = is_register n && is_address operand
+fits_line Fetch = true
+fits_line (Call operand) = is_address operand
+fits_line (Return operand) = is_address operand
 
 abbrev pub fits : Row → Bool
 fits row.Header = true
+fits (row.History limit) = is_history limit
 fits (row.Line line) = fits_line line
 fits (row.Process principal) = is_none (components_fault principal)
 fits row.End = true

@@ -1,17 +1,17 @@
 -- What a session consists of: its version, the journal's limit where it sets one, the setup's requests, and for each
 -- process its principal and its script; and which of these are the parts of a session.
-use Rattle.std.specs.Prelude.{◌≡◌, ◌-◌, ◌<◌, ◌≤◌, ℕ, ◌+◌, ◌==◌, ◌^◌, nat_le, Bool, true, false, ◌&&◌, if◌then◌else◌, List, [], ◌∷◌, length, Option, Some, None, is_none}
+use Rattle.std.specs.Prelude.{◌≡◌, ◌-◌, ◌<◌, ◌≤◌, ℕ, ◌+◌, ◌==◌, ◌^◌, nat_le, Bool, true, false, ◌&&◌, if◌then◌else◌, List, [], ◌∷◌, length, Option, Some, None}
 use Rattle.std.specs.List.{list_all, sum_by}
 use Rattle.mx_name.specs.Principals.{PlainPrincipal}
 use Rattle.mx_request.specs.declared.requests.Request.{Request}
-use Rattle.mx_request.specs.declared.requests.Request.TheVariants.{CreateDir, CreateSeg, CreateLink, Rename, Delete, SetAcl, DelAcl, SetBrackets, SetDirBrackets, Status, List as ListNames, ChangeWdir, SetRules, Initiate, Link, Terminate, Logout}
+use Rattle.mx_request.specs.declared.requests.Request.TheVariants.{CreateDir, CreateSeg, CreateObject, CreateLink, Rename, Delete, SetAcl, DelAcl, SetBrackets, SetDirBrackets, Status, List as ListNames, ChangeWdir, SetRules, Initiate, Terminate, Wakeup, Block, Link, Resume, Logout}
 use Rattle.mx_request.specs.Classes.{class_of}
 use Rattle.mx_request.specs.declared.classes.RequestClass.{RequestClass}
 use Rattle.mx_request.specs.declared.classes.RequestClass.TheVariants.{OfPath, OfProcess, OfSupervisor}
 use Rattle.mx_script.specs.declared.lines.Base.{Base}
 use Rattle.mx_script.specs.declared.lines.Base.TheVariants.{Segment, Register}
 use Rattle.mx_script.specs.declared.lines.Line.{Line}
-use Rattle.mx_script.specs.declared.lines.Line.TheVariants.{Ask, Set, Epp, Lda, Sta, Spri}
+use Rattle.mx_script.specs.declared.lines.Line.TheVariants.{Ask, Set, Epp, Lda, Sta, Spri, Fetch, Call, Return}
 use Rattle.mx_script.specs.declared.lines.Operand.{Operand}
 
 pub record Outline : Type 0 where
@@ -30,10 +30,12 @@ outline version history setup principals scripts = record {
   scripts = scripts;
 }
 
--- WORDS has at most five digits, and a segment number four octal ones; the types bound all other parts of a request
+-- WORDS has at most five digits, GATE four, a segment number four octal ones, and a process to be woken up a number from
+-- 1 to 99; the types bound all other parts of a request
 abbrev pub is_short : Request → Bool
 is_short (CreateDir path d1 d2) = true
 is_short (CreateSeg path words brackets) = nat_le words 99999
+is_short (CreateObject path words brackets gate) = nat_le words 99999 && nat_le gate 9999
 is_short (CreateLink path target) = true
 is_short (Rename path name) = true
 is_short (Delete path) = true
@@ -47,7 +49,10 @@ is_short (ChangeWdir path) = true
 is_short (SetRules rules) = true
 is_short (Initiate path name) = true
 is_short (Terminate segno) = nat_le segno 4095
+is_short (Wakeup to word) = nat_le 1 to && nat_le to 99
+is_short Block = true
 is_short (Link segno word) = true
+is_short Resume = true
 is_short Logout = true
 
 -- the setup makes requests on paths
@@ -87,6 +92,9 @@ is_script_line (Epp n operand) = is_register n && is_address operand
 is_script_line (Lda operand) = is_address operand
 is_script_line (Sta operand) = is_address operand
 is_script_line (Spri n operand) = is_register n && is_address operand
+is_script_line Fetch = true
+is_script_line (Call operand) = is_address operand
+is_script_line (Return operand) = is_address operand
 
 abbrev pub is_logout : Line → Bool
 is_logout (Ask Logout) = true
@@ -104,21 +112,6 @@ ends (line ∷ lines) = if is_logout line then is_last lines else ends lines
 abbrev pub is_script : List Line → Bool
 is_script lines = list_all is_script_line lines && ends lines
 
--- one process with one script
-abbrev pub are_scripts : List PlainPrincipal → List (List Line) → Bool
-are_scripts (principal ∷ []) (script ∷ []) = is_script script
-are_scripts _ _ = false
-
--- these are the parts of a session
-abbrev pub is_session : Outline → Bool
-is_session x =
-    (x.version == 1) && (is_none x.history
-    && (list_all is_setup_request x.setup && are_scripts x.principals x.scripts))
-
--- the session of these parts
-abbrev pub session_of : Outline → Option Outline
-session_of x = if is_session x then Some x else None
-
 -- 1 to 15 processes, and as many scripts
 abbrev pub is_count : ℕ → ℕ → Bool
 is_count processes scripts = nat_le 1 processes && (nat_le processes 15 && (scripts == processes))
@@ -128,18 +121,31 @@ abbrev pub are_processes : List PlainPrincipal → List (List Line) → Bool
 are_processes principals scripts = is_count (length principals) (length scripts) && list_all is_script scripts
 
 -- a limit of the journal that a session may set
+abbrev pub is_history : ℕ → Bool
+is_history limit = nat_le 1 limit && nat_le limit 262143
+
 abbrev pub is_limit : Option ℕ → Bool
 is_limit None = true
-is_limit (Some limit) = nat_le limit 262143
+is_limit (Some limit) = is_history limit
 
--- the session of these parts, of several processes
-abbrev pub session_of_processes : Outline → Option Outline
-session_of_processes x =
-    if is_limit x.history && (list_all is_setup_request x.setup && are_processes x.principals x.scripts) then Some x else None
+-- these are the parts of a session
+abbrev pub is_session : Outline → Bool
+is_session x =
+    (x.version == 1) && (is_limit x.history
+    && (list_all is_setup_request x.setup && are_processes x.principals x.scripts))
 
--- the lines of its text: header, setup, for each process its `process` line and its script, and `end`
+-- the session of these parts
+abbrev pub session_of : Outline → Option Outline
+session_of x = if is_session x then Some x else None
+
+-- a session that sets a limit says so in a line
+abbrev pub history_lines : Option ℕ → ℕ
+history_lines None = 0
+history_lines (Some limit) = 1
+
+-- the lines of its text: header, limit, setup, for each process its `process` line and its script, and `end`
 abbrev pub line_count : Outline → ℕ
-line_count x = 2 + length x.setup + length x.principals + sum_by length x.scripts
+line_count x = 2 + history_lines x.history + length x.setup + length x.principals + sum_by length x.scripts
 
 abbrev pub limit_or_most : Option ℕ → ℕ
 limit_or_most None = 262143
@@ -150,7 +156,7 @@ abbrev pub limit_of : Outline → ℕ
 limit_of x = limit_or_most x.history
 
 -- What whoever runs a session rests on: a setup of requests on paths, 1 to 15 processes, for each its script, and line
--- numbers of 32 bits. A session text has one process so far.
+-- numbers of 32 bits.
 pub record IsSession (x : Outline) : Type 0 where
   pub setup : list_all is_setup_request x.setup ≡ true
   pub some : 1 ≤ length x.principals

@@ -77,6 +77,12 @@ pub enum Line {
     Sta { operand: Operand },
     /// `spri N OPERAND`: pointer register N is stored.
     Spri { n: u8, operand: Operand },
+    /// `fetch`: the word at the procedure pointer is fetched, in the current ring.
+    Fetch,
+    /// `call OPERAND`: the process goes on at the effective pointer, in the ring that the call enters.
+    Call { operand: Operand },
+    /// `return OPERAND`: the process goes on at the effective pointer, in its ring.
+    Return { operand: Operand },
 }
 
 /// The lines of one process, the last of which is its `logout`.

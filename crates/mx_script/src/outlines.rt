@@ -2,7 +2,7 @@
 
 ghost use Rattle.std.specs.Prelude.{◌≡◌, ◌&&◌};
 ghost use Rattle.std.specs.List.{list_all};
-ghost use Rattle.mx_script.specs.Sessions.{is_short, is_for_setup, is_for_script, is_setup_request, are_scripts, are_processes, is_count, is_limit, is_script, is_script_line, ends, is_logout, is_register, is_base, is_address};
+ghost use Rattle.mx_script.specs.Sessions.{is_short, is_for_setup, is_for_script, is_setup_request, are_processes, is_count, is_history, is_limit, is_script, is_script_line, ends, is_logout, is_register, is_base, is_address};
 ghost use Rattle.mx_script.specs.Drafts.{may_stand};
 
 use crate::lines::{Base, Line, Operand, Script};
@@ -38,13 +38,16 @@ fn is_for_script(class: RequestClass) -> bool
     }
 }
 
-// WORDS has at most five digits, a segment number four octal ones.
+// WORDS has at most five digits, GATE four, a segment number four octal ones, a process to be woken up a number from
+// 1 to 99.
 fn is_short(request: &Request) -> bool
     ensures { result ≡ is_short request.now }
 {
     match request {
         Request::CreateSeg { words, .. } => *words <= 99_999,
+        Request::CreateObject { words, gate, .. } => *words <= 99_999 && *gate <= 9_999,
         Request::Terminate { segno } => *segno <= 0o7777,
+        Request::Wakeup { to, .. } => 1 <= *to && *to <= 99,
         Request::CreateDir { .. }
         | Request::CreateLink { .. }
         | Request::Rename { .. }
@@ -58,18 +61,10 @@ fn is_short(request: &Request) -> bool
         | Request::ChangeWdir { .. }
         | Request::SetRules { .. }
         | Request::Initiate { .. }
+        | Request::Block
         | Request::Link { .. }
+        | Request::Resume
         | Request::Logout => true,
-    }
-}
-
-/// Whether these are the scripts of a session with these principals.
-pub(crate) fn are_scripts(principals: &[Principal], scripts: &[Script]) -> bool
-    ensures { result ≡ are_scripts principals.now scripts.now }
-{
-    match (principals, scripts) {
-        ([_], [script]) => is_script(script.items()),
-        _ => false,
     }
 }
 
@@ -102,8 +97,14 @@ pub(crate) fn is_limit(history: Option<u32>) -> bool
 {
     match history {
         None => true,
-        Some(limit) => limit <= 262_143,
+        Some(limit) => is_history(limit),
     }
+}
+
+pub(crate) fn is_history(limit: u32) -> bool
+    ensures { result ≡ is_history limit }
+{
+    1 <= limit && limit <= 262_143
 }
 
 fn is_script(lines: &[Line]) -> bool
@@ -150,6 +151,9 @@ fn is_script_line(line: &Line) -> bool
         Line::Lda { operand } => is_address(operand),
         Line::Sta { operand } => is_address(operand),
         Line::Spri { n, operand } => is_register(*n) && is_address(operand),
+        Line::Fetch => true,
+        Line::Call { operand } => is_address(operand),
+        Line::Return { operand } => is_address(operand),
     }
 }
 
@@ -164,6 +168,9 @@ pub(crate) fn may_stand(line: &Line) -> bool
         Line::Lda { .. } => true,
         Line::Sta { .. } => true,
         Line::Spri { .. } => true,
+        Line::Fetch => true,
+        Line::Call { .. } => true,
+        Line::Return { .. } => true,
     }
 }
 
@@ -176,7 +183,10 @@ pub(crate) fn is_logout(line: &Line) -> bool
         | Line::Epp { .. }
         | Line::Lda { .. }
         | Line::Sta { .. }
-        | Line::Spri { .. } => false,
+        | Line::Spri { .. }
+        | Line::Fetch
+        | Line::Call { .. }
+        | Line::Return { .. } => false,
     }
 }
 

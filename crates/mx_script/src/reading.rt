@@ -10,6 +10,7 @@ mod cutting;
 mod drafts;
 mod fields;
 mod lines;
+mod parts;
 
 use crate::reading::drafts::Draft;
 use crate::sessions::Session;
@@ -55,7 +56,7 @@ pub fn read_session(alloc: Global, bytes: &[u8]) -> Result<Session, SessionError
         rest = after;
         number += 1;
     }
-    match draft.finish(alloc, rest)? {
+    match draft.finish(rest) {
         Some(session) => Ok(session),
         None => Err(SessionError::BadLine(number)),
     }

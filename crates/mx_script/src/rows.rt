@@ -8,6 +8,8 @@ use mx_name::Principal;
 pub enum Row {
     /// `multics 1`
     Header,
+    /// `history H`
+    History(u32),
     /// A request of the setup, or a line of a script.
     Line(Line),
     /// `process PRINCIPAL`

@@ -4,7 +4,7 @@ ghost use Rattle.std.specs.Prelude.{◌≡◌, ◌<◌, ◌≤◌, ◌-◌, ◌^
 ghost use Rattle.mx_script.specs.Sessions.{line_count, limit_of};
 
 use crate::lines::Scripts;
-use crate::outlines::{are_processes, are_scripts, is_limit, is_setup};
+use crate::outlines::{are_processes, is_limit, is_setup};
 use mx_list::Sequence;
 use mx_name::Principal;
 use mx_request::Requests;
@@ -13,8 +13,9 @@ use std::marker::Model;
 /// The principals of processes 1, 2, .. in order.
 pub type Principals = Sequence<Principal>;
 
-/// A session: what its setup asks for, and for each process its principal and its script. A value always has a setup of
-/// requests on paths, and 1 to 15 processes with a script each, which ends with its logout.
+/// A session: the journal's limit where it sets one, what its setup asks for, and for each process its principal and its
+/// script. A value always has a setup of requests on paths, and 1 to 15 processes with a script each, which ends with its
+/// logout.
 #[derive(Debug, Drop)]
 pub struct Session {
     version: u8,
@@ -35,9 +36,10 @@ impl Model for Session {
 }
 
 impl Session {
-    ghost use Rattle.mx_script.specs.Sessions.{outline, session_of, session_of_processes, IsSession};
+    ghost use Rattle.mx_script.specs.Sessions.{outline, session_of, IsSession};
 
-    /// The session of these parts, `None` exactly where they are not those of a session. Takes no memory.
+    /// The session of these parts, with 1 to 15 processes and a limit of 1 to 262,143 entries if any; `None` exactly where
+    /// they are not those of a session. Takes no memory.
     pub fn new(
         version: u8,
         history: Option<u32>,
@@ -49,39 +51,12 @@ impl Session {
         ensures { result ≡ session_of (outline version history setup principals scripts) }
     {
         if version == 1
-            && history.is_none()
-            && is_setup(setup.items())
-            && are_scripts(principals.items(), scripts.items())
-        {
-            Some(Session {
-                version,
-                history,
-                setup,
-                principals,
-                scripts,
-            })
-        } else {
-            None
-        }
-    }
-
-    /// The session of these parts with 1 to 15 processes, `None` exactly where they are not those of one. No session text
-    /// has more than one process so far, or a limit. Takes no memory.
-    pub fn of_processes(
-        history: Option<u32>,
-        setup: Requests,
-        principals: Principals,
-        scripts: Scripts,
-    ) -> Option<Session>
-        requires { line_count (outline 1 history setup principals scripts) < 2 ^ 32 - 1 }
-        ensures { result ≡ session_of_processes (outline 1 history setup principals scripts) }
-    {
-        if is_limit(history)
+            && is_limit(history)
             && is_setup(setup.items())
             && are_processes(principals.items(), scripts.items())
         {
             Some(Session {
-                version: 1,
+                version,
                 history,
                 setup,
                 principals,
@@ -99,7 +74,7 @@ impl Session {
         self.version
     }
 
-    /// The limit that the session sets the journal, `None` so far.
+    /// The limit that the session sets the journal, `None` where it sets none.
     pub fn history(&self) -> Option<u32>
         ensures { result ≡ self.now.history }
     {

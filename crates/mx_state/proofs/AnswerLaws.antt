@@ -10,6 +10,7 @@ use Rattle.mx_hier.specs.Rules.{Answers, onward}
 use Rattle.mx_hier.specs.declared.refusals.HierError.{HierError}
 use Rattle.mx_hier.specs.declared.refusals.HierError.TheVariants as fault
 use Rattle.mx_hier.specs.declared.refusals.Refusal.{Refusal}
+use Rattle.mx_mail.specs.Processes.{PlainProcess}
 use Rattle.mx_request.specs.declared.requests.Request.{Request}
 use Rattle.mx_request.specs.declared.replies.Reply.{Reply}
 use Rattle.mx_request.specs.declared.replies.Reply.TheVariants.{Done, Refused}
@@ -27,8 +28,8 @@ use Rattle.mx_state.proofs.Descriptors.{quiet, grown_is_sound, changes_are_bound
 use Rattle.mx_state.proofs.SegmentLaws.{IsAsBefore, Nothing, Leaves, as_it_was}
 
 -- the state as its parts
-abbrev pub plain_state : Hierarchy → List ProcessState → Plain
-plain_state h processes = record { hierarchy = h; processes = processes }
+abbrev pub plain_state : Hierarchy → List PlainProcess → List ProcessState → Plain
+plain_state h mail processes = record { hierarchy = h; processes = processes; mail = mail }
 
 -- the answer to a request on a path is that to its caller
 pub to_caller : (s : Plain) (a : Asker) (ring : ℕ) (who : Caller) (given : Caller → Answer) → IsCallerOf a ring who
@@ -48,62 +49,62 @@ after_call but meant h k (Ok done) says leaves = leaves k says
 after_call but meant h k (Err (fault.Refused why)) says leaves = subst (IsAsBefore but h) (sym says.1) (as_it_was but h)
 after_call but meant h k (Err fault.Memory) says leaves = subst (IsAsBefore but h) (sym says) (as_it_was but h)
 
-pub call_is_sound : (but : ℕ → Type 0) (meant : Result Hierarchy Refusal) (h k : Hierarchy) (processes : List ProcessState)
+pub call_is_sound : (but : ℕ → Type 0) (meant : Result Hierarchy Refusal) (h k : Hierarchy) (mail : List PlainProcess) (processes : List ProcessState)
     (principal : PlainPrincipal) (root : List (List ℕ)) (call : Result (Unit {0}) HierError) → Answers meant h call k → Leaves but h meant
-    → HoldsSound principal root (plain_state h processes) → HoldsSound principal root (plain_state k processes)
-call_is_sound but meant h k processes principal root call says leaves holds = record {
+    → HoldsSound principal root (plain_state h mail processes) → HoldsSound principal root (plain_state k mail processes)
+call_is_sound but meant h k mail processes principal root call says leaves holds = record {
   initializer_is = holds.initializer_is;
   root_is = holds.root_is;
-  sound = grown_is_sound but (plain_state h processes) k holds.sound (after_call but meant h k call says leaves);
+  sound = grown_is_sound but (plain_state h mail processes) k holds.sound (after_call but meant h k call says leaves);
 }
 
-changed_as : (h k : Hierarchy) (processes : List ProcessState) (meant : Result Hierarchy Refusal) (call : Result (Unit {0}) HierError) (reply : Reply)
-    → Answers meant h call k → Says call (Ok reply) → changed (plain_state h processes) meant ≡ answer reply (plain_state k processes)
-changed_as h k processes meant (Ok done) reply answers says =
+changed_as : (h k : Hierarchy) (mail : List PlainProcess) (processes : List ProcessState) (meant : Result Hierarchy Refusal) (call : Result (Unit {0}) HierError) (reply : Reply)
+    → Answers meant h call k → Says call (Ok reply) → changed (plain_state h mail processes) meant ≡ answer reply (plain_state k mail processes)
+changed_as h k mail processes meant (Ok done) reply answers says =
     let same : reply ≡ Done = cc in rw (answers, same) refl
-changed_as h k processes meant (Err (fault.Refused why)) reply answers says =
+changed_as h k mail processes meant (Err (fault.Refused why)) reply answers says =
     let same : reply ≡ Refused why = cc in rw (answers.0, same, answers.1) refl
-changed_as h k processes meant (Err fault.Memory) reply answers says = cc
+changed_as h k mail processes meant (Err fault.Memory) reply answers says = cc
 
 -- the same of the state that the program's stands for
-pub of_old : (h : Hierarchy) (processes : List ProcessState) (old new : Plain) (p ring : ℕ) (request : Request) (applied : Applied)
-    → plain_state h processes ≡ old → Serves (plain_state h processes) new (plain (plain_state h processes) p ring request) applied
+pub of_old : (h : Hierarchy) (mail : List PlainProcess) (processes : List ProcessState) (old new : Plain) (p ring : ℕ) (request : Request) (applied : Applied)
+    → plain_state h mail processes ≡ old → Serves (plain_state h mail processes) new (plain (plain_state h mail processes) p ring request) applied
     → Serves old new (plain old p ring request) applied
-of_old h processes old new p ring request applied e serves = subst (λ s. Serves s new (plain s p ring request) applied) e serves
+of_old h mail processes old new p ring request applied e serves = subst (λ s. Serves s new (plain s p ring request) applied) e serves
 
 -- no changes at all
 pub nothing_is_bounded : All IsBounded []
 nothing_is_bounded k d within = absurd (omega arith)
 
 -- a request that changes the hierarchy, and no segment that stood
-pub quiet_serves : (f : Caller → Result Hierarchy Refusal) (meant : Result Hierarchy Refusal) (h k : Hierarchy) (processes : List ProcessState)
+pub quiet_serves : (f : Caller → Result Hierarchy Refusal) (meant : Result Hierarchy Refusal) (h k : Hierarchy) (mail : List PlainProcess) (processes : List ProcessState)
     (p ring : ℕ) (who : Caller) (call : Result (Unit {0}) HierError) (reply : Reply) (applied : Applied)
     → IsCallerOf (asker processes p) ring who → f who ≡ meant → Answers meant h call k → Says call (Ok reply) → Leaves Nothing h meant
-    → IsSound (plain_state h processes) → applied ≡ record { reply = reply; changes = [] }
-    → Serves (plain_state h processes) (plain_state k processes)
-    (on_path (plain_state h processes) p ring (λ who. changed (plain_state h processes) (f who))) applied
-quiet_serves f meant h k processes p ring who call reply applied is same answers says leaves sound e = rw e (record {
-  as_meant = to_caller (plain_state h processes) (asker processes p) ring who (λ who. changed (plain_state h processes) (f who)) is
-      ∙ ap (changed (plain_state h processes)) same ∙ changed_as h k processes meant call reply answers says;
-  changes = quiet (plain_state h processes) k sound (after_call Nothing meant h k call answers leaves);
+    → IsSound (plain_state h mail processes) → applied ≡ record { reply = reply; changes = [] }
+    → Serves (plain_state h mail processes) (plain_state k mail processes)
+    (on_path (plain_state h mail processes) p ring (λ who. changed (plain_state h mail processes) (f who))) applied
+quiet_serves f meant h k mail processes p ring who call reply applied is same answers says leaves sound e = rw e (record {
+  as_meant = to_caller (plain_state h mail processes) (asker processes p) ring who (λ who. changed (plain_state h mail processes) (f who)) is
+      ∙ ap (changed (plain_state h mail processes)) same ∙ changed_as h k mail processes meant call reply answers says;
+  changes = quiet (plain_state h mail processes) k sound (after_call Nothing meant h k call answers leaves);
   bounded = nothing_is_bounded;
   count = refl;
 })
 
 -- one that changes one segment
-pub loud_serves : (f : Caller → Result Hierarchy Refusal) (meant : Result Hierarchy Refusal) (h k : Hierarchy) (processes : List ProcessState)
+pub loud_serves : (f : Caller → Result Hierarchy Refusal) (meant : Result Hierarchy Refusal) (h k : Hierarchy) (mail : List PlainProcess) (processes : List ProcessState)
     (p ring : ℕ) (who : Caller) (call : Result (Unit {0}) HierError) (reply : Reply) (changes : List Change)
     → IsCallerOf (asker processes p) ring who → f who ≡ meant → Answers meant h call k → Says call (Ok reply)
-    → IsSound (plain_state h processes) → AreChanges (plain_state h processes) (plain_state k processes) changes
+    → IsSound (plain_state h mail processes) → AreChanges (plain_state h mail processes) (plain_state k mail processes) changes
     → All (λ c. IsAdmissible c.desc) changes
-    → Serves (plain_state h processes) (plain_state k processes)
-    (on_path (plain_state h processes) p ring (λ who. changed (plain_state h processes) (f who)))
+    → Serves (plain_state h mail processes) (plain_state k mail processes)
+    (on_path (plain_state h mail processes) p ring (λ who. changed (plain_state h mail processes) (f who)))
     (record { reply = reply; changes = changes })
-loud_serves f meant h k processes p ring who call reply changes is same answers says sound are admissible = record {
-  as_meant = to_caller (plain_state h processes) (asker processes p) ring who (λ who. changed (plain_state h processes) (f who)) is
-      ∙ ap (changed (plain_state h processes)) same ∙ changed_as h k processes meant call reply answers says;
+loud_serves f meant h k mail processes p ring who call reply changes is same answers says sound are admissible = record {
+  as_meant = to_caller (plain_state h mail processes) (asker processes p) ring who (λ who. changed (plain_state h mail processes) (f who)) is
+      ∙ ap (changed (plain_state h mail processes)) same ∙ changed_as h k mail processes meant call reply answers says;
   changes = are;
-  bounded = changes_are_bounded (plain_state h processes) (plain_state k processes) changes sound refl are admissible;
+  bounded = changes_are_bounded (plain_state h mail processes) (plain_state k mail processes) changes sound refl are admissible;
   count = refl;
 }
 

@@ -8,7 +8,10 @@ use Rattle.mx_core.specs.declared.changes.Change.{Change}
 use Rattle.mx_sdw.specs.Admissible.{IsAdmissible}
 use Rattle.mx_sdw.specs.Descriptors.{Descriptor, unknown_desc}
 use Rattle.mx_hier.specs.Connected.{desc_for}
-use Rattle.mx_hier.specs.Branches.{Hierarchy}
+use Rattle.mx_object.specs.Objects.{PlainObjectMap}
+use Rattle.mx_hier.specs.declared.branches.Segment.{Segment}
+use Rattle.mx_hier.specs.Branches.{Hierarchy, segment_at, object_at}
+use Rattle.mx_hier.specs.Objects.{gate_of}
 use Rattle.mx_kst.specs.declared.lots.Lot.{Lot}
 use Rattle.mx_kst.specs.declared.lots.Lot.TheVariants.{Free, Stack, Branch, Linkage}
 use Rattle.mx_state.specs.declared.states.ProcessState.{ProcessState}
@@ -87,8 +90,9 @@ same_unless but s h p n sound before apart = by_process (process_at s.processes 
     by_standing process e (Stack ring) f = refl
     by_standing process e (Branch uid) f =
         let there = is_there s.processes p process e in
-        ap (desc_for process.principal)
-        (sym (before.same uid ((sound.processes (p - 1) process there.place).made n uid (branch_at process.known.lots n uid f)) (apart process uid e f)))
+        let below = (sound.processes (p - 1) process there.place).made n uid (branch_at process.known.lots n uid f) in
+        ap (λ (o : Option Segment). desc_for process.principal (gate_of (object_at s.hierarchy uid)) o) (sym (before.same uid below (apart process uid e f)))
+        ∙ ap (λ (o : Option PlainObjectMap). desc_for process.principal (gate_of o) (segment_at h uid)) (sym (before.maps uid below))
     by_standing process e (Linkage of page brackets words) f = refl
 
     by_process : (o : Option ProcessState) → process_at s.processes p ≡ o → process_desc s.hierarchy p o n ≡ process_desc h p o n
@@ -103,6 +107,7 @@ quiet s h sound before =
 pub grown_is_sound : (but : ℕ → Type 0) (s : Plain) (h : Hierarchy) → IsSound s → IsAsBefore but s.hierarchy h → IsSound (record s { hierarchy = h })
 grown_is_sound but s h sound before = record {
   process_count = sound.process_count;
+  mail_count = sound.mail_count;
   processes = λ i process e.
       let own = sound.processes i process e in
       record { known = own.known; made = λ k uid f. omega (arith, own.made k uid f, before.next) };

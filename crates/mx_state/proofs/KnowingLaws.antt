@@ -1,7 +1,7 @@
 -- What a process knows after `initiate` and `terminate`, and which descriptors that changes.
-use Rattle.std.proofs.Common.{◌≡◌, ◌≢◌, ◌≤◌, ◌<◌, ◌+◌, ◌-◌, ◌==◌, ◌||◌, ℕ, List, [], ◌∷◌, ◌++◌, map, length, Option, Some, None, Result, Ok, Err, Bool, true, false, not, is_none, ◌&&◌, cond, ltb, ◌⊎◌, inl, inr, refl, ap, sym, ◌∙◌, subst, slice_get, slice_set, length-set, length-append, arith}
+use Rattle.std.proofs.Common.{◌≡◌, ◌≤◌, ◌<◌, ◌+◌, ◌-◌, ◌==◌, ◌||◌, ℕ, List, [], ◌∷◌, ◌++◌, map, length, Option, Some, None, Result, Ok, Err, Bool, true, false, not, is_none, ◌&&◌, cond, ltb, inl, inr, refl, ap, sym, ◌∙◌, subst, slice_get, slice_set, length-set, length-append, arith}
 use Rattle.std.specs.List.{All}
-use Rattle.std.proofs.lemmas.Bool.{cases_eq, cases_lt, ne_eqb, ltb-false, true≢false}
+use Rattle.std.proofs.lemmas.Bool.{cases_lt, ne_eqb, ltb-false}
 use Rattle.std.proofs.lemmas.List.{get_or_append_left, get_or_past}
 use Rattle.mx_core.specs.declared.changes.Change.{Change}
 use Rattle.mx_name.specs.Answers as reply
@@ -11,8 +11,9 @@ use Rattle.mx_sdw.specs.Descriptors.{Descriptor, unknown_desc}
 use Rattle.mx_sdw.specs.declared.descriptors.DescKind.TheVariants.{Unknown, Segment as IsSegment}
 use Rattle.mx_hier.specs.declared.branches.Segment.{Segment}
 use Rattle.mx_hier.specs.declared.refusals.Refusal.{Refusal}
-use Rattle.mx_hier.specs.declared.refusals.Refusal.TheVariants.{NotASeg, IncorrectAccess, NameDup, KstFull, UnknownSegno}
-use Rattle.mx_hier.specs.Branches.{Hierarchy, segment_at, holding}
+use Rattle.mx_hier.specs.declared.refusals.Refusal.TheVariants.{NotASeg, IncorrectAccess, NameDup, KstFull}
+use Rattle.mx_hier.specs.Branches.{Hierarchy, segment_at, object_at, holding}
+use Rattle.mx_hier.specs.Objects.{gate_of}
 use Rattle.mx_hier.specs.Callers.{Caller, has_access, on}
 use Rattle.mx_hier.specs.Connected.{desc_for, desc_of}
 use Rattle.mx_hier.specs.Initiate.{segment_refusals, segment}
@@ -33,7 +34,7 @@ use Rattle.mx_kst.specs.declared.lots.Lot.TheVariants.{Free, Stack, Branch, Link
 use Rattle.mx_kst.specs.declared.segments.Known.{Known}
 use Rattle.mx_kst.specs.declared.segments.KstError.{KstError}
 use Rattle.mx_kst.specs.declared.segments.KstError.TheVariants as error
-use Rattle.mx_request.specs.declared.replies.Reply.{Reply}
+use Rattle.mx_mail.specs.Processes.{PlainProcess}
 use Rattle.mx_request.specs.declared.replies.Reply.TheVariants.{Done, Refused, Segno}
 use Rattle.mx_state.specs.declared.applied.Applied.{Applied}
 use Rattle.mx_state.specs.declared.states.ProcessState.{ProcessState}
@@ -41,7 +42,7 @@ use Rattle.mx_state.specs.Askers.{on_process}
 use Rattle.mx_state.specs.Changes.{change, AreChanges}
 use Rattle.mx_state.specs.Known.{knowing, Knows, given_changes}
 use Rattle.mx_state.specs.Knowing.{known_then, given, initiate, terminate}
-use Rattle.mx_state.specs.Plain.{Plain, Answer, answer, process_at, with_process}
+use Rattle.mx_state.specs.Plain.{Plain, Answer, answer}
 use Rattle.mx_state.specs.Renewing.{held_two, renewed}
 use Rattle.mx_state.specs.Serving.{Serves}
 use Rattle.mx_state.specs.Sound.{IsSound, IsSoundProcess, HoldsSound}
@@ -130,16 +131,16 @@ knower_is_sound next process uid ring name g sound below e =
       made = λ n v f. made_by process.known.lots uid next below sound.made n v (ap (λ (g : Initiated). lot_of g.after.lots n) is.1 ∙ f);
     }
 
-pub known_holds : (h : Hierarchy) (processes new : List ProcessState) (i : ℕ) (process : ProcessState) (uid ring : ℕ) (name : Option (List ℕ))
-    (told : Result Known Refusal) (principal : PlainPrincipal) (root : List (List ℕ)) → HoldsSound principal root (plain_state h processes)
+pub known_holds : (h : Hierarchy) (mail : List PlainProcess) (processes new : List ProcessState) (i : ℕ) (process : ProcessState) (uid ring : ℕ) (name : Option (List ℕ))
+    (told : Result Known Refusal) (principal : PlainPrincipal) (root : List (List ℕ)) → HoldsSound principal root (plain_state h mail processes)
     → slice_get processes i ≡ Some process → uid < h.next
-    → Knows (known_then process.known ring name uid) processes i process told new → HoldsSound principal root (plain_state h new)
-known_holds h processes new i process uid ring name (Err why) principal root holds e below knows =
-    subst (λ xs. HoldsSound principal root (plain_state h xs)) (sym knows.1) holds
-known_holds h processes new i process uid ring name (Ok known) principal root holds e below knows = record {
+    → Knows (known_then process.known ring name uid) processes i process told new → HoldsSound principal root (plain_state h mail new)
+known_holds h mail processes new i process uid ring name (Err why) principal root holds e below knows =
+    subst (λ xs. HoldsSound principal root (plain_state h mail xs)) (sym knows.1) holds
+known_holds h mail processes new i process uid ring name (Ok known) principal root holds e below knows = record {
   initializer_is = holds.initializer_is;
   root_is = holds.root_is;
-  sound = rw knows.2 (replaced_is_sound (plain_state h processes) i (knower process knows.0) holds.sound
+  sound = rw knows.2 (replaced_is_sound (plain_state h mail processes) i (knower process knows.0) holds.sound
       (knower_is_sound h.next process uid ring name (record { known = known; after = knows.0 }) (holds.sound.processes i process e) below knows.1));
 }
 
@@ -168,7 +169,8 @@ segment_stands h who path uid e = by_entry (entry h who path true) e
 -- its descriptor is not that of an unknown number
 segment_is_known : (h : Hierarchy) (uid : ℕ) (who : PlainPrincipal) (own : Segment) → segment_at h uid ≡ Some own → unknown_desc ≡ desc_of h uid who → ⊥
 segment_is_known h uid who own there e =
-    let same : unknown_desc ≡ desc_for who (Some own) = e ∙ ap (desc_for who) there in
+    let gate = gate_of (object_at h uid) in
+    let same : unknown_desc ≡ desc_for who gate (Some own) = e ∙ ap (desc_for who gate) there in
     let kinds : Unknown ≡ IsSegment = ap (λ (d : Descriptor). d.kind) same in
     cc
 
@@ -231,37 +233,37 @@ module _ (s : Plain) (p i : ℕ) (process : ProcessState) (uid : ℕ) (own : Seg
       (meant_changes ring name is.0)
 
 -- `initiate` of a segment that becomes known, or is
-pub known_serves : (h : Hierarchy) (processes new : List ProcessState) (p i : ℕ) (process : ProcessState) (uid ring : ℕ) (path : List ℕ)
-    (name : Option (List ℕ)) (who : Caller) (known : Known) (changes : List Change) (ask : ProcessState → Answer) → IsSound (plain_state h processes)
+pub known_serves : (h : Hierarchy) (mail : List PlainProcess) (processes new : List ProcessState) (p i : ℕ) (process : ProcessState) (uid ring : ℕ) (path : List ℕ)
+    (name : Option (List ℕ)) (who : Caller) (known : Known) (changes : List Change) (ask : ProcessState → Answer) → IsSound (plain_state h mail processes)
     → 1 ≤ p → p - 1 ≡ i → slice_get processes i ≡ Some process → segment h who path ≡ Ok uid
-    → ask process ≡ initiate (plain_state h processes) p ring process name (Ok uid)
+    → ask process ≡ initiate (plain_state h mail processes) p ring process name (Ok uid)
     → Knows (known_then process.known ring name uid) processes i process (Ok known) new
     → changes ≡ given_changes p known (desc_of h uid process.principal) → All (λ c. IsAdmissible c.desc) changes
-    → Serves (plain_state h processes) (plain_state h new) (on_process (plain_state h processes) p ask)
+    → Serves (plain_state h mail processes) (plain_state h mail new) (on_process (plain_state h mail processes) p ask)
     (record { reply = Segno known; changes = changes })
-known_serves h processes new p i process uid ring path name who known changes ask sound first here e told meant knows is admissible =
-    let s = plain_state h processes in
+known_serves h mail processes new p i process uid ring path name who known changes ask sound first here e told meant knows is admissible =
+    let s = plain_state h mail processes in
     let stands = segment_stands h who path uid told in
-    let are : AreChanges s (plain_state h new) changes =
+    let are : AreChanges s (plain_state h mail new) changes =
     rw (is, knows.2) (known_changes s p i process uid stands.0 first here e stands.1 ring name (record { known = known; after = knows.0 }) knows.1) in
     let count : length new ≡ length processes = ap length knows.2 ∙ length-set processes i (knower process knows.0) in
     record {
       as_meant = to_process s p i process ask first here e ∙ meant ∙ ap (given s p process) knows.1
-          ∙ ap (λ k. answer (Segno known) (plain_state h (slice_set processes k (knower process knows.0)))) here
-          ∙ ap (λ xs. answer (Segno known) (plain_state h xs)) (sym knows.2);
+          ∙ ap (λ k. answer (Segno known) (plain_state h mail (slice_set processes k (knower process knows.0)))) here
+          ∙ ap (λ xs. answer (Segno known) (plain_state h mail xs)) (sym knows.2);
       changes = are;
-      bounded = changes_are_bounded s (plain_state h new) changes sound count are admissible;
+      bounded = changes_are_bounded s (plain_state h mail new) changes sound count are admissible;
       count = count;
     }
 
 -- one that is refused
-pub refused_serves : (h : Hierarchy) (processes new : List ProcessState) (p i : ℕ) (process : ProcessState) (why : Refusal) (applied : Applied)
+pub refused_serves : (h : Hierarchy) (mail : List PlainProcess) (processes new : List ProcessState) (p i : ℕ) (process : ProcessState) (why : Refusal) (applied : Applied)
     (ask : ProcessState → Answer) → 1 ≤ p → p - 1 ≡ i → slice_get processes i ≡ Some process
-    → ask process ≡ answer (Refused why) (plain_state h processes) → new ≡ processes → applied ≡ record { reply = Refused why; changes = [] }
-    → Serves (plain_state h processes) (plain_state h new) (on_process (plain_state h processes) p ask) applied
-refused_serves h processes new p i process why applied ask first here e meant same is = rw (is, same) (record {
-  as_meant = to_process (plain_state h processes) p i process ask first here e ∙ meant;
-  changes = nothing_changes (plain_state h processes) (plain_state h processes) (λ q m. refl);
+    → ask process ≡ answer (Refused why) (plain_state h mail processes) → new ≡ processes → applied ≡ record { reply = Refused why; changes = [] }
+    → Serves (plain_state h mail processes) (plain_state h mail new) (on_process (plain_state h mail processes) p ask) applied
+refused_serves h mail processes new p i process why applied ask first here e meant same is = rw (is, same) (record {
+  as_meant = to_process (plain_state h mail processes) p i process ask first here e ∙ meant;
+  changes = nothing_changes (plain_state h mail processes) (plain_state h mail processes) (λ q m. refl);
   bounded = nothing_is_bounded;
   count = refl;
 })
@@ -306,45 +308,45 @@ stays_apart k segno m sound apart beyond =
         let next = (sound.section_next m of page words brackets e).0 in
         ne_eqb of segno (λ same. beyond (next ∙ ap (λ n. n + 1) same))
 
-pub ended_holds : (h : Hierarchy) (processes new : List ProcessState) (i : ℕ) (process : ProcessState) (segno : ℕ) (after : KnownSegments)
-    (principal : PlainPrincipal) (root : List (List ℕ)) → HoldsSound principal root (plain_state h processes)
+pub ended_holds : (h : Hierarchy) (mail : List PlainProcess) (processes new : List ProcessState) (i : ℕ) (process : ProcessState) (segno : ℕ) (after : KnownSegments)
+    (principal : PlainPrincipal) (root : List (List ℕ)) → HoldsSound principal root (plain_state h mail processes)
     → slice_get processes i ≡ Some process → end.terminate process.known segno ≡ Some after → new ≡ knowing processes i process after
-    → HoldsSound principal root (plain_state h new)
-ended_holds h processes new i process segno after principal root holds e ends set =
+    → HoldsSound principal root (plain_state h mail new)
+ended_holds h mail processes new i process segno after principal root holds e ends set =
     let own = holds.sound.processes i process e in
     let is = ended_lots process.known after segno ends in
     record {
       initializer_is = holds.initializer_is;
       root_is = holds.root_is;
-      sound = rw set (replaced_is_sound (plain_state h processes) i (knower process after) holds.sound (record {
+      sound = rw set (replaced_is_sound (plain_state h mail processes) i (knower process after) holds.sound (record {
         known = sound_terminated process.known after segno own.known ends;
         made = λ n v f. own.made n v (stood process.known.lots segno n v (ap (λ (lots : List Lot). lot_of lots n) (sym is.1) ∙ f));
       }));
     }
 
-pub ended_serves : (h : Hierarchy) (processes new : List ProcessState) (p i : ℕ) (process : ProcessState) (segno : ℕ) (after : KnownSegments)
-    (held changes : List Change) (ask : ProcessState → Answer) → IsSound (plain_state h processes) → 1 ≤ p → p - 1 ≡ i
-    → slice_get processes i ≡ Some process → ask process ≡ terminate (plain_state h processes) p process (end.terminate process.known segno)
+pub ended_serves : (h : Hierarchy) (mail : List PlainProcess) (processes new : List ProcessState) (p i : ℕ) (process : ProcessState) (segno : ℕ) (after : KnownSegments)
+    (held changes : List Change) (ask : ProcessState → Answer) → IsSound (plain_state h mail processes) → 1 ≤ p → p - 1 ≡ i
+    → slice_get processes i ≡ Some process → ask process ≡ terminate (plain_state h mail processes) p process (end.terminate process.known segno)
     → end.terminate process.known segno ≡ Some after → new ≡ knowing processes i process after
-    → held ≡ held_two (plain_state h processes) p segno → changes ≡ renewed (plain_state h new) held → All (λ c. IsAdmissible c.desc) changes
-    → Serves (plain_state h processes) (plain_state h new) (on_process (plain_state h processes) p ask)
+    → held ≡ held_two h processes p segno → changes ≡ renewed h new held → All (λ c. IsAdmissible c.desc) changes
+    → Serves (plain_state h mail processes) (plain_state h mail new) (on_process (plain_state h mail processes) p ask)
     (record { reply = Done; changes = changes })
-ended_serves h processes new p i process segno after held changes ask sound first here e meant ends set was now admissible =
-    let s = plain_state h processes in
+ended_serves h mail processes new p i process segno after held changes ask sound first here e meant ends set was now admissible =
+    let s = plain_state h mail processes in
     let own = (sound.processes i process e).known in
     let is = ended_lots process.known after segno ends in
-    let two : AreChanges s (in_place s i (knower process after)) (renewed (in_place s i (knower process after)) (held_two s p segno)) =
+    let two : AreChanges s (in_place s i (knower process after)) (renewed h (slice_set processes i (knower process after)) (held_two h processes p segno)) =
     renewing_two s (in_place s i (knower process after)) p segno
     (λ q m apart. others_stay s p i process (knower process after) first here e refl q m
     (λ at. ap (λ (lots : List Lot). lot_of lots m) is.1
     ∙ stays_apart process.known segno m own (λ f. apart (at, inl f)) (λ f. apart (at, inr f)))) in
-    let are : AreChanges s (plain_state h new) changes = rw (now, was, set) two in
+    let are : AreChanges s (plain_state h mail new) changes = rw (now, was, set) two in
     let count : length new ≡ length processes = ap length set ∙ length-set processes i (knower process after) in
     record {
       as_meant = to_process s p i process ask first here e ∙ meant ∙ ap (terminate s p process) ends
-          ∙ ap (λ k. answer Done (plain_state h (slice_set processes k (knower process after)))) here
-          ∙ ap (λ xs. answer Done (plain_state h xs)) (sym set);
+          ∙ ap (λ k. answer Done (plain_state h mail (slice_set processes k (knower process after)))) here
+          ∙ ap (λ xs. answer Done (plain_state h mail xs)) (sym set);
       changes = are;
-      bounded = changes_are_bounded s (plain_state h new) changes sound count are admissible;
+      bounded = changes_are_bounded s (plain_state h mail new) changes sound count are admissible;
       count = count;
     }

@@ -5,6 +5,7 @@ use Rattle.mx_hier.specs.Callers.{Caller}
 use Rattle.mx_hier.specs.ChangeWorkingDirectory.{directory}
 use Rattle.mx_hier.specs.CreateDirectory.{create_dir}
 use Rattle.mx_hier.specs.CreateLink.{create_link}
+use Rattle.mx_hier.specs.CreateObject.{create_object}
 use Rattle.mx_hier.specs.CreateSegment.{create_seg}
 use Rattle.mx_hier.specs.Delete.{delete}
 use Rattle.mx_hier.specs.DeleteAclEntry.{del_acl}
@@ -16,10 +17,17 @@ use Rattle.mx_hier.specs.SetBrackets.{set_brackets}
 use Rattle.mx_hier.specs.SetDirectoryBrackets.{set_dir_brackets}
 use Rattle.mx_hier.specs.Status.{status}
 use Rattle.mx_hier.specs.declared.refusals.Refusal.{Refusal}
-use Rattle.mx_hier.specs.Rules.{onward}
+use Rattle.mx_hier.specs.Rules.{first_of, onward, unless}
 use Rattle.mx_kst.specs.Initiating.{Initiated}
 use Rattle.mx_kst.specs.KnownSegments.{KnownSegments}
 use Rattle.mx_kst.specs.Terminating as kst
+use Rattle.mx_object.specs.Objects.{of_gates}
+use Rattle.mx_mail.specs.Processes as mail
+use Rattle.mx_mail.specs.Processes.{PlainProcess}
+use Rattle.mx_mail.specs.Sending.{deliver}
+use Rattle.mx_mail.specs.Taking.{take_message}
+use Rattle.mx_mail.specs.declared.mail.Taken.{Taken}
+use Rattle.mx_mail.specs.declared.mail.Taken.TheVariants as taken
 use Rattle.mx_request.specs.declared.requests.Request.{Request}
 use Rattle.mx_request.specs.declared.requests.Request.TheVariants as ask
 use Rattle.mx_request.specs.declared.replies.Reply.{Reply}
@@ -29,9 +37,10 @@ use Rattle.mx_state.specs.declared.states.ProcessState.{ProcessState}
 use Rattle.mx_state.specs.Askers.{Asker, Initializer, Process, Nobody, asker, initial_caller, caller, answered_caller, answered_process}
 use Rattle.mx_state.specs.Changes.{AreChanges}
 use Rattle.mx_state.specs.Knowing.{known_then, given, initiate, link, terminate}
-use Rattle.mx_state.specs.OwnState.{change_wdir, set_rules, logout}
+use Rattle.mx_state.specs.Messages.{block, logout, sent, taken_reply, wakeup, wakeup_refusals}
+use Rattle.mx_state.specs.OwnState.{change_wdir, set_rules}
 use Rattle.mx_state.specs.Laws.{RefusalLaw, PathLaw}
-use Rattle.mx_state.specs.Plain.{Plain, Answer, answer, with_process}
+use Rattle.mx_state.specs.Plain.{Plain, Answer, answer}
 use Rattle.mx_state.specs.Requests.{changed, told, plain}
 use Rattle.mx_state.specs.Serving.{Serves}
 use Rattle.mx_state.proofs.Descriptors.{nothing_told}
@@ -73,6 +82,24 @@ change_wdir_still : (s : Plain) (p : ℕ) (process : ProcessState) (meant : Resu
 change_wdir_still s p process (Err other) = λ why e. refl
 change_wdir_still s p process (Ok path) = λ why e. cc
 
+sent_still : (s : Plain) (meant : Result (List PlainProcess) Refusal) → IsStill s (sent s meant)
+sent_still s (Ok after) = λ why e. cc
+sent_still s (Err other) = λ why e. refl
+
+wakeup_still : (s : Plain) (p to word : ℕ) → IsStill s (wakeup s p to word)
+wakeup_still s p to word =
+    let receiver = mail.process_at s.mail to in
+    sent_still s (unless (first_of (wakeup_refusals receiver)) (deliver s.mail to receiver (p, word)))
+
+-- who asks for a message is not refused
+taken_still : (s : Plain) (given : Taken) (after : List PlainProcess) → IsStill s (answer (taken_reply given) (record s { mail = after }))
+taken_still s (taken.Message sender word) after = λ why e. cc
+taken_still s taken.Nobody after = λ why e. cc
+taken_still s taken.Waiting after = λ why e. cc
+
+block_still : (s : Plain) (p : ℕ) → IsStill s (block s p)
+block_still s p = let given = take_message s.mail p in taken_still s given.taken given.processes
+
 path_answer_still : (s : Plain) (p ring : ℕ) (meant : Caller → Result Hierarchy Refusal)
     → IsStill s (answered_caller s (asker s.processes p) ring (λ who. changed s (meant who)))
 path_answer_still s p ring meant =
@@ -86,6 +113,8 @@ told_answer_still s p ring as_reply meant =
 pub refusal_leaves : RefusalLaw
 refusal_leaves s p ring (ask.CreateDir path d1 d2) = path_answer_still s p ring (λ who. create_dir s.hierarchy who path d1 d2)
 refusal_leaves s p ring (ask.CreateSeg path words brackets) = path_answer_still s p ring (λ who. create_seg s.hierarchy who path words brackets)
+refusal_leaves s p ring (ask.CreateObject path words brackets gate) =
+    path_answer_still s p ring (λ who. create_object s.hierarchy who path words brackets (of_gates gate))
 refusal_leaves s p ring (ask.CreateLink path target) = path_answer_still s p ring (λ who. create_link s.hierarchy who path target)
 refusal_leaves s p ring (ask.Rename path name) = path_answer_still s p ring (λ who. rename s.hierarchy who path name)
 refusal_leaves s p ring (ask.Delete path) = path_answer_still s p ring (λ who. delete s.hierarchy who path)
@@ -108,37 +137,49 @@ refusal_leaves s p ring (ask.Initiate path name) =
 refusal_leaves s p ring (ask.Terminate segno) =
     process_still s (asker s.processes p) (λ process. terminate s p process (kst.terminate process.known segno))
     (λ process. terminate_still s p process (kst.terminate process.known segno))
+refusal_leaves s p ring (ask.Wakeup to word) =
+    process_still s (asker s.processes p) (λ process. wakeup s p to word) (λ process. wakeup_still s p to word)
+refusal_leaves s p ring ask.Block =
+    process_still s (asker s.processes p) (λ process. block s p) (λ process. block_still s p)
 refusal_leaves s p ring (ask.Link segno word) = process_still s (asker s.processes p) (λ process. link s) (λ process why e. refl)
-refusal_leaves s p ring ask.Logout = process_still s (asker s.processes p) (logout s p) (λ process why e. cc)
+refusal_leaves s p ring ask.Resume =
+    process_still s (asker s.processes p) (λ process. block s p) (λ process. block_still s p)
+refusal_leaves s p ring ask.Logout =
+    process_still s (asker s.processes p) (λ process. logout s p) (λ process why e. cc)
 
--- a request on a path leaves the processes
-path_leaves : (s : Plain) (a : Asker) (ring : ℕ) (given : Caller → Answer) → ((who : Caller) → (given who).state.processes ≡ s.processes)
-    → (answered_caller s a ring given).state.processes ≡ s.processes
+-- a request on a path leaves the processes and the mail
+abbrev IsLeft : Plain → Answer → Type 0
+IsLeft s given = (given.state.processes ≡ s.processes) × (given.state.mail ≡ s.mail)
+
+path_leaves : (s : Plain) (a : Asker) (ring : ℕ) (given : Caller → Answer) → ((who : Caller) → IsLeft s (given who))
+    → IsLeft s (answered_caller s a ring given)
 path_leaves s Initializer ring given leaves = leaves (initial_caller ring)
 path_leaves s (Process process) ring given leaves = leaves (caller process ring)
-path_leaves s Nobody ring given leaves = refl
+path_leaves s Nobody ring given leaves = (refl, refl)
 
-changed_leaves : (s : Plain) (meant : Result Hierarchy Refusal) → (changed s meant).state.processes ≡ s.processes
-changed_leaves s (Ok h) = refl
-changed_leaves s (Err why) = refl
+changed_leaves : (s : Plain) (meant : Result Hierarchy Refusal) → IsLeft s (changed s meant)
+changed_leaves s (Ok h) = (refl, refl)
+changed_leaves s (Err why) = (refl, refl)
 
-told_leaves : {A : Type 0} (s : Plain) (as_reply : A → Reply) (meant : Result A Refusal) → (told s as_reply meant).state.processes ≡ s.processes
-told_leaves s as_reply (Ok value) = refl
-told_leaves s as_reply (Err why) = refl
+told_leaves : {A : Type 0} (s : Plain) (as_reply : A → Reply) (meant : Result A Refusal) → IsLeft s (told s as_reply meant)
+told_leaves s as_reply (Ok value) = (refl, refl)
+told_leaves s as_reply (Err why) = (refl, refl)
 
 change_leaves : (s : Plain) (p ring : ℕ) (meant : Caller → Result Hierarchy Refusal)
-    → (answered_caller s (asker s.processes p) ring (λ who. changed s (meant who))).state.processes ≡ s.processes
+    → IsLeft s (answered_caller s (asker s.processes p) ring (λ who. changed s (meant who)))
 change_leaves s p ring meant =
     path_leaves s (asker s.processes p) ring (λ who. changed s (meant who)) (λ who. changed_leaves s (meant who))
 
 asking_leaves : {A : Type 0} (s : Plain) (p ring : ℕ) (as_reply : A → Reply) (meant : Caller → Result A Refusal)
-    → (answered_caller s (asker s.processes p) ring (λ who. told s as_reply (meant who))).state.processes ≡ s.processes
+    → IsLeft s (answered_caller s (asker s.processes p) ring (λ who. told s as_reply (meant who)))
 asking_leaves s p ring as_reply meant =
     path_leaves s (asker s.processes p) ring (λ who. told s as_reply (meant who)) (λ who. told_leaves s as_reply (meant who))
 
 pub path_request_leaves : PathLaw
 path_request_leaves s p ring (ask.CreateDir path d1 d2) e = change_leaves s p ring (λ who. create_dir s.hierarchy who path d1 d2)
 path_request_leaves s p ring (ask.CreateSeg path words brackets) e = change_leaves s p ring (λ who. create_seg s.hierarchy who path words brackets)
+path_request_leaves s p ring (ask.CreateObject path words brackets gate) e =
+    change_leaves s p ring (λ who. create_object s.hierarchy who path words brackets (of_gates gate))
 path_request_leaves s p ring (ask.CreateLink path target) e = change_leaves s p ring (λ who. create_link s.hierarchy who path target)
 path_request_leaves s p ring (ask.Rename path name) e = change_leaves s p ring (λ who. rename s.hierarchy who path name)
 path_request_leaves s p ring (ask.Delete path) e = change_leaves s p ring (λ who. delete s.hierarchy who path)
@@ -152,7 +193,10 @@ path_request_leaves s p ring (ask.ChangeWdir path) e = cc
 path_request_leaves s p ring (ask.SetRules rules) e = cc
 path_request_leaves s p ring (ask.Initiate path name) e = cc
 path_request_leaves s p ring (ask.Terminate segno) e = cc
+path_request_leaves s p ring (ask.Wakeup to word) e = cc
+path_request_leaves s p ring ask.Block e = cc
 path_request_leaves s p ring (ask.Link segno word) e = cc
+path_request_leaves s p ring ask.Resume e = cc
 path_request_leaves s p ring ask.Logout e = cc
 
 -- so a request that was refused has left the state, and changed no descriptor

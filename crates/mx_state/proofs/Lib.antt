@@ -10,3 +10,5 @@ pub mod LinkLaws
 pub mod RenewingLaws
 pub mod KnowingLaws
 pub mod LeavingLaws
+pub mod MessageLaws
+pub mod WaitingLaws

@@ -9,6 +9,7 @@ use Rattle.mx_kst.specs.KnownSegments.{KnownSegments}
 use Rattle.mx_kst.specs.Lots.{lot_of}
 use Rattle.mx_kst.specs.declared.lots.Lot.{Lot}
 use Rattle.mx_kst.specs.declared.lots.Lot.TheVariants.{Free, Stack, Branch, Linkage}
+use Rattle.mx_mail.specs.Processes.{PlainProcess}
 use Rattle.mx_request.specs.declared.replies.Reply.{Reply}
 use Rattle.mx_state.specs.declared.applied.Applied.{Applied}
 use Rattle.mx_state.specs.declared.states.ProcessState.{ProcessState}
@@ -31,6 +32,7 @@ in_place s i process = record s { processes = slice_set s.processes i process }
 pub replaced_is_sound : (s : Plain) (i : ℕ) (process : ProcessState) → IsSound s → IsSoundProcess s.hierarchy.next process → IsSound (in_place s i process)
 replaced_is_sound s i process sound own = record {
   process_count = omega (arith, length-set s.processes i process);
+  mail_count = sound.mail_count ∙ sym (length-set s.processes i process);
   processes = λ k other e. by_place k other (slice_get-set s.processes i k process other e);
 }
   where
@@ -98,16 +100,16 @@ kept_changes s p i process other first here e known principal =
     (λ q m. others_stay s p i process other first here e principal q m (λ own. ap (λ (lots : List Lot). lot_of lots m) known))
 
 -- the same as the program's steps
-pub kept_holds : (f : ProcessState → ProcessState) (h : Hierarchy) (processes after : List ProcessState) (i : ℕ) (principal : PlainPrincipal)
+pub kept_holds : (f : ProcessState → ProcessState) (h : Hierarchy) (mail : List PlainProcess) (processes after : List ProcessState) (i : ℕ) (principal : PlainPrincipal)
     (root : List (List ℕ)) → ((process : ProcessState) → (f process).known ≡ process.known) → i < length processes
     → ((process : ProcessState) → slice_get processes i ≡ Some process → after ≡ slice_set processes i (f process))
-    → HoldsSound principal root (plain_state h processes) → HoldsSound principal root (plain_state h after)
-kept_holds f h processes after i principal root known within set holds =
+    → HoldsSound principal root (plain_state h mail processes) → HoldsSound principal root (plain_state h mail after)
+kept_holds f h mail processes after i principal root known within set holds =
     let w = some_in processes i within in
     record {
       initializer_is = holds.initializer_is;
       root_is = holds.root_is;
-      sound = rw (set w.0 w.1) (replaced_is_sound (plain_state h processes) i (f w.0) holds.sound
+      sound = rw (set w.0 w.1) (replaced_is_sound (plain_state h mail processes) i (f w.0) holds.sound
           (kept_is_sound h.next w.0 (f w.0) (known w.0) (holds.sound.processes i w.0 w.1)));
     }
 
@@ -117,21 +119,21 @@ pub to_process : (s : Plain) (p i : ℕ) (process : ProcessState) (given : Proce
 to_process s p i process given low at e =
     rw (ne_eqb p 0 (λ z. omega (arith, z, low)), at, e) refl
 
-pub kept_serves : (f : ProcessState → ProcessState) (h : Hierarchy) (processes after : List ProcessState) (p i : ℕ)
+pub kept_serves : (f : ProcessState → ProcessState) (h : Hierarchy) (mail : List PlainProcess) (processes after : List ProcessState) (p i : ℕ)
     (given : ProcessState → Answer) (reply : Reply) (applied : Applied)
     → ((process : ProcessState) → (f process).known ≡ process.known) → ((process : ProcessState) → (f process).principal ≡ process.principal)
     → 1 ≤ p → p - 1 ≡ i → i < length processes
     → ((process : ProcessState) → slice_get processes i ≡ Some process → after ≡ slice_set processes i (f process))
     → ((process : ProcessState) → slice_get processes i ≡ Some process
-    → given process ≡ answer reply (with_process (plain_state h processes) p (f process)))
+    → given process ≡ answer reply (with_process (plain_state h mail processes) p (f process)))
     → applied ≡ record { reply = reply; changes = [] }
-    → Serves (plain_state h processes) (plain_state h after) (on_process (plain_state h processes) p given) applied
-kept_serves f h processes after p i given reply applied known principal low at within set meant e =
+    → Serves (plain_state h mail processes) (plain_state h mail after) (on_process (plain_state h mail processes) p given) applied
+kept_serves f h mail processes after p i given reply applied known principal low at within set meant e =
     let w = some_in processes i within in
     rw (e, set w.0 w.1) (record {
-      as_meant = to_process (plain_state h processes) p i w.0 given low at w.1 ∙ meant w.0 w.1
-          ∙ ap (λ k. answer reply (plain_state h (slice_set processes k (f w.0)))) at;
-      changes = kept_changes (plain_state h processes) p i w.0 (f w.0) low at w.1 (ap (λ (k : KnownSegments). k.lots) (known w.0)) (principal w.0);
+      as_meant = to_process (plain_state h mail processes) p i w.0 given low at w.1 ∙ meant w.0 w.1
+          ∙ ap (λ k. answer reply (plain_state h mail (slice_set processes k (f w.0)))) at;
+      changes = kept_changes (plain_state h mail processes) p i w.0 (f w.0) low at w.1 (ap (λ (k : KnownSegments). k.lots) (known w.0)) (principal w.0);
       bounded = nothing_is_bounded;
       count = length-set processes i (f w.0);
     })

@@ -14,6 +14,7 @@ use Rattle.mx_kst.proofs.SoundLaws.{number_is}
 use Rattle.mx_kst.specs.declared.lots.Lot.{Lot}
 use Rattle.mx_kst.specs.declared.lots.Lot.TheVariants.{Free, Stack, Branch, Linkage}
 use Rattle.mx_kst.specs.Lots.{number_of}
+use Rattle.mx_mail.specs.Processes.{PlainProcess}
 use Rattle.mx_state.specs.declared.states.ProcessState.{ProcessState}
 use Rattle.mx_state.specs.Changes.{change, AreChanges, IsBefore}
 use Rattle.mx_state.specs.Numbers.{stands_for}
@@ -40,35 +41,35 @@ later_held : (s : Plain) (first : ℕ) (x : ProcessState) (xs : List ProcessStat
 later_held s first x xs uid c h =
     record { place = suc h.place; process = h.process; number = omega (arith, h.number); there = h.there; segno = h.segno; desc = h.desc }
 
-is_held : (s : Plain) (first : ℕ) (processes : List ProcessState) (uid : ℕ) (c : Change) → Contains (held_from s first processes uid) c
+is_held : (s : Plain) (first : ℕ) (processes : List ProcessState) (uid : ℕ) (c : Change) → Contains (held_from s.hierarchy s.processes first processes uid) c
     → IsHeld s first processes uid c
 is_held s first [] uid c h = absurd (nothing_contained c h)
 is_held s first (x ∷ xs) uid c h = by_number (number_of x.known.lots uid) refl h (is_held s (first + 1) xs uid c)
   where
-    by_number : (o : Option ℕ) → number_of x.known.lots uid ≡ o → Contains (held_by s first o (held_from s (first + 1) xs uid)) c
-        → (Contains (held_from s (first + 1) xs uid) c → IsHeld s (first + 1) xs uid c) → IsHeld s first (x ∷ xs) uid c
+    by_number : (o : Option ℕ) → number_of x.known.lots uid ≡ o → Contains (held_by s.hierarchy s.processes first o (held_from s.hierarchy s.processes (first + 1) xs uid)) c
+        → (Contains (held_from s.hierarchy s.processes (first + 1) xs uid) c → IsHeld s (first + 1) xs uid c) → IsHeld s first (x ∷ xs) uid c
     by_number None t k later = later_held s first x xs uid c (later k)
     by_number (Some n) t k later =
-        elim (Contains-cases (change first n (descriptor s first n)) (held_from s (first + 1) xs uid) c k) [
+        elim (Contains-cases (change first n (descriptor s first n)) (held_from s.hierarchy s.processes (first + 1) xs uid) c k) [
           | inl same ↦ subst (IsHeld s first (x ∷ xs) uid) same (record { place = 0; process = x; number = omega arith; there = refl; segno = t; desc = refl })
           | inr rest ↦ later_held s first x xs uid c (later rest)
         ]
 
-held_has : (s : Plain) (p : ℕ) (o : Option ℕ) (changes : List Change) (c : Change) → Contains changes c → Contains (held_by s p o changes) c
+held_has : (s : Plain) (p : ℕ) (o : Option ℕ) (changes : List Change) (c : Change) → Contains changes c → Contains (held_by s.hierarchy s.processes p o changes) c
 held_has s p None changes c h = h
 held_has s p (Some n) changes c h = Contains-append_right (change p n (descriptor s p n) ∷ []) changes c h
 
 all_held : (s : Plain) (first : ℕ) (processes : List ProcessState) (uid place p n : ℕ) (process : ProcessState) → p ≡ place + first
     → slice_get processes place ≡ Some process → number_of process.known.lots uid ≡ Some n
-    → Contains (held_from s first processes uid) (change p n (descriptor s p n))
+    → Contains (held_from s.hierarchy s.processes first processes uid) (change p n (descriptor s p n))
 all_held s first [] uid place p n process number there e = cc
 all_held s first (x ∷ xs) uid zero p n process number there e =
     let same : process ≡ x = cc in
     let at : p ≡ first = omega arith in
     let here : number_of x.known.lots uid ≡ Some n = rw (← same) e in
-    rw (here, at) (Contains-first (change first n (descriptor s first n)) (held_from s (first + 1) xs uid))
+    rw (here, at) (Contains-first (change first n (descriptor s first n)) (held_from s.hierarchy s.processes (first + 1) xs uid))
 all_held s first (x ∷ xs) uid (suc place) p n process number there e =
-    held_has s first (number_of x.known.lots uid) (held_from s (first + 1) xs uid) (change p n (descriptor s p n))
+    held_has s first (number_of x.known.lots uid) (held_from s.hierarchy s.processes (first + 1) xs uid) (change p n (descriptor s p n))
     (all_held s (first + 1) xs uid place p n process (omega arith) there e)
 
 -- what is renewed was held, and is another now
@@ -81,16 +82,16 @@ record IsRenewed (t : Plain) (held : List Change) (c : Change) : Type 0 where
 later_renewed : (t : Plain) (x : Change) (xs : List Change) (c : Change) → IsRenewed t xs c → IsRenewed t (x ∷ xs) c
 later_renewed t x xs c r = record { old = r.old; there = Contains-append_right (x ∷ []) xs r.old r.there; is = r.is; differs = r.differs }
 
-is_renewed : (t : Plain) (held : List Change) (c : Change) → Contains (renewed t held) c → IsRenewed t held c
+is_renewed : (t : Plain) (held : List Change) (c : Change) → Contains (renewed t.hierarchy t.processes held) c → IsRenewed t held c
 is_renewed t [] c h = absurd (nothing_contained c h)
 is_renewed t (x ∷ xs) c h = by_test (same_desc x.desc (descriptor t x.process x.segno)) refl h (is_renewed t xs c)
   where
     by_test : (b : Bool) → same_desc x.desc (descriptor t x.process x.segno) ≡ b
-        → Contains (cond b (renewed t xs) (change x.process x.segno (descriptor t x.process x.segno) ∷ renewed t xs)) c
-        → (Contains (renewed t xs) c → IsRenewed t xs c) → IsRenewed t (x ∷ xs) c
+        → Contains (cond b (renewed t.hierarchy t.processes xs) (change x.process x.segno (descriptor t x.process x.segno) ∷ renewed t.hierarchy t.processes xs)) c
+        → (Contains (renewed t.hierarchy t.processes xs) c → IsRenewed t xs c) → IsRenewed t (x ∷ xs) c
     by_test true e k later = later_renewed t x xs c (later k)
     by_test false e k later =
-        elim (Contains-cases (change x.process x.segno (descriptor t x.process x.segno)) (renewed t xs) c k) [
+        elim (Contains-cases (change x.process x.segno (descriptor t x.process x.segno)) (renewed t.hierarchy t.processes xs) c k) [
           | inl same ↦ record { old = x; there = Contains-first x xs; is = same; differs = e }
           | inr rest ↦ later_renewed t x xs c (later rest)
         ]
@@ -107,36 +108,36 @@ renewed_first : (t : Plain) (p n : ℕ) (d : Descriptor) (changes : List Change)
 renewed_first t p n d changes differs = rw differs (Contains-first (change p n (descriptor t p n)) changes)
 
 all_renewed : (t : Plain) (held : List Change) (p n : ℕ) (d : Descriptor) → Contains held (change p n d) → same_desc d (descriptor t p n) ≡ false
-    → Contains (renewed t held) (change p n (descriptor t p n))
+    → Contains (renewed t.hierarchy t.processes held) (change p n (descriptor t p n))
 all_renewed t [] p n d h differs = absurd (nothing_contained (change p n d) h)
 all_renewed t (x ∷ xs) p n d h differs =
     elim (Contains-cases x xs (change p n d) h) [
-      | inl same ↦ subst (λ y. Contains (renewed_as y (descriptor t y.process y.segno) (renewed t xs)) (change p n (descriptor t p n))) (sym same)
-          (renewed_first t p n d (renewed t xs) differs)
-      | inr rest ↦ renewed_has t x (descriptor t x.process x.segno) (renewed t xs) (change p n (descriptor t p n)) (all_renewed t xs p n d rest differs)
+      | inl same ↦ subst (λ y. Contains (renewed_as y (descriptor t y.process y.segno) (renewed t.hierarchy t.processes xs)) (change p n (descriptor t p n))) (sym same)
+          (renewed_first t p n d (renewed t.hierarchy t.processes xs) differs)
+      | inr rest ↦ renewed_has t x (descriptor t x.process x.segno) (renewed t.hierarchy t.processes xs) (change p n (descriptor t p n)) (all_renewed t xs p n d rest differs)
     ]
 
 -- they are in order
-in_order : (s t : Plain) (first : ℕ) (processes : List ProcessState) (uid : ℕ) → AllPairs IsBefore (renewed t (held_from s first processes uid))
+in_order : (s t : Plain) (first : ℕ) (processes : List ProcessState) (uid : ℕ) → AllPairs IsBefore (renewed t.hierarchy t.processes (held_from s.hierarchy s.processes first processes uid))
 in_order s t first [] uid = AllPairs-none IsBefore
 in_order s t first (x ∷ xs) uid = by_number (number_of x.known.lots uid) (in_order s t (first + 1) xs uid)
   where
-    by_test : (b : Bool) (n : ℕ) → AllPairs IsBefore (renewed t (held_from s (first + 1) xs uid))
-        → AllPairs IsBefore (cond b (renewed t (held_from s (first + 1) xs uid))
-        (change first n (descriptor t first n) ∷ renewed t (held_from s (first + 1) xs uid)))
+    by_test : (b : Bool) (n : ℕ) → AllPairs IsBefore (renewed t.hierarchy t.processes (held_from s.hierarchy s.processes (first + 1) xs uid))
+        → AllPairs IsBefore (cond b (renewed t.hierarchy t.processes (held_from s.hierarchy s.processes (first + 1) xs uid))
+        (change first n (descriptor t first n) ∷ renewed t.hierarchy t.processes (held_from s.hierarchy s.processes (first + 1) xs uid)))
     by_test true n later = later
     by_test false n later =
-        AllPairs-cons IsBefore (change first n (descriptor t first n)) (renewed t (held_from s (first + 1) xs uid))
+        AllPairs-cons IsBefore (change first n (descriptor t first n)) (renewed t.hierarchy t.processes (held_from s.hierarchy s.processes (first + 1) xs uid))
         (λ k e l.
-        let c = get_or (renewed t (held_from s (first + 1) xs uid)) k e in
-        let r = is_renewed t (held_from s (first + 1) xs uid) c (Contains-get_or (renewed t (held_from s (first + 1) xs uid)) k e l) in
+        let c = get_or (renewed t.hierarchy t.processes (held_from s.hierarchy s.processes (first + 1) xs uid)) k e in
+        let r = is_renewed t (held_from s.hierarchy s.processes (first + 1) xs uid) c (Contains-get_or (renewed t.hierarchy t.processes (held_from s.hierarchy s.processes (first + 1) xs uid)) k e l) in
         let h = is_held s (first + 1) xs uid r.old r.there in
         let at : r.old.process ≡ c.process = ap (λ (z : Change). z.process) r.is in
         inl (omega (arith, h.number)))
         later
 
-    by_number : (o : Option ℕ) → AllPairs IsBefore (renewed t (held_from s (first + 1) xs uid))
-        → AllPairs IsBefore (renewed t (held_by s first o (held_from s (first + 1) xs uid)))
+    by_number : (o : Option ℕ) → AllPairs IsBefore (renewed t.hierarchy t.processes (held_from s.hierarchy s.processes (first + 1) xs uid))
+        → AllPairs IsBefore (renewed t.hierarchy t.processes (held_by s.hierarchy s.processes first o (held_from s.hierarchy s.processes (first + 1) xs uid)))
     by_number None later = later
     by_number (Some n) later = by_test (same_desc (descriptor s first n) (descriptor t first n)) n later
 
@@ -181,7 +182,7 @@ known_or_apart s p n uid = by_process (process_at s.processes p) refl
 -- the descriptors of some numbers are held, and all others are as before
 module _ (s t : Plain) (held : List Change) (is : (c : Change) → Contains held c → c.desc ≡ descriptor s c.process c.segno)
     (all : (p n : ℕ) → (Contains held (change p n (descriptor s p n))) ⊎ (descriptor s p n ≡ descriptor t p n)) where
-  pub renewed_each : (p n : ℕ) (d : Descriptor) → Contains (renewed t held) (change p n d) → (descriptor t p n ≡ d) × (descriptor s p n ≢ d)
+  pub renewed_each : (p n : ℕ) (d : Descriptor) → Contains (renewed t.hierarchy t.processes held) (change p n d) → (descriptor t p n ≡ d) × (descriptor s p n ≢ d)
   renewed_each p n d c =
       let r = is_renewed t held (change p n d) c in
       let P : Change → Type 0 = λ c. (descriptor t c.process c.segno ≡ c.desc) × (descriptor s c.process c.segno ≢ c.desc) in
@@ -190,18 +191,18 @@ module _ (s t : Plain) (held : List Change) (is : (c : Change) → Contains held
         (λ same. descs_apart r.old.desc (descriptor t r.old.process r.old.segno) r.differs (is r.old r.there ∙ same)),
       )
 
-  pub renewed_all : (p n : ℕ) → descriptor s p n ≢ descriptor t p n → Contains (renewed t held) (change p n (descriptor t p n))
+  pub renewed_all : (p n : ℕ) → descriptor s p n ≢ descriptor t p n → Contains (renewed t.hierarchy t.processes held) (change p n (descriptor t p n))
   renewed_all p n differ = by_test (same_desc (descriptor s p n) (descriptor t p n)) refl (all p n)
     where
       by_test : (same : Bool) → same_desc (descriptor s p n) (descriptor t p n) ≡ same
           → (Contains held (change p n (descriptor s p n))) ⊎ (descriptor s p n ≡ descriptor t p n)
-          → Contains (renewed t held) (change p n (descriptor t p n))
+          → Contains (renewed t.hierarchy t.processes held) (change p n (descriptor t p n))
       by_test true e stood = absurd (differ (descs_are (descriptor s p n) (descriptor t p n) e))
       by_test false e (inl there) = all_renewed t held p n (descriptor s p n) there e
       by_test false e (inr same) = absurd (differ same)
 
 renewing_changes : (s : Plain) (h : Hierarchy) (uid : ℕ) → IsSound s → IsAsBefore (Only uid) s.hierarchy h
-    → AreChanges s (record s { hierarchy = h }) (renewed (record s { hierarchy = h }) (held_from s 1 s.processes uid))
+    → AreChanges s (record s { hierarchy = h }) (renewed h s.processes (held_from s.hierarchy s.processes 1 s.processes uid))
 renewing_changes s h uid sound before = record {
   each = renewed_each s t held is_old held_or_same;
   all = renewed_all s t held is_old held_or_same;
@@ -212,7 +213,7 @@ renewing_changes s h uid sound before = record {
     t = record s { hierarchy = h }
 
     held : List Change
-    held = held_from s 1 s.processes uid
+    held = held_from s.hierarchy s.processes 1 s.processes uid
 
     is_old : (c : Change) → Contains held c → c.desc ≡ descriptor s c.process c.segno
     is_old c there = (is_held s 1 s.processes uid c there).desc
@@ -237,19 +238,19 @@ renewing_changes s h uid sound before = record {
     ]
 
 -- the same as the program's steps
-pub renewed_are : (h k : Hierarchy) (processes : List ProcessState) (uid : ℕ) (held changes : List Change) → IsSound (plain_state h processes)
-    → IsAsBefore (Only uid) h k → held ≡ held_from (plain_state h processes) 1 processes uid → changes ≡ renewed (plain_state k processes) held
-    → AreChanges (plain_state h processes) (plain_state k processes) changes
-renewed_are h k processes uid held changes sound before first then =
-    rw (then, first) (renewing_changes (plain_state h processes) k uid sound before)
+pub renewed_are : (h k : Hierarchy) (mail : List PlainProcess) (processes : List ProcessState) (uid : ℕ) (held changes : List Change) → IsSound (plain_state h mail processes)
+    → IsAsBefore (Only uid) h k → held ≡ held_from h processes 1 processes uid → changes ≡ renewed k processes held
+    → AreChanges (plain_state h mail processes) (plain_state k mail processes) changes
+renewed_are h k mail processes uid held changes sound before first then =
+    rw (then, first) (renewing_changes (plain_state h mail processes) k uid sound before)
 
 -- two numbers of a process
 pub renewing_two : (s t : Plain) (p segno : ℕ)
     → ((q m : ℕ) → ((q ≡ p) × ((m ≡ segno) ⊎ (m ≡ segno + 1)) → ⊥) → descriptor s q m ≡ descriptor t q m)
-    → AreChanges s t (renewed t (held_two s p segno))
+    → AreChanges s t (renewed t.hierarchy t.processes (held_two s.hierarchy s.processes p segno))
 renewing_two s t p segno others = record {
-  each = renewed_each s t (held_two s p segno) is_old held_or_same;
-  all = renewed_all s t (held_two s p segno) is_old held_or_same;
+  each = renewed_each s t (held_two s.hierarchy s.processes p segno) is_old held_or_same;
+  all = renewed_all s t (held_two s.hierarchy s.processes p segno) is_old held_or_same;
   ordered = ordered (same_desc (descriptor s p segno) (descriptor t p segno))
       (same_desc (descriptor s p (segno + 1)) (descriptor t p (segno + 1)));
 }
@@ -260,20 +261,20 @@ renewing_two s t p segno others = record {
     next : Change
     next = change p (segno + 1) (descriptor s p (segno + 1))
 
-    is_old : (c : Change) → Contains (held_two s p segno) c → c.desc ≡ descriptor s c.process c.segno
+    is_old : (c : Change) → Contains (held_two s.hierarchy s.processes p segno) c → c.desc ≡ descriptor s c.process c.segno
     is_old c there = elim (Contains-cases own (next ∷ []) c there) [
       | inl same ↦ subst (λ (c : Change). c.desc ≡ descriptor s c.process c.segno) same refl
       | inr rest ↦ subst (λ (c : Change). c.desc ≡ descriptor s c.process c.segno) (Contains-one next c rest) refl
     ]
 
-    in_next : Contains (held_two s p segno) next
+    in_next : Contains (held_two s.hierarchy s.processes p segno) next
     in_next = Contains-append_right (own ∷ []) (next ∷ []) next (Contains-first next [])
 
-    held_or_same : (q m : ℕ) → (Contains (held_two s p segno) (change q m (descriptor s q m))) ⊎ (descriptor s q m ≡ descriptor t q m)
+    held_or_same : (q m : ℕ) → (Contains (held_two s.hierarchy s.processes p segno) (change q m (descriptor s q m))) ⊎ (descriptor s q m ≡ descriptor t q m)
     held_or_same q m = by_place (cases_eq q p) (cases_eq m segno) (cases_eq m (segno + 1))
       where
         by_place : (q ≡ p) ⊎ (q ≡ p → ⊥) → (m ≡ segno) ⊎ (m ≡ segno → ⊥) → (m ≡ segno + 1) ⊎ (m ≡ segno + 1 → ⊥)
-            → (Contains (held_two s p segno) (change q m (descriptor s q m))) ⊎ (descriptor s q m ≡ descriptor t q m)
+            → (Contains (held_two s.hierarchy s.processes p segno) (change q m (descriptor s q m))) ⊎ (descriptor s q m ≡ descriptor t q m)
         by_place (inr other) at then = inr (others q m (λ both. other both.0))
         by_place (inl same) (inl at) then = inl (rw (same, at) (Contains-first own (next ∷ [])))
         by_place (inl same) (inr apart) (inl at) = inl (rw (same, at) in_next)

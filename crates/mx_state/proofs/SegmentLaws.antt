@@ -5,6 +5,8 @@ use Rattle.std.specs.Option.{option_and_then}
 use Rattle.mx_name.specs.Identifiers.{PlainAclId}
 use Rattle.mx_acl.specs.Access.{Access, with_entry, without_entry}
 use Rattle.mx_acl.specs.declared.modes.Modes.{Modes}
+use Rattle.mx_acl.specs.declared.modes.Modes.TheVariants.{Re, Rw}
+use Rattle.mx_object.specs.Objects.{PlainObjectMap}
 use Rattle.mx_hier.specs.declared.branches.Branch.{Branch}
 use Rattle.mx_hier.specs.declared.branches.Directory.{Directory}
 use Rattle.mx_hier.specs.declared.branches.Segment.{Segment}
@@ -14,15 +16,17 @@ use Rattle.mx_hier.specs.declared.making.Place.{Place}
 use Rattle.mx_hier.specs.declared.refusals.Refusal.{Refusal}
 use Rattle.mx_hier.specs.declared.refusals.Refusal.TheVariants.{NotADir, BadBrackets, NoPages}
 use Rattle.mx_pages.specs.Runs.{pages_for, run_given}
-use Rattle.mx_hier.specs.Branches.{Hierarchy, branch_of, as_segment, directory_at, segment_at}
+use Rattle.mx_hier.specs.Branches.{Hierarchy, branch_of, as_segment, directory_at, segment_at, object_at}
 use Rattle.mx_hier.specs.Brackets.{settable}
 use Rattle.mx_hier.specs.Callers.{Subject, Caller}
 use Rattle.mx_hier.specs.Changing.{changed, with_node, with_branch, with_acl, acl_changed}
 use Rattle.mx_hier.specs.CreateDirectory.{create_dir, create_dir_at, create_dir_refusals, new_directory}
 use Rattle.mx_hier.specs.CreateLink.{create_link, create_link_at}
-use Rattle.mx_hier.specs.CreateSegment.{create_seg, create_seg_at, create_seg_refusals, new_segment, segment_added}
+use Rattle.mx_hier.specs.CreateObject.{create_object}
+use Rattle.mx_hier.specs.CreateSegment.{create_seg}
 use Rattle.mx_hier.specs.Delete.{delete_at, delete_refusals, without}
 use Rattle.mx_hier.specs.DeleteAclEntry.{del_acl_at, del_acl_refusals}
+use Rattle.mx_hier.specs.MakeSegment.{Wanted, make_segment, make_segment_at, make_segment_refusals, new_segment, segment_added}
 use Rattle.mx_hier.specs.Making.{place, making_refusals, made, added}
 use Rattle.mx_hier.specs.Rename.{rename_at, rename_refusals}
 use Rattle.mx_hier.specs.Rules.{first_of, required, onward, unless}
@@ -30,14 +34,16 @@ use Rattle.mx_hier.specs.SetAcl.{set_acl_at, set_acl_refusals}
 use Rattle.mx_hier.specs.SetBrackets.{set_brackets_at, set_brackets_refusals, with_brackets, bracketed}
 use Rattle.mx_hier.specs.SetDirectoryBrackets.{set_dir_brackets_at, set_dir_brackets_refusals, with_dir_brackets, dir_bracketed}
 use Rattle.mx_hier.specs.Walks.{resolved}
+use Rattle.mx_hier.proofs.ObjectLaws.{found_still}
 
 -- the segment of a uid among branches
 abbrev standing : List Branch → ℕ → Option Segment
 standing branches uid = option_and_then (λ (branch : Branch). as_segment branch.node) (branch_of branches uid)
 
--- all segments made so far stand as they did, but the one of this uid
+-- all segments made so far stand as they did, but the one of this uid, and have the same object maps
 pub record IsAsBefore (but : ℕ → Type 0) (old new : Hierarchy) : Type 0 where
   pub same : (uid : ℕ) → uid < old.next → (but uid → ⊥) → segment_at new uid ≡ segment_at old uid
+  pub maps : (uid : ℕ) → uid < old.next → object_at new uid ≡ object_at old uid
   pub next : old.next ≤ new.next
 
 -- none
@@ -49,7 +55,7 @@ abbrev pub Only : ℕ → ℕ → Type 0
 Only uid u = u ≡ uid
 
 pub as_it_was : (but : ℕ → Type 0) (h : Hierarchy) → IsAsBefore but h h
-as_it_was but h = record { same = λ uid below apart. refl; next = omega arith }
+as_it_was but h = record { same = λ uid below apart. refl; maps = λ uid below. refl; next = omega arith }
 
 -- what a request leaves, where it is not refused
 abbrev pub Leaves : (ℕ → Type 0) → Hierarchy → Result Hierarchy Refusal → Type 0
@@ -76,6 +82,7 @@ added_as_before : (h : Hierarchy) (at : Place) (node : Node) → IsAsBefore Noth
 added_as_before h at node = record {
   same = λ uid below apart. ap (option_and_then (λ (branch : Branch). as_segment branch.node))
       (found_before h.branches (record { uid = h.next; parent = at.dir; name = at.name; node = node }) uid (λ same. omega arith));
+  maps = λ uid below. refl;
   next = omega arith;
 }
 
@@ -113,6 +120,7 @@ changed_as_before : (h : Hierarchy) (at : ℕ) (f : Branch → Branch) → ((x :
     → ((x : Branch) → as_segment (f x).node ≡ as_segment x.node) → IsAsBefore Nothing h (with_branch h at f)
 changed_as_before h at f keeps same = record {
   same = λ uid below apart. changed_standing at f h.branches uid keeps (λ x here there. same x);
+  maps = λ uid below. refl;
   next = omega arith;
 }
 
@@ -121,6 +129,7 @@ changed_but : (h : Hierarchy) (at : ℕ) (f : Branch → Branch) → ((x : Branc
     → IsAsBefore (Only at) h (with_branch h at f)
 changed_but h at f keeps = record {
   same = λ uid below apart. changed_standing at f h.branches uid keeps (λ x here there. absurd (apart (sym there ∙ here)));
+  maps = λ uid below. refl;
   next = omega arith;
 }
 
@@ -144,26 +153,37 @@ create_dir_leaves h who path d1 d2 =
     (λ parent. leaves_ok Nothing h (added h at (IsDirectory (new_directory parent who.subject d1 d2)))
     (added_as_before h at (IsDirectory (new_directory parent who.subject d1 d2))))))
 
-segment_as_before : (h : Hierarchy) (at : Place) (segment : Segment) → IsAsBefore Nothing h (segment_added h at segment)
-segment_as_before h at segment =
-    let before = added_as_before h at (IsSegment segment) in record { same = before.same; next = before.next }
+segment_as_before : (h : Hierarchy) (at : Place) (segment : Segment) (object : Option PlainObjectMap)
+    → IsAsBefore Nothing h (segment_added h at segment object)
+segment_as_before h at segment object =
+    let before = added_as_before h at (IsSegment segment) in
+    record { same = before.same; maps = λ uid below. found_still h.objects h.next uid object (λ same. omega arith); next = before.next }
+
+make_segment_leaves : (h : Hierarchy) (who : Caller) (path : List ℕ) (wanted : Wanted) → Leaves Nothing h (make_segment h who path wanted)
+make_segment_leaves h who path wanted =
+    leaves_onward Nothing h (resolved who path) (λ path. onward (place h who.subject path) (λ at. make_segment_at h who.subject at wanted))
+    (λ path. placed_leaves h who.subject path (λ at. make_segment_at h who.subject at wanted)
+    (λ at. made_leaves h at (make_segment_refusals h who.subject at wanted)
+    (λ parent. onward (required BadBrackets (settable who.subject.ring wanted.rings)) (λ brackets.
+    onward (required NoPages (run_given h.pages (pages_for wanted.words))) (λ page.
+    Ok (segment_added h at (new_segment parent who.subject wanted brackets page) wanted.object))))
+    (λ parent. leaves_onward Nothing h (required BadBrackets (settable who.subject.ring wanted.rings))
+    (λ brackets. onward (required NoPages (run_given h.pages (pages_for wanted.words))) (λ page.
+    Ok (segment_added h at (new_segment parent who.subject wanted brackets page) wanted.object)))
+    (λ brackets. leaves_onward Nothing h (required NoPages (run_given h.pages (pages_for wanted.words)))
+    (λ page. Ok (segment_added h at (new_segment parent who.subject wanted brackets page) wanted.object))
+    (λ page. leaves_ok Nothing h (segment_added h at (new_segment parent who.subject wanted brackets page) wanted.object)
+    (segment_as_before h at (new_segment parent who.subject wanted brackets page) wanted.object))))))
 
 pub create_seg_leaves : (h : Hierarchy) (who : Caller) (path : List ℕ) (words : ℕ) (rings : List ℕ)
     → Leaves Nothing h (create_seg h who path words rings)
 create_seg_leaves h who path words rings =
-    leaves_onward Nothing h (resolved who path) (λ path. onward (place h who.subject path) (λ at. create_seg_at h who.subject at words rings))
-    (λ path. placed_leaves h who.subject path (λ at. create_seg_at h who.subject at words rings)
-    (λ at. made_leaves h at (create_seg_refusals h who.subject at words rings)
-    (λ parent. onward (required BadBrackets (settable who.subject.ring rings)) (λ brackets.
-    onward (required NoPages (run_given h.pages (pages_for words))) (λ page.
-    Ok (segment_added h at (new_segment parent who.subject words brackets page)))))
-    (λ parent. leaves_onward Nothing h (required BadBrackets (settable who.subject.ring rings))
-    (λ brackets. onward (required NoPages (run_given h.pages (pages_for words))) (λ page.
-    Ok (segment_added h at (new_segment parent who.subject words brackets page))))
-    (λ brackets. leaves_onward Nothing h (required NoPages (run_given h.pages (pages_for words)))
-    (λ page. Ok (segment_added h at (new_segment parent who.subject words brackets page)))
-    (λ page. leaves_ok Nothing h (segment_added h at (new_segment parent who.subject words brackets page))
-    (segment_as_before h at (new_segment parent who.subject words brackets page)))))))
+    make_segment_leaves h who path (record { words = words; rings = rings; modes = Rw; object = None })
+
+pub create_object_leaves : (h : Hierarchy) (who : Caller) (path : List ℕ) (words : ℕ) (rings : List ℕ) (object : PlainObjectMap)
+    → Leaves Nothing h (create_object h who path words rings object)
+create_object_leaves h who path words rings object =
+    make_segment_leaves h who path (record { words = words; rings = rings; modes = Re; object = Some object })
 
 pub create_link_leaves : (h : Hierarchy) (who : Caller) (path target : List ℕ) → Leaves Nothing h (create_link h who path target)
 create_link_leaves h who path target =
@@ -191,7 +211,7 @@ set_dir_brackets_leaves h who uid d1 d2 =
   where
     by_root : (root : Bool) → IsAsBefore Nothing h (cond root (record h { root = record h.root { d1 = d1; d2 = d2 } })
         (with_branch h uid (λ branch. with_node (dir_bracketed d1 d2 branch.node) branch)))
-    by_root true = record { same = λ u below apart. refl; next = omega arith }
+    by_root true = record { same = λ u below apart. refl; maps = λ u below. refl; next = omega arith }
     by_root false =
         changed_as_before h uid (λ branch. with_node (dir_bracketed d1 d2 branch.node) branch) (λ x. refl) (λ x. dir_bracketed_stays d1 d2 x.node)
 
@@ -200,7 +220,7 @@ acl_as_before h uid f = by_root (eqb uid 0)
   where
     by_root : (root : Bool) → IsAsBefore (Only uid) h (cond root (record h { root = record h.root { acl = f h.root.acl } })
         (with_branch h uid (λ branch. with_node (acl_changed f branch.node) branch)))
-    by_root true = record { same = λ u below apart. refl; next = omega arith }
+    by_root true = record { same = λ u below apart. refl; maps = λ u below. refl; next = omega arith }
     by_root false = changed_but h uid (λ branch. with_node (acl_changed f branch.node) branch) (λ x. refl)
 
 -- the requests that change one segment alone
@@ -241,5 +261,6 @@ pub delete_leaves : (h : Hierarchy) (who : Subject) (uid : ℕ) → Leaves (Only
 delete_leaves h who uid =
     leaves_unless (Only uid) h (record h { branches = without uid h.branches }) (first_of (delete_refusals h who uid)) (record {
       same = λ u below apart. ap (option_and_then (λ (branch : Branch). as_segment branch.node)) (found_without uid h.branches u apart);
+      maps = λ u below. refl;
       next = omega arith;
     })

@@ -1,8 +1,9 @@
 -- A history of the plain supervisor: what its state is after a journal, and when a journal is right.
-use Rattle.std.specs.Prelude.{◌≡◌, ℕ, ◌*◌, ◌≤◌, false, List, [], ◌∷◌, length, map}
+use Rattle.std.specs.Prelude.{◌≡◌, ℕ, ◌*◌, ◌≤◌, List, [], ◌∷◌, length, map}
 use Rattle.mx_name.specs.Principals.{PlainPrincipal}
 use Rattle.mx_hier.specs.Opening as hierarchy
 use Rattle.mx_kst.specs.KnownSegments.{at_first}
+use Rattle.mx_mail.specs.Processes.{all_running}
 use Rattle.mx_request.specs.Classes.{class_of}
 use Rattle.mx_request.specs.declared.classes.RequestClass.TheVariants.{OfPath}
 use Rattle.mx_request.specs.declared.requests.Request.{Request}
@@ -19,12 +20,15 @@ fresh who = record {
   working_directory = [];
   rules = opening_rules;
   known = at_first;
-  ended = false;
 }
 
--- the state before any entry: the first pages are those of the stacks, eight for each process
+-- the state before any entry: the first pages are those of the stacks, eight for each process, and each process runs
 abbrev pub opening : List PlainPrincipal → Plain
-opening principals = record { hierarchy = hierarchy.opening (8 * length principals); processes = map fresh principals }
+opening principals = record {
+  hierarchy = hierarchy.opening (8 * length principals);
+  processes = map fresh principals;
+  mail = all_running (length principals);
+}
 
 -- the state after these entries
 abbrev pub replay : Plain → List Entry → Plain

@@ -16,10 +16,10 @@ abbrev pub RefusalLaw : Type 0
 RefusalLaw = (s : Plain) (p ring : ℕ) (request : Request) (why : Refusal)
     → (plain s p ring request).reply ≡ Refused why → (plain s p ring request).state ≡ s
 
--- a request on a path leaves what is the processes' own
+-- a request on a path leaves what is the processes' own, and the mail
 abbrev pub PathLaw : Type 0
 PathLaw = (s : Plain) (p ring : ℕ) (request : Request) → class_of request ≡ OfPath
-    → (plain s p ring request).state.processes ≡ s.processes
+    → ((plain s p ring request).state.processes ≡ s.processes) × ((plain s p ring request).state.mail ≡ s.mail)
 
 -- no process knows a number beyond the last
 abbrev pub UnknownLaw : Type 0

@@ -3,12 +3,14 @@ pub mod Askers
 pub mod Numbers
 pub mod Knowing
 pub mod OwnState
+pub mod Messages
 pub mod Requests
 pub mod Table
 pub mod Changes
 pub mod History
 pub mod Serving
 pub mod Laws
+pub mod Waiting
 pub mod Sound
 pub mod Calling
 pub mod Known

@@ -1,5 +1,5 @@
--- `change_wdir PATH`, `set_rules RULE ...` and `logout`: what a process has of its own beside its known segments.
-use Rattle.std.specs.Prelude.{ℕ, true, List, Result, Ok, Err}
+-- `change_wdir PATH` and `set_rules RULE ...`: what a process has of its own beside its known segments.
+use Rattle.std.specs.Prelude.{ℕ, List, Result, Ok, Err}
 use Rattle.mx_hier.specs.declared.refusals.Refusal.{Refusal}
 use Rattle.mx_request.specs.declared.replies.Reply.TheVariants.{Done, Refused}
 use Rattle.mx_search.specs.declared.rules.Rule.{Rule}
@@ -14,7 +14,3 @@ change_wdir s p process (Err why) = answer (Refused why) s
 -- `set_rules`: these are the search rules, in this order
 abbrev pub set_rules : Plain → ℕ → ProcessState → List Rule → Answer
 set_rules s p process rules = answer Done (with_process s p (record process { rules = rules }))
-
--- `logout`: the process has ended; its known segments stay as they were
-abbrev pub logout : Plain → ℕ → ProcessState → Answer
-logout s p process = answer Done (with_process s p (record process { ended = true }))

@@ -1,13 +1,16 @@
 -- The state of the plain supervisor, and its answer to a request.
 use Rattle.std.specs.Prelude.{ℕ, ◌==◌, ◌-◌, List, Option, None, slice_get, slice_set, if◌then◌else◌}
 use Rattle.mx_hier.specs.Branches.{Hierarchy}
+use Rattle.mx_mail.specs.Processes.{PlainProcess}
 use Rattle.mx_request.specs.declared.replies.Reply.{Reply}
 use Rattle.mx_state.specs.declared.states.ProcessState.{ProcessState}
 
--- the hierarchy, and the processes 1, 2, .. in order
+-- The hierarchy; the processes 1, 2, .. in order, with what each has of its own; and of each in the same order whether
+-- it runs, waits or has ended, and the messages that wait for it.
 pub record Plain : Type 0 where
   pub hierarchy : Hierarchy
   pub processes : List ProcessState
+  pub mail : List PlainProcess
 
 -- a reply, and the state after it
 pub record Answer : Type 0 where

@@ -4,6 +4,7 @@ use Rattle.mx_hier.specs.Branches.{Hierarchy}
 use Rattle.mx_hier.specs.ChangeWorkingDirectory.{directory}
 use Rattle.mx_hier.specs.CreateDirectory.{create_dir}
 use Rattle.mx_hier.specs.CreateLink.{create_link}
+use Rattle.mx_hier.specs.CreateObject.{create_object}
 use Rattle.mx_hier.specs.CreateSegment.{create_seg}
 use Rattle.mx_hier.specs.Delete.{delete}
 use Rattle.mx_hier.specs.DeleteAclEntry.{del_acl}
@@ -16,13 +17,15 @@ use Rattle.mx_hier.specs.SetDirectoryBrackets.{set_dir_brackets}
 use Rattle.mx_hier.specs.Status.{status}
 use Rattle.mx_hier.specs.declared.refusals.Refusal.{Refusal}
 use Rattle.mx_kst.specs.Terminating as kst
+use Rattle.mx_object.specs.Objects.{of_gates}
 use Rattle.mx_request.specs.declared.requests.Request.{Request}
 use Rattle.mx_request.specs.declared.requests.Request.TheVariants as ask
 use Rattle.mx_request.specs.declared.replies.Reply.{Reply}
 use Rattle.mx_request.specs.declared.replies.Reply.TheVariants as reply
 use Rattle.mx_state.specs.Askers.{caller, on_path, on_process}
 use Rattle.mx_state.specs.Knowing.{initiate, link, terminate}
-use Rattle.mx_state.specs.OwnState.{change_wdir, set_rules, logout}
+use Rattle.mx_state.specs.Messages.{wakeup, block, logout}
+use Rattle.mx_state.specs.OwnState.{change_wdir, set_rules}
 use Rattle.mx_state.specs.Plain.{Plain, Answer, answer}
 
 -- a request that changes the hierarchy is answered `ok`, or refused
@@ -40,6 +43,8 @@ plain s p ring (ask.CreateDir path d1 d2) =
     on_path s p ring (λ who. changed s (create_dir s.hierarchy who path d1 d2))
 plain s p ring (ask.CreateSeg path words brackets) =
     on_path s p ring (λ who. changed s (create_seg s.hierarchy who path words brackets))
+plain s p ring (ask.CreateObject path words brackets gate) =
+    on_path s p ring (λ who. changed s (create_object s.hierarchy who path words brackets (of_gates gate)))
 plain s p ring (ask.CreateLink path target) =
     on_path s p ring (λ who. changed s (create_link s.hierarchy who path target))
 plain s p ring (ask.Rename path name) =
@@ -65,5 +70,8 @@ plain s p ring (ask.Initiate path name) =
     on_process s p (λ process. initiate s p ring process name (segment s.hierarchy (caller process ring) path))
 plain s p ring (ask.Terminate segno) =
     on_process s p (λ process. terminate s p process (kst.terminate process.known segno))
+plain s p ring (ask.Wakeup to word) = on_process s p (λ process. wakeup s p to word)
+plain s p ring ask.Block = on_process s p (λ process. block s p)
 plain s p ring (ask.Link segno word) = on_process s p (λ process. link s)
-plain s p ring ask.Logout = on_process s p (λ process. logout s p process)
+plain s p ring ask.Resume = on_process s p (λ process. block s p)
+plain s p ring ask.Logout = on_process s p (λ process. logout s p)

@@ -15,6 +15,7 @@ pub record IsSoundProcess (next : ℕ) (process : ProcessState) : Type 0 where
 
 pub record IsSound (s : Plain) : Type 0 where
   pub process_count : length s.processes ≤ 15
+  pub mail_count : length s.mail ≡ length s.processes
   pub processes : (i : ℕ) (process : ProcessState) → slice_get s.processes i ≡ Some process
       → IsSoundProcess s.hierarchy.next process
 

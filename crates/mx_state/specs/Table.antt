@@ -1,5 +1,5 @@
 -- The descriptor that a process has of a segment number: computed from the state alone.
-use Rattle.std.specs.Prelude.{ℕ, ◌+◌, ◌*◌, ◌-◌, true, false, Option, Some, None}
+use Rattle.std.specs.Prelude.{ℕ, ◌+◌, ◌*◌, ◌-◌, true, false, List, Option, Some, None}
 use Rattle.mx_sdw.specs.Descriptors.{unknown_desc, segment_desc}
 use Rattle.mx_sdw.specs.declared.descriptors.Desc.{Desc}
 use Rattle.mx_hier.specs.Branches.{Hierarchy}
@@ -27,5 +27,8 @@ abbrev pub process_desc : Hierarchy → ℕ → Option ProcessState → ℕ → 
 process_desc h p None segno = unknown_desc
 process_desc h p (Some process) segno = standing_desc h p process (stands_for process.known.lots segno)
 
+abbrev pub descriptor_in : Hierarchy → List ProcessState → ℕ → ℕ → Desc
+descriptor_in h processes p segno = process_desc h p (process_at processes p) segno
+
 abbrev pub descriptor : Plain → ℕ → ℕ → Desc
-descriptor s p segno = process_desc s.hierarchy p (process_at s.processes p) segno
+descriptor s p segno = descriptor_in s.hierarchy s.processes p segno

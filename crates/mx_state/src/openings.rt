@@ -45,6 +45,5 @@ fn fresh_process(alloc: Global, principal: &Principal) -> Result<ProcessState, A
         working_directory: Path::root(alloc),
         rules,
         known,
-        ended: false,
     })
 }

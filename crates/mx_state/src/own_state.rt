@@ -1,6 +1,6 @@
 //! Requests on what a process has of its own beside its known segments.
 
-ghost use Rattle.std.specs.Prelude.{◌≡◌, ◌≤◌, ◌<◌, Some, true, length, slice_get, slice_set, vec_len, IfOk, OnErr};
+ghost use Rattle.std.specs.Prelude.{◌≡◌, ◌≤◌, ◌<◌, Some, length, slice_get, slice_set, vec_len, IfOk, OnErr};
 ghost use Rattle.mx_request.specs.declared.requests.Request.TheVariants as ask;
 ghost use Rattle.mx_state.specs.Requests.{plain};
 ghost use Rattle.mx_state.specs.Serving.{Serves};
@@ -58,16 +58,6 @@ impl State {
         search_by(&mut self.processes, i, rules);
         Ok(Applied::unchanged(alloc, Reply::Done))
     }
-
-    /// Ends the process; its known segments stay as they were.
-    pub(crate) fn logout(&mut self, alloc: Global, p: u8, ring: Ring) -> Applied
-        requires some { 1 ≤ p }
-        requires process { p ≤ length self.old.processes }
-        ensures { Serves self.old self.new (plain self.old p ring ask.Logout) result }
-    {
-        end(&mut self.processes, usize::from(p) - 1);
-        Applied::unchanged(alloc, Reply::Done)
-    }
 }
 
 // Makes a directory the working directory of the process in a place.
@@ -88,14 +78,4 @@ fn search_by(processes: &mut Vec<ProcessState>, i: usize, rules: Rules)
     ensures count { vec_len processes.new ≡ vec_len processes.old }
 {
     processes[i].rules = rules;
-}
-
-// Ends the process in a place.
-fn end(processes: &mut Vec<ProcessState>, i: usize)
-    requires within { i < vec_len processes.old }
-    ensures ended { (process : ProcessValue) → slice_get processes.old.items i ≡ Some process
-        → processes.new.items ≡ slice_set processes.old.items i (record process { ended = true }) }
-    ensures count { vec_len processes.new ≡ vec_len processes.old }
-{
-    processes[i].ended = true;
 }

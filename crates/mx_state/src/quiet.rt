@@ -10,6 +10,7 @@ use crate::callers::caller;
 use crate::replies::{done, refused};
 use crate::states::State;
 use mx_name::{EntryName, Pathname};
+use mx_object::ObjectMap;
 use mx_request::Reply;
 use mx_sdw::Ring;
 use std::alloc::{AllocError, Global};
@@ -52,6 +53,31 @@ impl State {
         let processes = self.processes.as_slice();
         let who = caller(&self.initializer, &self.root, processes, p, ring);
         let given = self.hier.create_seg(alloc, &who, path, words, *brackets);
+        let reply = done(given)?;
+        Ok(Applied::unchanged(alloc, reply))
+    }
+
+    pub(crate) fn create_object(
+        &mut self,
+        alloc: Global,
+        p: u8,
+        ring: Ring,
+        path: &Pathname,
+        words: u32,
+        brackets: &[Ring; 3],
+        gate: u16,
+    ) -> Result<Applied, AllocError>
+        requires asker { p ≤ length self.old.processes }
+        ensures served { IfOk result
+            (Serves self.old self.new (plain self.old p ring (ask.CreateObject path.now words brackets.now gate))) }
+        ensures err { OnErr result (self.new ≡ self.old) }
+    {
+        let processes = self.processes.as_slice();
+        let who = caller(&self.initializer, &self.root, processes, p, ring);
+        let object = ObjectMap::of_gates(alloc, gate);
+        let given = self
+            .hier
+            .create_object(alloc, &who, path, words, *brackets, &object);
         let reply = done(given)?;
         Ok(Applied::unchanged(alloc, reply))
     }

@@ -20,7 +20,7 @@ pub(crate) fn held(
 ) -> Result<Vec<Change>, AllocError>
     requires { length processes.now ≤ 15 }
     ensures { IfOk result (λ held. held.items
-        ≡ held_from (record { hierarchy = hier.now; processes = processes.now }) 1 processes.now uid) }
+        ≡ held_from hier.now processes.now 1 processes.now uid) }
 {
     let mut held = Vec::new(alloc);
     let mut p: u8 = 1;
@@ -49,7 +49,7 @@ pub(crate) fn held_two(
     requires few { length processes.now ≤ 15 }
     requires low { segno < 65535 }
     ensures { IfOk result (λ held. held.items
-        ≡ held_two (record { hierarchy = hier.now; processes = processes.now }) p segno) }
+        ≡ held_two hier.now processes.now p segno) }
 {
     let own = Change {
         process: p,
@@ -75,7 +75,7 @@ pub(crate) fn renewed(
     requires few { length processes.now ≤ 15 }
     requires empty { room.items ≡ [] }
     requires room { length held.now ≤ vec_capacity room }
-    ensures value { result ≡ renewed (record { hierarchy = hier.now; processes = processes.now }) held.now }
+    ensures value { result ≡ renewed hier.now processes.now held.now }
     ensures admissible { All (λ change. IsAdmissible change.desc) result }
 {
     let mut changes = room;

@@ -1,10 +1,13 @@
 //! The plain supervisor as a program.
 
-ghost use Rattle.std.specs.Prelude.{◌≡◌, ◌≤◌, length, IfOk, OnErr};
+ghost use Rattle.std.specs.Prelude.{◌≡◌, ◌≤◌, ◌↔◌, ℕ, length, IfOk, IsTrue, OnErr};
 ghost use Rattle.std.specs.List.{All};
 ghost use Rattle.mx_sdw.specs.Admissible.{IsAdmissible};
 ghost use Rattle.mx_state.specs.Changes.{AreChanges, IsBounded};
 ghost use Rattle.mx_state.specs.History.{opening, MayAsk};
+ghost use Rattle.mx_request.specs.declared.replies.Reply.TheVariants as reply;
+ghost use Rattle.mx_request.specs.declared.requests.Request.TheVariants as ask;
+ghost use Rattle.mx_state.specs.Messages.{is_ready};
 ghost use Rattle.mx_state.specs.Plain.{answer};
 ghost use Rattle.mx_state.specs.Requests.{plain};
 ghost use Rattle.mx_state.specs.Serving.{Serves, RefusesQuietly};
@@ -15,6 +18,7 @@ use crate::openings::{fresh_processes, make_initializer};
 use crate::tables::descriptor;
 use mx_hier::Hier;
 use mx_kst::Kst;
+use mx_mail::Mail;
 use mx_name::{Path, Principal};
 use mx_request::Request;
 use mx_sdw::{Desc, Ring};
@@ -22,24 +26,24 @@ use mx_search::Rules;
 use std::alloc::{AllocError, Global};
 use std::marker::Model;
 
-/// A process: its principal, its working directory, its search rules, its known segment table, and whether it has
-/// ended.
+/// What a process has of its own: its principal, its working directory, its search rules and its known segment table.
 #[derive(Debug, Drop)]
 pub struct ProcessState {
     pub principal: Principal,
     pub working_directory: Path,
     pub rules: Rules,
     pub known: Kst,
-    pub ended: bool,
 }
 
-/// The state of the plain supervisor: the hierarchy, and the processes 1 to 15.
+/// The state of the plain supervisor: the hierarchy, the processes 1 to 15, and the mail, which also knows of each
+/// whether it runs, waits or has ended.
 #[derive(Debug, Drop)]
 pub struct State {
     pub(crate) hier: Hier,
     pub(crate) initializer: Principal,
     pub(crate) root: Path,
     pub(crate) processes: Vec<ProcessState>,
+    pub(crate) mail: Mail,
 }
 
 impl Model for State {
@@ -48,10 +52,11 @@ impl Model for State {
 
     ghost Value = { Plain };
 
-    ghost view = { λ a. record { hierarchy = a.hier; processes = a.processes.items } };
+    ghost view = { λ a. record { hierarchy = a.hier; processes = a.processes.items; mail = a.mail } };
 
     ghost invariant = { λ a.
-        HoldsSound a.initializer a.root (record { hierarchy = a.hier; processes = a.processes.items }) };
+        HoldsSound a.initializer a.root
+        (record { hierarchy = a.hier; processes = a.processes.items; mail = a.mail }) };
 }
 
 impl State {
@@ -64,11 +69,13 @@ impl State {
         let processes = fresh_processes(alloc, principals)?;
         // Each process has eight stacks, of one page each.
         let hier = Hier::new(alloc, 8 * principals.len() as u32)?;
+        let mail = Mail::new(alloc, principals.len() as u8)?;
         Ok(State {
             hier,
             initializer: make_initializer(),
             root: Path::root(alloc),
             processes,
+            mail,
         })
     }
 
@@ -112,6 +119,12 @@ impl State {
                 words,
                 brackets,
             } => self.create_seg(alloc, p, ring, path, *words, brackets),
+            Request::CreateObject {
+                path,
+                words,
+                brackets,
+                gate,
+            } => self.create_object(alloc, p, ring, path, *words, brackets, *gate),
             Request::CreateLink { path, target } => self.create_link(alloc, p, ring, path, target),
             Request::Rename { path, name } => self.rename(alloc, p, ring, path, name),
             Request::Delete { path } => self.delete(alloc, p, ring, path),
@@ -131,9 +144,24 @@ impl State {
                 self.initiate(alloc, p, ring, path, name.as_ref())
             }
             Request::Terminate { segno } => self.terminate(alloc, p, ring, *segno),
+            Request::Wakeup { to, word } => self.wakeup(alloc, p, ring, *to, *word),
+            Request::Block => Ok(self.block(alloc, p, ring)),
             Request::Link { segno, word } => Ok(self.link(alloc, p, ring, *segno, *word)),
+            Request::Resume => Ok(self.block(alloc, p, ring)),
             Request::Logout => Ok(self.logout(alloc, p, ring)),
         }
+    }
+
+    /// Whether `block` or `resume` by process `p` would be answered by a message or by `nobody`, and not by `waiting`.
+    /// Takes no memory.
+    pub fn ready(&self, p: u8) -> bool
+        requires some { 1 ≤ p }
+        requires process { p ≤ length self.now.processes }
+        ensures value { result ≡ is_ready self.now p }
+        ensures block { (ring : ℕ) → IsTrue result ↔ ((plain self.now p ring ask.Block).reply ≡ reply.Waiting → ⊥) }
+        ensures resume { (ring : ℕ) → IsTrue result ↔ ((plain self.now p ring ask.Resume).reply ≡ reply.Waiting → ⊥) }
+    {
+        self.mail.ready(p)
     }
 
     /// The descriptor that process `p` has of a segment number: unknown where the number stands for nothing, as it does

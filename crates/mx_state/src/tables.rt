@@ -4,7 +4,7 @@ ghost use Rattle.std.specs.Prelude.{◌≡◌, ◌≤◌, ◌<◌, true, false, 
 ghost use Rattle.mx_kst.specs.Sections.{IsWithinPage};
 ghost use Rattle.mx_sdw.specs.Admissible.{IsAdmissible};
 ghost use Rattle.mx_sdw.specs.Descriptors.{segment_desc};
-ghost use Rattle.mx_state.specs.Table.{stack_desc, descriptor};
+ghost use Rattle.mx_state.specs.Table.{stack_desc, descriptor_in};
 
 use crate::callers::process_at;
 use crate::states::ProcessState;
@@ -15,7 +15,7 @@ use mx_sdw::{Brackets, Desc, Ring};
 /// The descriptor that process `p` has of a segment number.
 pub(crate) fn descriptor(hier: &Hier, processes: &[ProcessState], p: u8, segno: u16) -> Desc
     requires { length processes.now ≤ 15 }
-    ensures value { result ≡ descriptor (record { hierarchy = hier.now; processes = processes.now }) p segno }
+    ensures value { result ≡ descriptor_in hier.now processes.now p segno }
     ensures admissible { IsAdmissible result }
 {
     let Some(process) = process_at(processes, p) else {

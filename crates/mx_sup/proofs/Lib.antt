@@ -1,3 +1,4 @@
+pub mod ReplyLaws
 pub mod HistoryLaws
 pub mod PartLaws
 pub mod SetupLaws

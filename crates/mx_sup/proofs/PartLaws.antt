@@ -4,13 +4,14 @@ use Rattle.std.proofs.lemmas.Bool.Decides.{nat_tests}
 use Rattle.std.proofs.lemmas.List.{drop_all}
 use Rattle.std.specs.List.{slice_get}
 use Rattle.mx_call.specs.Registers.{Registers}
-use Rattle.mx_legal.specs.Asking.{result_of}
+use Rattle.mx_legal.specs.Asking.{replied, result_of}
 use Rattle.mx_legal.specs.Courses.{Attempt, Answer}
 use Rattle.mx_legal.specs.Legal.{Call, call_of, setup_call, setup_entries}
-use Rattle.mx_legal.specs.Next.{Calls}
+use Rattle.mx_legal.specs.Lines.{IsEnd}
+use Rattle.mx_legal.specs.Next.{Next, Calls, Ends}
 use Rattle.mx_legal.specs.Openings.{opening_registers}
 use Rattle.mx_legal.specs.Parts.{AreDone}
-use Rattle.mx_legal.specs.Scripts.{numbered}
+use Rattle.mx_legal.specs.Scripts.{numbered, first_line}
 use Rattle.mx_legal.specs.Settings.{Setting, entry_at}
 use Rattle.mx_legal.specs.Standing.{own_setting}
 use Rattle.mx_legal.specs.Transcripts.{Step, events_of, entries_named, numbers_from}
@@ -23,7 +24,12 @@ use Rattle.mx_request.specs.declared.requests.Request.{Request}
 use Rattle.mx_script.specs.Sessions.{Outline, limit_of}
 use Rattle.mx_script.specs.declared.lines.Line.TheVariants.{Ask}
 use Rattle.mx_state.specs.declared.journal.Entry as journaled
-use Rattle.mx_sup.specs.Setups.{setup_step, setup_steps}
+use Rattle.mx_state.specs.History.{opening, IsRight}
+use Rattle.mx_state.specs.Plain.{Plain}
+use Rattle.mx_state.specs.Requests.{plain}
+use Rattle.mx_sup.specs.Setups.{setup_step, setup_steps, setup_part}
+use Rattle.mx_legal.proofs.AwaitLaws.{replied_so}
+use Rattle.mx_sup.proofs.ReplyLaws.{path_waits}
 use Rattle.mx_ties.specs.Ran.{IsSetUp}
 use Rattle.mx_ties.specs.Views.{cores}
 
@@ -48,17 +54,22 @@ same_full : (full : Bool) (requests : List Request) → full ≡ true → IsFull
 same_full full [] e = tt
 same_full full (request ∷ requests) e = e
 
+-- a line ends with each of their replies
+abbrev AreLast : Registers → List journaled.Entry → Type 0
+AreLast g [] = Unit {0}
+AreLast g (entry ∷ entries) = (replied g entry.request entry.reply ≡ Ends (result_of entry.reply) g) × AreLast g entries
+
 lines_done : (s : Setting) (g : Registers) (number first : ℕ) (entries : List journaled.Entry) (requests : List Request)
-    → s.process ≡ 0 → g.ring ≡ 0 → AreCalls entries requests → StandFrom s.journal first entries → IsFullWhere s.full entries requests
+    → s.process ≡ 0 → g.ring ≡ 0 → AreLast g entries → AreCalls entries requests → StandFrom s.journal first entries → IsFullWhere s.full entries requests
     → AreDone s g (numbered number (map Ask requests)) (setup_steps number first entries requests) [] g
-lines_done s g number first entries [] p r calls stand full = (refl, refl)
-lines_done s g number first [] (request ∷ requests) p r calls stand full = (
+lines_done s g number first entries [] p r last calls stand full = (refl, refl)
+lines_done s g number first [] (request ∷ requests) p r last calls stand full = (
   refl,
   g,
   record { course = Attempt []; so_far = refl; end = (full, refl, refl) },
-  lines_done s g (suc number) first [] requests p r tt tt (same_full s.full requests full),
+  lines_done s g (suc number) first [] requests p r tt tt tt (same_full s.full requests full),
 )
-lines_done s g number first (entry ∷ entries) (request ∷ requests) p r calls stand full = (
+lines_done s g number first (entry ∷ entries) (request ∷ requests) p r last calls stand full = (
   refl,
   g,
   record {
@@ -74,9 +85,9 @@ lines_done s g number first (entry ∷ entries) (request ∷ requests) p r calls
       },
       refl,
     );
-    end = (refl, refl);
+    end = subst (λ (n : Next). IsEnd s g n (result_of entry.reply) g) (sym last.0) (refl, refl);
   },
-  lines_done s g (suc number) (suc first) entries requests p r calls.1 stand.1 full,
+  lines_done s g (suc number) (suc first) entries requests p r last.1 calls.1 stand.1 full,
 )
   where
     same_call : (entry : journaled.Entry) (request : Request) (ring : ℕ) → ring ≡ 0 → call_of entry ≡ setup_call request
@@ -93,6 +104,10 @@ not_full reply.Done e = cc
 not_full (reply.Status status) e = cc
 not_full (reply.Names names) e = cc
 not_full (reply.Segno known) e = cc
+not_full reply.Sent e = cc
+not_full (reply.Message sender word) e = cc
+not_full reply.Nobody e = cc
+not_full reply.Waiting e = cc
 
 full_past : (number first : ℕ) (entries : List journaled.Entry) (requests : List Request) (place : ℕ) (step : Step)
     → length entries ≤ place → slice_get (setup_steps number first entries requests) place ≡ Some step
@@ -174,23 +189,37 @@ full_where limit entries [] most h = tt
 full_where limit [] (request ∷ requests) most h = let e : limit ≤ most = h (omega arith) in grind (arith, nat_tests)
 full_where limit (entry ∷ entries) (request ∷ requests) most h = full_where limit entries requests most (λ l. h (omega (arith, l)))
 
+-- the initializer's replies are to requests on paths, which nobody waits for
+are_last : (g : Registers) (s : Plain) (entries : List journaled.Entry) (requests : List Request) → IsRight s entries
+    → AreCalls entries requests → AreLast g entries
+are_last g s [] requests right calls = tt
+are_last g s (entry ∷ entries) [] right calls = absurd calls
+are_last g s (entry ∷ entries) (request ∷ requests) right calls = (
+  replied_so g entry.request entry.reply
+      (λ waits. path_waits s entry.process entry.ring entry.request
+      (right.0.maker.1 (ap (λ (c : Call). c.process) calls.0)) (right.0.reply ∙ waits)),
+  are_last g (plain s entry.process entry.ring entry.request).state entries requests right.1 calls.1,
+)
+
 pub part_is_set_up : (x : Outline) (journal : List journaled.Entry) → length journal ≡ setup_entries x
-    → map call_of journal ≡ take (setup_entries x) (map setup_call x.setup)
-    → IsSetUp x journal (setup_steps 2 1 journal x.setup)
-part_is_set_up x journal n c =
+    → map call_of journal ≡ take (setup_entries x) (map setup_call x.setup) → IsRight (opening x.principals) journal
+    → IsSetUp x journal (setup_part x journal)
+part_is_set_up x journal n c right =
+    let first = first_line x 0 in
     let calls = are_calls journal x.setup (setup_entries x) n c in
+    let last = are_last (opening_registers 0) (opening x.principals) journal x.setup right calls in
     record {
       after = opening_registers 0;
       lines = λ d agrees.
-          lines_done (own_setting x journal (length journal) 0 d) (opening_registers 0) 2 1 journal x.setup refl refl calls (stand [] journal)
+          lines_done (own_setting x journal (length journal) 0 d) (opening_registers 0) first 1 journal x.setup refl refl last calls (stand [] journal)
           (full_where (limit_of x) journal x.setup (length journal) (λ l. omega (arith, n, l)));
-      full = record { each = λ place step h e. (full_past 2 1 journal x.setup place step (omega (arith, n, h)) e).0 };
+      full = record { each = λ place step h e. (full_past first 1 journal x.setup place step (omega (arith, n, h)) e).0 };
       none_after_full = record {
         none = λ place later full step e f l g.
-            ap entries_named (full_past 2 1 journal x.setup later step (omega (arith, l, full_only 2 1 journal x.setup place full e f)) g).1;
+            ap entries_named (full_past first 1 journal x.setup later step (omega (arith, l, full_only first 1 journal x.setup place full e f)) g).1;
       };
-      calls = named 2 1 journal x.setup calls;
-      quiet = quiet 2 1 journal x.setup;
+      calls = named first 1 journal x.setup calls;
+      quiet = quiet first 1 journal x.setup;
     }
 
 -- the part line by line
@@ -199,73 +228,73 @@ at_place [] i x e = absurd (cc)
 at_place (y ∷ xs) zero x e = cc
 at_place (y ∷ xs) (suc i) x e = at_place xs i x e
 
-next_entry : (journal : List journaled.Entry) (requests : List Request) (steps steps' : List Step) (i : ℕ) (entry : journaled.Entry) (request : Request)
-    → setup_steps 2 1 journal requests ≡ steps ++ setup_steps (2 + i) (1 + i) (drop i journal) (drop i requests)
+next_entry : (first : ℕ) (journal : List journaled.Entry) (requests : List Request) (steps steps' : List Step) (i : ℕ) (entry : journaled.Entry) (request : Request)
+    → setup_steps first 1 journal requests ≡ steps ++ setup_steps (first + i) (1 + i) (drop i journal) (drop i requests)
     → slice_get journal i ≡ Some entry → slice_get requests i ≡ Some request
-    → steps' ≡ steps ++ (2 + i, Entry (i + 1) ∷ [], result_of entry.reply) ∷ []
-    → setup_steps 2 1 journal requests ≡ steps' ++ setup_steps (2 + (i + 1)) (1 + (i + 1)) (drop (i + 1) journal) (drop (i + 1) requests)
-next_entry journal requests steps steps' i entry request whole at asked more =
-    let here : setup_steps (2 + i) (1 + i) (drop i journal) (drop i requests)
-    ≡ (2 + i, Entry (1 + i) ∷ [], result_of entry.reply) ∷ setup_steps (suc (2 + i)) (suc (1 + i)) (drop (suc i) journal) (drop (suc i) requests)
+    → steps' ≡ steps ++ (first + i, Entry (i + 1) ∷ [], result_of entry.reply) ∷ []
+    → setup_steps first 1 journal requests ≡ steps' ++ setup_steps (first + (i + 1)) (1 + (i + 1)) (drop (i + 1) journal) (drop (i + 1) requests)
+next_entry first journal requests steps steps' i entry request whole at asked more =
+    let here : setup_steps (first + i) (1 + i) (drop i journal) (drop i requests)
+    ≡ (first + i, Entry (1 + i) ∷ [], result_of entry.reply) ∷ setup_steps (suc (first + i)) (suc (1 + i)) (drop (suc i) journal) (drop (suc i) requests)
     = rw (at_place journal i entry at, at_place requests i request asked) refl in
-    let a : suc (2 + i) ≡ 2 + (i + 1) = omega arith in
+    let a : suc (first + i) ≡ first + (i + 1) = omega arith in
     let b : suc (1 + i) ≡ 1 + (i + 1) = omega arith in
     let d : suc i ≡ i + 1 = omega arith in
     let f : 1 + i ≡ i + 1 = omega arith in
     whole ∙ ap (λ (rest : List Step). steps ++ rest) here
-    ∙ rw (a, b, d, f, more) (sym (append_assoc steps ((2 + i, Entry (i + 1) ∷ [], result_of entry.reply) ∷ []) _))
+    ∙ rw (a, b, d, f, more) (sym (append_assoc steps ((first + i, Entry (i + 1) ∷ [], result_of entry.reply) ∷ []) _))
 
-next_full : (journal : List journaled.Entry) (requests : List Request) (steps steps' : List Step) (i : ℕ) (request : Request)
-    → setup_steps 2 1 journal requests ≡ steps ++ setup_steps (2 + i) (1 + i) (drop i journal) (drop i requests)
+next_full : (first : ℕ) (journal : List journaled.Entry) (requests : List Request) (steps steps' : List Step) (i : ℕ) (request : Request)
+    → setup_steps first 1 journal requests ≡ steps ++ setup_steps (first + i) (1 + i) (drop i journal) (drop i requests)
     → length journal ≤ i → slice_get requests i ≡ Some request
-    → steps' ≡ steps ++ (2 + i, [], HistoryFull) ∷ []
-    → setup_steps 2 1 journal requests ≡ steps' ++ setup_steps (2 + (i + 1)) (1 + (i + 1)) (drop (i + 1) journal) (drop (i + 1) requests)
-next_full journal requests steps steps' i request whole past asked more =
+    → steps' ≡ steps ++ (first + i, [], HistoryFull) ∷ []
+    → setup_steps first 1 journal requests ≡ steps' ++ setup_steps (first + (i + 1)) (1 + (i + 1)) (drop (i + 1) journal) (drop (i + 1) requests)
+next_full first journal requests steps steps' i request whole past asked more =
     let none : drop i journal ≡ [] = drop_all i journal past in
     let none_more : drop (i + 1) journal ≡ [] = drop_all (i + 1) journal (omega (arith, past)) in
-    let here : setup_steps (2 + i) (1 + i) (drop i journal) (drop i requests)
-    ≡ (2 + i, [], HistoryFull) ∷ setup_steps (suc (2 + i)) (1 + i) [] (drop (suc i) requests)
+    let here : setup_steps (first + i) (1 + i) (drop i journal) (drop i requests)
+    ≡ (first + i, [], HistoryFull) ∷ setup_steps (suc (first + i)) (1 + i) [] (drop (suc i) requests)
     = rw (none, at_place requests i request asked) refl in
-    let a : suc (2 + i) ≡ 2 + (i + 1) = omega arith in
+    let a : suc (first + i) ≡ first + (i + 1) = omega arith in
     let d : suc i ≡ i + 1 = omega arith in
     whole ∙ ap (λ (rest : List Step). steps ++ rest) here
-    ∙ rw (a, d, none_more, more, none_left (2 + (i + 1)) (1 + i) (1 + (i + 1)) (drop (i + 1) requests))
-    (sym (append_assoc steps ((2 + i, [], HistoryFull) ∷ []) _))
+    ∙ rw (a, d, none_more, more, none_left (first + (i + 1)) (1 + i) (1 + (i + 1)) (drop (i + 1) requests))
+    (sym (append_assoc steps ((first + i, [], HistoryFull) ∷ []) _))
   where
-    none_left : (number first other : ℕ) (requests : List Request) → setup_steps number first [] requests ≡ setup_steps number other [] requests
-    none_left number first other [] = refl
-    none_left number first other (request ∷ requests) = ap (λ (rest : List Step). (number, [], HistoryFull) ∷ rest) (none_left (suc number) first other requests)
+    none_left : (number one other : ℕ) (requests : List Request) → setup_steps number one [] requests ≡ setup_steps number other [] requests
+    none_left number one other [] = refl
+    none_left number one other (request ∷ requests) = ap (λ (rest : List Step). (number, [], HistoryFull) ∷ rest) (none_left (suc number) one other requests)
 
 past_end : (journal : List journaled.Entry) (i : ℕ) → slice_get journal i ≡ None → length journal ≤ i
 past_end [] i e = omega arith
 past_end (entry ∷ journal) zero e = absurd (cc)
 past_end (entry ∷ journal) (suc i) e = omega (arith, past_end journal i e)
 
-next_line : (journal : List journaled.Entry) (requests : List Request) (steps events_steps : List Step) (events : List Event2) (i : ℕ)
+next_line : (first : ℕ) (journal : List journaled.Entry) (requests : List Request) (steps events_steps : List Step) (events : List Event2) (i : ℕ)
     (at : Option journaled.Entry) (request : Request)
-    → setup_steps 2 1 journal requests ≡ steps ++ setup_steps (2 + i) (1 + i) (drop i journal) (drop i requests) → events ≡ []
+    → setup_steps first 1 journal requests ≡ steps ++ setup_steps (first + i) (1 + i) (drop i journal) (drop i requests) → events ≡ []
     → at ≡ slice_get journal i → slice_get requests i ≡ Some request
-    → events_steps ≡ steps ++ setup_step i events at ∷ []
-    → setup_steps 2 1 journal requests ≡ events_steps ++ setup_steps (2 + (i + 1)) (1 + (i + 1)) (drop (i + 1) journal) (drop (i + 1) requests)
-next_line journal requests steps steps' events i None request whole none at asked more =
-    next_full journal requests steps steps' i request whole (past_end journal i (sym at)) asked
-    (more ∙ ap (λ (e : List Event2). steps ++ (2 + i, e, HistoryFull) ∷ []) none)
-next_line journal requests steps steps' events i (Some entry) request whole none at asked more =
-    next_entry journal requests steps steps' i entry request whole (sym at) asked
-    (more ∙ ap (λ (e : List Event2). steps ++ (2 + i, e ++ Entry (i + 1) ∷ [], result_of entry.reply) ∷ []) none)
+    → events_steps ≡ steps ++ setup_step first i events at ∷ []
+    → setup_steps first 1 journal requests ≡ events_steps ++ setup_steps (first + (i + 1)) (1 + (i + 1)) (drop (i + 1) journal) (drop (i + 1) requests)
+next_line first journal requests steps steps' events i None request whole none at asked more =
+    next_full first journal requests steps steps' i request whole (past_end journal i (sym at)) asked
+    (more ∙ ap (λ (e : List Event2). steps ++ (first + i, e, HistoryFull) ∷ []) none)
+next_line first journal requests steps steps' events i (Some entry) request whole none at asked more =
+    next_entry first journal requests steps steps' i entry request whole (sym at) asked
+    (more ∙ ap (λ (e : List Event2). steps ++ (first + i, e ++ Entry (i + 1) ∷ [], result_of entry.reply) ∷ []) none)
 
 request_at : (requests : List Request) (i : ℕ) → i < length requests → (request : Request) × (slice_get requests i ≡ Some request)
 request_at [] i h = absurd (omega (arith, h))
 request_at (request ∷ requests) zero h = (request, refl)
 request_at (request ∷ requests) (suc i) h = request_at requests i (omega (arith, h))
 
-pub next_recorded : (journal : List journaled.Entry) (requests : List Request) (steps still steps' : List Step) (before events : List Event2) (i : ℕ)
+pub next_recorded : (first : ℕ) (journal : List journaled.Entry) (requests : List Request) (steps still steps' : List Step) (before events : List Event2) (i : ℕ)
     (at : Option journaled.Entry)
-    → setup_steps 2 1 journal requests ≡ steps ++ setup_steps (2 + i) (1 + i) (drop i journal) (drop i requests)
+    → setup_steps first 1 journal requests ≡ steps ++ setup_steps (first + i) (1 + i) (drop i journal) (drop i requests)
     → still ≡ steps → events ≡ before → before ≡ [] → at ≡ slice_get journal i → i < length requests
-    → steps' ≡ still ++ setup_step i events at ∷ []
-    → setup_steps 2 1 journal requests ≡ steps' ++ setup_steps (2 + (i + 1)) (1 + (i + 1)) (drop (i + 1) journal) (drop (i + 1) requests)
-next_recorded journal requests steps still steps' before events i at whole same kept none there within more =
+    → steps' ≡ still ++ setup_step first i events at ∷ []
+    → setup_steps first 1 journal requests ≡ steps' ++ setup_steps (first + (i + 1)) (1 + (i + 1)) (drop (i + 1) journal) (drop (i + 1) requests)
+next_recorded first journal requests steps still steps' before events i at whole same kept none there within more =
     let asked = request_at requests i within in
-    next_line journal requests steps steps' events i at asked.0 whole (kept ∙ none) there asked.1
-    (more ∙ ap (λ (s : List Step). s ++ setup_step i events at ∷ []) same)
+    next_line first journal requests steps steps' events i at asked.0 whole (kept ∙ none) there asked.1
+    (more ∙ ap (λ (s : List Step). s ++ setup_step first i events at ∷ []) same)

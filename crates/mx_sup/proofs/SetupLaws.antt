@@ -4,6 +4,7 @@ use Rattle.std.proofs.lemmas.List.{map-append}
 use Rattle.std.proofs.lemmas.Option.{slice_get_within}
 use Rattle.std.specs.List.{slice_get}
 use Rattle.mx_legal.specs.Legal.{Call, call_of, setup_call, setup_entries}
+use Rattle.mx_legal.specs.Scripts.{first_line}
 use Rattle.mx_legal.specs.Transcripts.{Step}
 use Rattle.mx_request.specs.declared.replies.Reply.{Reply}
 use Rattle.mx_request.specs.declared.requests.Request.{Request}
@@ -15,7 +16,7 @@ use Rattle.mx_state.specs.declared.journal.Entry as journaled
 use Rattle.mx_sup.proofs.HistoryLaws.{replay_more, right_more}
 use Rattle.mx_sup.proofs.PartLaws.{part_is_set_up}
 use Rattle.mx_sup.specs.Entering.{IsOpened}
-use Rattle.mx_sup.specs.Setups.{HasSetUp, IsEntered, setup_entry, setup_steps}
+use Rattle.mx_sup.specs.Setups.{HasSetUp, IsEntered, setup_entry, setup_part}
 use Rattle.mx_sup.specs.Supervised.{supervised, IsHistory, IsKept}
 use Rattle.mx_ties.specs.Ran.{IsSetUp}
 
@@ -86,14 +87,14 @@ opened_kept x s journal session h = record {
 }
 
 pub opened : (x : Outline) (s : Plain) (journal : List journaled.Entry) (steps : List Step) → HasSetUp x (setup_entries x) s journal
-    → steps ≡ setup_steps 2 1 journal x.setup → IsOpened x (supervised x journal) steps
+    → steps ≡ setup_part x journal → IsOpened x (supervised x journal) steps
 opened x s journal steps h e = record {
   session = refl;
   only = h.many;
   history = opened_history x s journal h;
-  part = subst (IsSetUp x journal) (sym e) (part_is_set_up x journal h.many h.calls);
+  part = subst (IsSetUp x journal) (sym e) (part_is_set_up x journal h.many h.calls h.right);
 }
 
 -- line numbers have 32 bits
-pub small : (x : Outline) (i : ℕ) → IsSession x → i < length x.setup → 3 + i < 2 ^ 32
+pub small : (x : Outline) (i : ℕ) → IsSession x → i < length x.setup → first_line x 0 + i + 1 < 2 ^ 32
 small x i s h = let l = s.lines in omega (arith, l, h)

@@ -2,6 +2,7 @@
 use Rattle.std.specs.Prelude.{◌≡◌, ℕ, suc, ◌+◌, Option, Some, None, List, [], ◌∷◌, ◌++◌, map, take, length}
 use Rattle.mx_legal.specs.Asking.{result_of}
 use Rattle.mx_legal.specs.Legal.{call_of, setup_call}
+use Rattle.mx_legal.specs.Scripts.{first_line}
 use Rattle.mx_legal.specs.Transcripts.{Step}
 use Rattle.mx_legal.specs.declared.transcripts.Event2.{Event2}
 use Rattle.mx_legal.specs.declared.transcripts.Event2.TheVariants.{Entry}
@@ -23,10 +24,15 @@ setup_steps number first [] (request ∷ requests) =
 setup_steps number first (entry ∷ entries) (request ∷ requests) =
     (number, Entry first ∷ [], result_of entry.reply) ∷ setup_steps (suc number) (suc first) entries requests
 
--- the line at this place, counted from 0, after these events
-abbrev pub setup_step : ℕ → List Event2 → Option journaled.Entry → Step
-setup_step place events None = (2 + place, events, HistoryFull)
-setup_step place events (Some entry) = (2 + place, events ++ Entry (place + 1) ∷ [], result_of entry.reply)
+-- the initializer's part, where these are the setup's entries
+abbrev pub setup_part : Outline → List journaled.Entry → List Step
+setup_part x journal = setup_steps (first_line x 0) 1 journal x.setup
+
+-- the line at this place, counted from 0, of a setup whose first line has this number, after these events
+abbrev pub setup_step : ℕ → ℕ → List Event2 → Option journaled.Entry → Step
+setup_step first place events None = (first + place, events, HistoryFull)
+setup_step first place events (Some entry) =
+    (first + place, events ++ Entry (place + 1) ∷ [], result_of entry.reply)
 
 -- the first so many requests of the setup were entered
 pub record HasSetUp (x : Outline) (count : ℕ) (now : Plain) (journal : List journaled.Entry) : Type 0 where

@@ -5,9 +5,9 @@ ghost use Rattle.std.specs.Option.{option_map};
 ghost use Rattle.mx_legal.specs.Legal.{setup_entries};
 ghost use Rattle.mx_script.specs.Sessions.{IsSession};
 ghost use Rattle.mx_state.specs.History.{opening, MayAsk};
-ghost use Rattle.mx_sup.specs.Setups.{HasSetUp, IsEntered, setup_step, setup_steps};
+ghost use Rattle.mx_sup.specs.Setups.{HasSetUp, IsEntered, setup_step, setup_part};
 
-use mx_legal::{Event2, Recording, Result2, Transcript, setup_entries};
+use mx_legal::{Event2, Recording, Result2, Transcript, first_line, setup_entries};
 use mx_request::Request;
 use mx_script::Session;
 use mx_sdw::Ring;
@@ -62,13 +62,14 @@ pub(crate) fn setup_part(
     journal: &[Entry],
 ) -> Result<Transcript, AllocError>
     requires { IsSession session.now }
-    ensures { IfOk result (λ part. part ≡ setup_steps 2 1 journal.now session.now.setup) }
+    ensures { IfOk result (λ part. part ≡ setup_part session.now journal.now) }
 {
     let lines = session.setup().items().len();
+    let first = first_line(session, 0);
     let mut part = Recording::with_room(alloc, lines)?;
     for i in 0..lines {
         part.reserve()?;
-        end_line(&mut part, i as u32, entry_in(journal, i));
+        end_line(&mut part, first, i as u32, entry_in(journal, i));
     }
     Ok(part.finish())
 }
@@ -80,19 +81,20 @@ pub(crate) fn entry_in(journal: &[Entry], place: usize) -> Option<&Entry>
     journal.get(place)
 }
 
-// The line of the setup at this place, counted from 0, with its entry; without one the journal was full.
-fn end_line(part: &mut Recording, place: u32, entry: Option<&Entry>)
+// The line at this place, counted from 0, of a setup whose first line has this number, with its entry; without one the
+// journal was full.
+fn end_line(part: &mut Recording, first: u32, place: u32, entry: Option<&Entry>)
     requires event { IsTrue part.old.event_room }
     requires line { IsTrue part.old.line_room }
-    requires small { place + 3 < 2 ^ 32 }
-    ensures steps { part.new.steps ≡ part.old.steps ++ setup_step place part.old.events (option_map (λ e. e.now) entry.entry) ∷ [] }
+    requires small { first + place + 1 < 2 ^ 32 }
+    ensures steps { part.new.steps ≡ part.old.steps ++ setup_step first place part.old.events (option_map (λ e. e.now) entry.entry) ∷ [] }
     ensures events { part.new.events ≡ [] }
 {
     match entry {
         Some(entry) => {
             part.push(Event2::Entry(place + 1));
-            part.end_line(2 + place, Result2::of(&entry.reply));
+            part.end_line(first + place, Result2::of(&entry.reply));
         }
-        None => part.end_line(2 + place, Result2::HistoryFull),
+        None => part.end_line(first + place, Result2::HistoryFull),
     }
 }

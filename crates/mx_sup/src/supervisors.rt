@@ -5,6 +5,7 @@ ghost use Rattle.std.specs.Option.{option_map};
 ghost use Rattle.mx_legal.specs.Settings.{entry_at};
 ghost use Rattle.mx_script.specs.Sessions.{limit_of};
 ghost use Rattle.mx_sdw.specs.Admissible.{IsAdmissible};
+ghost use Rattle.mx_state.specs.Messages.{is_ready};
 ghost use Rattle.mx_state.specs.Table.{descriptor};
 ghost use Rattle.mx_sup.specs.Supervised.{Supervised, IsHistory, state_of};
 ghost use Rattle.mx_sup.specs.Entering.{IsOpened, HasEntered};
@@ -141,6 +142,16 @@ impl<'a> Supervisor<'a> {
             Some(entry) => &entry.reply,
             None => unreachable!(),
         }
+    }
+
+    /// Whether `block` by process `p` would be answered now with a message or `nobody`, and not with `waiting`. Takes no
+    /// memory.
+    pub fn ready(&self, p: u8) -> bool
+        requires some { 1 ≤ p }
+        requires process { p ≤ length self.now.session.principals }
+        ensures { result ≡ is_ready (state_of self.now) p }
+    {
+        self.state.ready(p)
     }
 
     /// The descriptor that process `p` has now of a segment number. Takes no memory.

@@ -1,5 +1,6 @@
 -- Laws of the lines of transcripts: an event that fits is found again in the fields of its line.
-use Rattle.std.proofs.Common.{◌≡◌, ℕ, ◌==◌, Bool, true, false, if◌then◌else◌, not, ◌&&◌, List, [], ◌∷◌, ◌++◌, Option, Some, None, codes, refl, append_assoc}
+use Rattle.std.proofs.Common.{◌≡◌, ℕ, ◌==◌, Bool, true, false, if◌then◌else◌, not, ◌&&◌, List, [], ◌∷◌, ◌++◌, Option, Some, None, codes, refl, sym, subst, append_assoc}
+use Rattle.std.proofs.lemmas.Bool.{eqb-true}
 use Rattle.std.specs.Cmp.Lexicographic.{pointwise}
 use Rattle.std.specs.Fmt.{decimal}
 use Rattle.std.specs.List.{find, list_all}
@@ -22,11 +23,12 @@ use Rattle.mx_legal.specs.declared.transcripts.Event2.{Event2}
 use Rattle.mx_legal.specs.declared.transcripts.Event2.TheVariants.{Core, Entry}
 use Rattle.mx_legal.specs.declared.transcripts.Result2.{Result2}
 use Rattle.mx_legal.specs.declared.transcripts.Result2.TheVariants as result
+use Rattle.mx_ptr.specs.Pointers.{PointerParts}
 use Rattle.mx_request.proofs.ForeignLaws.{free_append}
 use Rattle.mx_request.proofs.ReplyLaws.{IsApart, decimal_again, decimal_free, octal_free}
 use Rattle.mx_request.proofs.StepLaws.{both, both_hold, fails}
 use Rattle.mx_request.specs.Fields.{address_text}
-use Rattle.mx_request.specs.Reading.{decimal_after}
+use Rattle.mx_request.specs.Decimals.{decimal_after}
 use Rattle.mx_request.specs.Steps.{◌>>=◌}
 use Rattle.mx_text.specs.RunText.{kind_text}
 use Rattle.mx_text.specs.Spelling.{is_number, fits_element, fits_event, fits_outcome, fits_result}
@@ -54,6 +56,8 @@ result_fields result.Done = codes "done" ∷ []
 result_fields (result.A word) = codes "a" ∷ octal word ∷ []
 result_fields (result.Pr n pointer) =
     codes "pr" ∷ decimal n ∷ decimal pointer.ring ∷ address_text pointer.segno pointer.word ∷ []
+result_fields (result.Moved ring procedure) =
+    codes "ring" ∷ decimal ring ∷ codes "at" ∷ address_text procedure.segno procedure.word ∷ []
 result_fields (result.Denied denial) = codes "denied" ∷ denial_text denial ∷ []
 result_fields result.Refused = codes "refused" ∷ []
 result_fields result.HistoryFull = codes "history_full" ∷ []
@@ -205,13 +209,31 @@ result_at (word ∷ text ∷ []) =
     else (denial_at text >>= λ denial. Some (result.Denied denial))
 result_at (word ∷ n ∷ ring ∷ address ∷ []) =
     cut_at 124 address >>= λ a.
-    Some (result.Pr (decimal_after 0 n) (record {
+    if is word (codes "pr") then Some (result.Pr (decimal_after 0 n) (record {
       ring = decimal_after 0 ring;
       segno = octal_value a.0;
       word = octal_value a.1;
       further = false;
     }))
+    else Some (result.Moved (decimal_after 0 n) (record {
+      ring = decimal_after 0 n;
+      segno = octal_value a.0;
+      word = octal_value a.1;
+      further = false;
+    }))
 result_at _ = None
+
+moved_again : (p : PointerParts) → is_number p.ring ≡ true → not p.further ≡ true
+    → result_at (result_fields (result.Moved p.ring p)) ≡ Some (result.Moved p.ring p)
+moved_again p e f =
+    rw (
+      append_assoc (octal p.segno) (124 ∷ []) (octal p.word),
+      cut_again 124 (octal p.segno) (octal p.word) (octal_free 124 p.segno refl),
+      decimal_again p.ring e,
+      octal_value-octal p.segno,
+      octal_value-octal p.word,
+      ← fails p.further f,
+    ) refl
 
 pub result_again : (ends : Result2) → fits_result ends ≡ true → result_at (result_fields ends) ≡ Some ends
 result_again result.Done e = refl
@@ -228,6 +250,12 @@ result_again (result.Pr n p) e =
       octal_value-octal p.word,
       ← fails p.further g.1,
     ) refl
+result_again (result.Moved ring p) e =
+    let f = both (is_number ring) ((p.ring == ring) && not p.further) e in
+    let g = both (p.ring == ring) (not p.further) f.1 in
+    let same : p.ring ≡ ring = eqb-true p.ring ring g.0 in
+    subst (λ (n : ℕ). result_at (result_fields (result.Moved n p)) ≡ Some (result.Moved n p)) same
+    (moved_again p (subst (λ (n : ℕ). is_number n ≡ true) (sym same) f.0) g.1)
 result_again (result.Denied denial) e = rw (denial_again denial) refl
 result_again result.Refused e = refl
 result_again result.HistoryFull e = refl
@@ -286,6 +314,12 @@ module _ (byte : ℕ) (apart : IsApart byte) (no_bar : (124 == byte) ≡ false) 
       both_hold _ _ (word_free (codes "pr") refl)
       (both_hold _ _ (decimal_free byte n apart.no_digit f.0)
       (both_hold _ _ (decimal_free byte p.ring apart.no_digit g.0)
+      (both_hold _ _ (address_free p.segno p.word) refl)))
+  result_free (result.Moved ring p) e =
+      let f = both (is_number ring) ((p.ring == ring) && not p.further) e in
+      both_hold _ _ (word_free (codes "ring") refl)
+      (both_hold _ _ (decimal_free byte ring apart.no_digit f.0)
+      (both_hold _ _ (word_free (codes "at") refl)
       (both_hold _ _ (address_free p.segno p.word) refl)))
   result_free (result.Denied denial) e =
       both_hold _ _ (word_free (codes "denied") refl) (both_hold _ _ (word_free (denial_text denial) (denial_bytes denial)) refl)

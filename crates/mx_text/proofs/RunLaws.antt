@@ -159,6 +159,13 @@ step_whole step rest =
         ∙ append_assoc (decimal n ++ codes " ") (decimal ring) (codes " " ++ (address ++ 10 ∷ rest))
         ∙ append_assoc (decimal n) (codes " ") (decimal ring ++ (codes " " ++ (address ++ 10 ∷ rest))))
 
+    by_procedure : (ring : ℕ) (address : List ℕ) → (codes "ring " ++ decimal ring ++ codes " at " ++ address) ++ 10 ∷ rest
+        ≡ codes "ring " ++ (decimal ring ++ (codes " at " ++ (address ++ 10 ∷ rest)))
+    by_procedure ring address =
+        append_assoc (codes "ring " ++ decimal ring ++ codes " at ") address (10 ∷ rest)
+        ∙ append_assoc (codes "ring " ++ decimal ring) (codes " at ") (address ++ 10 ∷ rest)
+        ∙ append_assoc (codes "ring ") (decimal ring) (codes " at " ++ (address ++ 10 ∷ rest))
+
     by_result : (ends : Result2) → (codes "line " ++ decimal step.0 ++ codes " " ++ result_text ends ++ codes "\n") ++ rest
         ≡ behind_line (end_fields step.0 ends) (10 ∷ rest)
     by_result result.Done = around (codes "done")
@@ -166,6 +173,9 @@ step_whole step rest =
         around (codes "a " ++ octal word) ∙ in_line _ _ (append_assoc (codes "a ") (octal word) (10 ∷ rest))
     by_result (result.Pr n p) =
         around (codes "pr " ++ register_text n p) ∙ in_line _ _ (by_register n p.ring (address_text p.segno p.word))
+    by_result (result.Moved ring p) =
+        around (codes "ring " ++ decimal ring ++ codes " at " ++ address_text p.segno p.word)
+        ∙ in_line _ _ (by_procedure ring (address_text p.segno p.word))
     by_result (result.Denied denial) =
         around (codes "denied " ++ denial_text denial) ∙ in_line _ _ (append_assoc (codes "denied ") (denial_text denial) (10 ∷ rest))
     by_result result.Refused = around (codes "refused")

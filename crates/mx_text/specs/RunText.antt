@@ -69,6 +69,8 @@ abbrev pub result_text : Result2 → List ℕ
 result_text result.Done = codes "done"
 result_text (result.A word) = codes "a " ++ octal word
 result_text (result.Pr n pointer) = codes "pr " ++ register_text n pointer
+result_text (result.Moved ring procedure) =
+    codes "ring " ++ decimal ring ++ codes " at " ++ address_text procedure.segno procedure.word
 result_text (result.Denied denial) = codes "denied " ++ denial_text denial
 result_text result.Refused = codes "refused"
 result_text result.HistoryFull = codes "history_full"

@@ -1,5 +1,5 @@
 -- What a run text can say: requests and replies of their grammar, and numbers of 64 bits. Within that a text is of one run.
-use Rattle.std.specs.Prelude.{◌≡◌, ℕ, ◌^◌, nat_lt, Bool, true, not, ◌&&◌, List, length}
+use Rattle.std.specs.Prelude.{◌≡◌, ℕ, ◌^◌, ◌==◌, nat_lt, Bool, true, not, ◌&&◌, List, length}
 use Rattle.std.specs.List.{list_all}
 use Rattle.mx_core.specs.declared.elements.Element.{Element}
 use Rattle.mx_core.specs.declared.elements.Event.TheVariants.{Seen, Missing}
@@ -36,11 +36,12 @@ fits_event (Core (Seen e)) = fits_element e
 fits_event (Core (Missing segno by)) = is_number by
 fits_event (Entry number) = is_number number
 
--- a pointer of a result is spelled without further indirection
+-- a pointer of a result is spelled without further indirection, and one that a process moves to with its ring alone
 abbrev pub fits_result : Result2 → Bool
 fits_result result.Done = true
 fits_result (result.A word) = true
 fits_result (result.Pr n pointer) = is_number n && (is_number pointer.ring && not pointer.further)
+fits_result (result.Moved ring procedure) = is_number ring && ((procedure.ring == ring) && not procedure.further)
 fits_result (result.Denied denial) = true
 fits_result result.Refused = true
 fits_result result.HistoryFull = true

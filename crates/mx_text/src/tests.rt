@@ -75,6 +75,16 @@ fn a_full_journal_is_printed(rt: HostRuntime) -> Result<(), Fail> {
         word: 0o16,
         further: false,
     };
+    let entered = seen(Kind::Call, 1, Outcome::Entered { ring: ring(3)? })?;
+    let moved = Result2::Moved {
+        ring: ring(3)?,
+        procedure: Pointer {
+            ring: ring(3)?,
+            segno: 0o10,
+            word: 5,
+            further: false,
+        },
+    };
     let setup = [
         (3, Some(Event2::Entry(1)), Result2::Done),
         (4, None, Result2::HistoryFull),
@@ -83,6 +93,7 @@ fn a_full_journal_is_printed(rt: HostRuntime) -> Result<(), Fail> {
         (6, Some(denied), Result2::Denied(denial)),
         (7, None, Result2::HistoryFull),
         (8, None, Result2::Pr { n: 2, pointer }),
+        (9, Some(entered), moved),
     ];
     let transcripts = Sequence::of(vec![in alloc;
         transcript(alloc, &setup)?,
@@ -92,7 +103,8 @@ fn a_full_journal_is_printed(rt: HostRuntime) -> Result<(), Fail> {
         1 0 0 create_seg >a 64 4 4 4 = ok\n\
         process 0\nentry 1\nline 3 done\nline 4 history_full\n\
         process 1\nread 10|5 ring 4 point 1 denied unknown_segment\n\
-        line 6 denied unknown_segment\nline 7 history_full\nline 8 pr 2 5 201|16\nend\n";
+        line 6 denied unknown_segment\nline 7 history_full\nline 8 pr 2 5 201|16\n\
+        call 10|5 ring 4 point 1 enter 3\nline 9 ring 3 at 10|5\nend\n";
     assert_eq!(rt;
         text(alloc, &journal, &transcripts)?.bytes(),
         want.as_slice()

@@ -7,7 +7,10 @@ mod comparison;
 mod outcome;
 
 use outcome::{Outcome, run_and_compare, status_of};
+use std::alloc::{AllocError, Global};
 use std::process::ExitCode;
+use std::sync::Wait;
+use std::thread::Threads;
 use std::{env, fs, io};
 
 /// The status where no session is named.
@@ -23,19 +26,24 @@ fn main(rt: HostRuntime) -> io::Result<ExitCode> {
     }
     let mut outcomes = Vec::new(rt.alloc());
     for name in names {
-        let outcome = outcome_of(&rt, &name)?;
+        let session = read(&rt, &name, "session")?;
+        let stored = read(&rt, &name, "run")?;
+        let outcome = outcome_of(&rt, rt.alloc(), session, stored)?;
         println!(rt; "{name}: {outcome}")?;
         outcomes.push(outcome)?;
     }
     Ok(ExitCode::from(status_of(&outcomes)))
 }
 
-// Runs the session of this name.
-fn outcome_of(rt: &HostRuntime, name: &str) -> io::Result<Outcome> {
-    let session = read(rt, name, "session")?;
-    let stored = read(rt, name, "run")?;
+// Runs a session, where there are its text and its stored run.
+fn outcome_of<R: Threads + Wait + Sync>(
+    rt: &R,
+    alloc: Global,
+    session: Option<Vec<u8>>,
+    stored: Option<Vec<u8>>,
+) -> Result<Outcome, AllocError> {
     match (session, stored) {
-        (Some(session), Some(stored)) => Ok(run_and_compare(rt, rt.alloc(), session, &stored)?),
+        (Some(session), Some(stored)) => run_and_compare(rt, alloc, session, &stored),
         _ => Ok(Outcome::NotFound),
     }
 }

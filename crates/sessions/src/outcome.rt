@@ -6,9 +6,11 @@ ghost use Rattle.sessions.specs.Runs.{IsRunOf};
 
 use crate::comparison::first_difference;
 use mx_io::{MemorySink, MemorySource};
-use mx_run::multics;
+use mx_run::{NoGate, multics};
 use std::alloc::{AllocError, Global};
 use std::fmt::{self, Display, Formatter, Write};
+use std::sync::Wait;
+use std::thread::Threads;
 
 /// The most bytes of a run that are kept. A session whose run is longer ends with the status of a sink that failed.
 const ROOM: usize = 1_048_576;
@@ -41,7 +43,7 @@ impl Display for Outcome {
 }
 
 /// Runs the session of this text, and compares what it prints with the stored run.
-pub fn run_and_compare<R>(
+pub fn run_and_compare<R: Threads + Wait + Sync>(
     rt: &R,
     alloc: Global,
     session: Vec<u8>,
@@ -57,7 +59,7 @@ pub fn run_and_compare<R>(
     let mut source = MemorySource::new(session, Vec::new(alloc), PIECE);
     let made = MemorySink::new(alloc, ROOM, Vec::new(alloc), PIECE);
     let mut sink = made.map_err(|_| AllocError)?;
-    match multics(rt, alloc, &words, &mut source, &mut sink) {
+    match multics(rt, alloc, &words, &mut source, &mut sink, &NoGate) {
         0 => Ok(match first_difference(sink.bytes(), stored) {
             None => Outcome::AsStored,
             Some(line) => Outcome::DiffersAt(line),

@@ -1,9 +1,11 @@
 //! The top call over ends in memory.
 
 use mx_io::{MemorySink, MemorySource};
-use mx_run::multics;
+use mx_run::{Gate, NoGate, multics};
 use std::alloc::Global;
+use std::sync::Wait;
 use std::test::Fail;
+use std::thread::Threads;
 
 /// What the call answered, and what the sink holds.
 #[derive(Drop)]
@@ -27,12 +29,25 @@ pub(super) const GOOD: Ends<'static> = Ends {
     room: 131_072,
 };
 
-/// The top call with these words, over a source that holds this text.
-pub(super) fn call(
+/// The top call with these words, over a source that holds this text, and a gate that holds nobody.
+pub(super) fn call<R: Threads + Wait + Sync>(
+    rt: &R,
     alloc: Global,
     words: &[&str],
     text: &[u8],
     ends: &Ends<'_>,
+) -> Result<Answer, Fail> {
+    call_gated(rt, alloc, words, text, ends, &NoGate)
+}
+
+/// The same with this gate.
+pub(super) fn call_gated<R: Threads + Wait + Sync, G: Gate>(
+    rt: &R,
+    alloc: Global,
+    words: &[&str],
+    text: &[u8],
+    ends: &Ends<'_>,
+    gate: &G,
 ) -> Result<Answer, Fail> {
     let mut own = Vec::new(alloc);
     for word in words {
@@ -49,7 +64,7 @@ pub(super) fn call(
         Vec::from_slice(alloc, ends.sink_fails)?,
         3,
     )?;
-    let status = multics(&(), alloc, own.as_slice(), &mut source, &mut sink);
+    let status = multics(rt, alloc, own.as_slice(), &mut source, &mut sink, gate);
     let written = Vec::from_slice(alloc, sink.bytes())?;
     Ok(Answer { status, written })
 }

@@ -150,7 +150,7 @@ fn pointers_have_these_runs(rt: HostRuntime) -> Result<(), Fail> {
         (CIRCLE, CIRCLE_RUN),
         (FORGED_LINK, FORGED_LINK_RUN),
     ] {
-        let answer = call(rt.alloc(), &["run"], text, &GOOD)?;
+        let answer = call(&rt, rt.alloc(), &["run"], text, &GOOD)?;
         assert_eq!(rt; answer.status, 0);
         assert!(rt; answer.written.as_slice() == run);
     }

@@ -4,7 +4,9 @@ use super::calls::{GOOD, call};
 use super::rows::{self, Row};
 use super::{access, knowing, limits};
 use std::alloc::{AllocError, Global};
+use std::sync::Wait;
 use std::test::Fail;
+use std::thread::Threads;
 
 /// A session, and the run that it has to print.
 #[derive(Drop)]
@@ -66,7 +68,11 @@ impl Replay {
     }
 
     /// Ends the session, and tells whether the program prints the run.
-    fn is_printed(&mut self, alloc: Global) -> Result<bool, Fail> {
+    fn is_printed<R: Threads + Wait + Sync>(
+        &mut self,
+        rt: &R,
+        alloc: Global,
+    ) -> Result<bool, Fail> {
         self.ask(alloc, "logout", "ok")?;
         self.session.extend_from_slice(b"end\n")?;
         let head = format!(in alloc; "journal {}\n", self.entries)?;
@@ -74,7 +80,7 @@ impl Replay {
         run.extend_from_slice(&self.journal)?;
         run.extend_from_slice(&self.transcripts)?;
         run.extend_from_slice(b"end\n")?;
-        let answer = call(alloc, &["run"], &self.session, &GOOD)?;
+        let answer = call(rt, alloc, &["run"], &self.session, &GOOD)?;
         Ok(answer.status == 0 && answer.written.as_slice() == run.as_slice())
     }
 }
@@ -103,7 +109,7 @@ fn a_whole_hierarchy_is_replayed(rt: HostRuntime) -> Result<(), Fail> {
     fill_directory(&mut replay, alloc)?;
     know_segments(&mut replay, alloc)?;
     use_up_pages(&mut replay, alloc)?;
-    assert!(rt; replay.is_printed(alloc)?);
+    assert!(rt; replay.is_printed(&rt, rt.alloc())?);
     Ok(())
 }
 
@@ -164,7 +170,7 @@ fn refusals_come_in_order(rt: HostRuntime) -> Result<(), Fail> {
         replay.ask(alloc, &request, "ok")?;
     }
     replay.ask(alloc, "set_acl >d>y V.Ops.a r", "refused 14 acl_full")?;
-    assert!(rt; replay.is_printed(alloc)?);
+    assert!(rt; replay.is_printed(&rt, rt.alloc())?);
     Ok(())
 }
 
@@ -187,7 +193,7 @@ fn a_table_takes_120_segments(rt: HostRuntime) -> Result<(), Fail> {
         replay.ask(alloc, &request, &reply)?;
     }
     replay.ask(alloc, "initiate >s120", "refused 17 kst_full")?;
-    assert!(rt; replay.is_printed(alloc)?);
+    assert!(rt; replay.is_printed(&rt, rt.alloc())?);
     Ok(())
 }
 

@@ -3,6 +3,7 @@
 use crate::{Hier, HierError, Who};
 use mx_acl::Modes;
 use mx_name::{AclId, EntryName, Path, Pathname, Principal};
+use mx_object::ObjectMap;
 use mx_sdw::Ring;
 use std::alloc::Global;
 use std::test::Fail;
@@ -18,6 +19,7 @@ pub(super) const SMITH: &str = "Smith.Ops.a";
 pub(super) enum Ask {
     CreateDir(&'static str, u8, u8),
     CreateSeg(&'static str, u32, [u8; 3]),
+    CreateObject(&'static str, u32, [u8; 3], u16),
     CreateLink(&'static str, &'static str),
     Rename(&'static str, &'static str),
     Delete(&'static str),
@@ -74,6 +76,15 @@ impl Caller {
                 path.as_bytes(),
                 *words,
                 *rings,
+            ),
+            Ask::CreateObject(path, words, rings, gate) => create_object(
+                alloc,
+                hier,
+                self,
+                path.as_bytes(),
+                *words,
+                *rings,
+                *gate,
             ),
             Ask::CreateLink(path, target) => create_link(
                 alloc,
@@ -156,6 +167,21 @@ pub(super) fn create_seg(
 ) -> Result<u8, Fail> {
     let path = Pathname::read(alloc, path)?;
     Ok(number(&hier.create_seg(alloc, &caller.who(), &path, words, three(rings)?)))
+}
+
+pub(super) fn create_object(
+    alloc: Global,
+    hier: &mut Hier,
+    caller: &Caller,
+    path: &[u8],
+    words: u32,
+    rings: [u8; 3],
+    gate: u16,
+) -> Result<u8, Fail> {
+    let path = Pathname::read(alloc, path)?;
+    let object = ObjectMap::of_gates(alloc, gate);
+    let rings = three(rings)?;
+    Ok(number(&hier.create_object(alloc, &caller.who(), &path, words, rings, &object)))
 }
 
 pub(super) fn create_link(

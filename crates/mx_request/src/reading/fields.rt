@@ -1,13 +1,13 @@
 //! The fields of a line.
 
-ghost use Rattle.std.specs.Prelude.{◌≡◌, ◌≤◌, [], ◌∷◌, length, true, IfOk};
-ghost use Rattle.std.specs.List.{list_all};
+ghost use Rattle.std.specs.Prelude.{◌≡◌, [], ◌∷◌, IfOk};
 ghost use Rattle.mx_name.specs.Identifiers.{acl_id_of};
 ghost use Rattle.mx_name.specs.Names.{name_of};
 ghost use Rattle.mx_name.specs.Pathnames.{pathname_of};
-ghost use Rattle.mx_sdw.specs.Octal.{begins_number};
-ghost use Rattle.mx_request.specs.Reading.{is_digit, decimal_after, decimal_number, ring_at, brackets_at};
+ghost use Rattle.mx_request.specs.Decimals.{decimal_number};
+ghost use Rattle.mx_request.specs.Reading.{ring_at, brackets_at, gated_brackets_at};
 
+use super::decimals::read_decimal;
 use mx_name::{AclId, EntryName, NameError, Pathname, cut};
 use mx_sdw::Ring;
 use std::alloc::{AllocError, Global};
@@ -43,6 +43,18 @@ pub(super) fn read_brackets(text: &[u8]) -> Option<[Ring; 3]>
     Some([read_ring(r1)?, read_ring(r2)?, read_ring(r3)?])
 }
 
+/// R1, R2, R3 and GATE.
+pub(super) fn read_gated_brackets(text: &[u8]) -> Option<([Ring; 3], u16)>
+    ensures { result ≡ gated_brackets_at text.now }
+{
+    let (r1, rest) = cut(b' ', text)?;
+    let (r2, rest) = cut(b' ', rest)?;
+    let (r3, gate) = cut(b' ', rest)?;
+    let brackets = [read_ring(r1)?, read_ring(r2)?, read_ring(r3)?];
+    let gate = read_gate(gate)?;
+    Some((brackets, gate))
+}
+
 /// A ring, one digit.
 pub(super) fn read_ring(text: &[u8]) -> Option<Ring>
     ensures { result ≡ ring_at text.now }
@@ -62,48 +74,11 @@ fn ring_of(digit: u8) -> Option<Ring>
     }
 }
 
-/// WORDS, a decimal number of at most five digits.
-#[tactic(auto, unfolding(crate::specs::Reading::decimal_number))]
-pub(super) fn read_words(text: &[u8]) -> Option<u32>
-    ensures { result ≡ decimal_number 5 text.now }
+/// GATE, a decimal number of at most four digits.
+#[tactic(auto, using(crate::proofs::FieldLaws::gate_below))]
+fn read_gate(text: &[u8]) -> Option<u16>
+    ensures { result ≡ decimal_number 4 text.now }
 {
-    if begins_number(text) && are_digits(text) && text.len() <= 5 {
-        Some(value_of(text))
-    } else {
-        None
-    }
-}
-
-fn begins_number(text: &[u8]) -> bool
-    ensures { result ≡ begins_number text.now }
-{
-    match text {
-        [] => false,
-        [_] => true,
-        [first, ..] => *first != b'0',
-    }
-}
-
-fn are_digits(text: &[u8]) -> bool
-    ensures { result ≡ list_all is_digit text.now }
-{
-    text.iter().all(|c| is_digit(*c))
-}
-
-fn is_digit(c: u8) -> bool
-    ensures { result ≡ is_digit c }
-{
-    (b'0'..=b'9').contains(&c)
-}
-
-fn value_of(text: &[u8]) -> u32
-    requires digits { list_all is_digit text.now ≡ true }
-    requires short { length text.now ≤ 5 }
-    ensures { result ≡ decimal_after 0 text.now }
-{
-    let mut n = 0;
-    for c in text {
-        n = 10 * n + u32::from(*c - b'0');
-    }
-    n
+    let gate = read_decimal(text, 4)?;
+    Some(gate as u16)
 }

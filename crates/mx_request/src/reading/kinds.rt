@@ -10,6 +10,7 @@ ghost use Rattle.mx_request.specs.Kinds.{kind_of, kind_word};
 pub(crate) enum Kind {
     CreateDir,
     CreateSeg,
+    CreateObject,
     CreateLink,
     Rename,
     Delete,
@@ -23,12 +24,14 @@ pub(crate) enum Kind {
     SetRules,
     Initiate,
     Terminate,
+    Wakeup,
     Link,
 }
 
-const ALL: [Kind; 16] = [
+const ALL: [Kind; 18] = [
     Kind::CreateDir,
     Kind::CreateSeg,
+    Kind::CreateObject,
     Kind::CreateLink,
     Kind::Rename,
     Kind::Delete,
@@ -42,6 +45,7 @@ const ALL: [Kind; 16] = [
     Kind::SetRules,
     Kind::Initiate,
     Kind::Terminate,
+    Kind::Wakeup,
     Kind::Link,
 ];
 
@@ -59,6 +63,7 @@ impl Kind {
         match self {
             Kind::CreateDir => "create_dir",
             Kind::CreateSeg => "create_seg",
+            Kind::CreateObject => "create_object",
             Kind::CreateLink => "create_link",
             Kind::Rename => "rename",
             Kind::Delete => "delete",
@@ -72,6 +77,7 @@ impl Kind {
             Kind::SetRules => "set_rules",
             Kind::Initiate => "initiate",
             Kind::Terminate => "terminate",
+            Kind::Wakeup => "wakeup",
             Kind::Link => "link",
         }
     }

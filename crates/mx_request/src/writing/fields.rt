@@ -1,12 +1,13 @@
 //! Fields, each added with a blank before it.
 
-ghost use Rattle.std.specs.Prelude.{◌≡◌, ◌++◌, ◌∷◌, map, OnOk, OnErr};
+ghost use Rattle.std.specs.Prelude.{◌≡◌, ◌++◌, [], ◌∷◌, map, OnOk, OnErr};
 ghost use Rattle.std.specs.Fmt.{decimal};
-ghost use Rattle.mx_request.specs.Fields.{ring_text};
+ghost use Rattle.mx_sdw.specs.Octal.{octal};
+ghost use Rattle.mx_request.specs.Fields.{line_of, ring_text};
 ghost use Rattle.mx_request.specs.Growth.{IsGrown, blank_before};
 
 use itoa::Buffer;
-use mx_sdw::Ring;
+use mx_sdw::{Ring, Word, write_octal};
 use std::alloc::AllocError;
 
 pub(super) fn push_field(out: &mut Vec<u8>, field: &[u8]) -> Result<(), AllocError>
@@ -41,4 +42,21 @@ pub(super) fn push_rings(out: &mut Vec<u8>, brackets: &[Ring; 3]) -> Result<(), 
     push_ring(out, *r1)?;
     push_ring(out, *r2)?;
     push_ring(out, *r3)
+}
+
+/// The label, a process's number and a word.
+pub(super) fn push_message(
+    out: &mut Vec<u8>,
+    label: &[u8],
+    process: u8,
+    word: Word,
+) -> Result<(), AllocError>
+    ensures ok { OnOk result (out.new.items
+        ≡ out.old.items ++ line_of (label.now ∷ decimal process ∷ octal word ∷ [])) }
+    ensures err { OnErr result (IsGrown out.old.items out.new.items) }
+{
+    out.extend_from_slice(label)?;
+    push_number(out, u64::from(process))?;
+    out.extend_from_slice(b" ")?;
+    write_octal(out, word.value())
 }

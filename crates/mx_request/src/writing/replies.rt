@@ -4,13 +4,13 @@ ghost use Rattle.std.specs.Prelude.{◌≡◌, ◌++◌, [], ◌∷◌, Some, co
 ghost use Rattle.std.specs.Fmt.{decimal};
 ghost use Rattle.mx_sdw.specs.Octal.{octal};
 ghost use Rattle.mx_acl.specs.Modes.{modes_text};
-ghost use Rattle.mx_hier.specs.declared.asking.Status.TheVariants.{Segment, Directory, Link};
+ghost use Rattle.mx_hier.specs.declared.asking.Status.TheVariants.{Segment, Object, Directory, Link};
 ghost use Rattle.mx_request.specs.declared.replies.Reply.TheVariants.{Refused, Names as Listed, Segno};
 ghost use Rattle.mx_request.specs.Fields.{line_of, ring_text};
-ghost use Rattle.mx_request.specs.Growth.{IsGrown, blank_before};
+ghost use Rattle.mx_request.specs.Growth.{IsGrown, blank_before, labelled};
 ghost use Rattle.mx_request.specs.ReplyTexts.{fresh_text, linkage_fields, status_fields, reply_text};
 
-use super::fields::{push_field, push_number, push_ring, push_rings};
+use super::fields::{push_field, push_message, push_number, push_ring, push_rings};
 use crate::replies::Reply;
 use mx_acl::Modes;
 use mx_hier::{Names, Refusal, Status};
@@ -30,6 +30,10 @@ pub(crate) fn push_reply(out: &mut Vec<u8>, reply: &Reply) -> Result<(), AllocEr
         Reply::Status(status) => push_status(out, status),
         Reply::Names(names) => push_names(out, names),
         Reply::Segno(known) => push_known(out, known),
+        Reply::Sent => out.extend_from_slice(b"sent"),
+        Reply::Message { sender, word } => push_message(out, b"message", *sender, *word),
+        Reply::Nobody => out.extend_from_slice(b"nobody"),
+        Reply::Waiting => out.extend_from_slice(b"waiting"),
     }
 }
 
@@ -52,6 +56,14 @@ fn push_status(out: &mut Vec<u8>, status: &Status) -> Result<(), AllocError>
             brackets,
             modes,
         } => push_segment(out, *words, brackets, modes),
+        Status::Object {
+            words,
+            brackets,
+            gate,
+            definitions,
+            links,
+            modes,
+        } => push_object(out, *words, brackets, *gate, *definitions, *links, modes),
         Status::Directory { d1, d2, modes } => push_directory(out, *d1, *d2, modes),
         Status::Link { target } => push_link(out, target),
     }
@@ -69,6 +81,45 @@ fn push_segment(
 {
     push_words(out, b"segment words", words)?;
     push_brackets(out, b" brackets", brackets)?;
+    push_modes(out, b" modes", modes)
+}
+
+fn push_object(
+    out: &mut Vec<u8>,
+    words: u16,
+    brackets: &Brackets,
+    gate: u16,
+    definitions: u16,
+    links: u16,
+    modes: &Modes,
+) -> Result<(), AllocError>
+    ensures ok { OnOk result (out.new.items
+        ≡ out.old.items ++ line_of (status_fields (Object words brackets.now gate definitions links modes.now))) }
+    ensures err { OnErr result (IsGrown out.old.items out.new.items) }
+{
+    push_words(out, b"object words", words)?;
+    push_brackets(out, b" brackets", brackets)?;
+    push_map(out, gate, definitions, links, modes)
+}
+
+/// What an object has besides: the numbers of its map, and the modes.
+fn push_map(
+    out: &mut Vec<u8>,
+    gate: u16,
+    definitions: u16,
+    links: u16,
+    modes: &Modes,
+) -> Result<(), AllocError>
+    ensures ok { OnOk result (out.new.items
+        ≡ out.old.items ++ (labelled (codes " gate") (decimal gate)
+        ++ (labelled (codes " definitions") (decimal definitions)
+        ++ (labelled (codes " links") (decimal links)
+        ++ labelled (codes " modes") (modes_text modes.now))))) }
+    ensures err { OnErr result (IsGrown out.old.items out.new.items) }
+{
+    push_words(out, b" gate", gate)?;
+    push_words(out, b" definitions", definitions)?;
+    push_words(out, b" links", links)?;
     push_modes(out, b" modes", modes)
 }
 

@@ -10,7 +10,7 @@ ghost use Rattle.mx_request.specs.Fields.{line_of, ring_text, address_text};
 ghost use Rattle.mx_request.specs.Growth.{IsGrown, blank_before};
 ghost use Rattle.mx_request.specs.RequestTexts.{name_fields, request_text, rule_text};
 
-use super::fields::{push_field, push_number, push_ring, push_rings};
+use super::fields::{push_field, push_message, push_number, push_ring, push_rings};
 use crate::requests::Request;
 use mx_acl::Modes;
 use mx_name::{AclId, EntryName, Pathname};
@@ -30,6 +30,12 @@ pub(crate) fn push_request(out: &mut Vec<u8>, request: &Request) -> Result<(), A
             words,
             brackets,
         } => push_seg(out, b"create_seg", path, *words, brackets),
+        Request::CreateObject {
+            path,
+            words,
+            brackets,
+            gate,
+        } => push_object(out, b"create_object", path, *words, brackets, *gate),
         Request::CreateLink { path, target } => push_link(out, b"create_link", path, target),
         Request::Rename { path, name } => push_name(out, b"rename", path, name),
         Request::Delete { path } => push_path(out, b"delete", path),
@@ -47,7 +53,10 @@ pub(crate) fn push_request(out: &mut Vec<u8>, request: &Request) -> Result<(), A
         Request::SetRules { rules } => push_rules(out, b"set_rules", rules.items()),
         Request::Initiate { path, name } => push_named(out, b"initiate", path, name.as_ref()),
         Request::Terminate { segno } => push_segno(out, b"terminate", *segno),
+        Request::Wakeup { to, word } => push_message(out, b"wakeup", *to, *word),
+        Request::Block => out.extend_from_slice(b"block"),
         Request::Link { segno, word } => push_address(out, b"link", *segno, *word),
+        Request::Resume => out.extend_from_slice(b"resume"),
         Request::Logout => out.extend_from_slice(b"logout"),
     }
 }
@@ -202,6 +211,25 @@ fn push_seg(
     push_path(out, word, path)?;
     push_number(out, u64::from(words))?;
     push_rings(out, brackets)
+}
+
+/// `WORD PATH WORDS R1 R2 R3 GATE`
+#[tactic(auto, using(crate::proofs::GrowthLaws::gate_grows, crate::proofs::GrowthLaws::grown_on))]
+fn push_object(
+    out: &mut Vec<u8>,
+    word: &[u8],
+    path: &Pathname,
+    words: u32,
+    brackets: &[Ring; 3],
+    gate: u16,
+) -> Result<(), AllocError>
+    ensures ok { OnOk result (out.new.items
+        ≡ out.old.items
+        ++ line_of (word.now ∷ path.now ∷ decimal words ∷ map ring_text brackets.now ++ decimal gate ∷ [])) }
+    ensures err { OnErr result (IsGrown out.old.items out.new.items) }
+{
+    push_seg(out, word, path, words, brackets)?;
+    push_number(out, u64::from(gate))
 }
 
 /// `WORD PATH ID MODES`

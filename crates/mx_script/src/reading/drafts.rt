@@ -1,15 +1,15 @@
 //! Sessions as far as their lines were read.
 
 ghost use Rattle.std.specs.Prelude.{◌≡◌, ◌<◌, ◌-◌, ◌^◌, ◌&&◌, not, if◌then◌else◌, IfOk, Some, None};
-ghost use Rattle.mx_script.specs.Sessions.{session_of, line_count, is_logout};
-ghost use Rattle.mx_script.specs.Drafts.{may_stand, setup_step, script_step, step, Follows, one_process, finished, IsCountable};
+ghost use Rattle.mx_script.specs.Sessions.{is_logout};
+ghost use Rattle.mx_script.specs.Drafts.{may_stand, history_step, setup_step, set_up, with_process, script_step, process_step, step, Follows, finished, IsCountable};
 
 use crate::lines::{Line, Script};
 use crate::outlines::{is_for_setup, is_logout, may_stand};
 use crate::reading::lines::read_row;
+use crate::reading::parts::Parts;
 use crate::rows::Row;
 use crate::sessions::Session;
-use mx_list::Sequence;
 use mx_name::Principal;
 use mx_request::Requests;
 use std::alloc::{AllocError, Global};
@@ -20,14 +20,14 @@ use std::mem::replace;
 pub(crate) enum Draft {
     /// No line yet.
     Empty,
-    /// The header, and the setup so far.
-    Headed(Requests),
-    /// And the process, and its script so far.
-    Running(Requests, Principal, Script),
+    /// The header, the limit, if any, and the setup so far.
+    Headed(Option<u32>, Requests),
+    /// And the processes that have logged out, and one more with its script so far.
+    Running(Parts, Principal, Script),
     /// And its logout.
-    LoggedOut(Requests, Principal, Script),
+    LoggedOut(Parts),
     /// And the end.
-    Ended(Requests, Principal, Script),
+    Ended(Parts),
 }
 
 impl Draft {
@@ -75,27 +75,27 @@ impl Draft {
     {
         match self {
             Draft::Empty => Ok(headed(alloc, row)),
-            Draft::Headed(setup) => set_up(alloc, setup, row),
-            Draft::Running(setup, principal, script) => went_on(setup, principal, script, row),
-            Draft::LoggedOut(setup, principal, script) => Ok(ended(setup, principal, script, row)),
+            Draft::Headed(history, setup) => set_up(alloc, history, setup, row),
+            Draft::Running(parts, principal, script) => went_on(parts, principal, script, row),
+            Draft::LoggedOut(parts) => Ok(logged_out(alloc, parts, row)),
             _ended => Ok(None),
         }
     }
 
     /// The session, `None` where the text has not ended or something follows.
-    pub(crate) fn finish(self, alloc: Global, rest: &[u8]) -> Result<Option<Session>, AllocError>
+    pub(crate) fn finish(self, rest: &[u8]) -> Option<Session>
         requires { IsCountable self }
-        ensures { IfOk result (λ session. session ≡ finished self rest.now) }
+        ensures { result ≡ finished self rest.now }
     {
         match self {
-            Draft::Ended(setup, principal, script) => {
+            Draft::Ended(parts) => {
                 if rest.is_empty() {
-                    session_of(alloc, setup, principal, script)
+                    parts.into_session()
                 } else {
-                    Ok(None)
+                    None
                 }
             }
-            _other => Ok(None),
+            _other => None,
         }
     }
 }
@@ -107,54 +107,57 @@ fn is_within(line: &Line) -> bool
     may_stand(line) && !is_logout(line)
 }
 
-fn session_of(
-    alloc: Global,
-    setup: Requests,
-    principal: Principal,
-    script: Script,
-) -> Result<Option<Session>, AllocError>
-    requires { line_count (one_process setup principal script) < 2 ^ 32 - 1 }
-    ensures { IfOk result (λ session. session ≡ session_of (one_process setup principal script)) }
-{
-    let principals = vec![in alloc; principal]?;
-    let scripts = vec![in alloc; script]?;
-    Ok(Session::new(
-        1,
-        None,
-        setup,
-        Sequence::of(principals),
-        Sequence::of(scripts),
-    ))
-}
-
 fn headed(alloc: Global, row: Row) -> Option<Draft>
     ensures { result ≡ step Draft.Empty row }
 {
     match row {
-        Row::Header => Some(Draft::Headed(Requests::new(alloc))),
+        Row::Header => Some(Draft::Headed(None, Requests::new(alloc))),
         _ => None,
     }
 }
 
-fn set_up(alloc: Global, setup: Requests, row: Row) -> Result<Option<Draft>, AllocError>
-    ensures { IfOk result (λ draft. draft ≡ step (Draft.Headed setup) row) }
+fn set_up(
+    alloc: Global,
+    history: Option<u32>,
+    setup: Requests,
+    row: Row,
+) -> Result<Option<Draft>, AllocError>
+    ensures { IfOk result (λ draft. draft ≡ step (Draft.Headed history setup) row) }
 {
     match row {
         Row::Header => Ok(None),
-        Row::Line(line) => with_request(setup, line),
-        Row::Process(principal) => Ok(Some(Draft::Running(setup, principal, Script::new(alloc)))),
+        Row::History(limit) => Ok(with_limit(history, setup, limit)),
+        Row::Line(line) => with_request(history, setup, line),
+        Row::Process(principal) => {
+            let parts = Parts::new(alloc, history, setup);
+            Ok(Some(Draft::Running(parts, principal, Script::new(alloc))))
+        }
         Row::End => Ok(None),
     }
 }
 
-fn with_request(mut setup: Requests, line: Line) -> Result<Option<Draft>, AllocError>
-    ensures { IfOk result (λ draft. draft ≡ setup_step setup line) }
+fn with_limit(history: Option<u32>, setup: Requests, limit: u32) -> Option<Draft>
+    ensures { result ≡ history_step history setup limit }
+{
+    if history.is_none() && setup.items().is_empty() {
+        Some(Draft::Headed(Some(limit), setup))
+    } else {
+        None
+    }
+}
+
+fn with_request(
+    history: Option<u32>,
+    mut setup: Requests,
+    line: Line,
+) -> Result<Option<Draft>, AllocError>
+    ensures { IfOk result (λ draft. draft ≡ setup_step history setup line) }
 {
     match line {
         Line::Ask(request) => {
             if is_for_setup(request.request().class()) {
                 setup.push(request.into_request())?;
-                Ok(Some(Draft::Headed(setup)))
+                Ok(Some(Draft::Headed(history, setup)))
             } else {
                 Ok(None)
             }
@@ -164,32 +167,36 @@ fn with_request(mut setup: Requests, line: Line) -> Result<Option<Draft>, AllocE
         Line::Lda { .. } => Ok(None),
         Line::Sta { .. } => Ok(None),
         Line::Spri { .. } => Ok(None),
+        Line::Fetch => Ok(None),
+        Line::Call { .. } => Ok(None),
+        Line::Return { .. } => Ok(None),
     }
 }
 
 fn went_on(
-    setup: Requests,
+    parts: Parts,
     principal: Principal,
     script: Script,
     row: Row,
 ) -> Result<Option<Draft>, AllocError>
-    ensures { IfOk result (λ draft. draft ≡ step (Draft.Running setup principal script) row) }
+    ensures { IfOk result (λ draft. draft ≡ step (Draft.Running parts principal script) row) }
 {
     match row {
         Row::Header => Ok(None),
-        Row::Line(line) => with_line(setup, principal, script, line),
+        Row::History(_) => Ok(None),
+        Row::Line(line) => with_line(parts, principal, script, line),
         Row::Process(_) => Ok(None),
         Row::End => Ok(None),
     }
 }
 
 fn with_line(
-    setup: Requests,
+    mut parts: Parts,
     principal: Principal,
     mut script: Script,
     line: Line,
 ) -> Result<Option<Draft>, AllocError>
-    ensures { IfOk result (λ draft. draft ≡ script_step setup principal script line) }
+    ensures { IfOk result (λ draft. draft ≡ script_step parts principal script line) }
 {
     if !may_stand(&line) {
         return Ok(None);
@@ -197,17 +204,31 @@ fn with_line(
     let last = is_logout(&line);
     script.push(line)?;
     if last {
-        Ok(Some(Draft::LoggedOut(setup, principal, script)))
+        parts.add(principal, script)?;
+        Ok(Some(Draft::LoggedOut(parts)))
     } else {
-        Ok(Some(Draft::Running(setup, principal, script)))
+        Ok(Some(Draft::Running(parts, principal, script)))
     }
 }
 
-fn ended(setup: Requests, principal: Principal, script: Script, row: Row) -> Option<Draft>
-    ensures { result ≡ step (Draft.LoggedOut setup principal script) row }
+fn logged_out(alloc: Global, parts: Parts, row: Row) -> Option<Draft>
+    ensures { result ≡ step (Draft.LoggedOut parts) row }
 {
     match row {
-        Row::End => Some(Draft::Ended(setup, principal, script)),
-        _other => None,
+        Row::Header => None,
+        Row::History(_) => None,
+        Row::Line(_) => None,
+        Row::Process(principal) => with_process(alloc, parts, principal),
+        Row::End => Some(Draft::Ended(parts)),
+    }
+}
+
+fn with_process(alloc: Global, parts: Parts, principal: Principal) -> Option<Draft>
+    ensures { result ≡ process_step parts principal }
+{
+    if parts.processes() < 15 {
+        Some(Draft::Running(parts, principal, Script::new(alloc)))
+    } else {
+        None
     }
 }

@@ -1,14 +1,15 @@
 //! What a line of a session text says by itself.
 
 ghost use Rattle.std.specs.Prelude.{◌≡◌, IfOk, IfSome, Some};
-ghost use Rattle.mx_script.specs.Reading.{IsRow, set_at, epp_at, lda_at, sta_at, spri_at, memory_at, plain_at, process_at};
+ghost use Rattle.mx_script.specs.Reading.{IsRow, set_at, epp_at, lda_at, sta_at, spri_at, call_at, return_at, memory_at, history_row, plain_at, process_at};
 ghost use Rattle.mx_script.specs.declared.rows.Row.{Row};
 
 use crate::lines::{BoxedRequest, Line};
+use crate::outlines::is_history;
 use crate::reading::cutting::after;
 use crate::reading::fields::{read_operand, read_principal, read_register_operand, read_word};
 use crate::rows::Row;
-use mx_request::Request;
+use mx_request::{Request, read_decimal};
 use std::alloc::{AllocError, Global};
 
 /// The row that a line spells, `None` where it spells none.
@@ -39,7 +40,7 @@ fn read_process(line: &[u8]) -> Option<Row>
     Some(Row::Process(who))
 }
 
-/// A line that holds no text: the header, the end or a memory line.
+/// A line that holds no text: the header, the end, the limit or a memory line.
 #[tactic(auto, unfolding(crate::specs::Reading::plain_at))]
 fn read_plain(line: &[u8]) -> Option<Row>
     ensures { result ≡ plain_at line.now }
@@ -48,8 +49,23 @@ fn read_plain(line: &[u8]) -> Option<Row>
         Some(Row::Header)
     } else if line == b"end".as_slice() {
         Some(Row::End)
+    } else if line == b"fetch".as_slice() {
+        Some(Row::Line(Line::Fetch))
+    } else if let Some(limit) = after(b"history ", line) {
+        read_history(limit)
     } else {
         Some(Row::Line(read_memory(line)?))
+    }
+}
+
+fn read_history(text: &[u8]) -> Option<Row>
+    ensures { result ≡ history_row text.now }
+{
+    let limit = read_decimal(text, 6)?;
+    if is_history(limit) {
+        Some(Row::History(limit))
+    } else {
+        None
     }
 }
 
@@ -67,6 +83,10 @@ fn read_memory(line: &[u8]) -> Option<Line>
         read_sta(fields)
     } else if let Some(fields) = after(b"spri ", line) {
         read_spri(fields)
+    } else if let Some(fields) = after(b"call ", line) {
+        read_call(fields)
+    } else if let Some(fields) = after(b"return ", line) {
+        read_return(fields)
     } else {
         None
     }
@@ -105,4 +125,18 @@ fn read_spri(fields: &[u8]) -> Option<Line>
 {
     let (n, operand) = read_register_operand(fields)?;
     Some(Line::Spri { n, operand })
+}
+
+fn read_call(fields: &[u8]) -> Option<Line>
+    ensures { result ≡ call_at fields.now }
+{
+    let operand = read_operand(fields)?;
+    Some(Line::Call { operand })
+}
+
+fn read_return(fields: &[u8]) -> Option<Line>
+    ensures { result ≡ return_at fields.now }
+{
+    let operand = read_operand(fields)?;
+    Some(Line::Return { operand })
 }

@@ -6,14 +6,14 @@ ghost use Rattle.mx_sdw.specs.Denials.{denial_text};
 ghost use Rattle.mx_sdw.specs.Octal.{octal};
 ghost use Rattle.mx_core.specs.declared.elements.Event.TheVariants.{Missing};
 ghost use Rattle.mx_legal.specs.declared.transcripts.Event2.TheVariants.{Core, Entry};
-ghost use Rattle.mx_legal.specs.declared.transcripts.Result2.TheVariants.{Pr};
+ghost use Rattle.mx_legal.specs.declared.transcripts.Result2.TheVariants.{Pr, Moved};
 ghost use Rattle.mx_text.specs.RunText.{kind_text, outcome_text, element_text, event_text, events_text};
 ghost use Rattle.mx_text.specs.RunText.{result_text, step_text};
 
 use super::tails::Tail;
 use mx_legal::{Element, Event, Event2, Kind, Outcome, Result2};
 use mx_ptr::Pointer;
-use mx_sdw::{Denial, Word};
+use mx_sdw::{Denial, Ring, Word};
 use std::alloc::AllocError;
 
 /// Adds a line's events, then `line N RESULT`. Each is spelled in `tail`, which holds nothing that lasts.
@@ -171,6 +171,7 @@ fn put_result(tail: &mut Tail, ends: &Result2)
             tail.text(b"a ");
         },
         Result2::Pr { n, pointer } => put_register(tail, *n, pointer),
+        Result2::Moved { ring, procedure } => put_procedure(tail, *ring, procedure),
         Result2::Denied(denial) => {
             put_denial(tail, denial);
             tail.text(b"denied ");
@@ -192,4 +193,16 @@ fn put_register(tail: &mut Tail, n: u8, pointer: &Pointer)
     tail.byte(b' ');
     tail.decimal(u64::from(n));
     tail.text(b"pr ");
+}
+
+// `ring R at S|W`
+fn put_procedure(tail: &mut Tail, ring: Ring, procedure: &Pointer)
+    requires { 90 + length tail.old ≤ 192 }
+    ensures spelled { tail.new ≡ result_text (Moved ring procedure.now) ++ tail.old }
+    ensures short { length tail.new ≤ 90 + length tail.old }
+{
+    tail.address(procedure.segno, procedure.word);
+    tail.text(b" at ");
+    tail.decimal(u64::from(ring.number()));
+    tail.text(b"ring ");
 }

@@ -1,5 +1,6 @@
 use Rattle.mx_legal.proofs.WrongLineLaws.{wrong_references, wrong_calls, wrong_scripts}
 use Rattle.mx_legal.proofs.PointerLineLaws.{right_pointers, wrong_pointers}
+use Rattle.mx_legal.proofs.CallLineLaws.{right_transfers, wrong_transfers, wrong_registers}
 use Rattle.mx_legal.proofs.WrongRuleLaws.{wrong_points, wrong_reads, wrong_falls}
 use Rattle.mx_legal.proofs.laws.wrong_runs_are_refused.Goals as goal
 
@@ -9,6 +10,9 @@ returns c = record {
   calls = wrong_calls;
   right_pointers = right_pointers;
   pointers = wrong_pointers;
+  right_transfers = right_transfers;
+  transfers = wrong_transfers;
+  registers = wrong_registers;
   scripts = wrong_scripts;
   points = wrong_points;
   reads = wrong_reads;

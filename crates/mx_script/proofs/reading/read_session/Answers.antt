@@ -27,15 +27,15 @@ overflow_add-number c =
           (sym c.in-Some.ensures.cut),
     )
 
-pub returns-in-Some-2-clause-found : goal.returns-in-Some-2-clause-found
-returns-in-Some-2-clause-found c =
-    whole_text _ c.loop-line.rest.now _ c.loop-line.draft _ c.loop-line.invariant (sym c.in_ok-session.ensures ∙ c.in-Some-2.is)
+pub returns-in-Some-finish-clause-found : goal.returns-in-Some-finish-clause-found
+returns-in-Some-finish-clause-found c =
+    whole_text _ c.loop-line.rest.now _ c.loop-line.draft _ c.loop-line.invariant (sym c.finish.ensures ∙ c.in-Some-finish.is)
 
-pub returns-in-Some-2-clause-only : goal.returns-in-Some-2-clause-only
-returns-in-Some-2-clause-only c =
+pub returns-in-Some-finish-clause-only : goal.returns-in-Some-finish-clause-only
+returns-in-Some-finish-clause-only c =
     λ x t.
     some_is _ _
-    (sym c.in-Some-2.is ∙ c.in_ok-session.ensures
+    (sym c.in-Some-finish.is ∙ c.finish.ensures
     ∙ only_session _ c.loop-line.rest.now _ c.loop-line.draft x c.loop-line.invariant (sym c.in_default.ensures.cut) t)
 
 pub returns-in-None-clause-bad_line : goal.returns-in-None-clause-bad_line
@@ -44,7 +44,7 @@ returns-in-None-clause-bad_line c =
     let same : c.loop-line.number ≡ n = cc in
     subst (IsFirstBad c.args.bytes.now) same
     (bad_end _ c.loop-line.rest.now _ c.loop-line.draft c.loop-line.invariant (sym c.in_default.ensures.cut)
-    (sym c.in_ok-session.ensures ∙ c.in-None.is))
+    (sym c.finish.ensures ∙ c.in-None.is))
 
 pub finish-requires : goal.finish-requires
 finish-requires c = countable _ c.loop-line.rest.now _ c.loop-line.draft c.loop-line.invariant c.requires

@@ -6,6 +6,6 @@ use Rattle.mx_state.proofs.renewing.held.Given as goal
 abbrev pub invariant-loop-process : goal.invariant-loop-process
 invariant-loop-process l = record {
   number : l.p ≡ l.process-index + 1;
-  held : held_from (record { hierarchy = l.hier; processes = l.processes }) 1 l.processes l.uid
-      ≡ l.held.items ++ held_from (record { hierarchy = l.hier; processes = l.processes }) (l.process-index + 1) (drop l.process-index l.processes) l.uid;
+  held : held_from l.hier l.processes 1 l.processes l.uid
+      ≡ l.held.items ++ held_from l.hier l.processes (l.process-index + 1) (drop l.process-index l.processes) l.uid;
 }

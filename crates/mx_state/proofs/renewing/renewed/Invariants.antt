@@ -10,7 +10,7 @@ abbrev pub invariant-loop-change : goal.invariant-loop-change
 invariant-loop-change l = record {
   few : length l.changes.items ≤ l.change-index;
   room : length l.held ≤ vec_capacity l.changes;
-  changes : renewed (record { hierarchy = l.hier; processes = l.processes }) l.held
-      ≡ l.changes.items ++ renewed (record { hierarchy = l.hier; processes = l.processes }) (drop l.change-index l.held);
+  changes : renewed l.hier l.processes l.held
+      ≡ l.changes.items ++ renewed l.hier l.processes (drop l.change-index l.held);
   admissible : All (λ change. IsAdmissible change.desc) l.changes.items;
 }

@@ -1,4 +1,4 @@
-use Rattle.std.proofs.Common.{◌∙◌, ap, sym, rules}
+use Rattle.std.proofs.Common.{◌∙◌, ap, sym, refl, rules}
 use Rattle.mx_core.specs.Loading.{CanLoadDesc}
 use Rattle.mx_core.specs.Shows.{columns}
 use Rattle.mx_core.specs.World.{Process}
@@ -29,8 +29,14 @@ returns-in-Ok c w shows =
 pub returns-in-Err : goal.returns-in-Err
 returns-in-Err c w shows =
     let p = c.args.process in
-    let m = c.args.self.now in (
-      tt,
+    let m = c.args.self.now in
+    let s = seat_shown m.seats.items w c.from-place.result p c.index.result.now (search rules) (search rules)
+    c.index.ensures shows.parts.shows in
+    let can : CanLoadDesc w p = record {
+      range = process_is _ w p shows.parts.same (search rules) (search rules);
+      ready = sym (ap (λ (o : Process). o.stage) s.process) ∙ (search rules);
+    } in (
+      (can, refl),
       record {
         parts = same_parts _ _ _ _ _ _ w c.from-place.result p c.index_mut.result.now c.load_desc.new.self
             (search rules)

@@ -64,8 +64,18 @@ returns-in-Ok c w shows =
 pub returns-in-Err : goal.returns-in-Err
 returns-in-Err c w shows =
     let p = c.args.process in
-    let m = c.args.self.now in (
-      tt,
+    let m = c.args.self.now in
+    let s = seat_shown m.seats.items w c.from-place.result p c.index.result.now (search rules) (search rules)
+    c.index.ensures shows.parts.shows in
+    let t = c.in-Some.triple in
+    let a = c.in-Some.asked in
+    let b = c.in-Some.ensures w.numbers (columns w p) s in
+    let can : CanStoreCell w p c.args.value = record {
+      range = process_is _ w p shows.parts.same (search rules) (search rules);
+      word = search rules;
+      hold = record { on = t; asked = a; basis = b.0; hold = b.1; operation = b.2 };
+    } in (
+      (can, refl),
       record {
         parts = same_parts _ _ _ _ _ _ w c.from-place.result p c.index_mut.result.now c.wrote.new.self (search rules)
             (search rules) c.index_mut.ensures.value shows.parts (c.in-Err.ensures w.numbers (columns w p));

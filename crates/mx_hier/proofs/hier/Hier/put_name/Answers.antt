@@ -12,4 +12,4 @@ rename-requires c = record {
 }
 
 pub invariant_of-self-2 : goal.invariant_of-self-2
-invariant_of-self-2 c = sound_renamed c.args.uid c.args.name.now c.self.inside.pages c.self.inside.tables c.rename.new.self c.in_ok-rename.ensures.ok c.self.invariant
+invariant_of-self-2 c = sound_renamed c.args.uid c.args.name.now c.self.inside.pages c.self.inside.objects.entries c.self.inside.tables c.rename.new.self c.in_ok-rename.ensures.ok c.self.invariant

@@ -1,5 +1,5 @@
 use Rattle.std.proofs.Common.{◌≡◌, ◌-◌, ap}
-use Rattle.mx_proc.proofs.AskingLaws.{seen_good, seen_asking, seen_script_line}
+use Rattle.mx_proc.proofs.AskingLaws.{seen_good, seen_reads, seen_asking, seen_script_line}
 use Rattle.mx_proc.proofs.MadeLaws.{own_address}
 use Rattle.mx_proc.proofs.benches.Bench.asks.Goals as goal
 
@@ -7,6 +7,11 @@ pub asks-requires-clause-good : goal.asks-requires-clause-good
 asks-requires-clause-good c =
     let place : c.from.result - 1 ≡ c.args.p - 1 = ap (λ n. n - 1) c.from.ensures in
     seen_good _ _ _ _ _ _ _ c.args.p _ _ c.self.invariant c.self.view_is place c.requires.at
+
+pub asks-requires-clause-reads : goal.asks-requires-clause-reads
+asks-requires-clause-reads c =
+    let place : c.from.result - 1 ≡ c.args.p - 1 = ap (λ n. n - 1) c.from.ensures in
+    seen_reads _ _ _ _ _ _ _ c.args.p _ _ c.args.operand.now c.self.invariant c.self.view_is place c.requires.at c.requires.operand
 
 pub asks-requires-clause-address : goal.asks-requires-clause-address
 asks-requires-clause-address c =

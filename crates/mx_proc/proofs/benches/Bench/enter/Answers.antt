@@ -1,6 +1,6 @@
 use Rattle.std.proofs.Common.{◌≡◌, ◌-◌, Err, ap, refl}
 use Rattle.mx_proc.proofs.BenchLaws.{still_kept}
-use Rattle.mx_proc.proofs.SeenLaws.{full_done, call_done, seen_within, seen_principal, seen_countable, seen_still_within, still_seen, on_err}
+use Rattle.mx_proc.proofs.SeenLaws.{full_done, call_done, wait_done, seen_within, seen_principal, seen_countable, seen_still_within, still_seen, on_err}
 use Rattle.mx_proc.proofs.benches.Bench.enter.Goals as goal
 
 pub registers-registers-requires : goal.registers-registers-requires
@@ -46,19 +46,33 @@ enter-requires-clause-process c =
     let place : c.from-i.result - 1 ≡ c.args.p - 1 = ap (λ n. n - 1) c.from-i.ensures in
     seen_principal _ _ _ _ _ _ c.args.p _ _ _ c.self.invariant c.self.view_is place c.requires.at
 
-pub invariant_of-self-in-Ok : goal.invariant_of-self-in-Ok
-invariant_of-self-in-Ok c =
+pub invariant_of-self-then-is_waiting : goal.invariant_of-self-then-is_waiting
+invariant_of-self-then-is_waiting c =
     let place : c.from-i.result - 1 ≡ c.args.p - 1 = ap (λ n. n - 1) c.from-i.ensures in
-    (call_done _ _ _ _ _ _ _ _ _ c.args.p _ _ _ _ _ _ _ _ _ _ c.self.invariant c.self.view_is place c.requires.at c.requires.calls
-    c.registers-registers.ensures.at c.registers-registers.ensures.registers c.in-Ok.ensures.entered c.reply.ensures c.of-ends.ensures
-    c.in_ok-reserve.ensures.still c.end_line.ensures).0
+    (wait_done _ _ _ _ _ _ _ _ _ c.args.p _ _ _ _ _ _ _ _ c.self.invariant c.self.view_is place c.requires.at c.requires.calls
+    c.registers-registers.ensures.at c.in-Ok.ensures.entered c.reply-reply.ensures (c.is_waiting.ensures.yes c.if-is_waiting.true)
+    c.in_ok-reserve.ensures.still c.wait.ensures).0
 
-pub returns-in-Ok-clause-done : goal.returns-in-Ok-clause-done
-returns-in-Ok-clause-done c =
+pub returns-then-is_waiting-clause-gone : goal.returns-then-is_waiting-clause-gone
+returns-then-is_waiting-clause-gone c =
+    let place : c.from-i.result - 1 ≡ c.args.p - 1 = ap (λ n. n - 1) c.from-i.ensures in
+    (wait_done _ _ _ _ _ _ _ _ _ c.args.p _ _ _ _ _ _ _ _ c.self.invariant c.self.view_is place c.requires.at c.requires.calls
+    c.registers-registers.ensures.at c.in-Ok.ensures.entered c.reply-reply.ensures (c.is_waiting.ensures.yes c.if-is_waiting.true)
+    c.in_ok-reserve.ensures.still c.wait.ensures).1
+
+pub invariant_of-self-else-is_waiting : goal.invariant_of-self-else-is_waiting
+invariant_of-self-else-is_waiting c =
     let place : c.from-i.result - 1 ≡ c.args.p - 1 = ap (λ n. n - 1) c.from-i.ensures in
     (call_done _ _ _ _ _ _ _ _ _ c.args.p _ _ _ _ _ _ _ _ _ _ c.self.invariant c.self.view_is place c.requires.at c.requires.calls
-    c.registers-registers.ensures.at c.registers-registers.ensures.registers c.in-Ok.ensures.entered c.reply.ensures c.of-ends.ensures
-    c.in_ok-reserve.ensures.still c.end_line.ensures).1
+    c.registers-registers.ensures.at c.registers-registers.ensures.registers c.in-Ok.ensures.entered c.reply-reply.ensures
+    (c.is_waiting.ensures.no c.if-is_waiting.false) c.of-ends.ensures c.in_ok-reserve.ensures.still c.end_line.ensures).0
+
+pub returns-else-is_waiting-clause-gone : goal.returns-else-is_waiting-clause-gone
+returns-else-is_waiting-clause-gone c =
+    let place : c.from-i.result - 1 ≡ c.args.p - 1 = ap (λ n. n - 1) c.from-i.ensures in
+    (call_done _ _ _ _ _ _ _ _ _ c.args.p _ _ _ _ _ _ _ _ _ _ c.self.invariant c.self.view_is place c.requires.at c.requires.calls
+    c.registers-registers.ensures.at c.registers-registers.ensures.registers c.in-Ok.ensures.entered c.reply-reply.ensures
+    (c.is_waiting.ensures.no c.if-is_waiting.false) c.of-ends.ensures c.in_ok-reserve.ensures.still c.end_line.ensures).1
 
 pub invariant_of-self-in-Err-HistoryFull : goal.invariant_of-self-in-Err-HistoryFull
 invariant_of-self-in-Err-HistoryFull c =
@@ -67,8 +81,8 @@ invariant_of-self-in-Err-HistoryFull c =
     c.registers-registers.ensures.at c.registers-registers.ensures.registers (c.in-Err-HistoryFull.ensures.full.0 (ap Err c.in-Err-HistoryFull.field-0-is))
     c.in_ok-reserve.ensures.still c.end_line-in-Err-HistoryFull.ensures).0
 
-pub returns-in-Err-HistoryFull-clause-done : goal.returns-in-Err-HistoryFull-clause-done
-returns-in-Err-HistoryFull-clause-done c =
+pub returns-in-Err-HistoryFull-clause-gone : goal.returns-in-Err-HistoryFull-clause-gone
+returns-in-Err-HistoryFull-clause-gone c =
     let place : c.from-i.result - 1 ≡ c.args.p - 1 = ap (λ n. n - 1) c.from-i.ensures in
     rw c.in-Err-HistoryFull.ensures.err (full_done _ _ _ _ _ _ _ _ c.args.p _ _ _ _ _ _ _ c.self.invariant c.self.view_is place c.requires.at c.requires.calls
     c.registers-registers.ensures.at c.registers-registers.ensures.registers (c.in-Err-HistoryFull.ensures.full.0 (ap Err c.in-Err-HistoryFull.field-0-is))

@@ -3,7 +3,7 @@ use Rattle.mx_script.specs.FirstBadLine.{IsFirstBad}
 use Rattle.mx_run.proofs.verdicts.Verdict.of_bytes.Goals as goal
 
 pub returns-in-Err-BadLine-clause-right : goal.returns-in-Err-BadLine-clause-right
-returns-in-Err-BadLine-clause-right c = (
+returns-in-Err-BadLine-clause-right g c = (
   refl,
   record {
     spelled = c.args.bytes.now;

@@ -10,14 +10,14 @@ pub invariant_of-self-2 : goal.invariant_of-self-2
 invariant_of-self-2 c =
     let s = c.self.inside in
     let who = caller c.caller-who.result in
-    call_is_sound Nothing (create_dir s.hier who c.args.path.now c.args.d1 c.args.d2) s.hier c.create_dir-given.new.self s.processes.items s.initializer s.root
+    call_is_sound Nothing (create_dir s.hier who c.args.path.now c.args.d1 c.args.d2) s.hier c.create_dir-given.new.self s.mail s.processes.items s.initializer s.root
     c.create_dir-given.result c.create_dir-given.ensures.answer (create_dir_leaves s.hier who c.args.path.now c.args.d1 c.args.d2) c.self.invariant
 
 pub returns-clause-served : goal.returns-clause-served
 returns-clause-served c =
     let s = c.self.inside in
     let who = caller c.caller-who.result in
-    of_old s.hier s.processes.items _ _ c.args.p c.args.ring (ask.CreateDir c.args.path.now c.args.d1 c.args.d2) c.unchanged.result c.self.view_is
-    (quiet_serves (λ who. create_dir s.hier who c.args.path.now c.args.d1 c.args.d2) (create_dir s.hier who c.args.path.now c.args.d1 c.args.d2) s.hier c.create_dir-given.new.self s.processes.items c.args.p c.args.ring who
+    of_old s.hier s.mail s.processes.items _ _ c.args.p c.args.ring (ask.CreateDir c.args.path.now c.args.d1 c.args.d2) c.unchanged.result c.self.view_is
+    (quiet_serves (λ who. create_dir s.hier who c.args.path.now c.args.d1 c.args.d2) (create_dir s.hier who c.args.path.now c.args.d1 c.args.d2) s.hier c.create_dir-given.new.self s.mail s.processes.items c.args.p c.args.ring who
     c.create_dir-given.result c.in_ok-reply.reply c.unchanged.result (rw c.as_slice-processes.ensures.value at c.caller-who.ensures) refl
     c.create_dir-given.ensures.answer c.in_ok-reply.ensures (create_dir_leaves s.hier who c.args.path.now c.args.d1 c.args.d2) c.self.invariant.sound c.unchanged.ensures)

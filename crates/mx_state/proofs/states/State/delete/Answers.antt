@@ -12,7 +12,7 @@ pub invariant_of-self-2 : goal.invariant_of-self-2
 invariant_of-self-2 c =
     let s = c.self.inside in
     let who = subject c.caller-who.result in
-    call_is_sound (Only c.in-Ok.uid) (delete_at s.hier who c.in-Ok.uid) s.hier c.delete-given.new.self s.processes.items s.initializer s.root
+    call_is_sound (Only c.in-Ok.uid) (delete_at s.hier who c.in-Ok.uid) s.hier c.delete-given.new.self s.mail s.processes.items s.initializer s.root
     c.delete-given.result c.delete-given.ensures.answer (delete_leaves s.hier who c.in-Ok.uid) c.self.invariant
 
 pub returns-clause-served : goal.returns-clause-served
@@ -23,12 +23,12 @@ returns-clause-served c =
     let meant = delete_at s.hier who.subject uid in
     let before = after_call (Only uid) meant s.hier c.delete-given.new.self c.delete-given.result c.delete-given.ensures.answer
     (delete_leaves s.hier who.subject uid) in
-    of_old s.hier s.processes.items _ _ c.args.p c.args.ring (ask.Delete c.args.path.now) _ c.self.view_is
-    (loud_serves (λ who. delete s.hier who c.args.path.now) meant s.hier c.delete-given.new.self s.processes.items c.args.p c.args.ring who
+    of_old s.hier s.mail s.processes.items _ _ c.args.p c.args.ring (ask.Delete c.args.path.now) _ c.self.view_is
+    (loud_serves (λ who. delete s.hier who c.args.path.now) meant s.hier c.delete-given.new.self s.mail s.processes.items c.args.p c.args.ring who
     c.delete-given.result c.in_ok-reply.reply c.renewed-changes.result (rw c.as_slice-processes.ensures.value at c.caller-who.ensures)
     (found (entry s.hier who c.args.path.now false) (λ uid. delete_at s.hier who.subject uid) uid c.in-Ok.ensures.answer)
     c.delete-given.ensures.answer c.in_ok-reply.ensures c.self.invariant.sound
-    (renewed_are s.hier c.delete-given.new.self s.processes.items uid c.in_ok-held.held.items c.renewed-changes.result c.self.invariant.sound before
+    (renewed_are s.hier c.delete-given.new.self s.mail s.processes.items uid c.in_ok-held.held.items c.renewed-changes.result c.self.invariant.sound before
     (rw c.as_slice-processes.ensures.value at c.in_ok-held.ensures)
     (rw (c.as_slice-processes.ensures.value, c.deref.ensures.value) at c.renewed-changes.ensures.value))
     c.renewed-changes.ensures.admissible)

@@ -1,4 +1,4 @@
-use Rattle.std.proofs.Common.{◌≡◌, ◌-◌, ℕ, Result, Ok, Err, ap, sym, subst, ◌∙◌, arith}
+use Rattle.std.proofs.Common.{◌≡◌, ◌-◌, Result, Ok, ap, sym, subst, ◌∙◌, arith}
 use Rattle.std.specs.Option.{option_copied}
 use Rattle.mx_hier.specs.Initiate.{segment}
 use Rattle.mx_hier.specs.declared.refusals.Refusal.{Refusal}
@@ -19,13 +19,13 @@ invariant_of-self-2 c =
     let s = c.self.inside in
     let process = c.process_in-process.result.now in
     let place = rw c.as_slice.ensures.value at c.process_in-process.ensures in
-    known_holds s.hier s.processes.items c.know.new.processes.items (c.from-i.result - 1) process c.in-Ok.uid c.args.ring (option_copied c.args.name)
+    known_holds s.hier s.mail s.processes.items c.know.new.processes.items (c.from-i.result - 1) process c.in-Ok.uid c.args.ring (option_copied c.args.name)
     c.in_ok-known.field-0 s.initializer s.root c.self.invariant place c.in-Ok.ensures.below (c.in_ok-known.ensures.known process place)
 
 pub returns-clause-served : goal.returns-clause-served
 returns-clause-served c =
     let s = c.self.inside in
-    let old = plain_state s.hier s.processes.items in
+    let old = plain_state s.hier s.mail s.processes.items in
     let process = c.process_in-process.result.now in
     let name = option_copied c.args.name in
     let place = rw c.as_slice.ensures.value at c.process_in-process.ensures in
@@ -39,8 +39,8 @@ returns-clause-served c =
     λ told. Knows (known_then process.known c.args.ring name c.in-Ok.uid) s.processes.items (c.from-i.result - 1) process told c.know.new.processes.items in
     elim c.match-branch-3.branch [
       | in-Ok-2 w ↦ rw w.result-is
-          (of_old s.hier s.processes.items _ _ c.args.p c.args.ring (ask.Initiate c.args.path.now name) _ c.self.view_is
-          (known_serves s.hier s.processes.items c.know.new.processes.items c.args.p (c.from-i.result - 1) process c.in-Ok.uid c.args.ring
+          (of_old s.hier s.mail s.processes.items _ _ c.args.p c.args.ring (ask.Initiate c.args.path.now name) _ c.self.view_is
+          (known_serves s.hier s.mail s.processes.items c.know.new.processes.items c.args.p (c.from-i.result - 1) process c.in-Ok.uid c.args.ring
           c.args.path.now name (caller process c.args.ring) w.in-Ok-2.known w.given_changes.result asks c.self.invariant.sound c.requires.some
           (omega (arith, c.from-i.ensures)) place told meant (subst P w.in-Ok-2.is knows)
           (w.given_changes.ensures.value ∙ ap (given_changes c.args.p w.in-Ok-2.known) c.desc_of-desc.ensures.value)
@@ -48,8 +48,8 @@ returns-clause-served c =
       | in-Err-2 w ↦
           let refused = subst P w.in-Err-2.is knows in
           rw w.result-is
-          (of_old s.hier s.processes.items _ _ c.args.p c.args.ring (ask.Initiate c.args.path.now name) _ c.self.view_is
-          (refused_serves s.hier s.processes.items c.know.new.processes.items c.args.p (c.from-i.result - 1) process w.in-Err-2.why w.unchanged.result
+          (of_old s.hier s.mail s.processes.items _ _ c.args.p c.args.ring (ask.Initiate c.args.path.now name) _ c.self.view_is
+          (refused_serves s.hier s.mail s.processes.items c.know.new.processes.items c.args.p (c.from-i.result - 1) process w.in-Err-2.why w.unchanged.result
           asks c.requires.some (omega (arith, c.from-i.ensures)) place (meant ∙ ap (given old c.args.p process) refused.0) refused.1
           w.unchanged.ensures))
     ]

@@ -1,26 +1,23 @@
-use Rattle.std.proofs.Common.{◌-◌, ◌<◌, length, true, refl, arith}
-use Rattle.mx_request.specs.declared.requests.Request.TheVariants as ask
+use Rattle.std.proofs.Common.{◌≡◌, ap, sym}
 use Rattle.mx_request.specs.declared.replies.Reply.TheVariants.{Done}
-use Rattle.mx_state.specs.OwnState.{logout}
+use Rattle.mx_request.specs.declared.requests.Request.TheVariants as ask
+use Rattle.mx_state.specs.Messages.{logout}
+use Rattle.mx_state.specs.Plain.{answer}
 use Rattle.mx_state.proofs.AnswerLaws.{plain_state, of_old}
-use Rattle.mx_state.proofs.ProcessLaws.{kept_holds, kept_serves}
+use Rattle.mx_state.proofs.MessageLaws.{mail_holds, mail_serves}
 use Rattle.mx_state.proofs.states.State.logout.Goals as goal
-
-within : (c : goal.After-unchanged) → c.from.result - 1 < length c.self.inside.processes.items
-within c =
-    let in_range = rw (← c.self.view_is) at c.requires.process in
-    omega (arith, in_range, c.from.ensures, c.requires.some)
 
 pub invariant_of-self : goal.invariant_of-self
 invariant_of-self c =
     let s = c.self.inside in
-    kept_holds (λ process. record process { ended = true }) s.hier s.processes.items c.end.new.processes.items (c.from.result - 1)
-    s.initializer s.root (λ process. refl) (within c) c.end.ensures.ended c.self.invariant
+    mail_holds s.hier s.mail c.end.new.self s.processes.items s.initializer s.root c.end.ensures.count c.self.invariant
 
 pub returns : goal.returns
 returns c =
     let s = c.self.inside in
-    of_old s.hier s.processes.items _ _ c.args.p c.args.ring ask.Logout c.unchanged.result c.self.view_is
-    (kept_serves (λ process. record process { ended = true }) s.hier s.processes.items c.end.new.processes.items c.args.p (c.from.result - 1)
-    (logout (plain_state s.hier s.processes.items) c.args.p) Done c.unchanged.result (λ process. refl) (λ process. refl) c.requires.some
-    (omega (arith, c.from.ensures)) (within c) c.end.ensures.ended (λ process e. refl) c.unchanged.ensures)
+    let in_range = rw (← c.self.view_is) at c.requires.process in
+    of_old s.hier s.mail s.processes.items _ _ c.args.p c.args.ring ask.Logout c.unchanged.result c.self.view_is
+    (mail_serves s.hier s.mail c.end.new.self s.processes.items c.args.p
+    (logout (plain_state s.hier s.mail s.processes.items) c.args.p) Done
+    c.unchanged.result c.requires.some in_range
+    (ap (λ m. answer Done (plain_state s.hier m s.processes.items)) (sym c.end.ensures.after)) c.unchanged.ensures)

@@ -1,0 +1,63 @@
+//! The program: it runs teaching sessions of several processes again and again, side by side. Each word of its command line
+//! names one: `NAME.session` in the folder that it is started in is the session's text, and `NAME.run` one of its runs. A line
+//! for each says what came of it, whatever the interleaving. Status 0 means that each run of each had the lines of the stored
+//! one, 1 that one had not, 2 that none was named.
+#![tactic(auto)]
+
+mod outlines;
+mod repeats;
+
+use repeats::{Outcome, repeat, status_of};
+use std::alloc::{AllocError, Global};
+use std::process::ExitCode;
+use std::sync::Wait;
+use std::thread::Threads;
+use std::{env, fs, io};
+
+/// The status where no session is named.
+const BAD_WORDS: u8 = 2;
+
+fn main(rt: HostRuntime) -> io::Result<ExitCode> {
+    let mut names = env::args(&rt)?.skip(1).peekable();
+    if names.peek().is_none() {
+        eprintln!(rt;
+            "interleavings NAME ..: runs each NAME.session of this folder 100 times, and compares the lines with NAME.run"
+        )?;
+        return Ok(ExitCode::from(BAD_WORDS));
+    }
+    let mut outcomes = Vec::new(rt.alloc());
+    for name in names {
+        let session = read(&rt, &name, "session")?;
+        let stored = read(&rt, &name, "run")?;
+        let outcome = outcome_of(&rt, rt.alloc(), session, stored)?;
+        println!(rt; "{name}: {outcome}")?;
+        outcomes.push(outcome)?;
+    }
+    Ok(ExitCode::from(status_of(&outcomes)))
+}
+
+// Runs a session, where there are its text and its stored run.
+fn outcome_of<R: Threads + Wait + Sync>(
+    rt: &R,
+    alloc: Global,
+    session: Option<Vec<u8>>,
+    stored: Option<Vec<u8>>,
+) -> Result<Outcome, AllocError> {
+    match (session, stored) {
+        (Some(session), Some(stored)) => repeat(rt, alloc, &session, &stored),
+        _ => Ok(Outcome::NotFound),
+    }
+}
+
+// The bytes of a file, or none where there is no such file.
+fn read(rt: &HostRuntime, name: &str, kind: &str) -> io::Result<Option<Vec<u8>>> {
+    let path = format!(in rt.alloc(); "{name}.{kind}")?;
+    match fs::read(rt, path) {
+        Ok(bytes) => Ok(Some(bytes)),
+        Err(error) if error.kind() == io::ErrorKind::NotFound => Ok(None),
+        Err(error) => Err(error),
+    }
+}
+
+#[cfg(test)]
+mod tests;

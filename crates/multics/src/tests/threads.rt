@@ -1,0 +1,177 @@
+//! Gates that hold a process show that processes run side by side: one stands still between two of its lines while another goes
+//! on to its end.
+
+use super::calls::{GOOD, call_gated};
+use mx_run::Gate;
+use std::sync::atomic::{AtomicU64, Ordering};
+use std::test::Fail;
+use std::thread;
+
+// A gate that is held looks so often before it gives up.
+const TURNS: u32 = 200_000_000;
+
+// Holds a process at a line until another begins a line.
+#[derive(Clone, Copy)]
+struct Held {
+    process: u32,
+    line: u32,
+    until: u32,
+}
+
+// The lines that the gate holds, which line each of two processes began last, and how often a held process gave up.
+#[derive(Drop)]
+struct Holds<'a> {
+    holds: &'a [Held],
+    first: AtomicU64,
+    second: AtomicU64,
+    calls: AtomicU64,
+    given_up: AtomicU64,
+}
+
+impl<'a> Holds<'a> {
+    fn new(holds: &'a [Held]) -> Holds<'a> {
+        Holds {
+            holds,
+            first: AtomicU64::new(0),
+            second: AtomicU64::new(0),
+            calls: AtomicU64::new(0),
+            given_up: AtomicU64::new(0),
+        }
+    }
+
+    // The line that this process began last.
+    fn begun(&self, process: u32) -> &AtomicU64 {
+        if process == 1 {
+            &self.first
+        } else {
+            &self.second
+        }
+    }
+
+    // Looks until the other process has begun the line, or gives up.
+    fn wait(&self, process: u32, until: u32) {
+        let other = self.begun(3u32.saturating_sub(process));
+        for _turn in 0..TURNS {
+            if other.load(Ordering::SeqCst) >= u64::from(until) {
+                return;
+            }
+            thread::yield_now();
+        }
+        self.given_up.fetch_add(1, Ordering::SeqCst);
+    }
+}
+
+impl Gate for Holds<'_> {
+    fn pass(&self, process: u32, line: u32) {
+        self.calls.fetch_add(1, Ordering::SeqCst);
+        self.begun(process).store(u64::from(line), Ordering::SeqCst);
+        for held in self.holds {
+            if held.process == process && held.line == line {
+                self.wait(process, held.until);
+            }
+        }
+    }
+}
+
+const TWO: &[u8] = b"multics 1\n\
+    create_seg >a 64 4 4 4\n\
+    set_acl >a *.*.* rw\n\
+    process A.B.a\n\
+    initiate >a\n\
+    lda 10|0\n\
+    logout\n\
+    process C.D.a\n\
+    initiate >a\n\
+    set 7\n\
+    sta 10|0\n\
+    logout\n\
+    end\n";
+
+// Process 1 is held at its first line until process 2 has begun its logout: it reads what process 2 stored.
+#[test]
+fn the_first_process_is_held_until_the_second_logs_out(rt: HostRuntime) -> Result<(), Fail> {
+    let holds = [Held {
+        process: 1,
+        line: 5,
+        until: 12,
+    }];
+    let gate = Holds::new(&holds);
+    let answer = call_gated(&rt, rt.alloc(), &["run"], TWO, &GOOD, &gate)?;
+    assert_eq!(rt; gate.given_up.load(Ordering::SeqCst), 0);
+    assert_eq!(rt; gate.calls.load(Ordering::SeqCst), 7);
+    assert_eq!(rt; answer.status, 0);
+    assert!(rt; super::messages::has_line(&answer.written, b"line 6 a 7"));
+    Ok(())
+}
+
+// Process 2 is held at its first line until process 1 has begun its logout.
+#[test]
+fn the_second_process_is_held_until_the_first_logs_out(rt: HostRuntime) -> Result<(), Fail> {
+    let holds = [Held {
+        process: 2,
+        line: 9,
+        until: 7,
+    }];
+    let gate = Holds::new(&holds);
+    let answer = call_gated(&rt, rt.alloc(), &["run"], TWO, &GOOD, &gate)?;
+    assert_eq!(rt; gate.given_up.load(Ordering::SeqCst), 0);
+    assert_eq!(rt; gate.calls.load(Ordering::SeqCst), 7);
+    assert_eq!(rt; answer.status, 0);
+    assert!(rt; super::messages::has_line(&answer.written, b"line 6 a 0"));
+    Ok(())
+}
+
+const TOLD_BY_NO_ENTRY: &[u8] = b"multics 1\n\
+    create_seg >a 64 4 4 4\n\
+    set_acl >a *.*.* rw\n\
+    set_acl > A.B.a sma\n\
+    process A.B.a\n\
+    initiate >a\n\
+    set 7\n\
+    sta 10|0\n\
+    set_acl >a C.D.a r\n\
+    logout\n\
+    process C.D.a\n\
+    initiate >a\n\
+    lda 10|0\n\
+    lda 10|0\n\
+    sta 10|0\n\
+    logout\n\
+    end\n";
+
+// The gate alone orders the lines: no entry tells process 2 of the store.
+#[test]
+fn a_store_is_told_by_no_entry(rt: HostRuntime) -> Result<(), Fail> {
+    let holds = [
+        Held {
+            process: 1,
+            line: 7,
+            until: 14,
+        },
+        Held {
+            process: 2,
+            line: 14,
+            until: 9,
+        },
+        Held {
+            process: 2,
+            line: 15,
+            until: 10,
+        },
+    ];
+    let gate = Holds::new(&holds);
+    let answer = call_gated(&rt, rt.alloc(), &["run"], TOLD_BY_NO_ENTRY, &GOOD, &gate)?;
+    assert_eq!(rt; gate.given_up.load(Ordering::SeqCst), 0);
+    assert_eq!(rt; answer.status, 0);
+    for line in [
+        b"line 13 a 0".as_slice(),
+        b"line 14 a 7",
+        b"line 15 denied not_writable",
+    ] {
+        assert!(rt;
+            super::messages::has_line(&answer.written, line),
+            "{line:?}"
+        );
+    }
+    Ok(())
+}

@@ -1,0 +1,70 @@
+-- Making a segment: what `create_seg` and `create_object` have in common.
+use Rattle.std.specs.Prelude.{ℕ, ◌==◌, nat_lt, nat_le, Bool, ◌||◌, List, [], ◌∷◌, ◌++◌, Option, Some, Result, Ok, is_none}
+use Rattle.std.specs.List.{list_any}
+use Rattle.mx_acl.specs.declared.modes.Modes.{Modes}
+use Rattle.mx_acl.specs.declared.modes.AclKind.TheVariants.{Segment as OfSegment}
+use Rattle.mx_object.specs.Objects.{PlainObjectMap}
+use Rattle.mx_pages.specs.Runs.{pages_for, run_given, after_run}
+use Rattle.mx_sdw.specs.Rings.{Bracketing}
+use Rattle.mx_hier.specs.declared.branches.Directory.{Directory}
+use Rattle.mx_hier.specs.declared.branches.Segment.{Segment}
+use Rattle.mx_hier.specs.declared.branches.Node.TheVariants.{Segment as IsSegment}
+use Rattle.mx_hier.specs.declared.making.Place.{Place}
+use Rattle.mx_hier.specs.declared.refusals.Refusal.{Refusal}
+use Rattle.mx_hier.specs.declared.refusals.Refusal.TheVariants.{BadLength, BadBrackets, NoPages}
+use Rattle.mx_hier.specs.Branches.{Hierarchy}
+use Rattle.mx_hier.specs.Brackets.{settable}
+use Rattle.mx_hier.specs.Callers.{Subject, Caller, on}
+use Rattle.mx_hier.specs.Making.{place, making_refusals, made, added, first_acl}
+use Rattle.mx_hier.specs.Objects.{with_object}
+use Rattle.mx_hier.specs.Rules.{onward, required}
+use Rattle.mx_hier.specs.Walks.{resolved}
+
+-- the segment that is asked for: its words, its three rings, the modes that its maker has, and an object's map
+pub record Wanted : Type 0 where
+  pub words : ℕ
+  pub rings : List ℕ
+  pub modes : Modes
+  pub object : Option PlainObjectMap
+
+-- a gate or a definition is at a word that a segment of so many words doesn't have
+abbrev pub reaches_beyond : ℕ → PlainObjectMap → Bool
+reaches_beyond words object =
+    nat_lt words object.gate || list_any (λ definition. nat_le words definition.1) object.definitions
+
+abbrev pub is_bad_length : ℕ → Option PlainObjectMap → Bool
+is_bad_length words object = words == 0 || nat_lt 1024 words || on (reaches_beyond words) object
+
+abbrev pub make_segment_refusals : Hierarchy → Subject → Place → Wanted → List (Bool × Refusal)
+make_segment_refusals h who at wanted = making_refusals h who at ++
+    (is_bad_length wanted.words wanted.object, BadLength)
+    ∷ (is_none (settable who.ring wanted.rings), BadBrackets)
+    ∷ (is_none (run_given h.pages (pages_for wanted.words)), NoPages) ∷ []
+
+-- the parent gives it nothing: this model has no initial access lists
+abbrev pub new_segment : Directory → Subject → Wanted → Bracketing → ℕ → Segment
+new_segment parent who wanted brackets page = record {
+  acl = first_acl OfSegment who wanted.modes;
+  brackets = brackets;
+  words = wanted.words;
+  page = page;
+}
+
+-- the segment is made on the pages that are given next, and an object's map is kept by its uid
+abbrev pub segment_added : Hierarchy → Place → Segment → Option PlainObjectMap → Hierarchy
+segment_added h at segment object = record (added h at (IsSegment segment)) {
+  pages = after_run h.pages (pages_for segment.words) (Some segment.page);
+  objects = with_object h.objects h.next object;
+}
+
+abbrev pub make_segment_at : Hierarchy → Subject → Place → Wanted → Result Hierarchy Refusal
+make_segment_at h who at wanted =
+    made h at (make_segment_refusals h who at wanted) (λ parent.
+    onward (required BadBrackets (settable who.ring wanted.rings)) (λ brackets.
+    onward (required NoPages (run_given h.pages (pages_for wanted.words))) (λ page.
+    Ok (segment_added h at (new_segment parent who wanted brackets page) wanted.object))))
+
+abbrev pub make_segment : Hierarchy → Caller → List ℕ → Wanted → Result Hierarchy Refusal
+make_segment h who pathname wanted =
+    onward (resolved who pathname) (λ path.
+    onward (place h who.subject path) (λ at. make_segment_at h who.subject at wanted))

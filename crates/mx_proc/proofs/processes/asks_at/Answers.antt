@@ -1,0 +1,5 @@
+use Rattle.mx_proc.proofs.ProcessLaws.{reads_of}
+use Rattle.mx_proc.proofs.processes.asks_at.Goals as goal
+
+pub asks-requires-clause-reads : goal.asks-requires-clause-reads
+asks-requires-clause-reads c = reads_of _ _ c.index-processes-i-2.result c.requires.within c.requires.reads

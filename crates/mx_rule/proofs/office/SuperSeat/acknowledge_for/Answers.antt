@@ -1,0 +1,32 @@
+use Rattle.std.proofs.Common.{ℕ, sym, ◌∙◌, subst, arith}
+use Rattle.mx_rule.specs.Acknowledging.{MayAcknowledge, noticed_view}
+use Rattle.mx_rule.specs.Parts.{Flag, number_in}
+use Rattle.mx_rule.specs.Seats.{super_of}
+use Rattle.mx_rule.specs.Shown.{office_of}
+use Rattle.mx_rule.proofs.Carries.{same_count, office_reads}
+use Rattle.mx_rule.proofs.MoreSteps.{acknowledge_allowed}
+use Rattle.mx_rule.proofs.PartLaws.{part_within}
+use Rattle.mx_rule.proofs.office.SuperSeat.acknowledge_for.Goals as goal
+
+pub load-flag-requires : goal.load-flag-requires
+load-flag-requires g c =
+    let seat = c.args.self.now in
+    let y = c.args.shared.now.key.layout in
+    let p = g.J.Aim.process in
+    let a = c.requires.aim in
+    let v = super_of seat.seat.me.0 in
+    let may = c.requires.may in
+    let low = may.low in
+    let high = may.high in
+    let processes = seat.processes_is in
+    let inside = part_within seat.layout (Flag c.args.process) (low, omega arith) in
+    let wide = seat.wide in
+    let words = same_count _ _ c.requires.fits in
+    let place = c.flag-word.ensures in (
+      c.requires.fits,
+      omega arith,
+      office_reads g.row.E.Denot y v (λ n. noticed_view p n v) (Flag p) _ _
+          (acknowledge_allowed g.row.E.Denot y v p (subst (λ (q : ℕ). MayAcknowledge (office_of v) q) (sym a) may))
+          seat.posed
+          ((λ i. number_in (c.requires.layout i) (Flag (a i))) ∙ sym place) _ _,
+    )
