@@ -210,11 +210,11 @@ mod tests {
         assert_eq!(rt; session.history(), Some(3));
         assert_eq!(rt; session.limit(), 3);
         assert_eq!(rt; session.principals().items().len(), 2);
-        let mut lines = 0;
-        for script in session.scripts().items() {
-            lines = 10 * lines + script.items().len();
+        let scripts = session.scripts().items();
+        assert_eq!(rt; scripts.len(), 2);
+        for (script, lines) in scripts.iter().zip(&[1, 3]) {
+            assert_eq!(rt; script.items().len(), *lines);
         }
-        assert_eq!(rt; lines, 13);
         Ok(())
     }
 

@@ -65,6 +65,19 @@ const ALONE: [Row; 5] = [
     (1, b"block", b"nobody"),
 ];
 
+// The text of the reply to a request.
+fn told(alloc: Global, state: &mut State, p: u8, request: &Request) -> Result<Vec<u8>, Fail>
+    requires some { 1 ≤ p }
+    requires process { p ≤ length state.old.processes }
+    ensures { length state.new.processes ≡ length state.old.processes }
+{
+    let ring = Ring::new(4).ok_or("a ring")?;
+    let applied = state.apply(alloc, p, ring, request)?;
+    let mut out = Vec::new(alloc);
+    applied.reply.append_to(&mut out)?;
+    Ok(out)
+}
+
 // Whether a process is answered so; and it is ready for a message exactly where it is not answered `waiting`.
 fn is_answered(alloc: Global, state: &mut State, count: u8, row: &Row) -> Result<bool, Fail>
     requires { count ≤ length state.old.processes }
@@ -75,14 +88,16 @@ fn is_answered(alloc: Global, state: &mut State, count: u8, row: &Row) -> Result
         return Err("a process".into());
     }
     let request = Request::read(alloc, line)?.ok_or("a request")?;
-    let ring = Ring::new(4).ok_or("a ring")?;
     let ready = state.ready(p);
-    let applied = state.apply(alloc, p, ring, &request)?;
-    let mut out = Vec::new(alloc);
-    applied.reply.append_to(&mut out)?;
+    let out = told(alloc, state, p, &request)?;
+    Ok(out.as_slice() == text && keeps_its_word(line, text, ready))
+}
+
+// Whether one who asks for a message and is ready for one is not told to wait, and the other way round.
+fn keeps_its_word(line: &[u8], text: &[u8], ready: bool) -> bool {
     let asks = line == b"block".as_slice() || line == b"resume".as_slice();
-    let waits = out.as_slice() == b"waiting".as_slice();
-    Ok(out.as_slice() == text && !(asks && waits == ready))
+    let waits = text == b"waiting".as_slice();
+    !(asks && waits == ready)
 }
 
 // Whether all of them are, one after another.
