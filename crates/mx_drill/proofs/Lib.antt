@@ -1,0 +1,5 @@
+pub mod ListLaws
+pub mod DrillLaws
+pub mod SessionLaws
+pub mod CountLaws
+pub mod WritingLaws

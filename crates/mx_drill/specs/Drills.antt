@@ -1,0 +1,117 @@
+-- The drill session of a number: four processes, each with a segment of its own. In 256 rounds each stores into its own segment, loads from
+-- all four, takes another process's right to write its segment away or gives it back, and stores where its segment has no word.
+use Rattle.std.specs.Prelude.{ℕ, ◌+◌, ◌*◌, ◌/◌, ◌%◌, ◌==◌, false, if◌then◌else◌, List, [], ◌∷◌, ◌++◌, map, None, codes}
+use Rattle.std.specs.List.{flat_map, range_with_len}
+use Rattle.mx_acl.specs.declared.modes.Modes.{Modes}
+use Rattle.mx_acl.specs.declared.modes.Modes.TheVariants.{R, Rw, Sma}
+use Rattle.mx_name.specs.Identifiers.{PlainAclId}
+use Rattle.mx_name.specs.Identifiers.Component.{Any, Literal}
+use Rattle.mx_name.specs.Principals.{PlainPrincipal}
+use Rattle.mx_request.specs.declared.requests.Request.{Request}
+use Rattle.mx_request.specs.declared.requests.Request.TheVariants.{CreateSeg, SetAcl, Initiate, Logout}
+use Rattle.mx_script.specs.Sessions.{Outline, outline}
+use Rattle.mx_script.specs.declared.lines.Base.TheVariants.{Segment}
+use Rattle.mx_script.specs.declared.lines.Line.{Line}
+use Rattle.mx_script.specs.declared.lines.Line.TheVariants.{Ask, Set, Lda, Sta}
+use Rattle.mx_script.specs.declared.lines.Operand.{Operand}
+
+-- a number below 10
+abbrev pub digit : ℕ → List ℕ
+digit n = (48 + n) ∷ []
+
+-- segment s is `>sS`
+abbrev pub segment_path : ℕ → List ℕ
+segment_path s = codes ">s" ++ digit s
+
+-- process p is `UP.Drill.a`, as a principal and on an access list
+abbrev pub person : ℕ → List ℕ
+person p = codes "U" ++ digit p
+
+abbrev pub driller : ℕ → PlainPrincipal
+driller p = record { person = person p; project = codes "Drill"; tag = codes "a" }
+
+abbrev pub driller_id : ℕ → PlainAclId
+driller_id p = record { person = Literal (person p); project = Literal (codes "Drill"); tag = Literal (codes "a") }
+
+-- `*.Drill.*` and `*.*.*`
+abbrev pub drillers_id : PlainAclId
+drillers_id = record { person = Any; project = Literal (codes "Drill"); tag = Any }
+
+abbrev pub everyone_id : PlainAclId
+everyone_id = record { person = Any; project = Any; tag = Any }
+
+-- the numbers of the processes, and of their segments
+abbrev pub one_to_four : List ℕ
+one_to_four = range_with_len 1 4
+
+-- a segment of 64 words in ring 4, which everyone may read and write
+abbrev pub segment_setup : ℕ → List Request
+segment_setup s =
+    CreateSeg (segment_path s) 64 (4 ∷ 4 ∷ 4 ∷ []) ∷ SetAcl (segment_path s) everyone_id Rw ∷ []
+
+-- the processes may do everything in the root
+abbrev pub drill_setup : List Request
+drill_setup = SetAcl (codes ">") drillers_id Sma ∷ flat_map segment_setup one_to_four
+
+-- Process p knows segment s under number 7 + s. Its round i speaks of this word,
+abbrev pub word_of_round : ℕ → ℕ → ℕ → ℕ
+word_of_round number p i = (number + 7 * i + p) % 64
+
+-- stores this value,
+abbrev pub value_of_round : ℕ → ℕ → ℕ → ℕ
+value_of_round number p i = 1000 * p + i + number
+
+-- loads from the segment of this number,
+abbrev pub loaded_segment : ℕ → ℕ → ℕ
+loaded_segment number i = 8 + (number + i) % 4
+
+-- and gives these modes to this process, which is never p.
+abbrev pub other_process : ℕ → ℕ → ℕ
+other_process p i = 1 + (p + i / 4 % 3) % 4
+
+abbrev pub modes_of_round : ℕ → Modes
+modes_of_round i = if i / 4 % 2 == 0 then R else Rw
+
+-- `S|W`
+abbrev pub address : ℕ → ℕ → Operand
+address segno word = record { base = Segment segno; word = word; indirect = false }
+
+-- In rounds 0, 4, 8 .. a value is stored into the own segment,
+abbrev pub store : ℕ → ℕ → ℕ → List Line
+store number p i = Set (value_of_round number p i) ∷ Sta (address (7 + p) (word_of_round number p i)) ∷ []
+
+-- in rounds 1, 5, 9 .. a word is loaded,
+abbrev pub load : ℕ → ℕ → ℕ → List Line
+load number p i = Lda (address (loaded_segment number i) (word_of_round number p i)) ∷ []
+
+-- in rounds 2, 6, 10 .. the access of another process to the own segment is changed,
+abbrev pub change : ℕ → ℕ → List Line
+change p i = Ask (SetAcl (segment_path p) (driller_id (other_process p i)) (modes_of_round i)) ∷ []
+
+-- and in rounds 3, 7, 11 .. a store behind the last word of the own segment is denied.
+abbrev pub overrun : ℕ → List Line
+overrun p = Sta (address (7 + p) 64) ∷ []
+
+abbrev pub round_of_kind : ℕ → ℕ → ℕ → ℕ → List Line
+round_of_kind kind number p i =
+    if kind == 0 then store number p i
+    else (if kind == 1 then load number p i
+    else (if kind == 2 then change p i
+    else overrun p))
+
+abbrev pub round : ℕ → ℕ → ℕ → List Line
+round number p i = round_of_kind (i % 4) number p i
+
+-- the first rounds of a process
+unfoldable pub rounds : ℕ → ℕ → ℕ → List Line
+rounds number p count = flat_map (round number p) (range_with_len 0 count)
+
+abbrev pub initiation : ℕ → Line
+initiation s = Ask (Initiate (segment_path s) None)
+
+-- a process initiates the four segments, goes through its rounds and logs out
+abbrev pub drill_script : ℕ → ℕ → List Line
+drill_script number p = map initiation one_to_four ++ rounds number p 256 ++ Ask Logout ∷ []
+
+abbrev pub drill_session : ℕ → Outline
+drill_session number = outline 1 None drill_setup (map driller one_to_four) (map (drill_script number) one_to_four)

@@ -1,0 +1,5 @@
+pub mod Drills
+pub mod Summaries
+-- helpers that only private contracts cite
+pub mod Counting
+pub mod Writing

@@ -1,0 +1,157 @@
+//! The writer of session texts: from the session to its text.
+
+ghost use Rattle.std.specs.Prelude.{◌≡◌, ◌++◌, ◌∷◌, [], map, length, codes, IfOk, OnOk};
+ghost use Rattle.mx_sdw.specs.Octal.{octal};
+ghost use Rattle.mx_script.specs.SessionTexts.{asked, history_rows, process_rows, session_text};
+ghost use Rattle.mx_script.specs.SessionTexts.{base_text, operand_text, line_text};
+ghost use Rattle.mx_drill.specs.Writing.{rows_text};
+ghost use Rattle.mx_script.specs.declared.rows.Row.TheVariants.{Line as LineRow, Process as ProcessRow};
+
+use itoa::Buffer;
+use mx_list::Bytes;
+use mx_name::Principal;
+use mx_request::Request;
+use mx_script::{Base, Line, Operand, Script, Session};
+use mx_sdw::write_octal;
+use std::alloc::{AllocError, Global};
+
+/// The text of a session, line by line. Takes time linear in the text, and memory for it alone. The only error is want of memory.
+pub fn session_text(alloc: Global, session: &Session) -> Result<Bytes, AllocError>
+    ensures { IfOk result (λ text. text ≡ session_text session.now) }
+{
+    let mut out = Vec::from_slice(alloc, b"multics 1\n")?;
+    add_history(&mut out, session.history())?;
+    add_setup(&mut out, session.setup().items())?;
+    add_processes(
+        &mut out,
+        session.principals().items(),
+        session.scripts().items(),
+    )?;
+    out.extend_from_slice(b"end\n")?;
+    Ok(Bytes::of(out))
+}
+
+fn add_history(out: &mut Vec<u8>, history: Option<u32>) -> Result<(), AllocError>
+    ensures { OnOk result (out.new.items ≡ out.old.items ++ rows_text (history_rows history)) }
+{
+    if let Some(limit) = history {
+        let mut buffer = Buffer::new();
+        out.extend_from_slice(b"history ")?;
+        out.extend_from_slice(buffer.format(limit).as_bytes())?;
+        out.extend_from_slice(b"\n")?;
+    }
+    Ok(())
+}
+
+fn add_setup(out: &mut Vec<u8>, setup: &[Request]) -> Result<(), AllocError>
+    ensures { OnOk result (out.new.items ≡ out.old.items ++ rows_text (map asked setup.now)) }
+{
+    for request in setup {
+        request.append_to(out)?;
+        out.extend_from_slice(b"\n")?;
+    }
+    Ok(())
+}
+
+// Each process's line, and then its script.
+fn add_processes(
+    out: &mut Vec<u8>,
+    principals: &[Principal],
+    scripts: &[Script],
+) -> Result<(), AllocError>
+    requires { length scripts.now ≡ length principals.now }
+    ensures { OnOk result (out.new.items ≡ out.old.items ++ rows_text (process_rows principals.now scripts.now)) }
+{
+    for (i, principal) in principals.iter().enumerate() {
+        add_process(out, principal)?;
+        add_script(out, scripts[i].items())?;
+    }
+    Ok(())
+}
+
+fn add_process(out: &mut Vec<u8>, principal: &Principal) -> Result<(), AllocError>
+    ensures { OnOk result (out.new.items ≡ out.old.items ++ rows_text (ProcessRow principal.now ∷ [])) }
+{
+    out.extend_from_slice(b"process ")?;
+    principal.append_to(out)?;
+    out.extend_from_slice(b"\n")
+}
+
+fn add_script(out: &mut Vec<u8>, script: &[Line]) -> Result<(), AllocError>
+    ensures { OnOk result (out.new.items ≡ out.old.items ++ rows_text (map LineRow script.now)) }
+{
+    for line in script {
+        add_line(out, line)?;
+        out.extend_from_slice(b"\n")?;
+    }
+    Ok(())
+}
+
+fn add_line(out: &mut Vec<u8>, line: &Line) -> Result<(), AllocError>
+    ensures { OnOk result (out.new.items ≡ out.old.items ++ line_text line.now) }
+{
+    match line {
+        Line::Ask(request) => request.request().append_to(out),
+        Line::Set { word } => {
+            out.extend_from_slice(b"set ")?;
+            write_octal(out, word.value())
+        }
+        Line::Epp { n, operand } => add_register_operand(out, b"epp ", *n, operand),
+        Line::Lda { operand } => add_labelled_operand(out, b"lda ", operand),
+        Line::Sta { operand } => add_labelled_operand(out, b"sta ", operand),
+        Line::Spri { n, operand } => add_register_operand(out, b"spri ", *n, operand),
+        Line::Fetch => out.extend_from_slice(b"fetch"),
+        Line::Call { operand } => add_labelled_operand(out, b"call ", operand),
+        Line::Return { operand } => add_labelled_operand(out, b"return ", operand),
+    }
+}
+
+fn add_register_operand(
+    out: &mut Vec<u8>,
+    label: &[u8],
+    n: u8,
+    operand: &Operand,
+) -> Result<(), AllocError>
+    ensures { OnOk result (out.new.items ≡ out.old.items ++ (label.now ++ octal n ++ codes " " ++ operand_text operand.now)) }
+{
+    out.extend_from_slice(label)?;
+    write_octal(out, u64::from(n))?;
+    out.extend_from_slice(b" ")?;
+    add_operand(out, operand)
+}
+
+fn add_labelled_operand(
+    out: &mut Vec<u8>,
+    label: &[u8],
+    operand: &Operand,
+) -> Result<(), AllocError>
+    ensures { OnOk result (out.new.items ≡ out.old.items ++ (label.now ++ operand_text operand.now)) }
+{
+    out.extend_from_slice(label)?;
+    add_operand(out, operand)
+}
+
+// `S|W` or `prN|W`, with `,*` or without.
+fn add_operand(out: &mut Vec<u8>, operand: &Operand) -> Result<(), AllocError>
+    ensures { OnOk result (out.new.items ≡ out.old.items ++ operand_text operand.now) }
+{
+    add_base(out, operand.base)?;
+    out.extend_from_slice(b"|")?;
+    write_octal(out, u64::from(operand.word))?;
+    if operand.indirect {
+        out.extend_from_slice(b",*")?;
+    }
+    Ok(())
+}
+
+fn add_base(out: &mut Vec<u8>, base: Base) -> Result<(), AllocError>
+    ensures { OnOk result (out.new.items ≡ out.old.items ++ base_text base) }
+{
+    match base {
+        Base::Segment(segno) => write_octal(out, u64::from(segno)),
+        Base::Register(n) => {
+            out.extend_from_slice(b"pr")?;
+            write_octal(out, u64::from(n))
+        }
+    }
+}
