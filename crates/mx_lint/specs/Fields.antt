@@ -1,0 +1,51 @@
+-- The fields of the lines of a session text: which texts can stand in each, by the readers' own definitions.
+use Rattle.std.specs.Prelude.{ℕ, ◌==◌, Bool, false, List, Option, Some, None, is_some, codes}
+use Rattle.std.specs.Cmp.Lexicographic.{pointwise}
+use Rattle.mx_acl.specs.Modes.{modes_of_text}
+use Rattle.mx_name.specs.Identifiers.{acl_id_of}
+use Rattle.mx_name.specs.Names.{name_of}
+use Rattle.mx_name.specs.Pathnames.{pathname_of}
+use Rattle.mx_name.specs.Principals.{principal_of}
+use Rattle.mx_request.specs.Decimals.{decimal_number}
+use Rattle.mx_request.specs.Reading.{ring_at, rule_at}
+use Rattle.mx_request.specs.RequestTexts.{is_process_number}
+use Rattle.mx_script.specs.Fields.{operand_at}
+use Rattle.mx_script.specs.Sessions.{is_history}
+use Rattle.mx_sdw.specs.Octal.{octal_number}
+use Rattle.mx_lint.specs.declared.fields.Field.{Field}
+use Rattle.mx_lint.specs.declared.fields.Field.TheVariants.{Version, Limit, Principal, Path, Target, Words, R1, R2, R3, D1, D2, Gate, Name, Id, Modes, Rule, Segno, Receiver, Word, Register, Operand}
+
+-- a number that is read, of which this holds
+abbrev pub is_number : Option ℕ → (ℕ → Bool) → Bool
+is_number None holds = false
+is_number (Some n) holds = holds n
+
+abbrev pub is_limit_text : List ℕ → Bool
+is_limit_text text = is_number (decimal_number 6 text) is_history
+
+abbrev pub is_receiver_text : List ℕ → Bool
+is_receiver_text text = is_number (decimal_number 2 text) is_process_number
+
+-- the text can stand in the field
+abbrev pub is_field : Field → List ℕ → Bool
+is_field Version text = pointwise ◌==◌ text (codes "1")
+is_field Limit text = is_limit_text text
+is_field Principal text = is_some (principal_of text)
+is_field Path text = is_some (pathname_of text)
+is_field Target text = is_some (pathname_of text)
+is_field Words text = is_some (decimal_number 5 text)
+is_field R1 text = is_some (ring_at text)
+is_field R2 text = is_some (ring_at text)
+is_field R3 text = is_some (ring_at text)
+is_field D1 text = is_some (ring_at text)
+is_field D2 text = is_some (ring_at text)
+is_field Gate text = is_some (decimal_number 4 text)
+is_field Name text = is_some (name_of text)
+is_field Id text = is_some (acl_id_of text)
+is_field Modes text = is_some (modes_of_text text)
+is_field Rule text = is_some (rule_at text)
+is_field Segno text = is_some (octal_number 4 text)
+is_field Receiver text = is_receiver_text text
+is_field Word text = is_some (octal_number 12 text)
+is_field Register text = is_some (ring_at text)
+is_field Operand text = is_some (operand_at text)

@@ -1,0 +1,187 @@
+//! What is wrong with a line, and how it is found.
+
+use crate::fields::Field;
+use crate::forms::Form;
+use crate::orders::Order;
+use crate::places::Place;
+use crate::texts::Shown;
+use mx_name::cut;
+use std::alloc::{AllocError, Global};
+use std::fmt::{self, Display, Formatter, Write};
+
+/// What is wrong with a line.
+#[derive(Clone, Copy, Debug, PartialEq, Eq)]
+pub enum Fault<'a> {
+    /// The text ends where this may come next.
+    TextEnds(Place),
+    /// The line is right, but it has no newline.
+    NoNewline,
+    /// The line is empty.
+    Empty,
+    /// The line ends with a carriage return.
+    CarriageReturn,
+    /// A space too many, or a tab.
+    Spaces,
+    /// No kind of line begins with this word.
+    UnknownWord(&'a [u8]),
+    /// A line of this kind cannot stand here.
+    Order(Form, Order),
+    /// A field is missing.
+    Missing(Form, Field),
+    /// A field has a text that it cannot have.
+    Wrong(Form, Field, &'a [u8]),
+    /// There is more behind the last field.
+    Extra(Form, &'a [u8]),
+    /// A line that is right by itself.
+    Unexplained,
+}
+
+/// What is wrong with the line that begins here; behind it there is a newline, or the text ends.
+pub(crate) fn fault_of<'a>(
+    alloc: Global,
+    place: Place,
+    line: &'a [u8],
+    ends: bool,
+) -> Result<Fault<'a>, AllocError> {
+    if ends && line.is_empty() && place != Place::Ended {
+        return Ok(Fault::TextEnds(place));
+    }
+    match fault_in(alloc, place, line)? {
+        Some(fault) => Ok(fault),
+        None if ends => Ok(Fault::NoNewline),
+        None => Ok(Fault::Unexplained),
+    }
+}
+
+fn fault_in<'a>(
+    alloc: Global,
+    place: Place,
+    line: &'a [u8],
+) -> Result<Option<Fault<'a>>, AllocError> {
+    if let Some(fault) = layout_fault(place, line) {
+        return Ok(Some(fault));
+    }
+    let (word, fields) = match cut(b' ', line) {
+        Some((word, fields)) => (word, Some(fields)),
+        None => (line, None),
+    };
+    let Some(form) = Form::read(word) else {
+        return Ok(Some(match place {
+            Place::Start => Fault::Order(Form::Header, Order::FirstIsHeader),
+            _ => Fault::UnknownWord(word),
+        }));
+    };
+    match place.refuses(form) {
+        Some(order) => Ok(Some(Fault::Order(form, order))),
+        None => field_fault(alloc, form, fields),
+    }
+}
+
+// What is wrong with a line as a row of fields.
+fn layout_fault(place: Place, line: &[u8]) -> Option<Fault<'static>> {
+    if place == Place::Ended {
+        return Some(Fault::Order(Form::End, Order::AfterEnd));
+    }
+    if line.is_empty() {
+        return Some(Fault::Empty);
+    }
+    if line.ends_with(b"\r") {
+        return Some(Fault::CarriageReturn);
+    }
+    if line.starts_with(b" ") || line.ends_with(b" ") || has_wide_space(line) {
+        return Some(Fault::Spaces);
+    }
+    None
+}
+
+// Two spaces side by side, or a tab.
+fn has_wide_space(line: &[u8]) -> bool {
+    let mut last = 0;
+    for byte in line {
+        if *byte == b'\t' || (*byte == b' ' && last == b' ') {
+            return true;
+        }
+        last = *byte;
+    }
+    false
+}
+
+// The first field that is missing, wrong or too many.
+fn field_fault<'a>(
+    alloc: Global,
+    form: Form,
+    fields: Option<&'a [u8]>,
+) -> Result<Option<Fault<'a>>, AllocError> {
+    let mut rest = fields;
+    for (i, field) in form.fields().iter().enumerate() {
+        let Some(text) = rest else {
+            return Ok(if i < form.least() {
+                Some(Fault::Missing(form, *field))
+            } else {
+                None
+            });
+        };
+        let (text, after) = match cut(b' ', text) {
+            Some((text, after)) => (text, Some(after)),
+            None => (text, None),
+        };
+        if !field.reads(alloc, text)? {
+            return Ok(Some(Fault::Wrong(form, *field, text)));
+        }
+        rest = after;
+    }
+    Ok(rest.map(|text| Fault::Extra(form, text)))
+}
+
+impl<'a> Fault<'a> {
+    /// The kind of line that is shown as an example.
+    pub(crate) fn form(&self) -> Option<Form> {
+        match self {
+            Fault::Missing(form, _) | Fault::Wrong(form, _, _) | Fault::Extra(form, _) => {
+                Some(*form)
+            }
+            Fault::TextEnds(_)
+            | Fault::NoNewline
+            | Fault::Empty
+            | Fault::CarriageReturn
+            | Fault::Spaces
+            | Fault::UnknownWord(_)
+            | Fault::Order(_, _)
+            | Fault::Unexplained => None,
+        }
+    }
+}
+
+impl<'a> Display for Fault<'a> {
+    fn fmt<W: Write>(&self, f: &mut Formatter<W>) -> fmt::Result {
+        match self {
+            Fault::TextEnds(place) => {
+                write!(f, "the text ends here; what may come is {}", place.next())
+            }
+            Fault::NoNewline => f.write_str("the line has no newline behind it"),
+            Fault::Empty => f.write_str("an empty line; no line is empty"),
+            Fault::CarriageReturn => {
+                f.write_str("a carriage return; a line ends with a newline alone")
+            }
+            Fault::Spaces => f.write_str(
+                "fields are separated by exactly one space, and no line begins or ends with one",
+            ),
+            Fault::UnknownWord(word) => write!(f, "no line begins with `{}`", Shown(word)),
+            Fault::Order(_, order) => write!(f, "{order}"),
+            Fault::Missing(form, field) => {
+                write!(f, "{} wants {}; ", form.word(), form.shape())?;
+                write!(f, "{} is missing", field.name())
+            }
+            Fault::Wrong(form, field, text) => {
+                write!(f, "{} wants {}; ", form.word(), form.shape())?;
+                write!(f, "{} is `{}`, and not ", field.name(), Shown(text))?;
+                f.write_str(field.wanted())
+            }
+            Fault::Extra(form, text) => {
+                write!(f, "{} wants {}; ", form.word(), form.shape())?;
+                write!(f, "`{}` is too much", Shown(text))
+            }
+            Fault::Unexplained => f.write_str("this line cannot stand here"),
+        }
+    }
+}

@@ -1,0 +1,121 @@
+//! The fields of the lines of a session text, and what each is read as.
+
+ghost use Rattle.std.specs.Prelude.{◌≡◌, IfOk};
+ghost use Rattle.mx_lint.specs.Fields.{is_field};
+
+use crate::reading::{is_limit, is_operand, is_pathname, is_receiver, is_ring, is_rule};
+use mx_acl::Modes;
+use mx_name::{AclId, EntryName, Principal};
+use mx_request::read_decimal;
+use mx_sdw::read_octal_number;
+use std::alloc::{AllocError, Global};
+
+/// A field, by the name that it has in the shape of a line.
+#[derive(Clone, Copy, Debug, PartialEq, Eq)]
+pub enum Field {
+    Version,
+    Limit,
+    Principal,
+    Path,
+    Target,
+    Words,
+    R1,
+    R2,
+    R3,
+    D1,
+    D2,
+    Gate,
+    Name,
+    Id,
+    Modes,
+    Rule,
+    Segno,
+    Receiver,
+    Word,
+    Register,
+    Operand,
+}
+
+impl Field {
+    /// Its name in the shape of a line.
+    pub(crate) fn name(self) -> &'static str {
+        match self {
+            Field::Version => "1",
+            Field::Limit => "H",
+            Field::Principal => "PRINCIPAL",
+            Field::Path => "PATH",
+            Field::Target => "TARGET",
+            Field::Words => "WORDS",
+            Field::R1 => "R1",
+            Field::R2 => "R2",
+            Field::R3 => "R3",
+            Field::D1 => "D1",
+            Field::D2 => "D2",
+            Field::Gate => "GATE",
+            Field::Name => "NAME",
+            Field::Id => "ID",
+            Field::Modes => "MODES",
+            Field::Rule => "RULE",
+            Field::Segno => "S",
+            Field::Receiver => "P",
+            Field::Word => "WORD",
+            Field::Register => "N",
+            Field::Operand => "OPERAND",
+        }
+    }
+
+    /// What the field is to be.
+    pub(crate) fn wanted(self) -> &'static str {
+        match self {
+            Field::Version => "1",
+            Field::Limit => "a decimal number from 1 to 262143",
+            Field::Principal => {
+                "Person.Project.tag, of at most 22, 9 and 1 letters, digits or `_`"
+            }
+            Field::Path | Field::Target => {
+                "a pathname: names with `>` between, behind `>`, some `<` or neither"
+            }
+            Field::Words => "a decimal number of at most 5 digits, with no leading zero",
+            Field::R1 | Field::R2 | Field::R3 | Field::D1 | Field::D2 => {
+                "a ring, one digit from 0 to 7"
+            }
+            Field::Gate => "a decimal number of at most 4 digits, with no leading zero",
+            Field::Name => { "a name: 1 to 32 characters, none of > < * ? $ , | : =" }
+            Field::Id => "Person.Project.tag, with `*` in place of any of the three",
+            Field::Modes => "`null`, or letters of `rew`, or letters of `sma`, in this order",
+            Field::Rule => {
+                "`initiated_segments`, `referencing_dir`, `working_dir` or a path from `>`"
+            }
+            Field::Segno => "a segment number, octal from 0 to 7777, with no leading zero",
+            Field::Receiver => "the number of a process, decimal from 1 to 99",
+            Field::Word => { "an octal word of at most 12 digits, with no leading zero" }
+            Field::Register => "the number of a pointer register, one digit from 0 to 7",
+            Field::Operand => { "S|W or prN|W in octal, with `,*` behind it or not" }
+        }
+    }
+
+    /// Whether a text can stand in this field.
+    pub(crate) fn reads(self, alloc: Global, text: &[u8]) -> Result<bool, AllocError>
+        ensures { IfOk result (λ reads. reads ≡ is_field self text.now) }
+    {
+        match self {
+            Field::Path | Field::Target => is_pathname(alloc, text),
+            Field::Rule => is_rule(alloc, text),
+            Field::Version => Ok(text == b"1".as_slice()),
+            Field::Limit => Ok(is_limit(text)),
+            Field::Principal => Ok(Principal::read(text).is_ok()),
+            Field::Words => Ok(read_decimal(text, 5).is_some()),
+            Field::Gate => Ok(read_decimal(text, 4).is_some()),
+            Field::R1 | Field::R2 | Field::R3 | Field::D1 | Field::D2 | Field::Register => {
+                Ok(is_ring(text))
+            }
+            Field::Name => Ok(EntryName::read(text).is_ok()),
+            Field::Id => Ok(AclId::read(text).is_ok()),
+            Field::Modes => Ok(Modes::read(text).is_some()),
+            Field::Segno => Ok(read_octal_number(text, 4).is_some()),
+            Field::Receiver => Ok(is_receiver(text)),
+            Field::Word => Ok(read_octal_number(text, 12).is_some()),
+            Field::Operand => Ok(is_operand(text)),
+        }
+    }
+}

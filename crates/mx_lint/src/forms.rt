@@ -1,0 +1,282 @@
+//! The kinds of lines of a session text: the word that each begins with, and the fields that follow.
+
+use crate::fields::Field;
+
+/// Whose lines they are.
+#[derive(Clone, Copy, Debug, PartialEq, Eq)]
+pub(crate) enum Group {
+    /// The lines that hold a session together.
+    Frame,
+    /// Path requests: in the setup and in scripts.
+    OfPath,
+    /// What a process alone can do: in scripts.
+    OfProcess,
+    /// What the supervisor enters for a process: in no session.
+    OfSupervisor,
+}
+
+/// A kind of line.
+#[derive(Clone, Copy, Debug, PartialEq, Eq)]
+pub enum Form {
+    Header,
+    History,
+    Process,
+    Logout,
+    End,
+    CreateDir,
+    CreateSeg,
+    CreateObject,
+    CreateLink,
+    Rename,
+    Delete,
+    SetAcl,
+    DelAcl,
+    SetBrackets,
+    SetDirBrackets,
+    Status,
+    List,
+    ChangeWdir,
+    SetRules,
+    Initiate,
+    Terminate,
+    Wakeup,
+    Block,
+    Set,
+    Epp,
+    Lda,
+    Sta,
+    Spri,
+    Fetch,
+    Call,
+    Return,
+    Link,
+    Resume,
+}
+
+const ALL: [Form; 33] = [
+    Form::Header,
+    Form::History,
+    Form::Process,
+    Form::Logout,
+    Form::End,
+    Form::CreateDir,
+    Form::CreateSeg,
+    Form::CreateObject,
+    Form::CreateLink,
+    Form::Rename,
+    Form::Delete,
+    Form::SetAcl,
+    Form::DelAcl,
+    Form::SetBrackets,
+    Form::SetDirBrackets,
+    Form::Status,
+    Form::List,
+    Form::ChangeWdir,
+    Form::SetRules,
+    Form::Initiate,
+    Form::Terminate,
+    Form::Wakeup,
+    Form::Block,
+    Form::Set,
+    Form::Epp,
+    Form::Lda,
+    Form::Sta,
+    Form::Spri,
+    Form::Fetch,
+    Form::Call,
+    Form::Return,
+    Form::Link,
+    Form::Resume,
+];
+
+impl Form {
+    /// The kind whose lines begin with this word.
+    pub(crate) fn read(word: &[u8]) -> Option<Form> {
+        for form in &ALL {
+            if form.word().as_bytes() == word {
+                return Some(*form);
+            }
+        }
+        None
+    }
+
+    /// The first word of its lines.
+    pub(crate) fn word(self) -> &'static str {
+        match self {
+            Form::Header => "multics",
+            Form::History => "history",
+            Form::Process => "process",
+            Form::Logout => "logout",
+            Form::End => "end",
+            Form::CreateDir => "create_dir",
+            Form::CreateSeg => "create_seg",
+            Form::CreateObject => "create_object",
+            Form::CreateLink => "create_link",
+            Form::Rename => "rename",
+            Form::Delete => "delete",
+            Form::SetAcl => "set_acl",
+            Form::DelAcl => "del_acl",
+            Form::SetBrackets => "set_brackets",
+            Form::SetDirBrackets => "set_dir_brackets",
+            Form::Status => "status",
+            Form::List => "list",
+            Form::ChangeWdir => "change_wdir",
+            Form::SetRules => "set_rules",
+            Form::Initiate => "initiate",
+            Form::Terminate => "terminate",
+            Form::Wakeup => "wakeup",
+            Form::Block => "block",
+            Form::Set => "set",
+            Form::Epp => "epp",
+            Form::Lda => "lda",
+            Form::Sta => "sta",
+            Form::Spri => "spri",
+            Form::Fetch => "fetch",
+            Form::Call => "call",
+            Form::Return => "return",
+            Form::Link => "link",
+            Form::Resume => "resume",
+        }
+    }
+
+    /// The fields behind the word, in order; the last of them may be left out where `least` says so.
+    pub(crate) fn fields(self) -> &'static [Field] {
+        match self {
+            Form::Header => &[Field::Version],
+            Form::History => &[Field::Limit],
+            Form::Process => &[Field::Principal],
+            Form::CreateDir | Form::SetDirBrackets => &[Field::Path, Field::D1, Field::D2],
+            Form::CreateSeg => &[Field::Path, Field::Words, Field::R1, Field::R2, Field::R3],
+            Form::CreateObject => &[
+                Field::Path,
+                Field::Words,
+                Field::R1,
+                Field::R2,
+                Field::R3,
+                Field::Gate,
+            ],
+            Form::CreateLink => &[Field::Path, Field::Target],
+            Form::Rename | Form::Initiate => &[Field::Path, Field::Name],
+            Form::Delete | Form::Status | Form::List | Form::ChangeWdir => &[Field::Path],
+            Form::SetAcl => &[Field::Path, Field::Id, Field::Modes],
+            Form::DelAcl => &[Field::Path, Field::Id],
+            Form::SetBrackets => &[Field::Path, Field::R1, Field::R2, Field::R3],
+            Form::SetRules => &[Field::Rule; 16],
+            Form::Terminate => &[Field::Segno],
+            Form::Wakeup => &[Field::Receiver, Field::Word],
+            Form::Set => &[Field::Word],
+            Form::Epp | Form::Spri => &[Field::Register, Field::Operand],
+            Form::Lda | Form::Sta | Form::Call | Form::Return => &[Field::Operand],
+            Form::Link => &[Field::Operand],
+            Form::Logout | Form::End | Form::Block | Form::Fetch | Form::Resume => &[],
+        }
+    }
+
+    /// How many of its fields a line must have.
+    pub(crate) fn least(self) -> usize {
+        match self {
+            Form::Initiate | Form::SetRules => 1,
+            _ => self.fields().len(),
+        }
+    }
+
+    /// Its fields, as they are written behind its word.
+    pub(crate) fn shape(self) -> &'static str {
+        match self {
+            Form::Header => "1",
+            Form::History => "H",
+            Form::Process => "PRINCIPAL",
+            Form::CreateDir | Form::SetDirBrackets => "PATH D1 D2",
+            Form::CreateSeg => "PATH WORDS R1 R2 R3",
+            Form::CreateObject => "PATH WORDS R1 R2 R3 GATE",
+            Form::CreateLink => "PATH TARGET",
+            Form::Rename => "PATH NAME",
+            Form::Initiate => "PATH [NAME]",
+            Form::Delete | Form::Status | Form::List | Form::ChangeWdir => "PATH",
+            Form::SetAcl => "PATH ID MODES",
+            Form::DelAcl => "PATH ID",
+            Form::SetBrackets => "PATH R1 R2 R3",
+            Form::SetRules => "RULE {RULE}, 1 to 16 of them",
+            Form::Terminate => "S",
+            Form::Wakeup => "P WORD",
+            Form::Set => "WORD",
+            Form::Epp | Form::Spri => "N OPERAND",
+            Form::Lda | Form::Sta | Form::Call | Form::Return => "OPERAND",
+            Form::Link => "S|W",
+            Form::Logout | Form::End | Form::Block | Form::Fetch | Form::Resume => "nothing",
+        }
+    }
+
+    /// A line of its kind.
+    pub(crate) fn example(self) -> &'static str {
+        match self {
+            Form::Header => "multics 1",
+            Form::History => "history 100",
+            Form::Process => "process Jones.Faculty.a",
+            Form::Logout => "logout",
+            Form::End => "end",
+            Form::CreateDir => "create_dir >udd 7 7",
+            Form::CreateSeg => "create_seg >udd>a 64 4 4 4",
+            Form::CreateObject => "create_object >udd>gate 64 1 3 5 2",
+            Form::CreateLink => "create_link >here >udd>a",
+            Form::Rename => "rename >udd>a b",
+            Form::Delete => "delete >udd>a",
+            Form::SetAcl => "set_acl >udd>a Jones.*.* rw",
+            Form::DelAcl => "del_acl >udd>a Jones.*.*",
+            Form::SetBrackets => "set_brackets >udd>a 1 4 4",
+            Form::SetDirBrackets => "set_dir_brackets >udd 4 4",
+            Form::Status => "status >udd>a",
+            Form::List => "list >udd",
+            Form::ChangeWdir => "change_wdir >udd",
+            Form::SetRules => "set_rules initiated_segments working_dir >lib",
+            Form::Initiate => "initiate >udd>a math",
+            Form::Terminate => "terminate 10",
+            Form::Wakeup => "wakeup 2 52",
+            Form::Block => "block",
+            Form::Set => "set 52",
+            Form::Epp => "epp 2 10|0,*",
+            Form::Lda => "lda 10|5",
+            Form::Sta => "sta pr2|0",
+            Form::Spri => "spri 7 10|0",
+            Form::Fetch => "fetch",
+            Form::Call => "call 11|1",
+            Form::Return => "return pr7|0",
+            Form::Link => "link 11|0",
+            Form::Resume => "resume",
+        }
+    }
+
+    /// Whose lines they are.
+    pub(crate) fn group(self) -> Group {
+        match self {
+            Form::Header | Form::History | Form::Process | Form::Logout | Form::End => Group::Frame,
+            Form::CreateDir
+            | Form::CreateSeg
+            | Form::CreateObject
+            | Form::CreateLink
+            | Form::Rename
+            | Form::Delete
+            | Form::SetAcl
+            | Form::DelAcl
+            | Form::SetBrackets
+            | Form::SetDirBrackets
+            | Form::Status
+            | Form::List => Group::OfPath,
+            Form::ChangeWdir
+            | Form::SetRules
+            | Form::Initiate
+            | Form::Terminate
+            | Form::Wakeup
+            | Form::Block
+            | Form::Set
+            | Form::Epp
+            | Form::Lda
+            | Form::Sta
+            | Form::Spri
+            | Form::Fetch
+            | Form::Call
+            | Form::Return => Group::OfProcess,
+            Form::Link | Form::Resume => Group::OfSupervisor,
+        }
+    }
+}
