@@ -1,32 +1,54 @@
--- Status 0, the headline: the source held the text of a session, and the sink gained the run text of a legal run of it. A
--- source's bytes and a sink's are spoken of where they are told.
-use Rattle.std.specs.Prelude.{ℕ, ◌≤◌, List, length, Option}
+-- Status 0, the headline. Under `run` the source held the text of a session, and the sink gained the run text of a legal run of it. Under
+-- `drill N` the sink gained the summary of a legal run of the drill of that number. A source's bytes and a sink's are spoken of where they
+-- are told.
+use Rattle.std.specs.Prelude.{ℕ, ◌≤◌, ◌⊎◌, List, length, Option}
 use Rattle.mx_io.specs.Bytes.{TakesAll, Appends}
 use Rattle.mx_script.specs.SessionTexts.{IsText}
 use Rattle.mx_script.specs.Sessions.{Outline}
 use Rattle.mx_state.specs.declared.journal.Entry.{Entry}
 use Rattle.mx_legal.specs.Legal.{IsLegal, HasGatedFalls, HasSoundRegisters}
 use Rattle.mx_legal.specs.Transcripts.{Step}
+use Rattle.mx_drill.specs.Drills.{drill_session}
+use Rattle.mx_drill.specs.Summaries.{summary_text}
 use Rattle.mx_text.specs.RunText.{run_text}
+use Rattle.mx_run.specs.Commands.{IsRun, IsDrill}
 
 -- the greatest size of a session text, in bytes
 abbrev pub most_bytes : ℕ
 most_bytes = 4194304
 
--- The source was read to its end, and its bytes are the text of a session, within the limit. The journal and the transcripts are
--- a legal run of that session, whose rings fall only through gates and whose pointer registers never have less than the ring.
+-- The journal and the transcripts are a legal run of the session, whose rings fall only through gates and whose pointer registers never
+-- have less than the ring.
+pub record IsRunOf (session : Outline) (journal : List Entry) (transcripts : List (List Step)) : Type 0 where
+  pub legal : IsLegal session journal transcripts
+  pub gated : HasGatedFalls session journal transcripts
+  pub sound : HasSoundRegisters session journal transcripts
+
+-- The source was read to its end, and its bytes are the text of a session, within the limit, of which this is a run.
 pub record IsRunFrom (source source' : Option (List ℕ)) (journal : List Entry) (transcripts : List (List Step)) : Type 0 where
   pub spelled : List ℕ
   pub session : Outline
   pub read : TakesAll source source' spelled
   pub within : length spelled ≤ most_bytes
   pub text : IsText spelled session
-  pub legal : IsLegal session journal transcripts
-  pub gated : HasGatedFalls session journal transcripts
-  pub sound : HasSoundRegisters session journal transcripts
+  pub run : IsRunOf session journal transcripts
 
+-- under `run`
 pub record IsDone (source source' sink sink' : Option (List ℕ)) : Type 0 where
   pub journal : List Entry
   pub transcripts : List (List Step)
   pub run : IsRunFrom source source' journal transcripts
   pub printed : Appends sink sink' (run_text journal transcripts)
+
+-- under `drill N`
+pub record IsDrilled (words : List (List ℕ)) (sink sink' : Option (List ℕ)) : Type 0 where
+  pub number : ℕ
+  pub words_are : IsDrill words number
+  pub journal : List Entry
+  pub transcripts : List (List Step)
+  pub run : IsRunOf (drill_session number) journal transcripts
+  pub printed : Appends sink sink' (summary_text number journal transcripts)
+
+-- what the words ask for was done
+abbrev pub IsDoneBy : List (List ℕ) → Option (List ℕ) → Option (List ℕ) → Option (List ℕ) → Option (List ℕ) → Type 0
+IsDoneBy words source source' sink sink' = (IsRun words × IsDone source source' sink sink') ⊎ IsDrilled words sink sink'

@@ -3,7 +3,8 @@ use Rattle.std.specs.Prelude.{◌≡◌, ◌⊎◌, ℕ, ◌≤◌, ◌<◌, Lis
 use Rattle.mx_io.specs.Bytes.{Appends, AppendsPart}
 use Rattle.mx_script.specs.SessionTexts.{IsSomeSession}
 use Rattle.mx_run.specs.Done.{most_bytes}
-use Rattle.mx_run.specs.Verdicts.{IsRun, IsVerdict, verdict_text, verdict_status}
+use Rattle.mx_run.specs.Commands.{IsRun, IsDrill, IsAccepted}
+use Rattle.mx_run.specs.Verdicts.{IsVerdict, verdict_text, verdict_status}
 use Rattle.mx_run.specs.declared.verdicts.Verdict.{Verdict}
 
 -- Statuses 0, 2, 5 and 6: the sink gained the whole text of a right verdict that has this status.
@@ -26,7 +27,8 @@ IsStopped status = (status ≡ 1) ⊎ ((status ≡ 3) ⊎ (status ≡ 4))
 
 -- The status that the words of a command and the bytes of its source ask for.
 pub record IsDueStatus (words : List (List ℕ)) (spelled : List ℕ) (status : ℕ) : Type 0 where
-  pub bad_words : (IsRun words → ⊥) → status ≡ 2
+  pub bad_words : (IsAccepted words → ⊥) → status ≡ 2
+  pub drill : (number : ℕ) → IsDrill words number → status ≡ 0
   pub session : IsRun words → length spelled ≤ most_bytes → IsSomeSession spelled → status ≡ 0
   pub no_session : IsRun words → length spelled ≤ most_bytes → (IsSomeSession spelled → ⊥) → status ≡ 5
   pub too_long : IsRun words → most_bytes < length spelled → status ≡ 6

@@ -1,17 +1,16 @@
 -- The verdict on a command: what comes of its words and of the bytes of its source, with the text that is written and the status.
 -- A source's bytes are spoken of where they are told.
-use Rattle.std.specs.Prelude.{◌≡◌, ℕ, ◌≤◌, List, [], ◌∷◌, ◌++◌, length, Option, codes}
+use Rattle.std.specs.Prelude.{◌≡◌, ℕ, ◌≤◌, List, ◌++◌, length, Option, codes}
 use Rattle.std.specs.Fmt.{decimal}
 use Rattle.mx_io.specs.Bytes.{TakesAll, TakesTooMany}
 use Rattle.mx_script.specs.FirstBadLine.{IsFirstBad}
 use Rattle.mx_text.specs.RunText.{run_text}
-use Rattle.mx_run.specs.Done.{IsRunFrom, most_bytes}
+use Rattle.mx_drill.specs.Drills.{drill_session}
+use Rattle.mx_drill.specs.Summaries.{summary_text}
+use Rattle.mx_run.specs.Commands.{IsRun, IsDrill, IsAccepted}
+use Rattle.mx_run.specs.Done.{IsRunOf, IsRunFrom, most_bytes}
 use Rattle.mx_run.specs.declared.verdicts.Verdict.{Verdict}
-use Rattle.mx_run.specs.declared.verdicts.Verdict.TheVariants.{Ran, BadWords, BadLine, TooLong}
-
--- the words of a command that runs a session
-abbrev pub IsRun : List (List ℕ) → Type 0
-IsRun words = words ≡ codes "run" ∷ []
+use Rattle.mx_run.specs.declared.verdicts.Verdict.TheVariants.{Ran, Drilled, BadWords, BadLine, TooLong}
 
 -- The source was read to its end, and its bytes, within the limit, are no session: this is their first bad line.
 pub record IsBadLineOf (source source' : Option (List ℕ)) (number : ℕ) : Type 0 where
@@ -23,13 +22,16 @@ pub record IsBadLineOf (source source' : Option (List ℕ)) (number : ℕ) : Typ
 -- the verdict is right for the words of a command, what its source held, and what it holds afterwards
 abbrev pub IsVerdict : List (List ℕ) → Option (List ℕ) → Option (List ℕ) → Verdict → Type 0
 IsVerdict words source source' (Ran journal transcripts) = IsRun words × IsRunFrom source source' journal transcripts
-IsVerdict words source source' BadWords = (IsRun words → ⊥) × (source' ≡ source)
+IsVerdict words source source' (Drilled number journal transcripts) =
+    IsDrill words number × IsRunOf (drill_session number) journal transcripts × (source' ≡ source)
+IsVerdict words source source' BadWords = (IsAccepted words → ⊥) × (source' ≡ source)
 IsVerdict words source source' (BadLine number) = IsRun words × IsBadLineOf source source' number
 IsVerdict words source source' TooLong = IsRun words × TakesTooMany most_bytes source source'
 
 -- what is written
 abbrev pub verdict_text : Verdict → List ℕ
 verdict_text (Ran journal transcripts) = run_text journal transcripts
+verdict_text (Drilled number journal transcripts) = summary_text number journal transcripts
 verdict_text BadWords = codes "bad words\n"
 verdict_text (BadLine number) = codes "bad line " ++ decimal number ++ codes "\n"
 verdict_text TooLong = codes "too long\n"
@@ -37,6 +39,7 @@ verdict_text TooLong = codes "too long\n"
 -- the status with which the program ends
 abbrev pub verdict_status : Verdict → ℕ
 verdict_status (Ran journal transcripts) = 0
+verdict_status (Drilled number journal transcripts) = 0
 verdict_status BadWords = 2
 verdict_status (BadLine number) = 5
 verdict_status TooLong = 6

@@ -3,9 +3,9 @@
 ghost use Rattle.std.specs.Prelude.{◌≡◌, ◌⊎◌, ℕ, List, map, Some};
 ghost use Rattle.std.specs.String.{string_bytes};
 ghost use Rattle.mx_io.specs.Faults.{Rose};
-ghost use Rattle.mx_run.specs.Done.{IsDone};
+ghost use Rattle.mx_run.specs.Commands.{IsRun, IsDrill, IsAccepted};
+ghost use Rattle.mx_run.specs.Done.{IsDoneBy};
 ghost use Rattle.mx_run.specs.Statuses.{GainsVerdict, GainsFront, IsStopped, IsDueStatus};
-ghost use Rattle.mx_run.specs.Verdicts.{IsRun};
 
 use crate::verdicts::{Unreached, Verdict};
 use mx_io::{Sink, Source};
@@ -24,14 +24,15 @@ const SOURCE_FAULT: u8 = 3;
 /// The status where the sink failed.
 const SINK_FAULT: u8 = 4;
 
-/// Does what the words of the command line ask for, and answers the status with which the program is to end. The one
-/// accepted list of words is `run`: the source is read to its end as the text of a session, the session is run, each process
-/// on a thread of its own where one can be had, and the run text is written to the sink. The gate is told of each script line
-/// before it begins. The call may wait; what it promises holds when it returns.
+/// Does what the words of the command line ask for, and answers the status with which the program is to end. Under `run` the source is
+/// read to its end as the text of a session, the session is run, each process on a thread of its own where one can be had, and the run text
+/// is written to the sink. Under `drill` and one word of 1 to 6 decimal digits the drill of that number is run in the same way, and its
+/// summary is written; the source is not read. No other words are accepted. The gate is told of each script line before it begins. The call
+/// may wait; what it promises holds when it returns.
 ///
 /// | Status | Comes | Written |
 /// |---|---|---|
-/// | 0 | the session was run | the run text |
+/// | 0 | the session, or the drill, was run | the run text, or the summary |
 /// | 1 | memory ran out | the front of the run text, or nothing |
 /// | 2 | the words are not accepted; the source is not read, and no memory is taken | `bad words` |
 /// | 3 | the source failed | nothing |
@@ -47,7 +48,8 @@ pub fn multics<R: Threads + Wait + Sync, S: Source, K: Sink, G: Gate>(
     gate: &G,
 ) -> u8
     // Status 0 is the headline.
-    ensures done { result ≡ 0 → IsDone (S.left source.old) (S.left source.new) (K.out sink.old) (K.out sink.new) }
+    ensures done { result ≡ 0
+        → IsDoneBy (map string_bytes words.now) (S.left source.old) (S.left source.new) (K.out sink.old) (K.out sink.new) }
 
     // Statuses 0, 2, 5 and 6 are those of a right verdict, told whole. There are no others but 1, 3 and 4.
     ensures verdict { IsStopped result
@@ -57,8 +59,10 @@ pub fn multics<R: Threads + Wait + Sync, S: Source, K: Sink, G: Gate>(
     ensures due { (spelled : List ℕ) → S.left source.old ≡ Some spelled
         → IsStopped result ⊎ IsDueStatus (map string_bytes words.now) spelled result }
 
-    // Words that are not accepted are refused, or the sink failed; the source is not touched.
-    ensures refused { (IsRun (map string_bytes words.now) → ⊥) → (result ≡ 2) ⊎ (result ≡ 4) }
+    // Words that are not accepted are refused, or the sink failed. A drill is run, or memory ran out, or the sink failed. The source is not
+    // touched where the words are not `run`.
+    ensures refused { (IsAccepted (map string_bytes words.now) → ⊥) → (result ≡ 2) ⊎ (result ≡ 4) }
+    ensures drilled { (number : ℕ) → IsDrill (map string_bytes words.now) number → (result ≡ 0) ⊎ ((result ≡ 1) ⊎ (result ≡ 4)) }
     ensures unread { (IsRun (map string_bytes words.now) → ⊥) → source.new ≡ source.old }
 
     // At status 1 no end had failed; nothing was written, or the front of a run text.

@@ -9,6 +9,7 @@
 
 mod commands;
 mod verdicts;
+mod words;
 
 pub use commands::{OUT_OF_MEMORY, multics};
 pub use mx_proc::{Gate, NoGate};

@@ -1,14 +1,19 @@
 //! What comes of a command.
 
-ghost use Rattle.std.specs.Prelude.{◌≡◌, ◌⊎◌, ◌≤◌, [], ◌∷◌, ◌++◌, ◌↔◌, map, length, Some, Ok, IfOk, OnOk, OnErr, IsErrOf, IsTrue, codes};
+ghost use Rattle.std.specs.Prelude.{◌≡◌, ◌⊎◌, ℕ, ◌≤◌, [], ◌∷◌, ◌++◌, map, length, Some, Ok, IfOk, OnOk, OnErr, IsErrOf, codes};
 ghost use Rattle.std.specs.Fmt.{decimal};
 ghost use Rattle.std.specs.String.{string_bytes};
 ghost use Rattle.mx_io.specs.Bytes.{Appends, AppendsPart};
 ghost use Rattle.mx_io.specs.Faults.{Rose};
-ghost use Rattle.mx_run.specs.Verdicts.{IsRun, IsVerdict, verdict_status, verdict_text};
+ghost use Rattle.mx_drill.specs.Drills.{drill_session};
+ghost use Rattle.mx_run.specs.Commands.{IsRun, IsDrill, IsAccepted};
+ghost use Rattle.mx_run.specs.Done.{IsRunOf};
+ghost use Rattle.mx_run.specs.Verdicts.{IsVerdict, verdict_status, verdict_text};
 ghost use Rattle.mx_run.specs.declared.verdicts.Unreached.TheVariants.{Fault, Memory};
 
+use crate::words::Command;
 use itoa::Buffer;
+use mx_drill::{session_of, summary};
 use mx_io::{ReadError, Sink, Source, read_all, write_all};
 use mx_legal::Transcripts;
 use mx_proc::{Gate, run};
@@ -27,6 +32,12 @@ const MOST_BYTES: usize = 4_194_304;
 pub enum Verdict {
     /// The source held a session, and this is a legal run of it.
     Ran {
+        journal: Journal,
+        transcripts: Transcripts,
+    },
+    /// The words ask for the drill of this number, and this is a legal run of it. The source was not read.
+    Drilled {
+        number: u32,
         journal: Journal,
         transcripts: Transcripts,
     },
@@ -54,8 +65,8 @@ impl From<AllocError> for Unreached {
 }
 
 impl Verdict {
-    /// The verdict on a command. Where its words are accepted the source is read to its end, and its session is run; otherwise
-    /// the source is left as it is and no memory is taken.
+    /// The verdict on a command. Under `run` the source is read to its end, and its session is run. Under `drill` the drill is run, and the
+    /// source is left as it is. Otherwise the source is left as it is and no memory is taken.
     pub(crate) fn reach<R: Threads + Wait + Sync, S: Source, G: Gate>(
         rt: &R,
         alloc: Global,
@@ -64,15 +75,24 @@ impl Verdict {
         gate: &G,
     ) -> Result<Verdict, Unreached>
         ensures right { IfOk result (IsVerdict (map string_bytes words.now) (S.left source.old) (S.left source.new)) }
-        ensures refused { (IsRun (map string_bytes words.now) → ⊥) → result ≡ Ok Verdict.BadWords }
+        ensures refused { (IsAccepted (map string_bytes words.now) → ⊥) → result ≡ Ok Verdict.BadWords }
+        ensures drilled { (n : ℕ) → IsDrill (map string_bytes words.now) n → IfOk result (λ verdict. verdict_status verdict ≡ 0) }
+        ensures faultless { (IsRun (map string_bytes words.now) → ⊥) → IsErrOf result Unreached.Fault → ⊥ }
         ensures unread { (IsRun (map string_bytes words.now) → ⊥) → source.new ≡ source.old }
         ensures cause { IsErrOf result Unreached.Fault → Rose (S.faults source.old) (S.faults source.new) }
         ensures only { (IsErrOf result Unreached.Fault → ⊥) → S.faults source.new ≡ S.faults source.old }
     {
-        if is_run(words) {
-            Verdict::of_source(rt, alloc, source, gate)
-        } else {
-            Ok(Verdict::BadWords)
+        match Command::read(words) {
+            Command::Run => Verdict::of_source(rt, alloc, source, gate),
+            Command::Drill(number) => {
+                let (journal, transcripts) = drilled(rt, alloc, number, gate)?;
+                Ok(Verdict::Drilled {
+                    number,
+                    journal,
+                    transcripts,
+                })
+            }
+            Command::Other => Ok(Verdict::BadWords),
         }
     }
 
@@ -124,7 +144,7 @@ impl Verdict {
         ensures { result ≡ verdict_status self.now }
     {
         match self {
-            Verdict::Ran { .. } => 0,
+            Verdict::Ran { .. } | Verdict::Drilled { .. } => 0,
             Verdict::BadWords => 2,
             Verdict::BadLine(_) => 5,
             Verdict::TooLong => 6,
@@ -147,6 +167,14 @@ impl Verdict {
                 journal,
                 transcripts,
             } => print(alloc, journal, transcripts, sink),
+            Verdict::Drilled {
+                number,
+                journal,
+                transcripts,
+            } => {
+                let text = summary(alloc, *number, journal, transcripts)?;
+                write(sink, text.items())
+            }
             Verdict::BadWords => write(sink, b"bad words\n"),
             Verdict::BadLine(number) => {
                 let text = bad_line_text(alloc, *number)?;
@@ -157,14 +185,18 @@ impl Verdict {
     }
 }
 
-// Whether the words are the one word `run`.
-fn is_run(words: &[String]) -> bool
-    ensures { IsTrue result ↔ IsRun (map string_bytes words.now) }
+// A run of the drill of a number.
+fn drilled<R: Threads + Wait + Sync, G: Gate>(
+    rt: &R,
+    alloc: Global,
+    number: u32,
+    gate: &G,
+) -> Result<(Journal, Transcripts), AllocError>
+    requires { number ≤ 999999 }
+    ensures { IfOk result (λ ran. IsRunOf (drill_session number) ran.0 ran.1) }
 {
-    match words {
-        [word] => word.as_str() == "run",
-        _ => false,
-    }
+    let session = session_of(alloc, number)?;
+    run(rt, alloc, &session, gate)
 }
 
 // Writes a text. The only error is `Fault`.

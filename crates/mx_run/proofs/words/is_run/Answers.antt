@@ -1,7 +1,7 @@
 use Rattle.std.proofs.Common.{◌≡◌, ℕ, ◌<◌, ◌≤◌, Bool, true, false, List, [], ◌∷◌, length, map, get_or, ap, refl, sym, ◌∙◌, arith}
 use Rattle.std.specs.Prelude.{◌↔◌, IsTrue, nat_eq, string_bytes, codes}
 use Rattle.std.specs.Cmp.Lexicographic.{pointwise, told_text}
-use Rattle.mx_run.proofs.verdicts.is_run.Goals as goal
+use Rattle.mx_run.proofs.words.is_run.Goals as goal
 
 one_word : {A : Type 0} (f : A → List ℕ) (words : List A) (word : A) (run : List ℕ) (b : Bool) → 1 ≤ length words → length words < 2
     → word ≡ get_or words 0 word → b ≡ pointwise nat_eq (f word) run → IsTrue b ↔ (map f words ≡ run ∷ [])
