@@ -18,4 +18,4 @@ pub mod AskingLaws
 pub mod StepLaws
 pub mod SeenLaws
 pub mod NumberLaws
-pub mod HallLaws
+pub mod EndLaws

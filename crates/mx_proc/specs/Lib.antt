@@ -9,3 +9,4 @@ pub mod Stepping
 pub mod Standing
 pub mod Asking
 pub mod Rounds
+pub mod Ending

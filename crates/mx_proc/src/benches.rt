@@ -8,6 +8,7 @@ ghost use Rattle.mx_proc.specs.Stepping.{IsOpening, IsAtLine, IsNumbered, IsWait
 ghost use Rattle.std.specs.Option.{option_map};
 ghost use Rattle.mx_proc.specs.Processes.{recorded_steps};
 ghost use Rattle.mx_proc.specs.Rounds.{HasNone, all_left};
+ghost use Rattle.mx_proc.specs.Running.{IsRunning};
 ghost use Rattle.mx_request.specs.declared.replies.Reply.TheVariants as replies;
 ghost use Rattle.mx_script.specs.Sessions.{is_script_line};
 ghost use Rattle.mx_script.specs.declared.lines.Line.TheVariants as lines;
@@ -566,6 +567,13 @@ impl<'a> Bench<'a> {
         self.processes.number(usize::from(p) - 1)
     }
 
+    /// The run so far keeps the rules. Does nothing.
+    pub(crate) fn keeps_the_rules(&self)
+        ensures { IsRunning self.now }
+    {
+        let _ = &self.session;
+    }
+
     /// How many entries the journal has.
     pub(crate) fn entries(&self) -> u32
         ensures { result ≡ length self.now.journal }
@@ -577,6 +585,7 @@ impl<'a> Bench<'a> {
     pub fn count(&self) -> u8
         ensures seats { result ≡ length self.now.seats }
         ensures principals { result ≡ length self.now.session.principals }
+        ensures some { 1 ≤ result }
     {
         self.processes.len() as u8
     }

@@ -1,24 +1,19 @@
 //! The hall: one bench behind a lock, at which each process works on a thread of its own.
 
-ghost use Rattle.std.specs.Prelude.{◌≡◌, ◌≤◌, true, false, Ok, None, [], IfOk, OnOk, OnErr, IsErr, length};
-ghost use Rattle.mx_script.specs.Sessions.{Outline, outline};
-ghost use Rattle.mx_proc.specs.Stepping.{IsWaiting, HasMoved, HasStepped, HasEnded};
-ghost use Rattle.mx_proc.specs.declared.benches.Stepped.TheVariants.{More, Ended, LineDone, Waits};
+ghost use Rattle.std.specs.Prelude.{◌≡◌, ◌≤◌, true, Ok, IfOk, IfSome, IsNone, OnErr, IsErr, ℕ, Option, length};
+ghost use Rattle.mx_proc.specs.Ending.{Span};
+ghost use Rattle.mx_proc.specs.Stepping.{IsNumbered, IsWaiting, HasMoved, HasStepped, HasEnded};
+ghost use Rattle.mx_proc.specs.declared.turns.Turn.TheVariants as turns;
+ghost use Rattle.mx_proc.specs.declared.turns.Came.TheVariants as came;
 
 use crate::benches::{Bench, Stepped};
+use crate::ends::{AllEnds, Ends};
 use crate::gates::Gate;
+use crate::naming::Naming;
+use crate::turns::{Came, Turn};
 use std::alloc::{AllocError, Global};
-use std::marker::{Brand, PhantomData};
+use std::marker::PhantomData;
 use std::sync::{Condvar, Mutex, Wait};
-
-/// Names the session of a run, so that what comes out of the lock is known to be its bench.
-pub trait Naming {
-    ghost session: { Outline };
-}
-
-impl Naming for Brand {
-    ghost session = { outline 1 None [] [] [] };
-}
 
 /// What lies behind the lock: the session's bench, whether memory was wanting in a step, and how often those who sleep were
 /// woken.
@@ -45,13 +40,16 @@ impl<'a, B: Naming> Guarded<'a, B> {
 
     // One step of a process. Once memory was wanting nobody makes a step any more. An entry wakes those who sleep, and so does
     // want of memory.
-    fn step(&mut self, alloc: Global, p: u8) -> Result<Stepped, AllocError>
+    fn step(&mut self, alloc: Global, p: u8) -> Result<Turn<B>, AllocError>
         requires some { 1 ≤ p }
         requires process { p ≤ length B.session.principals }
-        ensures ended { result ≡ Ok Ended → HasEnded self.new.bench p }
-        ensures waits { result ≡ Ok Waits → IsWaiting self.new.bench p }
-        ensures more { result ≡ Ok More → HasMoved self.old.bench p self.new.bench }
-        ensures done { result ≡ Ok LineDone → HasStepped self.old.bench p self.new.bench }
+        ensures more { result ≡ Ok turns.More → HasMoved self.old.bench p self.new.bench }
+        ensures done { (next : Option ℕ) → result ≡ Ok (turns.LineDone next) → HasStepped self.old.bench p self.new.bench }
+        ensures number { (next : Option ℕ) → result ≡ Ok (turns.LineDone next) → IfSome next (IsNumbered self.new.bench p) }
+        ensures none { (next : Option ℕ) → result ≡ Ok (turns.LineDone next) → IsNone next → HasEnded self.new.bench p }
+        ensures waits { (wakes : ℕ) → result ≡ Ok (turns.Waits wakes) → IsWaiting self.new.bench p × (wakes ≡ self.new.wakes) }
+        ensures ended { (ends : Span) → result ≡ Ok (turns.Ended ends) → HasEnded self.new.bench p }
+        ensures own { (ends : Span) → result ≡ Ok (turns.Ended ends) → (ends.first ≡ p) × (ends.last ≡ p) }
         ensures still { OnErr result (self.new.bench ≡ self.old.bench) }
         ensures failed { OnErr result (self.new.failed ≡ true) }
         ensures over { self.old.failed ≡ true → IsErr result }
@@ -65,15 +63,12 @@ impl<'a, B: Naming> Guarded<'a, B> {
             self.wakes = self.wakes.wrapping_add(1);
         }
         self.failed = stepped.is_err();
-        stepped
-    }
-
-    // Whether memory was wanting.
-    fn outcome(&self) -> Result<(), AllocError>
-        ensures ok { OnOk result (self.now.failed ≡ false) }
-        ensures err { OnErr result (self.now.failed ≡ true) }
-    {
-        if self.failed { Err(AllocError) } else { Ok(()) }
+        match stepped? {
+            Stepped::More => Ok(Turn::More),
+            Stepped::LineDone => Ok(Turn::LineDone(self.bench.beginning(p))),
+            Stepped::Waits => Ok(Turn::Waits(self.wakes)),
+            Stepped::Ended => Ok(Turn::Ended(Ends::of(&self.bench, p))),
+        }
     }
 
     fn into_bench(self) -> Bench<'a>
@@ -83,17 +78,6 @@ impl<'a, B: Naming> Guarded<'a, B> {
         let Guarded { bench, .. } = self;
         bench
     }
-}
-
-/// What a line of a process came to.
-#[derive(Clone, Copy, Debug, PartialEq, Eq)]
-enum Came {
-    /// The line was done.
-    Done,
-    /// Its process waits for a message.
-    Waits,
-    /// There was no line left.
-    Ended,
 }
 
 /// A bench that threads share: each makes its steps one at a time, under the lock.
@@ -115,19 +99,34 @@ impl<'a, B: Naming> Hall<'a, B> {
     }
 
     /// Does the lines of process `p`: before each the gate is told, with nothing locked, and each step of it is made under the
-    /// lock. Sleeps while the process waits for a message; every entry in the journal wakes all who sleep. Once memory was
-    /// wanting in one process, all end with that error; the steps made before stand.
+    /// lock, which is taken once a step. Sleeps while the process waits for a message; every entry in the journal wakes all who
+    /// sleep. `Ok` shows that the process was seen at its end. Once memory was wanting in one process, all end with that error;
+    /// the steps made before stand.
     pub fn work<R: Wait, G: Gate>(
         &self,
         rt: &R,
         alloc: Global,
         p: u8,
         gate: &G,
-    ) -> Result<(), AllocError>
+    ) -> Result<Ends<B>, AllocError>
         requires some { 1 ≤ p }
         requires process { p ≤ length B.session.principals }
+        ensures own { IfOk result (λ ends. (ends.first ≡ p) × (ends.last ≡ p)) }
     {
-        self.work_in_turn(rt, alloc, p, p, gate)
+        let mut next = self.beginning(rt, p);
+        for _ in rt.forever() {
+            tell(gate, p, next);
+            next = match self.step(rt, alloc, p)? {
+                Turn::More => None,
+                Turn::LineDone(next) => next,
+                Turn::Waits(wakes) => {
+                    self.sleep(rt, wakes);
+                    None
+                }
+                Turn::Ended(ends) => return Ok(ends),
+            };
+        }
+        unreachable!()
     }
 
     /// Does the lines of the processes with these numbers, from the first to the last, on this one thread: a line of each in
@@ -139,42 +138,42 @@ impl<'a, B: Naming> Hall<'a, B> {
         first: u8,
         last: u8,
         gate: &G,
-    ) -> Result<(), AllocError>
+    ) -> Result<Ends<B>, AllocError>
         requires some { 1 ≤ first }
+        requires order { first ≤ last }
         requires processes { last ≤ length B.session.principals }
+        ensures own { IfOk result (λ ends. (ends.first ≡ first) × (ends.last ≡ last)) }
     {
         for _ in rt.forever() {
-            let wakes = self.wakes(rt);
             match self.round(rt, alloc, first, last, gate)? {
                 Came::Done => {}
-                Came::Waits => self.sleep(rt, wakes),
-                Came::Ended => return Ok(()),
+                Came::Waits(wakes) => self.sleep(rt, wakes),
+                Came::Ended(ends) => return Ok(ends),
             }
         }
         unreachable!()
     }
 
-    // A line of each of these processes: `Done` where any was done, else `Waits` where any waits.
+    // A line of each process from `p` to the last.
     fn round<R: Wait, G: Gate>(
         &self,
         rt: &R,
         alloc: Global,
-        first: u8,
+        p: u8,
         last: u8,
         gate: &G,
-    ) -> Result<Came, AllocError>
-        requires some { 1 ≤ first }
+    ) -> Result<Came<B>, AllocError>
+        requires some { 1 ≤ p }
+        requires order { p ≤ last }
         requires processes { last ≤ length B.session.principals }
+        ensures own { (ends : Span) → result ≡ Ok (came.Ended ends) → (ends.first ≡ p) × (ends.last ≡ last) }
     {
-        let mut all = Came::Ended;
-        for p in first..=last {
-            match self.line(rt, alloc, p, gate)? {
-                Came::Done => all = Came::Done,
-                Came::Waits if all == Came::Ended => all = Came::Waits,
-                Came::Waits | Came::Ended => {}
-            }
+        let own = self.line(rt, alloc, p, gate)?;
+        if p == last {
+            return Ok(own);
         }
-        Ok(all)
+        let others = self.round(rt, alloc, p + 1, last, gate)?;
+        Ok(own.and(others))
     }
 
     // The next line of a process, until it is done or waits.
@@ -184,20 +183,18 @@ impl<'a, B: Naming> Hall<'a, B> {
         alloc: Global,
         p: u8,
         gate: &G,
-    ) -> Result<Came, AllocError>
+    ) -> Result<Came<B>, AllocError>
         requires some { 1 ≤ p }
         requires process { p ≤ length B.session.principals }
+        ensures own { (ends : Span) → result ≡ Ok (came.Ended ends) → (ends.first ≡ p) × (ends.last ≡ p) }
     {
-        let beginning = self.beginning(rt, p);
-        if let Some(number) = beginning {
-            gate.pass(u32::from(p), number);
-        }
+        tell(gate, p, self.beginning(rt, p));
         for _ in rt.forever() {
             match self.step(rt, alloc, p)? {
-                Stepped::More => {}
-                Stepped::LineDone => return Ok(Came::Done),
-                Stepped::Waits => return Ok(Came::Waits),
-                Stepped::Ended => return Ok(Came::Ended),
+                Turn::More => {}
+                Turn::LineDone(_) => return Ok(Came::Done),
+                Turn::Waits(wakes) => return Ok(Came::Waits(wakes)),
+                Turn::Ended(ends) => return Ok(Came::Ended(ends)),
             }
         }
         unreachable!()
@@ -212,22 +209,18 @@ impl<'a, B: Naming> Hall<'a, B> {
     }
 
     // One step of a process, under the lock.
-    fn step<R: Wait>(&self, rt: &R, alloc: Global, p: u8) -> Result<Stepped, AllocError>
+    fn step<R: Wait>(&self, rt: &R, alloc: Global, p: u8) -> Result<Turn<B>, AllocError>
         requires some { 1 ≤ p }
         requires process { p ≤ length B.session.principals }
+        ensures own { (ends : Span) → result ≡ Ok (turns.Ended ends) → (ends.first ≡ p) × (ends.last ≡ p) }
     {
         let mut guarded = self.guarded.lock(rt);
         let wakes = guarded.wakes;
-        let stepped = guarded.step(alloc, p);
+        let turn = guarded.step(alloc, p);
         if guarded.wakes != wakes {
             self.woken.notify_all();
         }
-        stepped
-    }
-
-    // How often those who sleep were woken.
-    fn wakes<R: Wait>(&self, rt: &R) -> u64 {
-        self.guarded.lock(rt).wakes
+        turn
     }
 
     // Sleeps until those who sleep are woken once more than so often.
@@ -238,16 +231,19 @@ impl<'a, B: Naming> Hall<'a, B> {
             .wait_while(rt, guarded, |guarded| guarded.wakes == wakes);
     }
 
-    /// Whether memory was wanting in a process.
-    pub fn outcome<R: Wait>(&self, rt: &R) -> Result<(), AllocError> {
-        self.guarded.lock(rt).outcome()
-    }
-
-    /// The bench, which is one of the session that the hall was made for. Takes no memory.
-    pub fn finish(self) -> Bench<'a>
+    /// The bench, which is one of the session that the hall was made for; it is taken out only where each process was seen at its
+    /// end. Takes no memory.
+    pub fn finish(self, _all: &AllEnds<B>) -> Bench<'a>
         ensures { result.session ≡ B.session }
     {
         let Hall { guarded, .. } = self;
         guarded.into_inner().into_bench()
+    }
+}
+
+// The gate is told of the line that a process is about to begin, if there is one.
+fn tell<G: Gate>(gate: &G, p: u8, beginning: Option<u32>) {
+    if let Some(number) = beginning {
+        gate.pass(u32::from(p), number);
     }
 }

@@ -8,18 +8,23 @@
 #![tactic(auto)]
 
 mod benches;
+mod ends;
 mod gates;
 mod halls;
 mod memory;
+mod naming;
 mod operands;
 mod processes;
 mod references;
 mod running;
+mod turns;
 
 pub use benches::{Bench, Stepped};
+pub use ends::{AllEnds, Ends};
 pub use gates::{Gate, NoGate};
-pub use halls::{Hall, Naming};
+pub use halls::Hall;
 pub use memory::Contents;
+pub use naming::Naming;
 pub use running::run;
 
 #[cfg(test)]
