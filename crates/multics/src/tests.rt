@@ -13,6 +13,7 @@ use std::thread::Threads;
 
 mod access;
 mod calls;
+mod drills;
 mod knowing;
 mod limits;
 mod messages;
@@ -95,12 +96,16 @@ fn a_terminated_segment_is_unknown(rt: HostRuntime) -> Result<(), Fail> {
 }
 
 #[test]
-fn words_are_one_word(rt: HostRuntime) -> Result<(), Fail> {
+fn other_words_are_refused(rt: HostRuntime) -> Result<(), Fail> {
     let text = text_of(rt.alloc(), &SMALLEST)?;
     for words in [
         [].as_slice(),
         &["run", "run"],
+        &["drill"],
+        &["drill", ""],
         &["drill", "1234567"],
+        &["drill", "+7"],
+        &["drill", "7", "7"],
         &["runs"],
         &[""],
         &["--help"],

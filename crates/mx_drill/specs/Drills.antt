@@ -1,5 +1,6 @@
--- The drill session of a number: four processes, each with a segment of its own. In 256 rounds each stores into its own segment, loads from
--- all four, takes another process's right to write its segment away or gives it back, and stores where its segment has no word.
+-- The drill session of a number: four processes, each with a segment of its own. In 256 rounds each stores into its own
+-- segment, loads from all four, takes another process's right to write its segment away or gives it back, and stores
+-- where its segment has no word.
 use Rattle.std.specs.Prelude.{ℕ, ◌+◌, ◌*◌, ◌/◌, ◌%◌, ◌==◌, false, if◌then◌else◌, List, [], ◌∷◌, ◌++◌, map, None, codes}
 use Rattle.std.specs.List.{flat_map, range_with_len}
 use Rattle.mx_acl.specs.declared.modes.Modes.{Modes}

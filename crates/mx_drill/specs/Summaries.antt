@@ -1,5 +1,5 @@
--- The summary of a run: how long its journal is, how many loads and stores were granted, how many references were denied, and the sum of
--- the values that were stored.
+-- The summary of a run: how long its journal is, how many loads and stores were granted, how many references were
+-- denied, and the sum of the values that were stored.
 use Rattle.std.specs.Prelude.{ℕ, Bool, true, false, ◌&&◌, not, List, [], ◌∷◌, ◌++◌, length, codes}
 use Rattle.std.specs.Fmt.{decimal}
 use Rattle.std.specs.List.{count_by, flat_map, sum_by}

@@ -1,9 +1,10 @@
 //! The drill: a session for each number from 0 to 999,999, made by formulas, and the summary of a run.
 //!
-//! In the session of a number four processes store, load, take each other's access away and give it back, and are denied, all at once,
-//! and what each of them is granted does not depend on how they interleave. So a run of it is summed up by a few numbers, which are the same
-//! at each run while journal and transcripts are not. [`session_of`] gives the session, whose definition is `Drills`; [`summary`] the text
-//! that sums up a journal and transcripts, whose definition is `Summaries`. Stands on `mx_script` (sessions) and `mx_legal` (transcripts).
+//! In the session of a number four processes store, load, take each other's access away and give it back, and are denied,
+//! all at once, and yet what each of them is granted does not depend on how they interleave. So a run of it is summed up by a
+//! few numbers that are the same at each run. [`session_of`] gives the session, whose definition is `Drills`; [`summary`] the
+//! text that sums up a journal and transcripts, whose definition is `Summaries`; and [`session_text`] the text of any session.
+//! Stands on `mx_script` (sessions) and `mx_legal` (transcripts).
 #![tactic(auto)]
 
 mod laws;

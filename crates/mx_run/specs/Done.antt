@@ -1,6 +1,6 @@
--- Status 0, the headline. Under `run` the source held the text of a session, and the sink gained the run text of a legal run of it. Under
--- `drill N` the sink gained the summary of a legal run of the drill of that number. A source's bytes and a sink's are spoken of where they
--- are told.
+-- Status 0, the headline. Under `run` the source held the text of a session, and the sink gained the run text of a legal
+-- run of it. Under `drill N` the sink gained the summary of a legal run of the drill of that number. A source's bytes and
+-- a sink's are spoken of where they are told.
 use Rattle.std.specs.Prelude.{ℕ, ◌≤◌, ◌⊎◌, List, length, Option}
 use Rattle.mx_io.specs.Bytes.{TakesAll, Appends}
 use Rattle.mx_script.specs.SessionTexts.{IsText}
@@ -17,15 +17,16 @@ use Rattle.mx_run.specs.Commands.{IsRun, IsDrill}
 abbrev pub most_bytes : ℕ
 most_bytes = 4194304
 
--- The journal and the transcripts are a legal run of the session, whose rings fall only through gates and whose pointer registers never
--- have less than the ring.
+-- The journal and the transcripts are a legal run of the session, whose rings fall only through gates and whose pointer
+-- registers never have less than the ring.
 pub record IsRunOf (session : Outline) (journal : List Entry) (transcripts : List (List Step)) : Type 0 where
   pub legal : IsLegal session journal transcripts
   pub gated : HasGatedFalls session journal transcripts
   pub sound : HasSoundRegisters session journal transcripts
 
 -- The source was read to its end, and its bytes are the text of a session, within the limit, of which this is a run.
-pub record IsRunFrom (source source' : Option (List ℕ)) (journal : List Entry) (transcripts : List (List Step)) : Type 0 where
+pub record IsRunFrom (source source' : Option (List ℕ)) (journal : List Entry)
+    (transcripts : List (List Step)) : Type 0 where
   pub spelled : List ℕ
   pub session : Outline
   pub read : TakesAll source source' spelled

@@ -12,7 +12,7 @@ const TURNS: u32 = 200_000_000;
 
 // Holds a process at a line until another begins a line.
 #[derive(Clone, Copy)]
-struct Held {
+pub(super) struct Held {
     process: u32,
     line: u32,
     until: u32,
@@ -20,16 +20,16 @@ struct Held {
 
 // The lines that the gate holds, which line each of two processes began last, and how often a held process gave up.
 #[derive(Drop)]
-struct Holds<'a> {
+pub(super) struct Holds<'a> {
     holds: &'a [Held],
     first: AtomicU64,
     second: AtomicU64,
-    calls: AtomicU64,
+    pub(super) calls: AtomicU64,
     given_up: AtomicU64,
 }
 
 impl<'a> Holds<'a> {
-    fn new(holds: &'a [Held]) -> Holds<'a> {
+    pub(super) fn new(holds: &'a [Held]) -> Holds<'a> {
         Holds {
             holds,
             first: AtomicU64::new(0),
