@@ -1,0 +1,5 @@
+pub mod Replays
+pub mod Judging
+pub mod Reasons
+pub mod Sources
+pub mod Arrows

@@ -1,0 +1,36 @@
+-- The access of a process at a point, as it is found by running the plain supervisor again over the journal.
+use Rattle.std.specs.Prelude.{◌≡◌, ℕ, ◌≤◌, List, length, take}
+use Rattle.mx_core.specs.declared.elements.Element.{Element}
+use Rattle.mx_name.specs.Principals.{PlainPrincipal}
+use Rattle.mx_sdw.specs.Descriptors.{Descriptor}
+use Rattle.mx_state.specs.History.{opening, replay, IsRight}
+use Rattle.mx_state.specs.Plain.{Plain}
+use Rattle.mx_state.specs.Table.{descriptor}
+use Rattle.mx_state.specs.declared.journal.Entry as journaled
+
+-- a journal of processes of these principals, and how many of its entries were run
+pub record Replayed : Type 0 where
+  pub principals : List PlainPrincipal
+  pub journal : List journaled.Entry
+  pub at : ℕ
+
+abbrev pub replayed : List PlainPrincipal → List journaled.Entry → ℕ → Replayed
+replayed principals journal at = record { principals = principals; journal = journal; at = at }
+
+-- the journal is right, and the state is what its first entries leave
+pub record IsReplay (r : Replayed) (state : Plain) : Type 0 where
+  pub some : 1 ≤ length r.principals
+  pub most : length r.principals ≤ 15
+  pub right : IsRight (opening r.principals) r.journal
+  pub within : r.at ≤ length r.journal
+  pub state_is : state ≡ replay (opening r.principals) (take r.at r.journal)
+  pub processes : length state.processes ≡ length r.principals
+
+-- it is the same journal
+pub record IsSameJournal (old new : Replayed) : Type 0 where
+  pub principals : new.principals ≡ old.principals
+  pub journal : new.journal ≡ old.journal
+
+-- the descriptor of an element, at its point
+abbrev pub access_of : List PlainPrincipal → List journaled.Entry → ℕ → Element → Descriptor
+access_of principals journal p e = descriptor (replay (opening principals) (take e.point journal)) p e.segno

@@ -1,0 +1,94 @@
+//! All references of a run with the access that each was judged on.
+
+ghost use Rattle.std.specs.Prelude.{IfOk, OnOk};
+ghost use Rattle.mx_legal.specs.Legal.{IsLegal};
+ghost use Rattle.mx_show.specs.Judging.{AreAccesses, AreJudged};
+ghost use Rattle.mx_show.specs.Replays.{IsSameJournal};
+
+use crate::replays::{Changed, Judged, Replay};
+use mx_legal::{Element, Event, Event2, Transcripts};
+use mx_script::Session;
+use mx_state::Journal;
+use std::alloc::{AllocError, Global};
+
+/// The references of a run in the order of their points, those of one process in its own order, and the descriptors that
+/// the journal's entries changed.
+#[derive(Debug, Drop)]
+pub struct Accesses {
+    pub judged: Vec<Judged>,
+    pub changed: Vec<Changed>,
+}
+
+/// The access of each reference of a legal run: the descriptor at its point. The journal is run once, so this takes time
+/// linear in the run, but for the sorting of the references by their points.
+pub(crate) fn judge_all(
+    alloc: Global,
+    session: &Session,
+    journal: &Journal,
+    transcripts: &Transcripts,
+) -> Result<Accesses, AllocError>
+    requires { IsLegal session.now journal.now transcripts.now }
+    ensures { IfOk result (λ a. AreAccesses session.now journal.now a.judged.items) }
+{
+    let principals = session.principals().items();
+    let references = sorted_references(alloc, transcripts)?;
+    let mut replay = Replay::new(alloc, principals, journal.items())?;
+    let mut judged = Vec::with_capacity(alloc, references.len())?;
+    for (process, element) in &references {
+        add_judged(alloc, &mut replay, &mut judged, *process, *element)?;
+    }
+    replay.finish(alloc)?;
+    Ok(Accesses {
+        judged,
+        changed: replay.into_changed(),
+    })
+}
+
+// Adds a reference of one of the processes with its access.
+fn add_judged(
+    alloc: Global,
+    replay: &mut Replay,
+    judged: &mut Vec<Judged>,
+    process: u8,
+    element: Element,
+) -> Result<(), AllocError>
+    requires { AreJudged replay.old.principals replay.old.journal judged.old.items }
+    ensures same { OnOk result (IsSameJournal replay.old replay.new) }
+    ensures accesses { OnOk result (AreJudged replay.old.principals replay.old.journal judged.new.items) }
+{
+    if !replay.has_process(process) {
+        return Ok(());
+    }
+    let access = replay.judged(alloc, process, element)?;
+    judged.extend_from_slice(&[access])
+}
+
+// The references of all processes, each with its process, in the order of their points.
+fn sorted_references(
+    alloc: Global,
+    transcripts: &Transcripts,
+) -> Result<Vec<(u8, Element)>, AllocError> {
+    let mut references = Vec::new(alloc);
+    let mut process = 0u8;
+    for transcript in transcripts.items() {
+        for (_, events, _) in transcript.steps() {
+            add_references(process, events, &mut references)?;
+        }
+        process = process.saturating_add(1);
+    }
+    references.sort_by_key(|reference| reference.1.point)?;
+    Ok(references)
+}
+
+fn add_references(
+    process: u8,
+    events: &[Event2],
+    references: &mut Vec<(u8, Element)>,
+) -> Result<(), AllocError> {
+    for event in events {
+        if let Event2::Core(Event::Seen(element)) = event {
+            references.push((process, *element))?;
+        }
+    }
+    Ok(())
+}

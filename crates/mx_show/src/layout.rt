@@ -1,0 +1,215 @@
+//! Where things stand in the drawing of a run: a column for each journal entry, as wide as what hangs behind it, and a lane for
+//! each process.
+
+ghost use Rattle.std.specs.Prelude.{◌≡◌, ◌≤◌, length, IfSome, IsTrue};
+ghost use Rattle.mx_core.specs.declared.elements.Outcome.TheVariants as read;
+ghost use Rattle.mx_show.specs.Arrows.{IsStoreFor, cell_of};
+
+use crate::judging::Accesses;
+use crate::replays::Judged;
+use crate::sources::source_of;
+use mx_legal::Outcome;
+use mx_sdw::{Ring, Word};
+use std::alloc::{AllocError, Global};
+
+/// The most entries that are drawn.
+pub(crate) const MOST_ENTRIES: usize = 60;
+
+/// The most processes that are drawn.
+pub(crate) const MOST_PROCESSES: usize = 6;
+
+/// The most references that are drawn.
+pub(crate) const MOST_REFERENCES: usize = 240;
+
+/// Where the columns begin.
+pub(crate) const LEFT: u32 = 150;
+
+/// The width of an entry's column, before what hangs behind it.
+pub(crate) const ENTRY_WIDTH: u32 = 40;
+
+/// The width that a reference takes.
+pub(crate) const BOX_STEP: u32 = 134;
+
+/// The width of its box.
+pub(crate) const BOX_WIDTH: u32 = 124;
+
+/// The height of its box.
+pub(crate) const BOX_HEIGHT: u32 = 54;
+
+/// The line of the journal.
+pub(crate) const JOURNAL: u32 = 250;
+
+/// The top of the first lane.
+pub(crate) const LANES: u32 = 290;
+
+/// The height of a lane, and from one lane's top to the next.
+pub(crate) const LANE_HEIGHT: u32 = 154;
+
+pub(crate) const LANE_STEP: u32 = 168;
+
+/// Where boxes begin in a lane.
+pub(crate) const BOXES: u32 = 54;
+
+/// A reference in its place.
+#[derive(Clone, Copy, Debug)]
+pub(crate) struct Placed {
+    pub(crate) judged: Judged,
+    pub(crate) x: u32,
+}
+
+/// The columns of the entries from 0, before the first, and the references in their places.
+#[derive(Debug, Drop)]
+pub(crate) struct Layout {
+    pub(crate) columns: Vec<u32>,
+    pub(crate) placed: Vec<Placed>,
+    pub(crate) width: u32,
+    pub(crate) lanes: usize,
+}
+
+impl Layout {
+    ghost use Rattle.std.specs.Prelude.{◌≤◌, IfOk};
+
+    /// The places of so many entries and processes, and of the references behind them.
+    pub(crate) fn new(
+        alloc: Global,
+        accesses: &Accesses,
+        entries: usize,
+        processes: usize,
+    ) -> Result<Layout, AllocError>
+        ensures { IfOk result (λ layout. layout.lanes ≤ 6) }
+    {
+        let entries = entries.min(MOST_ENTRIES);
+        let lanes = processes.min(MOST_PROCESSES);
+        let mut columns = Vec::with_capacity(alloc, MOST_ENTRIES + 1)?;
+        let mut placed = Vec::new(alloc);
+        let mut rest = accesses.judged.as_slice();
+        let mut x = LEFT;
+        for point in 0..=entries {
+            columns.push(x)?;
+            let behind = x.saturating_add(ENTRY_WIDTH);
+            let (hung, others) = rest.split_at(hanging(rest, point));
+            let most = place(hung, behind, lanes, &mut placed)?;
+            x = behind.saturating_add(most.saturating_mul(BOX_STEP));
+            rest = others;
+        }
+        Ok(Layout {
+            columns,
+            placed,
+            width: x.saturating_add(200),
+            lanes,
+        })
+    }
+
+    /// The middle of an entry's column.
+    pub(crate) fn entry(&self, number: u32) -> Option<u32> {
+        let x = self.columns.get(number as usize)?;
+        Some(x.saturating_add(ENTRY_WIDTH / 2))
+    }
+}
+
+// How many of these references, at the front, hang at this point.
+fn hanging(references: &[Judged], point: usize) -> usize
+    ensures { result ≤ length references.now }
+{
+    for (i, judged) in references.iter().enumerate() {
+        if judged.element.point as usize > point {
+            return i;
+        }
+    }
+    references.len()
+}
+
+// Places references that hang at one point, those of a process side by side, and says how many have the widest lane.
+fn place(
+    hung: &[Judged],
+    behind: u32,
+    lanes: usize,
+    placed: &mut Vec<Placed>,
+) -> Result<u32, AllocError> {
+    let mut counts = [0u32; 16];
+    let mut most = 0;
+    for judged in hung {
+        let process = usize::from(judged.process);
+        if process > lanes || placed.len() >= MOST_REFERENCES {
+            continue;
+        }
+        if let Some(count) = counts.get_mut(process) {
+            let x = behind.saturating_add(count.saturating_mul(BOX_STEP));
+            placed.push(Placed { judged: *judged, x })?;
+            *count = count.saturating_add(1);
+            most = most.max(*count);
+        }
+    }
+    Ok(most)
+}
+
+/// The top of the lane of a process, from 1.
+pub(crate) fn lane_top(process: u8) -> u32 {
+    LANES.saturating_add(u32::from(process.saturating_sub(1)).saturating_mul(LANE_STEP))
+}
+
+/// The store that a reference at this place stands for, where it is a read and the store is drawn: the last one of its writer in
+/// that cell, at that stamp and with that value, and for a process's own store the last before the read.
+pub(crate) fn store_of<'a>(placed: &'a [Placed], place: usize, read: &Judged) -> Option<&'a Placed>
+    ensures { IfSome result (λ store. IsStoreFor store.now.judged read.now) }
+{
+    let source = source_of(read.element.outcome)?;
+    let drawn = if source.process == read.process {
+        placed.get(..place)?
+    } else {
+        placed
+    };
+    for store in drawn.iter().rev() {
+        if is_store_for(&store.judged, read) {
+            return Some(store);
+        }
+    }
+    None
+}
+
+// Whether this is the store that the read names: of its writer, at its stamp, in its cell, with its value.
+fn is_store_for(store: &Judged, read: &Judged) -> bool
+    ensures { IsTrue result → IsStoreFor store.now read.now }
+{
+    match &store.element.outcome {
+        Outcome::Written { value } => {
+            names_store(
+                &read.element.outcome,
+                *value,
+                store.process,
+                store.element.point,
+            ) && cell(store) == cell(read)
+        }
+        _ => false,
+    }
+}
+
+// Whether this is a read that names such a store.
+fn names_store(outcome: &Outcome, stored: Word, process: u8, point: u32) -> bool
+    ensures { IsTrue result → outcome.now ≡ read.Read stored process point }
+{
+    match outcome {
+        Outcome::Read {
+            value,
+            writer,
+            stamp,
+        } => value.value() == stored.value() && *writer == process && *stamp == point,
+        _ => false,
+    }
+}
+
+// The cell of a reference.
+fn cell(judged: &Judged) -> u32
+    ensures { result ≡ cell_of judged.now }
+{
+    let (page, word) = (judged.desc.page(), judged.element.word);
+    u32::from(page) * 64 + u32::from(word)
+}
+
+/// The ring that a reference leaves its process in, where it changes it.
+pub(crate) fn entered(judged: &Judged) -> Option<Ring> {
+    match judged.element.outcome {
+        Outcome::Entered { ring } => Some(ring),
+        Outcome::Read { .. } | Outcome::Written { .. } | Outcome::Denied(_) => None,
+    }
+}

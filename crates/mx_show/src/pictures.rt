@@ -1,0 +1,68 @@
+//! A run as a drawing.
+
+ghost use Rattle.std.specs.Prelude.{◌≡◌, ◌≤◌, IsErrOf};
+ghost use Rattle.mx_io.specs.Faults.{Rose};
+ghost use Rattle.mx_legal.specs.Legal.{IsLegal};
+
+mod entries;
+mod legends;
+mod marks;
+mod rings;
+
+use crate::errors::ShowError;
+use crate::judging::{Accesses, judge_all};
+use crate::layout::{LANE_STEP, LANES, Layout};
+use crate::svg::add_head;
+use entries::{add_changes, add_entries};
+use legends::{add_legend, add_title};
+use marks::{add_arrows, add_boxes};
+use mx_io::{Sink, write_all};
+use mx_legal::Transcripts;
+use mx_script::Session;
+use mx_state::Journal;
+use rings::add_lanes;
+use std::alloc::{AllocError, Global};
+
+/// Draws a legal run of a session as one SVG: the journal as columns, a lane for each process in the colours of its rings, each
+/// reference hung at its point with its outcome, an arrow from each read to the store that it stands for, and each entry that
+/// changed access with whose. At most 60 entries, 6 processes and 240 references are drawn, with a note where there are more.
+pub fn show_picture<K: Sink>(
+    alloc: Global,
+    session: &Session,
+    journal: &Journal,
+    transcripts: &Transcripts,
+    sink: &mut K,
+) -> Result<(), ShowError>
+    requires legal { IsLegal session.now journal.now transcripts.now }
+    ensures cause { IsErrOf result ShowError.Fault → Rose (K.faults sink.old) (K.faults sink.new) }
+    ensures only { (IsErrOf result ShowError.Fault → ⊥) → K.faults sink.new ≡ K.faults sink.old }
+    ensures later { K.faults sink.old ≤ K.faults sink.new }
+{
+    let accesses = judge_all(alloc, session, journal, transcripts)?;
+    let picture = draw(alloc, session, journal, &accesses)?;
+    write_all(sink, picture.as_bytes())?;
+    Ok(())
+}
+
+// The drawing. It has a fixed size at most, so it is held whole.
+fn draw(
+    alloc: Global,
+    session: &Session,
+    journal: &Journal,
+    accesses: &Accesses,
+) -> Result<String, AllocError> {
+    let processes = session.principals().items().len();
+    let layout = Layout::new(alloc, accesses, journal.items().len(), processes)?;
+    let bottom = LANES.saturating_add((layout.lanes as u32).saturating_mul(LANE_STEP));
+    let mut out = String::new(alloc);
+    add_head(&mut out, layout.width.max(980), bottom.saturating_add(80))?;
+    add_title(alloc, &mut out, session, journal, accesses, &layout)?;
+    add_lanes(alloc, &mut out, session, &layout)?;
+    add_entries(alloc, &mut out, journal, &layout)?;
+    add_changes(alloc, &mut out, accesses, &layout)?;
+    add_boxes(alloc, &mut out, &layout)?;
+    add_arrows(&mut out, &layout)?;
+    add_legend(&mut out, bottom)?;
+    out.push_str("</svg>\n")?;
+    Ok(out)
+}

@@ -1,0 +1,219 @@
+//! The plain supervisor run again over a journal, entry by entry: what access each process has at each point.
+
+ghost use Rattle.std.specs.Prelude.{◌≤◌, length};
+
+use mx_legal::Element;
+use mx_name::Principal;
+use mx_sdw::Desc;
+use mx_state::{Changes, Entry, State};
+use std::alloc::{AllocError, Global};
+use std::marker::Model;
+
+/// How many segment numbers a process has.
+const NUMBERS: usize = 128;
+
+/// A descriptor that an entry of the journal changed: whose, and what it was and is.
+#[derive(Clone, Copy, Debug)]
+pub struct Changed {
+    pub entry: u32,
+    pub process: u8,
+    pub segno: u16,
+    pub before: Desc,
+    pub after: Desc,
+}
+
+/// A reference of a process, with the descriptor that it was judged on: the one that the first `point` entries of the
+/// journal leave. The last of these entries that changed it is `since`, 0 where none did.
+#[derive(Clone, Copy, Debug)]
+pub struct Judged {
+    pub process: u8,
+    pub element: Element,
+    pub desc: Desc,
+    pub since: u32,
+}
+
+// A descriptor as it is now, and the entry that made it so.
+#[derive(Clone, Copy, Debug)]
+struct Held {
+    desc: Desc,
+    since: u32,
+}
+
+/// The plain supervisor after the first `at` entries of a right journal, and what each of them changed.
+#[derive(Debug, Drop)]
+pub struct Replay<'a> {
+    principals: &'a [Principal],
+    journal: &'a [Entry],
+    at: usize,
+    state: State,
+    held: Vec<Held>,
+    changed: Vec<Changed>,
+}
+
+impl<'a> Model for Replay<'a> {
+    ghost use Rattle.mx_show.specs.Replays.{Replayed, replayed, IsReplay};
+
+    ghost Value = { Replayed };
+
+    ghost view = { λ a. replayed a.principals.now a.journal.now a.at };
+
+    ghost invariant = { λ a. IsReplay (replayed a.principals.now a.journal.now a.at) a.state };
+}
+
+impl<'a> Replay<'a> {
+    ghost use Rattle.mx_show.specs.Replays.{Replayed, replayed, access_of, IsSameJournal};
+    ghost use Rattle.std.specs.Prelude.{◌≡◌, ◌≤◌, ◌<◌, ◌+◌, length, min, IfOk, IsTrue, OnOk};
+    ghost use Rattle.mx_state.specs.History.{opening, IsRight};
+
+    /// Before the first entry of a right journal of 1 to 15 processes.
+    pub(crate) fn new(
+        alloc: Global,
+        principals: &'a [Principal],
+        journal: &'a [Entry],
+    ) -> Result<Replay<'a>, AllocError>
+        requires some { 1 ≤ length principals.now }
+        requires most { length principals.now ≤ 15 }
+        requires right { IsRight (opening principals.now) journal.now }
+        ensures { IfOk result (λ replay. replay ≡ replayed principals.now journal.now 0) }
+    {
+        let state = State::new(alloc, principals)?;
+        let held = held_at_first(alloc, &state, principals.len() as u8)?;
+        Ok(Replay {
+            principals,
+            journal,
+            at: 0,
+            state,
+            held,
+            changed: Vec::new(alloc),
+        })
+    }
+
+    /// All that the entries so far changed, in their order.
+    pub(crate) fn into_changed(self) -> Vec<Changed> {
+        self.changed
+    }
+
+    /// Whether there is a process of this number, from 1.
+    pub(crate) fn has_process(&self, process: u8) -> bool
+        ensures { IsTrue result → (1 ≤ process) × (process ≤ length self.now.principals) }
+    {
+        1 <= process && usize::from(process) <= self.principals.len()
+    }
+
+    /// A reference of this process, with its access. Where the point lies behind, all begins anew.
+    pub(crate) fn judged(
+        &mut self,
+        alloc: Global,
+        process: u8,
+        element: Element,
+    ) -> Result<Judged, AllocError>
+        requires some { 1 ≤ process }
+        requires process { process ≤ length self.old.principals }
+        ensures same { OnOk result (IsSameJournal self.old self.new) }
+        ensures process { IfOk result (λ judged. judged.process ≡ process) }
+        ensures element { IfOk result (λ judged. judged.element ≡ element) }
+        ensures desc { IfOk result (λ judged. judged.desc ≡ access_of self.old.principals self.old.journal process element) }
+    {
+        self.go_to(alloc, element.point)?;
+        let desc = self.state.descriptor(process, element.segno);
+        Ok(Judged {
+            process,
+            element,
+            desc,
+            since: self.since(process, element.segno),
+        })
+    }
+
+    /// Goes to the end of the journal.
+    pub(crate) fn finish(&mut self, alloc: Global) -> Result<(), AllocError>
+        ensures same { OnOk result (IsSameJournal self.old self.new) }
+    {
+        self.go_to(alloc, u32::MAX)
+    }
+
+    // Goes behind so many entries, or to the end.
+    fn go_to(&mut self, alloc: Global, point: u32) -> Result<(), AllocError>
+        ensures same { OnOk result (IsSameJournal self.old self.new) }
+        ensures at { OnOk result (self.new.at ≡ min point (length self.new.journal)) }
+    {
+        if self.at > point as usize {
+            *self = Replay::new(alloc, self.principals, self.journal)?;
+        }
+        while self.at < point as usize && self.at < self.journal.len() {
+            self.step(alloc)?;
+        }
+        Ok(())
+    }
+
+    // One entry more.
+    fn step(&mut self, alloc: Global) -> Result<(), AllocError>
+        requires { self.old.at < length self.old.journal }
+        ensures same { OnOk result (IsSameJournal self.old self.new) }
+        ensures at { OnOk result (self.new.at ≡ self.old.at + 1) }
+    {
+        let entry = &self.journal[self.at];
+        let applied = self
+            .state
+            .apply(alloc, entry.process, entry.ring, &entry.request)?;
+        self.at += 1;
+        let number = u32::try_from(self.at).unwrap_or(u32::MAX);
+        note(&mut self.held, &mut self.changed, number, &applied.changes)
+    }
+
+    // The entry that made the descriptor what it is.
+    fn since(&self, process: u8, segno: u16) -> u32 {
+        match self.held.get(place_of(process, segno)) {
+            Some(held) => held.since,
+            None => 0,
+        }
+    }
+}
+
+// The place of a process's number among what is held.
+fn place_of(process: u8, segno: u16) -> usize {
+    if segno < NUMBERS as u16 {
+        usize::from(process.saturating_sub(1)) * NUMBERS + usize::from(segno)
+    } else {
+        usize::MAX
+    }
+}
+
+// The descriptors before any entry, of so many processes.
+fn held_at_first(alloc: Global, state: &State, count: u8) -> Result<Vec<Held>, AllocError>
+    requires { count ≤ length state.now.processes }
+{
+    let mut held = Vec::with_capacity(alloc, usize::from(count) * NUMBERS)?;
+    for process in 1..=count {
+        for segno in 0..NUMBERS as u16 {
+            let desc = state.descriptor(process, segno);
+            held.push(Held { desc, since: 0 })?;
+        }
+    }
+    Ok(held)
+}
+
+// Notes what an entry changed.
+fn note(
+    held: &mut Vec<Held>,
+    changed: &mut Vec<Changed>,
+    entry: u32,
+    changes: &Changes,
+) -> Result<(), AllocError> {
+    for change in changes.items() {
+        let place = place_of(change.process, change.segno);
+        if let Some(now) = held.get_mut(place) {
+            changed.push(Changed {
+                entry,
+                process: change.process,
+                segno: change.segno,
+                before: now.desc,
+                after: change.desc,
+            })?;
+            *now = Held {
+                desc: change.desc,
+                since: entry,
+            };
+        }
+    }
+    Ok(())
+}
