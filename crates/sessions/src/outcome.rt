@@ -1,12 +1,11 @@
 //! What comes of a session beside the run that is stored for it.
 
 ghost use Rattle.std.specs.Prelude.{◌≡◌, ◌≢◌, ◌≤◌, ◌↔◌, ℕ, List, All, IfOk};
+ghost use Rattle.session_files.specs.Runs.{IsRunOf, IsOtherStatus};
 ghost use Rattle.sessions.specs.Differences.{differing_line};
-ghost use Rattle.sessions.specs.Runs.{IsRunOf};
 
 use crate::comparison::first_difference;
-use mx_io::{MemorySink, MemorySource};
-use mx_run::{NoGate, multics};
+use session_files::{Ended, run_once};
 use std::alloc::{AllocError, Global};
 use std::fmt::{self, Display, Formatter, Write};
 use std::sync::Wait;
@@ -14,9 +13,6 @@ use std::thread::Threads;
 
 /// The most bytes of a run that are kept. A session whose run is longer ends with the status of a sink that failed.
 const ROOM: usize = 1_048_576;
-
-/// How many bytes are moved at a time.
-const PIECE: usize = 4096;
 
 /// What came of a session.
 #[derive(Clone, Copy, Debug, PartialEq, Eq)]
@@ -46,25 +42,21 @@ impl Display for Outcome {
 pub fn run_and_compare<R: Threads + Wait + Sync>(
     rt: &R,
     alloc: Global,
-    session: Vec<u8>,
+    session: &[u8],
     stored: &[u8],
 ) -> Result<Outcome, AllocError>
-    ensures as_stored { IfOk result (λ outcome. outcome ≡ Outcome.AsStored → IsRunOf session.items stored.now) }
+    ensures as_stored { IfOk result (λ outcome. outcome ≡ Outcome.AsStored → IsRunOf session.now stored.now) }
     ensures differs { IfOk result (λ outcome. (line : ℕ) → outcome ≡ Outcome.DiffersAt line
-        → (printed : List ℕ) × IsRunOf session.items printed × (printed ≢ stored.now) × (line ≡ differing_line printed stored.now)) }
-    ensures status { IfOk result (λ outcome. outcome ≢ Outcome.Status 0) }
+        → (printed : List ℕ) × IsRunOf session.now printed × (printed ≢ stored.now) × (line ≡ differing_line printed stored.now)) }
+    ensures status { IfOk result (λ outcome. (status : ℕ) → outcome ≡ Outcome.Status status → IsOtherStatus session.now status) }
     ensures found { IfOk result (λ outcome. outcome ≢ Outcome.NotFound) }
 {
-    let words = [String::from_str(alloc, "run")?];
-    let mut source = MemorySource::new(session, Vec::new(alloc), PIECE);
-    let made = MemorySink::new(alloc, ROOM, Vec::new(alloc), PIECE);
-    let mut sink = made.map_err(|_| AllocError)?;
-    match multics(rt, alloc, &words, &mut source, &mut sink, &NoGate) {
-        0 => Ok(match first_difference(sink.bytes(), stored) {
+    match run_once(rt, alloc, session, ROOM)? {
+        Ended::Ran(printed) => Ok(match first_difference(&printed, stored) {
             None => Outcome::AsStored,
             Some(line) => Outcome::DiffersAt(line),
         }),
-        status => Ok(Outcome::Status(status)),
+        Ended::Status(status) => Ok(Outcome::Status(status)),
     }
 }
 
