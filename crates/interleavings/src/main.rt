@@ -8,11 +8,12 @@ mod outlines;
 mod repeats;
 
 use repeats::{Outcome, repeat, status_of};
+use session_files::read;
 use std::alloc::{AllocError, Global};
 use std::process::ExitCode;
 use std::sync::Wait;
 use std::thread::Threads;
-use std::{env, fs, io};
+use std::{env, io};
 
 /// The status where no session is named.
 const BAD_WORDS: u8 = 2;
@@ -46,16 +47,6 @@ fn outcome_of<R: Threads + Wait + Sync>(
     match (session, stored) {
         (Some(session), Some(stored)) => repeat(rt, alloc, &session, &stored),
         _ => Ok(Outcome::NotFound),
-    }
-}
-
-// The bytes of a file, or none where there is no such file.
-fn read(rt: &HostRuntime, name: &str, kind: &str) -> io::Result<Option<Vec<u8>>> {
-    let path = format!(in rt.alloc(); "{name}.{kind}")?;
-    match fs::read(rt, path) {
-        Ok(bytes) => Ok(Some(bytes)),
-        Err(error) if error.kind() == io::ErrorKind::NotFound => Ok(None),
-        Err(error) => Err(error),
     }
 }
 

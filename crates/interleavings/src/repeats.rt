@@ -1,11 +1,10 @@
 //! Sessions that are run again and again.
 
-ghost use Rattle.std.specs.Prelude.{◌≡◌, ◌≢◌, ◌≤◌, ◌↔◌, ℕ, List, All, IfOk};
-ghost use Rattle.interleavings.specs.Runs.{IsRunOf};
+ghost use Rattle.std.specs.Prelude.{◌≡◌, ◌≤◌, ◌↔◌, ℕ, List, All, IfOk};
+ghost use Rattle.session_files.specs.Runs.{IsRunOf, IsOtherStatus};
 
 use crate::outlines::is_as_stored;
-use mx_io::{MemorySink, MemorySource};
-use mx_run::{NoGate, multics};
+use session_files::{Ended, run_once};
 use std::alloc::{AllocError, Global};
 use std::fmt::{self, Display, Formatter, Write};
 use std::sync::Wait;
@@ -13,9 +12,6 @@ use std::thread::{self, Threads};
 
 /// The most bytes of a run that are kept. A session whose run is longer ends with the status of a sink that failed.
 const ROOM: usize = 65_536;
-
-/// How many bytes are moved at a time.
-const PIECE: usize = 4096;
 
 /// How many rows of runs are made side by side.
 const BESIDE: usize = 4;
@@ -78,7 +74,7 @@ fn run_row<R: Threads + Wait + Sync>(
     stored: &[u8],
 ) -> Result<Outcome, AllocError> {
     for _run in 0..ROW {
-        let outcome = run_once(rt, alloc, session, stored)?;
+        let outcome = run_beside(rt, alloc, session, stored)?;
         if outcome != Outcome::AsStored {
             return Ok(outcome);
         }
@@ -87,30 +83,24 @@ fn run_row<R: Threads + Wait + Sync>(
 }
 
 // One run beside the stored one.
-fn run_once<R: Threads + Wait + Sync>(
+fn run_beside<R: Threads + Wait + Sync>(
     rt: &R,
     alloc: Global,
     session: &[u8],
     stored: &[u8],
 ) -> Result<Outcome, AllocError>
     ensures legal { IfOk result (λ outcome. outcome ≡ Outcome.AsStored → (printed : List ℕ) × IsRunOf session.now printed) }
-    ensures status { IfOk result (λ outcome. outcome ≢ Outcome.Status 0) }
+    ensures status { IfOk result (λ outcome. (status : ℕ) → outcome ≡ Outcome.Status status → IsOtherStatus session.now status) }
 {
-    let words = [String::from_str(alloc, "run")?];
-    let mut text = Vec::new(alloc);
-    text.extend_from_slice(session)?;
-    let mut source = MemorySource::new(text, Vec::new(alloc), PIECE);
-    let made = MemorySink::new(alloc, ROOM, Vec::new(alloc), PIECE);
-    let mut sink = made.map_err(|_| AllocError)?;
-    match multics(rt, alloc, &words, &mut source, &mut sink, &NoGate) {
-        0 => {
-            if is_as_stored(alloc, sink.bytes(), stored)? {
+    match run_once(rt, alloc, session, ROOM)? {
+        Ended::Ran(printed) => {
+            if is_as_stored(alloc, &printed, stored)? {
                 Ok(Outcome::AsStored)
             } else {
                 Ok(Outcome::OtherLines)
             }
         }
-        status => Ok(Outcome::Status(status)),
+        Ended::Status(status) => Ok(Outcome::Status(status)),
     }
 }
 
