@@ -6,9 +6,11 @@
 
 mod showing;
 
+use session_files::read;
 use showing::{Found, shown};
-use std::alloc::{AllocError, Global};
+use std::alloc::{Alloc, Global};
 use std::process::ExitCode;
+use std::rt::Files;
 use std::sync::Wait;
 use std::thread::Threads;
 use std::{env, fs, io};
@@ -29,40 +31,64 @@ fn main(rt: HostRuntime) -> io::Result<ExitCode> {
     };
     let mut all = true;
     for name in names.skip(if stores { 1 } else { 0 }) {
-        let Some(session) = read(&rt, &name, "session")? else {
-            println!(rt; "{name}: not found")?;
-            all = false;
-            continue;
-        };
-        let lint = shown(&rt, rt.alloc(), "lint", &session)?;
-        let lines = shown(&rt, rt.alloc(), "lines", &session)?;
-        let picture = shown(&rt, rt.alloc(), "picture", &session)?;
-        if stores {
-            write(&rt, &name, "lines", lines.bytes())?;
-            write(&rt, &name, "svg", picture.bytes())?;
-        }
-        let found = Found {
-            good: lint.bytes() == b"good\n".as_slice(),
-            lines: Some(lines.bytes()) == read(&rt, &name, "lines")?.as_deref(),
-            picture: Some(picture.bytes()) == read(&rt, &name, "svg")?.as_deref(),
-        };
+        let found = found_of(&rt, &name, stores)?;
         println!(rt; "{name}: {found}")?;
         all = all && found.is_all();
     }
     Ok(ExitCode::from(if all { 0 } else { 1 }))
 }
 
-// The bytes of a file, or none where there is no such file.
-fn read(rt: &HostRuntime, name: &str, kind: &str) -> io::Result<Option<Vec<u8>>> {
-    let path = format!(in rt.alloc(); "{name}.{kind}")?;
-    match fs::read(rt, path) {
-        Ok(bytes) => Ok(Some(bytes)),
-        Err(error) if error.kind() == io::ErrorKind::NotFound => Ok(None),
-        Err(error) => Err(error),
+// What is found of the session of this name.
+fn found_of<R: Threads + Wait + Sync + Files + Alloc<A = Global>>(
+    rt: &R,
+    name: &str,
+    stores: bool,
+) -> io::Result<Found> {
+    match read(rt, name, "session")? {
+        Some(session) => Ok(Found {
+            good: is_good(rt, &session)?,
+            lines: is_stored(rt, name, ("lines", "lines"), &session, stores)?,
+            picture: is_stored(rt, name, ("picture", "svg"), &session, stores)?,
+        }),
+        None => Ok(Found {
+            good: false,
+            lines: false,
+            picture: false,
+        }),
     }
 }
 
-fn write(rt: &HostRuntime, name: &str, kind: &str, bytes: &[u8]) -> io::Result<()> {
+fn is_good<R: Threads + Wait + Sync + Alloc<A = Global>>(
+    rt: &R,
+    session: &[u8],
+) -> io::Result<bool> {
+    let lint = shown(rt, rt.alloc(), "lint", session)?;
+    Ok(lint.bytes() == b"good\n".as_slice())
+}
+
+// Whether what is shown on this word is what the file of this kind has; the file is written first where it is to be stored.
+fn is_stored<R: Threads + Wait + Sync + Files + Alloc<A = Global>>(
+    rt: &R,
+    name: &str,
+    word_and_kind: (&str, &str),
+    session: &[u8],
+    stores: bool,
+) -> io::Result<bool> {
+    let (word, kind) = word_and_kind;
+    let sink = shown(rt, rt.alloc(), word, session)?;
+    if stores {
+        write(rt, name, kind, sink.bytes())?;
+    }
+    let stored = read(rt, name, kind)?;
+    Ok(stored.as_deref() == Some(sink.bytes()))
+}
+
+fn write<R: Files + Alloc<A = Global>>(
+    rt: &R,
+    name: &str,
+    kind: &str,
+    bytes: &[u8],
+) -> io::Result<()> {
     let path = format!(in rt.alloc(); "{name}.{kind}")?;
     fs::write(rt, path, bytes)
 }
