@@ -1,5 +1,5 @@
 -- Laws of lines: a request that fits is read back from its line, so that no two have one line.
-use Rattle.std.proofs.Common.{◌≡◌, ℕ, ◌≤◌, nat_le, length, arith, true, ◌&&◌, List, ◌∷◌, ◌++◌, map, Option, Some, None, Result, Ok, Err, IfOk, codes, refl, ap, sym, ◌∙◌}
+use Rattle.std.proofs.Common.{◌≡◌, ℕ, ◌≤◌, nat_le, length, arith, true, ◌&&◌, List, [], ◌∷◌, ◌++◌, map, Option, Some, None, Result, Ok, Err, IfOk, codes, refl, ap, sym, ◌∙◌}
 use Rattle.std.proofs.lemmas.Bool.Decides.{nat_tests}
 use Rattle.std.specs.Fmt.{decimal}
 use Rattle.std.specs.List.{list_all}
@@ -10,6 +10,7 @@ use Rattle.mx_acl.proofs.ModesLaws.{modes_again}
 use Rattle.mx_acl.specs.Modes.{modes_text}
 use Rattle.mx_acl.specs.declared.modes.Modes.{Modes}
 use Rattle.mx_sdw.specs.Octal.{octal}
+use Rattle.mx_object.specs.Objects.{PlainObjectMap, of_gates}
 use Rattle.mx_search.specs.Rules.{rules_of}
 use Rattle.mx_search.specs.declared.rules.Rule.{Rule}
 use Rattle.mx_request.specs.declared.requests.Request.{Request}
@@ -19,7 +20,7 @@ use Rattle.mx_request.specs.declared.reading.kinds.Kind.TheVariants.{CreateDir a
 use Rattle.mx_request.specs.Fields.{line_of, ring_text}
 use Rattle.mx_request.specs.Kinds.{kind_word}
 use Rattle.mx_request.specs.Reading.{create_dir_at, create_seg_at, create_object_at, create_link_at, rename_at, set_acl_at, del_acl_at, set_brackets_at, set_dir_brackets_at, set_rules_at, initiate_at, terminate_at, fields_at, request_at}
-use Rattle.mx_request.specs.RequestTexts.{request_text, rule_text, name_fields, is_pathname, is_name, is_name_or_none, is_identifier, is_ring, is_rule, are_brackets, are_rules, fits_request}
+use Rattle.mx_request.specs.RequestTexts.{request_text, rule_text, name_fields, is_pathname, is_name, is_name_or_none, is_identifier, is_ring, is_rule, are_brackets, are_rules, is_plain, fits_request}
 use Rattle.mx_request.proofs.StepLaws.{both, some_is}
 use Rattle.mx_name.proofs.CutLaws.{cut_again}
 use Rattle.mx_request.proofs.FieldLaws.{words_again, words_free, ring_again, ring_free, brackets_again, brackets_behind, gated_fields, gated_again, gated_behind, segno_again}
@@ -64,20 +65,34 @@ create_seg_again path words brackets e =
       path_again path f.0,
     ) refl
 
-create_object_again : (path : List ℕ) (words : ℕ) (brackets : List ℕ) (gate : ℕ) → fits_request (CreateObject path words brackets gate) ≡ true
-    → create_object_at (path ++ 32 ∷ line_of (decimal words ∷ gated_fields brackets gate)) ≡ Some (CreateObject path words brackets gate)
-create_object_again path words brackets gate e =
-    let f = both (is_pathname path) (nat_le words 99999 && (are_brackets brackets && nat_le gate 9999)) e in
-    let g = both (nat_le words 99999) (are_brackets brackets && nat_le gate 9999) f.1 in
-    let h = both (are_brackets brackets) (nat_le gate 9999) g.1 in
-    rw (
-      gated_behind (decimal words) brackets gate h.0,
+plain_map : (object : PlainObjectMap) → is_plain object ≡ true → of_gates object.gate ≡ object
+plain_map object e = parts object.gate object.definitions object.links e
+  where
+    parts : (gate : ℕ) (definitions : List (List ℕ × ℕ)) (links : List (List ℕ × List ℕ))
+        → is_plain (record { gate = gate; definitions = definitions; links = links }) ≡ true
+        → of_gates gate ≡ record { gate = gate; definitions = definitions; links = links }
+    parts gate [] [] e = refl
+    parts gate [] (link ∷ links) e = absurd cc
+    parts gate (definition ∷ definitions) links e = absurd cc
+
+create_object_again : (path : List ℕ) (words : ℕ) (brackets : List ℕ) (object : PlainObjectMap)
+    → fits_request (CreateObject path words brackets object) ≡ true
+    → create_object_at (path ++ 32 ∷ line_of (decimal words ∷ gated_fields brackets object.gate))
+    ≡ Some (CreateObject path words brackets object)
+create_object_again path words brackets object e =
+    let gate : ℕ = object.gate in
+    let f = both (is_pathname path) (nat_le words 99999 && (are_brackets brackets && (nat_le gate 9999 && is_plain object))) e in
+    let g = both (nat_le words 99999) (are_brackets brackets && (nat_le gate 9999 && is_plain object)) f.1 in
+    let i = both (are_brackets brackets) (nat_le gate 9999 && is_plain object) g.1 in
+    let j = both (nat_le gate 9999) (is_plain object) i.1 in
+        rw (
+      gated_behind (decimal words) brackets gate i.0,
       cut_again 32 path (decimal words ++ 32 ∷ line_of (gated_fields brackets gate)) (path_free path f.0),
       cut_again 32 (decimal words) (line_of (gated_fields brackets gate)) (words_free 32 words refl g.0),
       words_again words g.0,
-      gated_again brackets gate h.0 h.1,
+      gated_again brackets gate i.0 j.0,
       path_again path f.0,
-    ) refl
+    ) (ap (λ o. Some (CreateObject path words brackets o)) (plain_map object j.1))
 
 create_link_again : (path target : List ℕ) → fits_request (CreateLink path target) ≡ true
     → create_link_at (path ++ 32 ∷ target) ≡ Some (CreateLink path target)
@@ -170,7 +185,7 @@ logout_again = refl
 pub request_again : (request : Request) → fits_request request ≡ true → request_at (request_text request) ≡ Some request
 request_again (CreateDir path d1 d2) e = by_kind OfCreateDir _ ∙ create_dir_again path d1 d2 e
 request_again (CreateSeg path words brackets) e = by_kind OfCreateSeg _ ∙ create_seg_again path words brackets e
-request_again (CreateObject path words brackets gate) e = by_kind OfCreateObject _ ∙ create_object_again path words brackets gate e
+request_again (CreateObject path words brackets object) e = by_kind OfCreateObject _ ∙ create_object_again path words brackets object e
 request_again (CreateLink path target) e = by_kind OfCreateLink _ ∙ create_link_again path target e
 request_again (Rename path name) e = by_kind OfRename _ ∙ rename_again path name e
 request_again (Delete path) e = by_kind OfDelete path ∙ rw (path_again path e) refl

@@ -9,7 +9,7 @@ use Rattle.mx_request.specs.RequestTexts.{request_fields}
 first_word : (request : Request) → Contains (words_of (class_of request)) (get_or (request_fields request) 0 [])
 first_word (CreateDir path d1 d2) = (0, omega arith, refl)
 first_word (CreateSeg path words brackets) = (1, omega arith, refl)
-first_word (CreateObject path words brackets gate) = (2, omega arith, refl)
+first_word (CreateObject path words brackets object) = (2, omega arith, refl)
 first_word (CreateLink path target) = (3, omega arith, refl)
 first_word (Rename path name) = (4, omega arith, refl)
 first_word (Delete path) = (5, omega arith, refl)

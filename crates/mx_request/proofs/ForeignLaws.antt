@@ -17,7 +17,7 @@ use Rattle.mx_sdw.specs.Octal.{is_octal_digit}
 use Rattle.mx_request.specs.Fields.{line_of, ring_text}
 use Rattle.mx_request.specs.Kinds.{kind_word}
 use Rattle.mx_request.specs.Decimals.{is_digit}
-use Rattle.mx_request.specs.RequestTexts.{request_text, request_fields, rule_text, name_fields, is_pathname, is_name, is_name_or_none, is_identifier, is_ring, is_rule, are_brackets, fits_request}
+use Rattle.mx_request.specs.RequestTexts.{request_text, request_fields, rule_text, name_fields, is_pathname, is_name, is_name_or_none, is_identifier, is_ring, is_rule, are_brackets, is_plain, fits_request}
 use Rattle.mx_request.proofs.StepLaws.{both, both_hold}
 use Rattle.mx_request.proofs.FieldLaws.{words_free, gate_free, ring_free, segno_free}
 use Rattle.mx_request.proofs.RuleLaws.{rule_free}
@@ -89,14 +89,16 @@ fields_free byte foreign (CreateSeg path words brackets) e =
     let g = both (nat_le words 99999) (are_brackets brackets) f.1 in
     both_hold _ _ (word_free byte foreign OfCreateSeg) (both_hold _ _ (path_fields byte foreign path f.0)
     (both_hold _ _ (words_free byte words foreign.no_digit g.0) (brackets_free byte brackets foreign.no_digit g.1)))
-fields_free byte foreign (CreateObject path words brackets gate) e =
-    let f = both (is_pathname path) (nat_le words 99999 && (are_brackets brackets && nat_le gate 9999)) e in
-    let g = both (nat_le words 99999) (are_brackets brackets && nat_le gate 9999) f.1 in
-    let h = both (are_brackets brackets) (nat_le gate 9999) g.1 in
+fields_free byte foreign (CreateObject path words brackets object) e =
+    let gate : ℕ = object.gate in
+    let f = both (is_pathname path) (nat_le words 99999 && (are_brackets brackets && (nat_le gate 9999 && is_plain object))) e in
+    let g = both (nat_le words 99999) (are_brackets brackets && (nat_le gate 9999 && is_plain object)) f.1 in
+    let i = both (are_brackets brackets) (nat_le gate 9999 && is_plain object) g.1 in
+    let j = both (nat_le gate 9999) (is_plain object) i.1 in
     both_hold _ _ (word_free byte foreign OfCreateObject) (both_hold _ _ (path_fields byte foreign path f.0)
     (both_hold _ _ (words_free byte words foreign.no_digit g.0)
     (list_all-append _ (map ring_text brackets) (decimal gate ∷ [])
-    ∙ both_hold _ _ (brackets_free byte brackets foreign.no_digit h.0) (both_hold _ _ (gate_free byte gate foreign.no_digit h.1) refl))))
+    ∙ both_hold _ _ (brackets_free byte brackets foreign.no_digit i.0) (both_hold _ _ (gate_free byte gate foreign.no_digit j.0) refl))))
 fields_free byte foreign (CreateLink path target) e =
     let f = both (is_pathname path) (is_pathname target) e in
     both_hold _ _ (word_free byte foreign OfCreateLink) (both_hold _ _ (path_fields byte foreign path f.0)

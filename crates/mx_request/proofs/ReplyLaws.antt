@@ -1,5 +1,5 @@
 -- Laws of replies: a reply that fits is found again in its fields, so that no two have one text.
-use Rattle.std.proofs.Common.{◌≡◌, ℕ, ◌==◌, ◌-◌, ◌<◌, ◌≤◌, ◌^◌, nat_lt, ltb, Bool, true, false, if◌then◌else◌, not, ◌&&◌, List, [], ◌∷◌, ◌++◌, length, Option, Some, None, codes, refl, ap, sym, ◌∙◌, subst, arith, append-nil}
+use Rattle.std.proofs.Common.{◌≡◌, ℕ, ◌==◌, ◌-◌, ◌<◌, ◌≤◌, ◌^◌, nat_lt, ltb, Bool, true, false, if◌then◌else◌, not, ◌&&◌, List, [], ◌∷◌, ◌++◌, length, Option, Some, None, codes, refl, ap, sym, ◌∙◌, subst, arith, append-nil, append_assoc}
 use Rattle.std.proofs.lemmas.Bool.Decides.{nat_tests}
 use Rattle.std.proofs.lemmas.Fmt.{digits_value-decimal, digits_decimal}
 use Rattle.std.proofs.lemmas.List.Elements.{All-cons, All-nil}
@@ -22,12 +22,15 @@ use Rattle.mx_hier.specs.declared.asking.Status.TheVariants.{Segment, Object, Di
 use Rattle.mx_hier.specs.declared.refusals.Refusal.{Refusal}
 use Rattle.mx_hier.specs.declared.refusals.Refusal.TheVariants.{BadPath, NoEntry, NoInfo, NotADir, LinkLoop, IncorrectAccess, NameDup, NotASeg, DirNotEmpty, DirFull, BadLength, BadBrackets, InvalidMode, AclFull, NoAclEntry, NoPages, KstFull, UnknownSegno, NotLinkage, SegmentNotFound, NotObject, NoDefinition, NoProcess, MailFull, Ended}
 use Rattle.mx_request.proofs.FieldLaws.{own, ring_free}
+use Rattle.mx_name.proofs.CutLaws.{cut_again}
+use Rattle.mx_name.specs.Cuts.{cut_at}
+use Rattle.mx_request.proofs.AddressLaws.{address_free}
 use Rattle.mx_request.proofs.ForeignLaws.{free_append, line_free}
 use Rattle.mx_request.proofs.LineLaws.{same_fields}
 use Rattle.mx_request.proofs.StepLaws.{both, both_hold, fails, some_is}
 use Rattle.mx_request.proofs.TakenLaws.{faultless}
 use Rattle.mx_request.specs.declared.replies.Reply.{Reply}
-use Rattle.mx_request.specs.declared.replies.Reply.TheVariants.{Done, Refused, Status, Names, Segno, Sent, Message, Nobody, Waiting}
+use Rattle.mx_request.specs.declared.replies.Reply.TheVariants.{Done, Refused, Status, Names, Segno, Linked, Sent, Message, Nobody, Waiting}
 use Rattle.mx_request.specs.Fields.{ring_text}
 use Rattle.mx_request.specs.Decimals.{decimal_after, is_digit}
 use Rattle.mx_request.specs.ReplyTexts.{fits_reply, fits_status, fresh_text, linkage_fields, reply_fields, reply_text, status_fields}
@@ -211,6 +214,13 @@ segno_at (segno ∷ fresh ∷ section) =
     Some (Segno (record { segno = octal_value segno; fresh = is fresh (codes "new"); linkage = linkage }))
 segno_at _ = None
 
+abbrev linked_at : List (List ℕ) → Option Reply
+linked_at (address ∷ fresh ∷ section) =
+    linkage_at section >>= λ linkage.
+    cut_at 124 address >>= λ p.
+    Some (Linked (octal_value p.0) (octal_value p.1) (is fresh (codes "new")) linkage)
+linked_at _ = None
+
 abbrev message_at : List (List ℕ) → Option Reply
 message_at (sender ∷ word ∷ []) = Some (Message (decimal_after 0 sender) (octal_value word))
 message_at _ = None
@@ -225,11 +235,12 @@ reply_of word fields =
     else (if is word (codes "link") then link_at fields
     else (if is word (codes "names") then Some (Names fields)
     else (if is word (codes "segno") then segno_at fields
+    else (if is word (codes "linked") then linked_at fields
     else (if is word (codes "sent") then Some Sent
     else (if is word (codes "message") then message_at fields
     else (if is word (codes "nobody") then Some Nobody
     else (if is word (codes "waiting") then Some Waiting
-    else None)))))))))))
+    else None))))))))))))
 
 abbrev reply_at : List (List ℕ) → Option Reply
 reply_at [] = None
@@ -279,6 +290,15 @@ reply_again (Status status) e = status_again status e
 reply_again (Names names) e = refl
 reply_again (Segno known) e =
     rw (linkage_again known.linkage, octal_value-octal known.segno, fresh_again known.fresh) refl
+reply_again (Linked segno word fresh linkage) e =
+    rw (
+      linkage_again linkage,
+      append_assoc,
+      cut_again 124 (octal segno) (octal word) (octal_free 124 segno refl),
+      octal_value-octal segno,
+      octal_value-octal word,
+      fresh_again fresh,
+    ) refl
 reply_again Sent e = refl
 reply_again (Message sender word) e = rw (decimal_again sender e, octal_value-octal word) refl
 reply_again Nobody e = refl
@@ -291,6 +311,7 @@ pub record IsApart (byte : ℕ) : Type 0 where
   pub no_octal : is_octal_digit byte ≡ false
   pub no_letter : ltb 96 byte ≡ false
   pub no_mark : (62 == byte) ≡ false
+  pub no_bar : (124 == byte) ≡ false
 
 fresh_bytes : (fresh : Bool) → list_all is_name_byte (fresh_text fresh) ≡ true
 fresh_bytes true = refl
@@ -398,6 +419,10 @@ module _ (byte : ℕ) (apart : IsApart byte) where
       both_hold _ _ (word_free (codes "segno") refl)
       (both_hold _ _ (octal_free byte known.segno apart.no_octal)
       (both_hold _ _ (word_free (fresh_text known.fresh) (fresh_bytes known.fresh)) (linkage_free known.linkage)))
+  fields_free (Linked segno word fresh linkage) e =
+      both_hold _ _ (word_free (codes "linked") refl)
+      (both_hold _ _ (address_free byte segno word apart.no_octal apart.no_bar)
+      (both_hold _ _ (word_free (fresh_text fresh) (fresh_bytes fresh)) (linkage_free linkage)))
   fields_free Sent e = both_hold _ _ (word_free (codes "sent") refl) refl
   fields_free (Message sender word) e =
       both_hold _ _ (word_free (codes "message") refl)
@@ -407,10 +432,10 @@ module _ (byte : ℕ) (apart : IsApart byte) where
   fields_free Waiting e = both_hold _ _ (word_free (codes "waiting") refl) refl
 
 blank : IsApart 32
-blank = record { no_name = refl; no_digit = refl; no_octal = refl; no_letter = refl; no_mark = refl }
+blank = record { no_name = refl; no_digit = refl; no_octal = refl; no_letter = refl; no_mark = refl; no_bar = refl }
 
 newline : IsApart 10
-newline = record { no_name = refl; no_digit = refl; no_octal = refl; no_letter = refl; no_mark = refl }
+newline = record { no_name = refl; no_digit = refl; no_octal = refl; no_letter = refl; no_mark = refl; no_bar = refl }
 
 pub reply_newline_free : (reply : Reply) → fits_reply reply ≡ true → is_free 10 (reply_text reply) ≡ true
 reply_newline_free reply e = line_free 10 (reply_fields reply) refl (fields_free 10 newline reply e)
@@ -424,6 +449,7 @@ some_field (Status (Directory d1 d2 modes)) = omega arith
 some_field (Status (Link target)) = omega arith
 some_field (Names names) = omega arith
 some_field (Segno known) = omega arith
+some_field (Linked segno word fresh linkage) = omega arith
 some_field Sent = omega arith
 some_field (Message sender word) = omega arith
 some_field Nobody = omega arith

@@ -122,7 +122,7 @@ create_object_takes text request e =
       spelled = ap (λ xs. codes "create_object" ++ 32 ∷ (path.0 ++ 32 ∷ xs)) (c.behind (decimal words.0))
           ∙ three_parts (codes "create_object") path.0 (decimal words.0) (line_of (gated_fields gated.0.0 gated.0.1)) text p.0.0 p.0.1 q.0.0 q.0.1
           (cut_takes 32 text p.0 p.1).0 (cut_takes 32 p.0.1 q.0 q.1).0 a.0 b.0 c.spelled;
-      fits = both_hold _ _ a.1 (both_hold _ _ b.1 (both_hold _ _ c.brackets c.few));
+      fits = both_hold _ _ a.1 (both_hold _ _ b.1 (both_hold _ _ c.brackets (both_hold _ _ c.few refl)));
     })
 
 create_link_takes : (text : List ℕ) (request : Request) → create_link_at text ≡ Some request → IsLine (codes "create_link" ++ 32 ∷ text) request

@@ -8,7 +8,7 @@ use Rattle.mx_request.specs.declared.requests.Request.TheVariants.{CreateDir, Cr
 abbrev pub class_of : Request → RequestClass
 class_of (CreateDir path d1 d2) = OfPath
 class_of (CreateSeg path words brackets) = OfPath
-class_of (CreateObject path words brackets gate) = OfPath
+class_of (CreateObject path words brackets object) = OfPath
 class_of (CreateLink path target) = OfPath
 class_of (Rename path name) = OfPath
 class_of (Delete path) = OfPath

@@ -9,6 +9,7 @@ use Rattle.mx_name.specs.Paths.{resolution}
 use Rattle.mx_name.specs.Identifiers.{acl_id_of}
 use Rattle.mx_sdw.specs.Octal.{is_octal_digit, octal_number}
 use Rattle.mx_acl.specs.Modes.{modes_of_text}
+use Rattle.mx_object.specs.Objects.{of_gates}
 use Rattle.mx_search.specs.Rules.{rules_of}
 use Rattle.mx_search.specs.declared.rules.Rule.{Rule}
 use Rattle.mx_search.specs.declared.rules.Rule.TheVariants.{InitiatedSegments, ReferencingDir, WorkingDir, Directory}
@@ -72,7 +73,7 @@ create_object_at text =
     decimal_number 5 q.0 >>= λ words.
     gated_brackets_at q.1 >>= λ gated.
     pathname_of p.0 >>= λ path.
-    Some (CreateObject path words gated.0 gated.1)
+    Some (CreateObject path words gated.0 (of_gates gated.1))
 
 abbrev pub create_link_at : List ℕ → Option Request
 create_link_at text =

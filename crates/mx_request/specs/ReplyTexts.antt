@@ -9,8 +9,8 @@ use Rattle.mx_hier.specs.Refusals.{refusal_number, refusal_text}
 use Rattle.mx_hier.specs.declared.asking.Status as said
 use Rattle.mx_hier.specs.declared.asking.Status.TheVariants.{Segment, Object, Directory, Link}
 use Rattle.mx_request.specs.declared.replies.Reply.{Reply}
-use Rattle.mx_request.specs.declared.replies.Reply.TheVariants.{Done, Refused, Status, Names, Segno, Sent, Message, Nobody, Waiting}
-use Rattle.mx_request.specs.Fields.{line_of, ring_text}
+use Rattle.mx_request.specs.declared.replies.Reply.TheVariants.{Done, Refused, Status, Names, Segno, Linked, Sent, Message, Nobody, Waiting}
+use Rattle.mx_request.specs.Fields.{line_of, ring_text, address_text}
 use Rattle.mx_request.specs.RequestTexts.{is_name, is_ring}
 
 -- whether the segment has become known by this request
@@ -46,6 +46,8 @@ reply_fields (Status status) = status_fields status
 reply_fields (Names names) = codes "names" ∷ names
 reply_fields (Segno known) =
     codes "segno" ∷ octal known.segno ∷ fresh_text known.fresh ∷ linkage_fields known.linkage
+reply_fields (Linked segno word fresh linkage) =
+    codes "linked" ∷ address_text segno word ∷ fresh_text fresh ∷ linkage_fields linkage
 reply_fields Sent = codes "sent" ∷ []
 reply_fields (Message sender word) = codes "message" ∷ decimal sender ∷ octal word ∷ []
 reply_fields Nobody = codes "nobody" ∷ []
@@ -70,6 +72,7 @@ fits_reply (Refused why) = true
 fits_reply (Status status) = fits_status status
 fits_reply (Names names) = list_all is_name names
 fits_reply (Segno known) = true
+fits_reply (Linked segno word fresh linkage) = true
 fits_reply Sent = true
 fits_reply (Message sender word) = nat_lt sender (2 ^ 64)
 fits_reply Nobody = true

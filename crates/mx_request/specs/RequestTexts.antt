@@ -1,5 +1,5 @@
 -- The requests, each as its line in a script and in the journal.
-use Rattle.std.specs.Prelude.{ℕ, ◌^◌, Bool, true, ◌&&◌, nat_le, nat_lt, nat_eq, List, [], ◌∷◌, ◌++◌, map, length, Option, None, Some, is_none, codes}
+use Rattle.std.specs.Prelude.{ℕ, ◌^◌, Bool, true, false, ◌&&◌, nat_le, nat_lt, nat_eq, List, [], ◌∷◌, ◌++◌, map, length, Option, None, Some, is_none, codes}
 use Rattle.std.specs.Fmt.{decimal}
 use Rattle.std.specs.List.{list_all}
 use Rattle.mx_name.specs.Names.{name_fault}
@@ -8,6 +8,7 @@ use Rattle.mx_name.specs.Paths.{path_text}
 use Rattle.mx_name.specs.Identifiers.{PlainAclId, acl_id_text, id_fault}
 use Rattle.mx_sdw.specs.Octal.{octal}
 use Rattle.mx_acl.specs.Modes.{modes_text}
+use Rattle.mx_object.specs.Objects.{PlainObjectMap}
 use Rattle.mx_search.specs.declared.rules.Rule.{Rule}
 use Rattle.mx_search.specs.declared.rules.Rule.TheVariants.{InitiatedSegments, ReferencingDir, WorkingDir, Directory}
 use Rattle.mx_request.specs.declared.requests.Request.{Request}
@@ -31,8 +32,8 @@ name_fields (Some name) = name ∷ []
 abbrev pub request_fields : Request → List (List ℕ)
 request_fields (CreateDir path d1 d2) = codes "create_dir" ∷ path ∷ ring_text d1 ∷ ring_text d2 ∷ []
 request_fields (CreateSeg path words brackets) = codes "create_seg" ∷ path ∷ decimal words ∷ map ring_text brackets
-request_fields (CreateObject path words brackets gate) =
-    codes "create_object" ∷ path ∷ decimal words ∷ map ring_text brackets ++ decimal gate ∷ []
+request_fields (CreateObject path words brackets object) =
+    codes "create_object" ∷ path ∷ decimal words ∷ map ring_text brackets ++ decimal object.gate ∷ []
 request_fields (CreateLink path target) = codes "create_link" ∷ path ∷ target ∷ []
 request_fields (Rename path name) = codes "rename" ∷ path ∷ name ∷ []
 request_fields (Delete path) = codes "delete" ∷ path ∷ []
@@ -101,11 +102,19 @@ is_process_number p = nat_le 1 p && nat_le p 99
 abbrev pub is_word : ℕ → Bool
 is_word word = nat_lt word (2 ^ 36)
 
+abbrev pub has_none : {A : Type 0} → List A → Bool
+has_none [] = true
+has_none (x ∷ xs) = false
+
+-- an object map without definitions and links
+abbrev pub is_plain : PlainObjectMap → Bool
+is_plain object = has_none object.definitions && has_none object.links
+
 abbrev pub fits_request : Request → Bool
 fits_request (CreateDir path d1 d2) = is_pathname path && (is_ring d1 && is_ring d2)
 fits_request (CreateSeg path words brackets) = is_pathname path && (nat_le words 99999 && are_brackets brackets)
-fits_request (CreateObject path words brackets gate) =
-    is_pathname path && (nat_le words 99999 && (are_brackets brackets && nat_le gate 9999))
+fits_request (CreateObject path words brackets object) =
+    is_pathname path && (nat_le words 99999 && (are_brackets brackets && (nat_le object.gate 9999 && is_plain object)))
 fits_request (CreateLink path target) = is_pathname path && is_pathname target
 fits_request (Rename path name) = is_pathname path && is_name name
 fits_request (Delete path) = is_pathname path

@@ -16,6 +16,7 @@ use kinds::Kind;
 use mx_acl::Modes;
 use mx_list::Sequence;
 use mx_name::cut;
+use mx_object::ObjectMap;
 use mx_sdw::{Word, read_octal_number};
 use mx_search::Rules;
 use rules::read_rules;
@@ -146,12 +147,12 @@ fn read_create_object(alloc: Global, fields: &[u8]) -> Result<Option<Request>, A
         return Ok(None);
     };
     let brackets = gated.0;
-    let gate = gated.1;
+    let map = ObjectMap::of_gates(alloc, gated.1);
     Ok(Some(Request::CreateObject {
         path,
         words,
         brackets,
-        gate,
+        map,
     }))
 }
 

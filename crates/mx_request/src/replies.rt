@@ -18,8 +18,17 @@ pub enum Reply {
     Status(Status),
     Names(Names),
     Segno(Known),
+    Linked {
+        segno: u16,
+        word: u16,
+        fresh: bool,
+        linkage: Option<u16>,
+    },
     Sent,
-    Message { sender: u8, word: Word },
+    Message {
+        sender: u8,
+        word: Word,
+    },
     Nobody,
     Waiting,
 }

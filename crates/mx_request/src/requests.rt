@@ -9,6 +9,7 @@ use crate::writing::push_request;
 use mx_acl::Modes;
 use mx_list::Sequence;
 use mx_name::{AclId, EntryName, Pathname};
+use mx_object::ObjectMap;
 use mx_sdw::{Ring, Word};
 use mx_search::Rules;
 use std::alloc::{AllocError, Global};
@@ -28,13 +29,13 @@ pub enum Request {
         words: u32,
         brackets: [Ring; 3],
     },
-    /// `create_object PATH WORDS R1 R2 R3 GATE`: make an object segment of so many words, of which the first are gates. Its
-    /// map has no definitions and no links.
+    /// `create_object PATH WORDS R1 R2 R3 GATE d:SYMBOL:W ... l:NAME$SYMBOL ...`: make an object segment of so many words
+    /// with this map, of whose words the first are gates.
     CreateObject {
         path: Pathname,
         words: u32,
         brackets: [Ring; 3],
-        gate: u16,
+        map: ObjectMap,
     },
     /// `create_link PATH TARGET`: make a link.
     CreateLink {
@@ -173,13 +174,17 @@ impl Request {
                 path,
                 words,
                 brackets,
-                gate,
-            } => Ok(Request::CreateObject {
-                path: path.copy()?,
-                words: *words,
-                brackets: *brackets,
-                gate: *gate,
-            }),
+                map,
+            } => {
+                let path = path.copy()?;
+                let map = map.copy()?;
+                Ok(Request::CreateObject {
+                    path,
+                    words: *words,
+                    brackets: *brackets,
+                    map,
+                })
+            }
             Request::CreateLink { path, target } => {
                 let path = path.copy()?;
                 let target = target.copy()?;

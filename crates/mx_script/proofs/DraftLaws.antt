@@ -31,10 +31,11 @@ none_is_some a e = cc
 short_request : (request : Request) → fits_request request ≡ true → is_short request ≡ true
 short_request (CreateSeg path words brackets) e =
     (both (nat_le words 99999) (are_brackets brackets) (both (is_pathname path) (nat_le words 99999 && are_brackets brackets) e).1).0
-short_request (CreateObject path words brackets gate) e =
-    let f = both (is_pathname path) (nat_le words 99999 && (are_brackets brackets && nat_le gate 9999)) e in
-    let g = both (nat_le words 99999) (are_brackets brackets && nat_le gate 9999) f.1 in
-    both_hold _ _ g.0 (both (are_brackets brackets) (nat_le gate 9999) g.1).1
+short_request (CreateObject path words brackets object) e =
+    let gated : Bool = nat_le object.gate 9999 && is_plain object in
+    let f = both (is_pathname path) (nat_le words 99999 && (are_brackets brackets && gated)) e in
+    let g = both (nat_le words 99999) (are_brackets brackets && gated) f.1 in
+    both_hold _ _ g.0 (both (nat_le object.gate 9999) (is_plain object) (both (are_brackets brackets) gated g.1).1).0
 short_request (CreateDir path d1 d2) e = refl
 short_request (CreateLink path target) e = refl
 short_request (Rename path name) e = refl

@@ -198,7 +198,7 @@ plain_request : (request : Request) → plain_at (request_text request) ≡ None
 unfolding plain_at memory_at after
 plain_request (CreateDir path d1 d2) = refl
 plain_request (CreateSeg path words brackets) = refl
-plain_request (CreateObject path words brackets gate) = refl
+plain_request (CreateObject path words brackets object) = refl
 plain_request (CreateLink path target) = refl
 plain_request (Rename path name) = refl
 plain_request (Delete path) = refl
@@ -223,7 +223,7 @@ process_request : (request : Request) → process_at (request_text request) ≡ 
 unfolding process_at after
 process_request (CreateDir path d1 d2) = refl
 process_request (CreateSeg path words brackets) = refl
-process_request (CreateObject path words brackets gate) = refl
+process_request (CreateObject path words brackets object) = refl
 process_request (CreateLink path target) = refl
 process_request (Rename path name) = refl
 process_request (Delete path) = refl

@@ -35,7 +35,7 @@ outline version history setup principals scripts = record {
 abbrev pub is_short : Request → Bool
 is_short (CreateDir path d1 d2) = true
 is_short (CreateSeg path words brackets) = nat_le words 99999
-is_short (CreateObject path words brackets gate) = nat_le words 99999 && nat_le gate 9999
+is_short (CreateObject path words brackets object) = nat_le words 99999 && nat_le object.gate 9999
 is_short (CreateLink path target) = true
 is_short (Rename path name) = true
 is_short (Delete path) = true

@@ -45,7 +45,7 @@ fn is_short(request: &Request) -> bool
 {
     match request {
         Request::CreateSeg { words, .. } => *words <= 99_999,
-        Request::CreateObject { words, gate, .. } => *words <= 99_999 && *gate <= 9_999,
+        Request::CreateObject { words, map, .. } => *words <= 99_999 && map.gate() <= 9_999,
         Request::Terminate { segno } => *segno <= 0o7777,
         Request::Wakeup { to, .. } => 1 <= *to && *to <= 99,
         Request::CreateDir { .. }

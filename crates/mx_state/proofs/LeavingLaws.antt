@@ -21,7 +21,6 @@ use Rattle.mx_hier.specs.Rules.{first_of, onward, unless}
 use Rattle.mx_kst.specs.Initiating.{Initiated}
 use Rattle.mx_kst.specs.KnownSegments.{KnownSegments}
 use Rattle.mx_kst.specs.Terminating as kst
-use Rattle.mx_object.specs.Objects.{of_gates}
 use Rattle.mx_mail.specs.Processes as mail
 use Rattle.mx_mail.specs.Processes.{PlainProcess}
 use Rattle.mx_mail.specs.Sending.{deliver}
@@ -113,8 +112,8 @@ told_answer_still s p ring as_reply meant =
 pub refusal_leaves : RefusalLaw
 refusal_leaves s p ring (ask.CreateDir path d1 d2) = path_answer_still s p ring (λ who. create_dir s.hierarchy who path d1 d2)
 refusal_leaves s p ring (ask.CreateSeg path words brackets) = path_answer_still s p ring (λ who. create_seg s.hierarchy who path words brackets)
-refusal_leaves s p ring (ask.CreateObject path words brackets gate) =
-    path_answer_still s p ring (λ who. create_object s.hierarchy who path words brackets (of_gates gate))
+refusal_leaves s p ring (ask.CreateObject path words brackets object) =
+    path_answer_still s p ring (λ who. create_object s.hierarchy who path words brackets object)
 refusal_leaves s p ring (ask.CreateLink path target) = path_answer_still s p ring (λ who. create_link s.hierarchy who path target)
 refusal_leaves s p ring (ask.Rename path name) = path_answer_still s p ring (λ who. rename s.hierarchy who path name)
 refusal_leaves s p ring (ask.Delete path) = path_answer_still s p ring (λ who. delete s.hierarchy who path)
@@ -178,8 +177,8 @@ asking_leaves s p ring as_reply meant =
 pub path_request_leaves : PathLaw
 path_request_leaves s p ring (ask.CreateDir path d1 d2) e = change_leaves s p ring (λ who. create_dir s.hierarchy who path d1 d2)
 path_request_leaves s p ring (ask.CreateSeg path words brackets) e = change_leaves s p ring (λ who. create_seg s.hierarchy who path words brackets)
-path_request_leaves s p ring (ask.CreateObject path words brackets gate) e =
-    change_leaves s p ring (λ who. create_object s.hierarchy who path words brackets (of_gates gate))
+path_request_leaves s p ring (ask.CreateObject path words brackets object) e =
+    change_leaves s p ring (λ who. create_object s.hierarchy who path words brackets object)
 path_request_leaves s p ring (ask.CreateLink path target) e = change_leaves s p ring (λ who. create_link s.hierarchy who path target)
 path_request_leaves s p ring (ask.Rename path name) e = change_leaves s p ring (λ who. rename s.hierarchy who path name)
 path_request_leaves s p ring (ask.Delete path) e = change_leaves s p ring (λ who. delete s.hierarchy who path)

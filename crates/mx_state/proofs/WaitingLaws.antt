@@ -186,8 +186,8 @@ steps s p ring (ask.CreateDir path d1 d2) low within =
     path_steps s p ring (ask.CreateDir path d1 d2) refl (λ r now. refl)
 steps s p ring (ask.CreateSeg path words brackets) low within =
     path_steps s p ring (ask.CreateSeg path words brackets) refl (λ r now. refl)
-steps s p ring (ask.CreateObject path words brackets gate) low within =
-    path_steps s p ring (ask.CreateObject path words brackets gate) refl (λ r now. refl)
+steps s p ring (ask.CreateObject path words brackets object) low within =
+    path_steps s p ring (ask.CreateObject path words brackets object) refl (λ r now. refl)
 steps s p ring (ask.CreateLink path target) low within =
     path_steps s p ring (ask.CreateLink path target) refl (λ r now. refl)
 steps s p ring (ask.Rename path name) low within = path_steps s p ring (ask.Rename path name) refl (λ r now. refl)

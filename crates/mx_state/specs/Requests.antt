@@ -17,7 +17,6 @@ use Rattle.mx_hier.specs.SetDirectoryBrackets.{set_dir_brackets}
 use Rattle.mx_hier.specs.Status.{status}
 use Rattle.mx_hier.specs.declared.refusals.Refusal.{Refusal}
 use Rattle.mx_kst.specs.Terminating as kst
-use Rattle.mx_object.specs.Objects.{of_gates}
 use Rattle.mx_request.specs.declared.requests.Request.{Request}
 use Rattle.mx_request.specs.declared.requests.Request.TheVariants as ask
 use Rattle.mx_request.specs.declared.replies.Reply.{Reply}
@@ -43,8 +42,8 @@ plain s p ring (ask.CreateDir path d1 d2) =
     on_path s p ring (λ who. changed s (create_dir s.hierarchy who path d1 d2))
 plain s p ring (ask.CreateSeg path words brackets) =
     on_path s p ring (λ who. changed s (create_seg s.hierarchy who path words brackets))
-plain s p ring (ask.CreateObject path words brackets gate) =
-    on_path s p ring (λ who. changed s (create_object s.hierarchy who path words brackets (of_gates gate)))
+plain s p ring (ask.CreateObject path words brackets object) =
+    on_path s p ring (λ who. changed s (create_object s.hierarchy who path words brackets object))
 plain s p ring (ask.CreateLink path target) =
     on_path s p ring (λ who. changed s (create_link s.hierarchy who path target))
 plain s p ring (ask.Rename path name) =

@@ -29,13 +29,14 @@ replied (reply.Refused why) = Running
 replied (reply.Status status) = Running
 replied (reply.Names names) = Running
 replied (reply.Segno known) = Running
+replied (reply.Linked segno word fresh linkage) = Running
 
 -- what a process does after a request of its own: `block` and `resume` let it wait or run, `logout` ends it, and every
 -- other request leaves that as it was
 abbrev pub after_request : Request → Reply → ExecutionState → ExecutionState
 after_request (ask.CreateDir path d1 d2) r old = old
 after_request (ask.CreateSeg path words brackets) r old = old
-after_request (ask.CreateObject path words brackets gate) r old = old
+after_request (ask.CreateObject path words brackets object) r old = old
 after_request (ask.CreateLink path target) r old = old
 after_request (ask.Rename path name) r old = old
 after_request (ask.Delete path) r old = old

@@ -65,19 +65,18 @@ impl State {
         path: &Pathname,
         words: u32,
         brackets: &[Ring; 3],
-        gate: u16,
+        map: &ObjectMap,
     ) -> Result<Applied, AllocError>
         requires asker { p ≤ length self.old.processes }
         ensures served { IfOk result
-            (Serves self.old self.new (plain self.old p ring (ask.CreateObject path.now words brackets.now gate))) }
+            (Serves self.old self.new (plain self.old p ring (ask.CreateObject path.now words brackets.now map.now))) }
         ensures err { OnErr result (self.new ≡ self.old) }
     {
         let processes = self.processes.as_slice();
         let who = caller(&self.initializer, &self.root, processes, p, ring);
-        let object = ObjectMap::of_gates(alloc, gate);
         let given = self
             .hier
-            .create_object(alloc, &who, path, words, *brackets, &object);
+            .create_object(alloc, &who, path, words, *brackets, map);
         let reply = done(given)?;
         Ok(Applied::unchanged(alloc, reply))
     }

@@ -3,7 +3,7 @@
 ghost use Rattle.std.specs.Prelude.{◌≡◌, ◌++◌, [], ◌∷◌, map, OnOk, OnErr};
 ghost use Rattle.std.specs.Fmt.{decimal};
 ghost use Rattle.mx_sdw.specs.Octal.{octal};
-ghost use Rattle.mx_request.specs.Fields.{line_of, ring_text};
+ghost use Rattle.mx_request.specs.Fields.{line_of, ring_text, address_text};
 ghost use Rattle.mx_request.specs.Growth.{IsGrown, blank_before};
 
 use itoa::Buffer;
@@ -59,4 +59,21 @@ pub(super) fn push_message(
     push_number(out, u64::from(process))?;
     out.extend_from_slice(b" ")?;
     write_octal(out, word.value())
+}
+
+/// The label and the address `S|W`.
+pub(super) fn push_address(
+    out: &mut Vec<u8>,
+    label: &[u8],
+    segno: u16,
+    word: u16,
+) -> Result<(), AllocError>
+    ensures ok { OnOk result (out.new.items ≡ out.old.items ++ line_of (label.now ∷ address_text segno word ∷ [])) }
+    ensures err { OnErr result (IsGrown out.old.items out.new.items) }
+{
+    out.extend_from_slice(label)?;
+    out.extend_from_slice(b" ")?;
+    write_octal(out, u64::from(segno))?;
+    out.extend_from_slice(b"|")?;
+    write_octal(out, u64::from(word))
 }

@@ -5,12 +5,12 @@ ghost use Rattle.std.specs.Fmt.{decimal};
 ghost use Rattle.mx_sdw.specs.Octal.{octal};
 ghost use Rattle.mx_acl.specs.Modes.{modes_text};
 ghost use Rattle.mx_hier.specs.declared.asking.Status.TheVariants.{Segment, Object, Directory, Link};
-ghost use Rattle.mx_request.specs.declared.replies.Reply.TheVariants.{Refused, Names as Listed, Segno};
-ghost use Rattle.mx_request.specs.Fields.{line_of, ring_text};
+ghost use Rattle.mx_request.specs.declared.replies.Reply.TheVariants.{Refused, Names as Listed, Segno, Linked};
+ghost use Rattle.mx_request.specs.Fields.{line_of, ring_text, address_text};
 ghost use Rattle.mx_request.specs.Growth.{IsGrown, blank_before, labelled};
 ghost use Rattle.mx_request.specs.ReplyTexts.{fresh_text, linkage_fields, status_fields, reply_text};
 
-use super::fields::{push_field, push_message, push_number, push_ring, push_rings};
+use super::fields::{push_address, push_field, push_message, push_number, push_ring, push_rings};
 use crate::replies::Reply;
 use mx_acl::Modes;
 use mx_hier::{Names, Refusal, Status};
@@ -30,6 +30,12 @@ pub(crate) fn push_reply(out: &mut Vec<u8>, reply: &Reply) -> Result<(), AllocEr
         Reply::Status(status) => push_status(out, status),
         Reply::Names(names) => push_names(out, names),
         Reply::Segno(known) => push_known(out, known),
+        Reply::Linked {
+            segno,
+            word,
+            fresh,
+            linkage,
+        } => push_linked(out, *segno, *word, *fresh, *linkage),
         Reply::Sent => out.extend_from_slice(b"sent"),
         Reply::Message { sender, word } => push_message(out, b"message", *sender, *word),
         Reply::Nobody => out.extend_from_slice(b"nobody"),
@@ -202,6 +208,32 @@ fn push_number_known(out: &mut Vec<u8>, known: &Known) -> Result<(), AllocError>
     out.extend_from_slice(b"segno ")?;
     write_octal(out, u64::from(known.segno))?;
     out.extend_from_slice(if known.fresh { b" new" } else { b" old" })
+}
+
+fn push_linked(
+    out: &mut Vec<u8>,
+    segno: u16,
+    word: u16,
+    fresh: bool,
+    linkage: Option<u16>,
+) -> Result<(), AllocError>
+    ensures ok { OnOk result (out.new.items ≡ out.old.items ++ reply_text (Linked segno word fresh linkage)) }
+    ensures err { OnErr result (IsGrown out.old.items out.new.items) }
+{
+    push_target(out, segno, word, fresh)?;
+    match linkage {
+        Some(section) => push_linkage(out, section),
+        None => Ok(()),
+    }
+}
+
+fn push_target(out: &mut Vec<u8>, segno: u16, word: u16, fresh: bool) -> Result<(), AllocError>
+    ensures ok { OnOk result (out.new.items
+        ≡ out.old.items ++ line_of (codes "linked" ∷ address_text segno word ∷ fresh_text fresh ∷ [])) }
+    ensures err { OnErr result (IsGrown out.old.items out.new.items) }
+{
+    push_address(out, b"linked", segno, word)?;
+    out.extend_from_slice(if fresh { b" new" } else { b" old" })
 }
 
 fn push_linkage(out: &mut Vec<u8>, segno: u16) -> Result<(), AllocError>

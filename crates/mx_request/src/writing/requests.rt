@@ -10,7 +10,7 @@ ghost use Rattle.mx_request.specs.Fields.{line_of, ring_text, address_text};
 ghost use Rattle.mx_request.specs.Growth.{IsGrown, blank_before};
 ghost use Rattle.mx_request.specs.RequestTexts.{name_fields, request_text, rule_text};
 
-use super::fields::{push_field, push_message, push_number, push_ring, push_rings};
+use super::fields::{push_address, push_field, push_message, push_number, push_ring, push_rings};
 use crate::requests::Request;
 use mx_acl::Modes;
 use mx_name::{AclId, EntryName, Pathname};
@@ -34,8 +34,8 @@ pub(crate) fn push_request(out: &mut Vec<u8>, request: &Request) -> Result<(), A
             path,
             words,
             brackets,
-            gate,
-        } => push_object(out, b"create_object", path, *words, brackets, *gate),
+            map,
+        } => push_object(out, b"create_object", path, *words, brackets, map.gate()),
         Request::CreateLink { path, target } => push_link(out, b"create_link", path, target),
         Request::Rename { path, name } => push_name(out, b"rename", path, name),
         Request::Delete { path } => push_path(out, b"delete", path),
@@ -257,16 +257,4 @@ fn push_id(out: &mut Vec<u8>, word: &[u8], path: &Pathname, id: &AclId) -> Resul
     push_path(out, word, path)?;
     out.extend_from_slice(b" ")?;
     id.append_to(out)
-}
-
-/// `WORD S|W`
-fn push_address(out: &mut Vec<u8>, label: &[u8], segno: u16, word: u16) -> Result<(), AllocError>
-    ensures ok { OnOk result (out.new.items ≡ out.old.items ++ line_of (label.now ∷ address_text segno word ∷ [])) }
-    ensures err { OnErr result (IsGrown out.old.items out.new.items) }
-{
-    out.extend_from_slice(label)?;
-    out.extend_from_slice(b" ")?;
-    write_octal(out, u64::from(segno))?;
-    out.extend_from_slice(b"|")?;
-    write_octal(out, u64::from(word))
 }
