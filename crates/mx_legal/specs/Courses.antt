@@ -9,12 +9,13 @@ pub record Judged : Type 0 where
   pub element : Element
   pub desc : Descriptor
 
--- An attempt, and what it has seen so far; or the entry of a call. It is what happened, and no state of a machine.
+-- An attempt, and what it has seen so far; or the entry of a call, and the writes made since that its reply asks for. It
+-- is what happened, and no state of a machine.
 pub data Course : Type 0 where
   Attempt : (seen : List Judged) → Course
-  Answer : (entry : journaled.Entry) → Course
+  Answer : (entry : journaled.Entry) (filled : List Judged) → Course
 
 -- what the present attempt has seen: after an answer a new one begins
 abbrev pub seen_in : Course → List Judged
 seen_in (Attempt seen) = seen
-seen_in (Answer entry) = []
+seen_in (Answer entry filled) = []

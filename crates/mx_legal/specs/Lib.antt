@@ -7,6 +7,7 @@ pub mod Courses
 pub mod Operands
 pub mod Targets
 pub mod Attempts
+pub mod Filling
 pub mod Asking
 pub mod Settings
 pub mod Events

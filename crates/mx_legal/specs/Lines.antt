@@ -9,7 +9,7 @@ use Rattle.mx_legal.specs.declared.transcripts.Result2.TheVariants.{HistoryFull}
 use Rattle.mx_legal.specs.Asking.{next}
 use Rattle.mx_legal.specs.Courses.{Course, Attempt}
 use Rattle.mx_legal.specs.Events.{IsEvent}
-use Rattle.mx_legal.specs.Next.{Next, Asks, Calls, Ends, Nowhere}
+use Rattle.mx_legal.specs.Next.{Next, Asks, Fills, Calls, Ends, Nowhere}
 use Rattle.mx_legal.specs.Settings.{Setting}
 
 -- events one after another
@@ -27,6 +27,7 @@ abbrev pub IsEnd : Setting → Registers → Next → Result2 → Registers → 
 IsEnd s g (Ends result after') ends after = (ends ≡ result) × (after ≡ after')
 IsEnd s g (Calls ring request) ends after = (s.full ≡ true) × (ends ≡ HistoryFull) × (after ≡ g)
 IsEnd s g (Asks reference) ends after = ⊥
+IsEnd s g (Fills reference) ends after = ⊥
 IsEnd s g Nowhere ends after = ⊥
 
 -- a whole line: from these registers, its events, its result and the registers after it

@@ -15,10 +15,11 @@ pub record Reference : Type 0 where
   pub ring : ℕ
   pub stores : Option ℕ
 
--- What comes next in a line: a reference; a call of the supervisor, in a ring; or the line's end, with its result and
--- the registers after it. Nowhere: after what no line does, nothing comes.
+-- What comes next in a line: a reference; a write that the supervisor's reply asks for; a call of the supervisor, in a
+-- ring; or the line's end, with its result and the registers after it. Nowhere: after what no line does, nothing comes.
 pub data Next : Type 0 where
   Asks : (reference : Reference) → Next
+  Fills : (reference : Reference) → Next
   Calls : (ring : ℕ) (request : Request) → Next
   Ends : (result : Result2) (after : Registers) → Next
   Nowhere : Next

@@ -6,15 +6,16 @@ use Rattle.mx_script.specs.declared.lines.Line.{Line}
 use Rattle.mx_state.specs.declared.journal.Entry as journaled
 use Rattle.mx_core.specs.declared.elements.Element.{Element}
 use Rattle.mx_core.specs.declared.elements.Event.TheVariants.{Seen, Missing}
+use Rattle.mx_core.specs.declared.elements.Outcome.TheVariants.{Written}
 use Rattle.mx_legal.specs.declared.transcripts.Event2.{Event2}
 use Rattle.mx_legal.specs.declared.transcripts.Event2.TheVariants.{Core, Entry}
 use Rattle.mx_legal.specs.declared.transcripts.Result2.{Result2}
 use Rattle.mx_legal.specs.Asking.{next}
-use Rattle.mx_legal.specs.Courses.{Course, Attempt, Answer, seen_in}
+use Rattle.mx_legal.specs.Courses.{Course, Attempt, Answer, Judged, seen_in}
 use Rattle.mx_legal.specs.Elements.{IsJudged}
 use Rattle.mx_legal.specs.Legal.{setting_of}
 use Rattle.mx_legal.specs.Lines.{IsSoFar, IsEnd, IsLine}
-use Rattle.mx_legal.specs.Next.{Reference, Asks, Calls}
+use Rattle.mx_legal.specs.Next.{Reference, Asks, Fills, Calls}
 use Rattle.mx_legal.specs.Parts.{AreDone}
 use Rattle.mx_legal.specs.Settings.{Setting, entry_at, judged}
 use Rattle.mx_legal.specs.Transcripts.{Step, events_of}
@@ -33,6 +34,14 @@ ReferenceLaw = (s : Setting) (g : Registers) (line : Line) (events : List Event2
     → IsSoFar s g line events course → next g line course ≡ Asks asked → IsJudged asked (s.descriptor e) e
     → IsSoFar s g line (events ++ Core (Seen e) ∷ []) (Attempt (seen_in course ++ judged s e ∷ []))
 
+-- the write that is asked for was made
+abbrev pub FillLaw : Type 0
+FillLaw = (s : Setting) (g : Registers) (line : Line) (events : List Event2) (entry : journaled.Entry)
+    (filled : List Judged) (asked : Reference) (e : Element) (value : ℕ)
+    → IsSoFar s g line events (Answer entry filled) → next g line (Answer entry filled) ≡ Fills asked
+    → IsJudged asked (s.descriptor e) e → e.outcome ≡ Written value
+    → IsSoFar s g line (events ++ Core (Seen e) ∷ []) (Answer entry (filled ++ judged s e ∷ []))
+
 -- the reference that is asked for missed
 abbrev pub MissLaw : Type 0
 MissLaw = (s : Setting) (g : Registers) (line : Line) (events : List Event2) (course : Course) (asked : Reference)
@@ -46,7 +55,7 @@ CallLaw = (s : Setting) (g : Registers) (line : Line) (events : List Event2) (co
     (entry : journaled.Entry) (number : ℕ)
     → IsSoFar s g line events course → next g line course ≡ Calls entry.ring entry.request
     → entry.process ≡ s.process → entry_at s.journal number ≡ Some entry
-    → IsSoFar s g line (events ++ Entry number ∷ []) (Answer entry)
+    → IsSoFar s g line (events ++ Entry number ∷ []) (Answer entry [])
 
 -- the line at work came to its end
 abbrev pub LineLaw : Type 0

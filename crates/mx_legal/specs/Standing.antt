@@ -11,16 +11,16 @@ use Rattle.mx_call.specs.Registers.{Registers}
 use Rattle.mx_script.specs.declared.lines.Line.{Line}
 use Rattle.mx_core.specs.declared.elements.Element.{Element}
 use Rattle.mx_core.specs.declared.elements.Event.TheVariants.{Seen}
-use Rattle.mx_core.specs.declared.elements.Outcome.TheVariants.{Read}
+use Rattle.mx_core.specs.declared.elements.Outcome.TheVariants.{Read, Written}
 use Rattle.mx_legal.specs.declared.transcripts.Event2.{Event2}
 use Rattle.mx_legal.specs.declared.transcripts.Event2.TheVariants.{Core}
 use Rattle.mx_legal.specs.declared.transcripts.Result2.TheVariants.{HistoryFull}
 use Rattle.mx_legal.specs.Asking.{next}
 use Rattle.mx_legal.specs.Attempts.{attempt, along}
-use Rattle.mx_legal.specs.Courses.{Course, Attempt, Judged, seen_in}
+use Rattle.mx_legal.specs.Courses.{Course, Attempt, Answer, Judged, seen_in}
 use Rattle.mx_legal.specs.Elements.{IsJudged}
 use Rattle.mx_legal.specs.Lines.{IsSoFar, IsLine}
-use Rattle.mx_legal.specs.Next.{Reference, Asks}
+use Rattle.mx_legal.specs.Next.{Reference, Asks, Fills}
 use Rattle.mx_legal.specs.Access.{descriptor_of}
 use Rattle.mx_legal.specs.Legal.{setting_of}
 use Rattle.mx_legal.specs.Operands.{walk_of}
@@ -63,6 +63,14 @@ TraceLaw = (s : Setting) (trace : List Judged) (g : Registers) (line : Line) (ev
     (asked : Reference) (j : Judged)
     → IsKnown s trace g line events course → next g line course ≡ Asks asked → IsJudged asked j.desc j.element
     → IsKnown s (trace ++ j ∷ []) g line (events ++ Core (Seen j.element) ∷ []) (Attempt (seen_in course ++ j ∷ []))
+
+-- the write that is asked for, granted on the descriptor beside it
+abbrev pub FillTraceLaw : Type 0
+FillTraceLaw = (s : Setting) (trace : List Judged) (g : Registers) (line : Line) (events : List Event2)
+    (entry : journaled.Entry) (filled : List Judged) (asked : Reference) (j : Judged) (value : ℕ)
+    → IsKnown s trace g line events (Answer entry filled) → next g line (Answer entry filled) ≡ Fills asked
+    → IsJudged asked j.desc j.element → j.element.outcome ≡ Written value
+    → IsKnown s (trace ++ j ∷ []) g line (events ++ Core (Seen j.element) ∷ []) (Answer entry (filled ++ j ∷ []))
 
 -- a line that found the journal full found it at its limit
 abbrev pub FullLaw : Type 0

@@ -3,8 +3,8 @@
 ghost use Rattle.mx_legal.specs.Printed.{EachReferenceLaw};
 ghost use Rattle.mx_legal.specs.Rings.{LineRingsLaw, RingsLaw, LegalRingsLaw};
 ghost use Rattle.mx_legal.specs.SetupLines.{SetupLinesLaw};
-ghost use Rattle.mx_legal.specs.SoFar.{ReferenceLaw, MissLaw, CallLaw, LineLaw, ExtendsLaw, GrownLaw, OneOutcomeLaw};
-ghost use Rattle.mx_legal.specs.Standing.{WalkBegunLaw, WalkLaw, TraceLaw, PromiseLaw, FullLaw};
+ghost use Rattle.mx_legal.specs.SoFar.{ReferenceLaw, FillLaw, MissLaw, CallLaw, LineLaw, ExtendsLaw, GrownLaw, OneOutcomeLaw};
+ghost use Rattle.mx_legal.specs.Standing.{WalkBegunLaw, WalkLaw, TraceLaw, FillTraceLaw, PromiseLaw, FullLaw};
 ghost use Rattle.mx_legal.specs.CallLines.{RightTransfers, WrongTransfers, WrongRegisters};
 ghost use Rattle.mx_legal.specs.PointerLines.{RightPointers, WrongPointers};
 ghost use Rattle.mx_legal.specs.WaitingLines.{RightWaits, WrongWaits, LimitLines};
@@ -16,6 +16,7 @@ ghost use Rattle.mx_legal.specs.WrongReads.{WrongReads};
 /// A line under way goes on by an event that it asks for.
 pub fn event_law()
     ensures reference { ReferenceLaw }
+    ensures fill { FillLaw }
     ensures miss { MissLaw }
     ensures call { CallLaw }
 {}
@@ -55,10 +56,11 @@ pub fn walk_law()
     ensures word { WalkLaw }
 {}
 
-/// A process knows its line at work over its own trace: one more element; and what it promises of all its lines is
-/// what a legal run asks.
+/// A process knows its line at work over its own trace: one more element, of an attempt or of a write that a reply asks
+/// for; and what it promises of all its lines is what a legal run asks.
 pub fn trace_law()
     ensures element { TraceLaw }
+    ensures fill { FillTraceLaw }
     ensures promise { PromiseLaw }
 {}
 

@@ -1,6 +1,6 @@
 //! Transcripts: what each line of a process's script came to.
 
-ghost use Rattle.std.specs.Prelude.{◌≡◌, [], ◌∷◌, ◌++◌, IsTrue, length, OnOk, IfOk};
+ghost use Rattle.std.specs.Prelude.{◌≡◌, ◌≤◌, ◌+◌, [], ◌∷◌, ◌++◌, IsTrue, length, OnOk, IfOk};
 ghost use Rattle.std.specs.Iterator.{YieldsFirstBy, item_count};
 ghost use Rattle.mx_legal.specs.Asking.{result_of};
 ghost use Rattle.mx_legal.specs.Recorded.{IsStill};
@@ -36,7 +36,7 @@ pub enum Result2 {
 
 impl Result2 {
     /// How a line ends whose last reply is this: refused exactly where it is a refusal, and else done. A line does not end
-    /// with `waiting`.
+    /// with `waiting`, nor with `linked`.
     pub fn of(reply: &Reply) -> Result2
         ensures { result ≡ result_of reply.now }
     {
@@ -46,6 +46,7 @@ impl Result2 {
             | Reply::Status(_)
             | Reply::Names(_)
             | Reply::Segno(_)
+            | Reply::Linked { .. }
             | Reply::Sent
             | Reply::Message { .. }
             | Reply::Nobody
@@ -174,25 +175,26 @@ impl Recording {
         self.lines.len()
     }
 
-    /// Makes room for one more event and for the end of one more line. Want of memory changes nothing that was recorded;
-    /// nor does room.
-    pub fn reserve(&mut self) -> Result<(), AllocError>
-        ensures event { OnOk result (IsTrue self.new.event_room) }
+    /// Makes room for so many more events and for the end of one more line. Want of memory changes nothing that was
+    /// recorded; nor does room.
+    pub fn reserve(&mut self, events: usize) -> Result<(), AllocError>
+        ensures event { OnOk result (events ≤ self.new.event_room) }
         ensures line { OnOk result (IsTrue self.new.line_room) }
         ensures same { IsStill self.old self.new }
     {
-        if self.events.len() >= u32::MAX as usize {
+        if events > u32::MAX as usize - self.events.len() {
             return Err(AllocError);
         }
-        self.events.reserve(1)?;
+        self.events.reserve(events)?;
         self.lines.reserve(1)
     }
 
-    /// One more event of the line at work.
+    /// One more event of the line at work, which takes the room of one.
     pub fn push(&mut self, event: Event2)
-        requires { IsTrue self.old.event_room }
+        requires { 1 ≤ self.old.event_room }
         ensures steps { self.new.steps ≡ self.old.steps }
         ensures events { self.new.events ≡ self.old.events ++ event ∷ [] }
+        ensures more { self.old.event_room ≤ self.new.event_room + 1 }
         ensures room { self.new.line_room ≡ self.old.line_room }
     {
         let Ok(()) = self.events.extend_from_slice(&[event]) else {
