@@ -1,11 +1,7 @@
--- The line of a request on a path has one entry, or found the journal full.
-use Rattle.std.proofs.Common.{◌≡◌, ◌⊎◌, inl, inr, ℕ, List, [], ◌∷◌, Some, refl, sym, subst}
+-- The line of a request whose reply ends it has one entry, or found the journal full.
+use Rattle.std.proofs.Common.{◌≡◌, ◌⊎◌, inl, inr, ℕ, List, [], ◌∷◌, Some, refl, subst}
 use Rattle.mx_call.specs.Registers.{Registers}
 use Rattle.mx_core.specs.declared.elements.Event.TheVariants.{Seen, Missing}
-use Rattle.mx_request.specs.Classes.{class_of}
-use Rattle.mx_request.specs.declared.classes.RequestClass.TheVariants.{OfPath}
-use Rattle.mx_request.specs.declared.replies.Reply.{Reply}
-use Rattle.mx_request.specs.declared.replies.Reply.TheVariants as reply
 use Rattle.mx_request.specs.declared.requests.Request.{Request}
 use Rattle.mx_state.specs.declared.journal.Entry as journaled
 use Rattle.mx_script.specs.declared.lines.Line.TheVariants.{Ask}
@@ -13,13 +9,13 @@ use Rattle.mx_legal.specs.declared.transcripts.Event2.{Event2}
 use Rattle.mx_legal.specs.declared.transcripts.Event2.TheVariants.{Core, Entry}
 use Rattle.mx_legal.specs.declared.transcripts.Result2.{Result2}
 use Rattle.mx_legal.specs.declared.transcripts.Result2.TheVariants as result
-use Rattle.mx_legal.specs.Asking.{next, replied}
-use Rattle.mx_legal.proofs.AwaitLaws.{waits_for_none}
+use Rattle.mx_legal.specs.Asking.{next}
 use Rattle.mx_legal.specs.Courses.{Course, Attempt, Answer}
 use Rattle.mx_legal.specs.Events.{IsEvent}
 use Rattle.mx_legal.specs.Lines.{IsEnd, IsLine}
-use Rattle.mx_legal.specs.Next.{Next, Asks, Calls, Ends, Nowhere}
+use Rattle.mx_legal.specs.Next.{Next, Ends}
 use Rattle.mx_legal.specs.Settings.{Setting, entry_at}
+use Rattle.mx_legal.proofs.FinalReplies.{IsFinal, final_ends}
 
 pub record HasEntry (events : List Event2) : Type 0 where
   pub number : ℕ
@@ -29,48 +25,36 @@ pub record IsFullLine (events : List Event2) (ends : Result2) : Type 0 where
   pub event : events ≡ []
   pub ended : ends ≡ result.HistoryFull
 
--- what asks for its end, or for nothing
-abbrev AsksNothing : Next → Type 0
-AsksNothing (Ends ends after) = Unit {0}
-AsksNothing Nowhere = Unit {0}
-AsksNothing (Asks reference) = ⊥
-AsksNothing (Calls ring request) = ⊥
+-- after its end a line has no event
+no_event : (s : Setting) (asks : Next) (before : Course) (event : Event2) (after : Course) (ends : Result2)
+    (left : Registers) → asks ≡ Ends ends left → IsEvent s asks before event after → ⊥
+no_event s asks before (Core (Seen e)) after ends left ended is = elim is [
+  | inl made ↦ let n = made.next in cc
+  | inr made ↦ let n = made.next in cc
+]
+no_event s asks before (Core (Missing segno by)) after ends left ended is = let n = is.next in cc
+no_event s asks before (Entry number) after ends left ended is = let n = is.next in cc
 
-nothing_more : (g : Registers) (request : Request) (given : Reply) → class_of request ≡ OfPath
-    → AsksNothing (replied g request given)
-nothing_more g request reply.Waiting c = subst AsksNothing (sym (waits_for_none g request c)) tt
-nothing_more g request (reply.Refused why) c = tt
-nothing_more g request reply.Done c = tt
-nothing_more g request (reply.Status status) c = tt
-nothing_more g request (reply.Names names) c = tt
-nothing_more g request (reply.Segno known) c = tt
-nothing_more g request reply.Sent c = tt
-nothing_more g request (reply.Message sender word) c = tt
-nothing_more g request reply.Nobody c = tt
-
-no_event : (s : Setting) (asks : Next) (before : Course) (event : Event2) (after : Course) → AsksNothing asks
-    → IsEvent s asks before event after → ⊥
-no_event s asks before (Core (Seen e)) after none is = subst AsksNothing is.next none
-no_event s asks before (Core (Missing segno by)) after none is = subst AsksNothing is.next none
-no_event s asks before (Entry number) after none is = subst AsksNothing is.next none
-
--- the entries of the process are requests on paths
-abbrev pub AsksOnPaths : Setting → Type 0
-AsksOnPaths s = (number : ℕ) (entry : journaled.Entry) → entry_at s.journal number ≡ Some entry → entry.process ≡ s.process
-    → class_of entry.request ≡ OfPath
+-- the replies to the process end its lines
+abbrev pub AreFinal : Setting → Type 0
+AreFinal s = (number : ℕ) (entry : journaled.Entry) → entry_at s.journal number ≡ Some entry → entry.process ≡ s.process
+    → IsFinal entry.reply
 
 pub ask_line : (s : Setting) (g : Registers) (request : Request) (events : List Event2) (ends : Result2)
-    (after : Registers) → AsksOnPaths s
+    (after : Registers) → AreFinal s
     → IsLine s g (Ask request) events ends after → HasEntry events ⊎ IsFullLine events ends
-ask_line s g request [] ends after paths is =
+ask_line s g request [] ends after final is =
     let end : IsEnd s g (next g (Ask request) (Attempt [])) ends after =
     subst (λ (c : Course). IsEnd s g (next g (Ask request) c) ends after) is.so_far is.end in
     inr (record { event = refl; ended = end.1 })
-ask_line s g request (Core (Seen e) ∷ events) ends after paths is = let n = is.so_far.1.next in absurd cc
-ask_line s g request (Core (Missing segno by) ∷ events) ends after paths is = let n = is.so_far.1.next in absurd cc
-ask_line s g request (Entry number ∷ []) ends after paths is = inl (record { number = number; event = refl })
-ask_line s g request (Entry number ∷ event ∷ events) ends after paths is =
+ask_line s g request (Core (Seen e) ∷ events) ends after final is = elim is.so_far.1 [
+  | inl made ↦ let n = made.next in absurd cc
+  | inr made ↦ let n = made.next in absurd cc
+]
+ask_line s g request (Core (Missing segno by) ∷ events) ends after final is = let n = is.so_far.1.next in absurd cc
+ask_line s g request (Entry number ∷ []) ends after final is = inl (record { number = number; event = refl })
+ask_line s g request (Entry number ∷ event ∷ events) ends after final is =
     let call = is.so_far.1 in
-    let none = nothing_more g call.entry.request call.entry.reply (paths number call.entry call.there call.maker) in
-    absurd (no_event s (replied g call.entry.request call.entry.reply) (Answer call.entry) event is.so_far.2.0 none
+    absurd (no_event s (next g (Ask request) (Answer call.entry [])) (Answer call.entry []) event is.so_far.2.0 _ _
+    (final_ends g request call.entry (final number call.entry call.there call.maker))
     (subst (λ (c : Course). IsEvent s (next g (Ask request) c) c event is.so_far.2.0) call.leads is.so_far.2.1))

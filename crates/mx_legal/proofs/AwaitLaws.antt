@@ -15,7 +15,7 @@ awaits_is : (g : Registers) (request : Request) → (awaits g request ≡ Nowher
 awaits_is g ask.Block = inr refl
 awaits_is g (ask.CreateDir path d1 d2) = inl refl
 awaits_is g (ask.CreateSeg path words brackets) = inl refl
-awaits_is g (ask.CreateObject path words brackets gate) = inl refl
+awaits_is g (ask.CreateObject path words brackets map) = inl refl
 awaits_is g (ask.CreateLink path target) = inl refl
 awaits_is g (ask.Rename path name) = inl refl
 awaits_is g (ask.Delete path) = inl refl
@@ -67,6 +67,7 @@ replied_asks g request reply.Done r e = cc
 replied_asks g request (reply.Status status) r e = cc
 replied_asks g request (reply.Names names) r e = cc
 replied_asks g request (reply.Segno known) r e = cc
+replied_asks g request (reply.Linked segno word fresh linkage) r e = cc
 replied_asks g request reply.Sent r e = cc
 replied_asks g request (reply.Message sender word) r e = cc
 replied_asks g request reply.Nobody r e = cc
@@ -81,15 +82,21 @@ waits_for_none g request path = elim (awaits_is g request) [
     apart : OfProcess ≡ OfPath → ⊥
     apart h = cc
 
--- whoever is not told to wait ends the line with the reply
+-- a link was snapped
+abbrev pub IsLinked : Reply → Type 0
+IsLinked (reply.Linked segno word fresh linkage) = Unit {0}
+IsLinked _ = ⊥
+
+-- whoever is neither told to wait nor that a link was snapped ends the line with the reply
 pub replied_so : (g : Registers) (request : Request) (given : Reply) → (given ≡ reply.Waiting → ⊥)
-    → replied g request given ≡ Ends (result_of given) g
-replied_so g request reply.Waiting never = absurd (never refl)
-replied_so g request (reply.Refused why) never = refl
-replied_so g request reply.Done never = refl
-replied_so g request (reply.Status status) never = refl
-replied_so g request (reply.Names names) never = refl
-replied_so g request (reply.Segno known) never = refl
-replied_so g request reply.Sent never = refl
-replied_so g request (reply.Message sender word) never = refl
-replied_so g request reply.Nobody never = refl
+    → (IsLinked given → ⊥) → replied g request given ≡ Ends (result_of given) g
+replied_so g request reply.Waiting never unlinked = absurd (never refl)
+replied_so g request (reply.Linked segno word fresh linkage) never unlinked = absurd (unlinked tt)
+replied_so g request (reply.Refused why) never unlinked = refl
+replied_so g request reply.Done never unlinked = refl
+replied_so g request (reply.Status status) never unlinked = refl
+replied_so g request (reply.Names names) never unlinked = refl
+replied_so g request (reply.Segno known) never unlinked = refl
+replied_so g request reply.Sent never unlinked = refl
+replied_so g request (reply.Message sender word) never unlinked = refl
+replied_so g request reply.Nobody never unlinked = refl

@@ -21,16 +21,18 @@ use Rattle.mx_core.specs.declared.elements.Outcome.TheVariants as outcome
 use Rattle.mx_request.specs.declared.replies.Reply.{Reply}
 use Rattle.mx_request.specs.declared.replies.Reply.TheVariants as reply
 use Rattle.mx_request.specs.declared.requests.Request.{Request}
+use Rattle.mx_state.specs.declared.journal.Entry as journaled
 use Rattle.mx_script.specs.declared.lines.Line.{Line}
 use Rattle.mx_script.specs.declared.lines.Line.TheVariants.{Ask, Set, Epp, Lda, Sta, Spri, Fetch, Call, Return}
 use Rattle.mx_legal.specs.declared.transcripts.Result2.{Result2}
 use Rattle.mx_legal.specs.declared.transcripts.Result2.TheVariants as result
 use Rattle.mx_legal.proofs.AwaitLaws.{awaits_no_end}
-use Rattle.mx_legal.specs.Asking.{next, awaits, replied, attempts, linked, answered, result_of}
+use Rattle.mx_legal.specs.Asking.{next, awaits, replied, attempts, linked, answered, first_due, result_of}
 use Rattle.mx_legal.specs.Attempts.{wants, taken, after_word, after_seen, along, attempting}
 use Rattle.mx_legal.specs.Courses.{Course, Attempt, Answer, Judged}
 use Rattle.mx_legal.specs.Falls.{printed_ring}
-use Rattle.mx_legal.specs.Next.{Next, Ends, Nowhere}
+use Rattle.mx_legal.specs.Filling.{due}
+use Rattle.mx_legal.specs.Next.{Next, Reference, Ends, Nowhere}
 use Rattle.mx_legal.specs.Operands.{walk_of, walk_from, base_of}
 use Rattle.mx_legal.specs.Targets.{at_target, after_target, spri_at}
 
@@ -177,53 +179,6 @@ attempt_never : (g : Registers) (line : Line) (seen : List Judged) (walk : Optio
 attempt_never g line seen None now is e = cc
 attempt_never g line seen (Some walk) now is e = along_never g line walk seen now (walk_current g line walk is) e
 
-reply_ends : (g : Registers) (given : Reply) → IsEnded g (result_of given) g
-reply_ends g (reply.Refused why) = refused_ends g
-reply_ends g reply.Done = done_ends g
-reply_ends g (reply.Status status) = done_ends g
-reply_ends g (reply.Names names) = done_ends g
-reply_ends g (reply.Segno known) = done_ends g
-reply_ends g reply.Sent = done_ends g
-reply_ends g (reply.Message sender word) = done_ends g
-reply_ends g reply.Nobody = done_ends g
-reply_ends g reply.Waiting = done_ends g
-
-replied_ends : (g : Registers) (request : Request) (given : Reply) (ends : Result2) (now : Registers)
-    → replied g request given ≡ Ends ends now → IsEnded g ends now
-replied_ends g request reply.Waiting ends now e = absurd (awaits_no_end g request ends now e)
-replied_ends g request (reply.Refused why) ends now e = same_end g g now _ ends (reply_ends g (reply.Refused why)) e
-replied_ends g request reply.Done ends now e = same_end g g now _ ends (reply_ends g reply.Done) e
-replied_ends g request (reply.Status status) ends now e = same_end g g now _ ends (reply_ends g (reply.Status status)) e
-replied_ends g request (reply.Names names) ends now e = same_end g g now _ ends (reply_ends g (reply.Names names)) e
-replied_ends g request (reply.Segno known) ends now e = same_end g g now _ ends (reply_ends g (reply.Segno known)) e
-replied_ends g request reply.Sent ends now e = same_end g g now _ ends (reply_ends g reply.Sent) e
-replied_ends g request (reply.Message sender word) ends now e = same_end g g now _ ends (reply_ends g (reply.Message sender word)) e
-replied_ends g request reply.Nobody ends now e = same_end g g now _ ends (reply_ends g reply.Nobody) e
-
-link_ends : (g : Registers) (given : Reply) (ends : Result2) (now : Registers) → linked g given ≡ Ends ends now
-    → IsEnded g ends now
-link_ends g (reply.Refused why) ends now e = same_end g g now result.Refused ends (refused_ends g) e
-link_ends g reply.Done ends now e = absurd cc
-link_ends g (reply.Status status) ends now e = absurd cc
-link_ends g (reply.Names names) ends now e = absurd cc
-link_ends g (reply.Segno known) ends now e = absurd cc
-link_ends g reply.Sent ends now e = absurd cc
-link_ends g (reply.Message sender word) ends now e = absurd cc
-link_ends g reply.Nobody ends now e = absurd cc
-link_ends g reply.Waiting ends now e = absurd cc
-
-pub answer_ends : (g : Registers) (line : Line) (request : Request) (given : Reply) (ends : Result2) (now : Registers)
-    → answered g line request given ≡ Ends ends now → IsEnded g ends now
-answer_ends g (Ask asked) request given ends now e = replied_ends g request given ends now e
-answer_ends g (Set word) request given ends now e = absurd cc
-answer_ends g (Epp n o) request given ends now e = link_ends g given ends now e
-answer_ends g (Lda o) request given ends now e = link_ends g given ends now e
-answer_ends g (Sta o) request given ends now e = link_ends g given ends now e
-answer_ends g (Spri n o) request given ends now e = link_ends g given ends now e
-answer_ends g Fetch request given ends now e = link_ends g given ends now e
-answer_ends g (Call o) request given ends now e = link_ends g given ends now e
-answer_ends g (Return o) request given ends now e = link_ends g given ends now e
-
 set_ends : (g : Registers) (word : ℕ) (ends : Result2) (now : Registers)
     → Ends result.Done (record g { a = word }) ≡ Ends ends now → IsEnded g ends now
 set_ends g word ends now e =
@@ -249,6 +204,67 @@ first_ends g Fetch ends now e = none_ends g Fetch (walk_of g Fetch) ends now ref
 first_ends g (Call o) ends now e = none_ends g (Call o) (walk_of g (Call o)) ends now refl e
 first_ends g (Return o) ends now e = none_ends g (Return o) (walk_of g (Return o)) ends now refl e
 
+reply_ends : (g : Registers) (given : Reply) → IsEnded g (result_of given) g
+reply_ends g (reply.Refused why) = refused_ends g
+reply_ends g reply.Done = done_ends g
+reply_ends g (reply.Status status) = done_ends g
+reply_ends g (reply.Names names) = done_ends g
+reply_ends g (reply.Segno known) = done_ends g
+reply_ends g (reply.Linked segno word fresh linkage) = done_ends g
+reply_ends g reply.Sent = done_ends g
+reply_ends g (reply.Message sender word) = done_ends g
+reply_ends g reply.Nobody = done_ends g
+reply_ends g reply.Waiting = done_ends g
+
+replied_ends : (g : Registers) (request : Request) (given : Reply) (ends : Result2) (now : Registers)
+    → replied g request given ≡ Ends ends now → IsEnded g ends now
+replied_ends g request reply.Waiting ends now e = absurd (awaits_no_end g request ends now e)
+replied_ends g request (reply.Linked segno word fresh linkage) ends now e = absurd cc
+replied_ends g request (reply.Refused why) ends now e = same_end g g now _ ends (reply_ends g (reply.Refused why)) e
+replied_ends g request reply.Done ends now e = same_end g g now _ ends (reply_ends g reply.Done) e
+replied_ends g request (reply.Status status) ends now e = same_end g g now _ ends (reply_ends g (reply.Status status)) e
+replied_ends g request (reply.Names names) ends now e = same_end g g now _ ends (reply_ends g (reply.Names names)) e
+replied_ends g request (reply.Segno known) ends now e = same_end g g now _ ends (reply_ends g (reply.Segno known)) e
+replied_ends g request reply.Sent ends now e = same_end g g now _ ends (reply_ends g reply.Sent) e
+replied_ends g request (reply.Message sender word) ends now e = same_end g g now _ ends (reply_ends g (reply.Message sender word)) e
+replied_ends g request reply.Nobody ends now e = same_end g g now _ ends (reply_ends g reply.Nobody) e
+
+link_ends : (g : Registers) (line : Line) (given : Reply) (ends : Result2) (now : Registers)
+    → linked g line given ≡ Ends ends now → IsEnded g ends now
+link_ends g line (reply.Refused why) ends now e = same_end g g now result.Refused ends (refused_ends g) e
+link_ends g line (reply.Linked segno word fresh linkage) ends now e = first_ends g line ends now e
+link_ends g line reply.Done ends now e = absurd cc
+link_ends g line (reply.Status status) ends now e = absurd cc
+link_ends g line (reply.Names names) ends now e = absurd cc
+link_ends g line (reply.Segno known) ends now e = absurd cc
+link_ends g line reply.Sent ends now e = absurd cc
+link_ends g line (reply.Message sender word) ends now e = absurd cc
+link_ends g line reply.Nobody ends now e = absurd cc
+link_ends g line reply.Waiting ends now e = absurd cc
+
+answer_ends : (g : Registers) (line : Line) (request : Request) (given : Reply) (ends : Result2) (now : Registers)
+    → answered g line request given ≡ Ends ends now → IsEnded g ends now
+answer_ends g (Ask asked) request given ends now e = replied_ends g request given ends now e
+answer_ends g (Set word) request given ends now e = absurd cc
+answer_ends g (Epp n o) request given ends now e = link_ends g (Epp n o) given ends now e
+answer_ends g (Lda o) request given ends now e = link_ends g (Lda o) given ends now e
+answer_ends g (Sta o) request given ends now e = link_ends g (Sta o) given ends now e
+answer_ends g (Spri n o) request given ends now e = link_ends g (Spri n o) given ends now e
+answer_ends g Fetch request given ends now e = link_ends g Fetch given ends now e
+answer_ends g (Call o) request given ends now e = link_ends g (Call o) given ends now e
+answer_ends g (Return o) request given ends now e = link_ends g (Return o) given ends now e
+
+due_ends : (g : Registers) (line : Line) (request : Request) (given : Reply) (write : Option Reference) (ends : Result2)
+    (now : Registers) → first_due write (answered g line request given) ≡ Ends ends now → IsEnded g ends now
+due_ends g line request given None ends now e = answer_ends g line request given ends now e
+due_ends g line request given (Some reference) ends now e = absurd cc
+
+-- after a call, and the writes since
+pub since_ends : (g : Registers) (line : Line) (entry : journaled.Entry) (filled : List Judged) (ends : Result2)
+    (now : Registers) → next g line (Answer entry filled) ≡ Ends ends now → IsEnded g ends now
+since_ends g line entry filled ends now e =
+    due_ends g line entry.request entry.reply (due entry filled) ends now e
+
 -- no line asks for an end with `history_full`
 attempts_never : (g : Registers) (line : Line) (seen : List Judged) (now : Registers)
     → attempts g line seen ≡ Ends result.HistoryFull now → ⊥
@@ -264,5 +280,5 @@ attempts_never g (Return o) seen now e = attempt_never g (Return o) seen (walk_o
 
 pub next_never : (g : Registers) (line : Line) (course : Course) (now : Registers)
     → next g line course ≡ Ends result.HistoryFull now → ⊥
-next_never g line (Answer entry) now e = (answer_ends g line entry.request entry.reply result.HistoryFull now e).asked refl
+next_never g line (Answer entry filled) now e = (since_ends g line entry filled result.HistoryFull now e).asked refl
 next_never g line (Attempt seen) now e = attempts_never g line seen now e

@@ -1,5 +1,5 @@
 -- What is right in one setting is right in another that knows all that it does.
-use Rattle.std.proofs.Common.{◌≡◌, ℕ, zero, suc, List, [], ◌∷◌, ◌++◌, refl, sym, ap, subst, ◌∙◌, true, Some}
+use Rattle.std.proofs.Common.{◌≡◌, inl, inr, ℕ, zero, suc, List, [], ◌∷◌, ◌++◌, refl, sym, ap, subst, ◌∙◌, true, Some}
 use Rattle.std.specs.List.{slice_get}
 use Rattle.mx_sdw.specs.Descriptors.{Descriptor}
 use Rattle.mx_call.specs.Registers.{Registers}
@@ -10,11 +10,11 @@ use Rattle.mx_legal.specs.declared.transcripts.Event2.{Event2}
 use Rattle.mx_legal.specs.declared.transcripts.Event2.TheVariants.{Core, Entry}
 use Rattle.mx_legal.specs.declared.transcripts.Result2.{Result2}
 use Rattle.mx_legal.specs.Asking.{next}
-use Rattle.mx_legal.specs.Courses.{Course, Attempt, seen_in}
+use Rattle.mx_legal.specs.Courses.{Course, Attempt, Answer, seen_in}
 use Rattle.mx_legal.specs.Elements.{IsJudged}
-use Rattle.mx_legal.specs.Events.{IsReference, IsEvent}
+use Rattle.mx_legal.specs.Events.{IsReference, IsFill, IsEvent}
 use Rattle.mx_legal.specs.Lines.{Goes, IsEnd, IsLine}
-use Rattle.mx_legal.specs.Next.{Next, Asks, Calls, Ends, Nowhere}
+use Rattle.mx_legal.specs.Next.{Next, Asks, Fills, Calls, Ends, Nowhere}
 use Rattle.mx_legal.specs.Parts.{AreDone}
 use Rattle.mx_legal.specs.Settings.{Setting}
 use Rattle.mx_legal.specs.SoFar.{Extends, ExtendsLaw}
@@ -56,11 +56,28 @@ reference_kept old new asks before e after same is = record {
       (sym same);
 }
 
+fill_kept : (old new : Setting) (asks : Next) (before : Course) (e : Element) (after : Course)
+    → new.descriptor e ≡ old.descriptor e → IsFill old asks before e after → IsFill new asks before e after
+fill_kept old new asks before e after same is = record {
+  asked = is.asked;
+  next = is.next;
+  right = subst (λ (d : Descriptor). IsJudged is.asked d e) (sym same) is.right;
+  value = is.value;
+  granted = is.granted;
+  entry = is.entry;
+  filled = is.filled;
+  since = is.since;
+  leads = is.leads
+      ∙ ap (λ (d : Descriptor). Answer is.entry (is.filled ++ record { element = e; desc = d } ∷ [])) (sym same);
+}
+
 event_kept : (old new : Setting) (asks : Next) (before : Course) (event : Event2) (events : List Event2)
     (after : Course)
     → Extends old new (event ∷ events) → IsEvent old asks before event after → IsEvent new asks before event after
-event_kept old new asks before (Core (Seen e)) events after x is =
-    reference_kept old new asks before e after (x.descriptors 0 e refl) is
+event_kept old new asks before (Core (Seen e)) events after x is = elim is [
+  | inl made ↦ inl (reference_kept old new asks before e after (x.descriptors 0 e refl) made)
+  | inr made ↦ inr (fill_kept old new asks before e after (x.descriptors 0 e refl) made)
+]
 event_kept old new asks before (Core (Missing segno by)) events after x is = is
 event_kept old new asks before (Entry number) events after x is = record {
   entry = is.entry;
@@ -83,6 +100,7 @@ end_kept : (old new : Setting) (g : Registers) (asks : Next) (ends : Result2) (a
     → (old.full ≡ true → new.full ≡ true)
     → IsEnd old g asks ends after → IsEnd new g asks ends after
 end_kept old new g (Asks reference) ends after full is = is
+end_kept old new g (Fills reference) ends after full is = is
 end_kept old new g (Calls ring request) ends after full is = (full is.0, is.1, is.2)
 end_kept old new g (Ends result after') ends after full is = is
 end_kept old new g Nowhere ends after full is = is

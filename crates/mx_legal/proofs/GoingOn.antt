@@ -1,15 +1,15 @@
 -- A line under way goes on by one event, and a part by one line.
-use Rattle.std.proofs.Common.{◌≡◌, ℕ, List, [], ◌∷◌, ◌++◌, refl, subst}
+use Rattle.std.proofs.Common.{◌≡◌, inl, inr, ℕ, List, [], ◌∷◌, ◌++◌, refl, subst}
 use Rattle.mx_call.specs.Registers.{Registers}
 use Rattle.mx_script.specs.declared.lines.Line.{Line}
 use Rattle.mx_legal.specs.declared.transcripts.Event2.{Event2}
 use Rattle.mx_legal.specs.Asking.{next}
-use Rattle.mx_legal.specs.Courses.{Course, Attempt}
+use Rattle.mx_legal.specs.Courses.{Course, Attempt, Answer}
 use Rattle.mx_legal.specs.Events.{IsEvent}
 use Rattle.mx_legal.specs.Lines.{Goes, IsLine}
 use Rattle.mx_legal.specs.Parts.{AreDone}
 use Rattle.mx_legal.specs.Settings.{Setting}
-use Rattle.mx_legal.specs.SoFar.{ReferenceLaw, MissLaw, CallLaw, LineLaw}
+use Rattle.mx_legal.specs.SoFar.{ReferenceLaw, FillLaw, MissLaw, CallLaw, LineLaw}
 use Rattle.mx_legal.specs.Transcripts.{Step}
 
 -- one more event, whichever it is
@@ -24,12 +24,26 @@ goes_on s g line first (other ∷ events) before event after so_far is =
 
 pub reference_law : ReferenceLaw
 reference_law s g line events course asked e so_far asks right =
-    goes_on s g line (Attempt []) events course _ _ so_far (record {
+    goes_on s g line (Attempt []) events course _ _ so_far (inl (record {
       asked = asked;
       next = asks;
       right = right;
       leads = refl;
-    })
+    }))
+
+pub fill_law : FillLaw
+fill_law s g line events entry filled asked e value so_far asks right granted =
+    goes_on s g line (Attempt []) events (Answer entry filled) _ _ so_far (inr (record {
+      asked = asked;
+      next = asks;
+      right = right;
+      value = value;
+      granted = granted;
+      entry = entry;
+      filled = filled;
+      since = refl;
+      leads = refl;
+    }))
 
 pub miss_law : MissLaw
 miss_law s g line events course asked segno by so_far asks =

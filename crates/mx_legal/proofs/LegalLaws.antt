@@ -34,7 +34,10 @@ goes_asked : (s : Setting) (g : Registers) (line : Line) (before : Course) (even
 goes_asked s g line before [] after place e goes at = absurd cc
 goes_asked s g line before (Core (Seen o) ∷ events) after zero e goes at =
     let same : o ≡ e = cc in
-    subst (λ (a : Element). IsAsked s a) same (record { asked = goes.1.asked; right = goes.1.right })
+    subst (λ (a : Element). IsAsked s a) same (elim goes.1 [
+      | inl made ↦ record { asked = made.asked; right = made.right }
+      | inr made ↦ record { asked = made.asked; right = made.right }
+    ])
 goes_asked s g line before (Core (Missing segno by) ∷ events) after zero e goes at = absurd cc
 goes_asked s g line before (Entry number ∷ events) after zero e goes at = absurd cc
 goes_asked s g line before (event ∷ events) after

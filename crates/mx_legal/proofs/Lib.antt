@@ -2,6 +2,7 @@ pub mod GoingOn
 pub mod Extending
 pub mod Outcomes
 pub mod AwaitLaws
+pub mod FinalReplies
 pub mod Ends
 pub mod Moving
 pub mod LastReference

@@ -1,5 +1,5 @@
 -- A line's events and result leave one course and one outcome.
-use Rattle.std.proofs.Common.{◌≡◌, List, [], ◌∷◌, sym, subst, ◌∙◌}
+use Rattle.std.proofs.Common.{◌≡◌, inl, inr, List, [], ◌∷◌, sym, subst, ◌∙◌}
 use Rattle.mx_call.specs.Registers.{Registers}
 use Rattle.mx_script.specs.declared.lines.Line.{Line}
 use Rattle.mx_core.specs.declared.elements.Event.TheVariants.{Seen, Missing}
@@ -10,13 +10,22 @@ use Rattle.mx_legal.specs.Asking.{next}
 use Rattle.mx_legal.specs.Courses.{Course, Attempt}
 use Rattle.mx_legal.specs.Events.{IsEvent}
 use Rattle.mx_legal.specs.Lines.{Goes, IsEnd}
-use Rattle.mx_legal.specs.Next.{Next, Asks, Calls, Ends, Nowhere}
+use Rattle.mx_legal.specs.Next.{Next, Asks, Fills, Calls, Ends, Nowhere}
 use Rattle.mx_legal.specs.Settings.{Setting}
 use Rattle.mx_legal.specs.SoFar.{OneOutcomeLaw}
 
 one_course : (s : Setting) (asks : Next) (before : Course) (event : Event2) (after after' : Course)
     → IsEvent s asks before event after → IsEvent s asks before event after' → after ≡ after'
-one_course s asks before (Core (Seen e)) after after' is is' = is.leads ∙ sym is'.leads
+one_course s asks before (Core (Seen e)) after after' is is' = elim is [
+  | inl a ↦ elim is' [
+    | inl b ↦ a.leads ∙ sym b.leads
+    | inr b ↦ let n = a.next in let m = b.next in absurd cc
+  ]
+  | inr a ↦ elim is' [
+    | inl b ↦ let n = a.next in let m = b.next in absurd cc
+    | inr b ↦ let n = a.since in let m = b.since in let p = a.leads in let q = b.leads in cc
+  ]
+]
 one_course s asks before (Core (Missing segno by)) after after' is is' = is.leads ∙ sym is'.leads
 one_course s asks before (Entry number) after after' is is' =
     let n = is.there in let m = is'.there in let p = is.leads in let q = is'.leads in cc
@@ -33,6 +42,7 @@ one_way s g line before (event ∷ events) after after' goes goes' =
 one_end : (s : Setting) (g : Registers) (asks : Next) (ends : Result2) (after after' : Registers)
     → IsEnd s g asks ends after → IsEnd s g asks ends after' → after ≡ after'
 one_end s g (Asks reference) ends after after' is is' = absurd is
+one_end s g (Fills reference) ends after after' is is' = absurd is
 one_end s g (Calls ring request) ends after after' is is' = is.2 ∙ sym is'.2
 one_end s g (Ends result left) ends after after' is is' = is.1 ∙ sym is'.1
 one_end s g Nowhere ends after after' is is' = absurd is

@@ -1,5 +1,5 @@
 -- Lines keep registers sound, and rings fall only through gates.
-use Rattle.std.proofs.Common.{◌≡◌, ◌⊎◌, inl, inr, ℕ, ◌<◌, List, [], ◌∷◌, ◌++◌, refl, ap, sym, ◌∙◌, subst, true, arith}
+use Rattle.std.proofs.Common.{◌≡◌, ◌⊎◌, inl, inr, ℕ, ◌<◌, List, [], ◌∷◌, ◌++◌, refl, ap, sym, ◌∙◌, subst, true, Option, Some, None, arith}
 use Rattle.mx_call.specs.Registers.{Registers, IsSound}
 use Rattle.mx_core.specs.declared.elements.Element.{Element}
 use Rattle.mx_core.specs.declared.elements.Event.TheVariants.{Seen, Missing}
@@ -12,41 +12,57 @@ use Rattle.mx_legal.specs.declared.transcripts.Event2.{Event2}
 use Rattle.mx_legal.specs.declared.transcripts.Event2.TheVariants.{Core, Entry}
 use Rattle.mx_legal.specs.declared.transcripts.Result2.{Result2}
 use Rattle.mx_legal.specs.declared.transcripts.Result2.TheVariants as result
-use Rattle.mx_legal.specs.Asking.{next, attempts, linked, answered}
+use Rattle.mx_legal.specs.Asking.{next, attempts, linked, answered, first_due}
 use Rattle.mx_legal.specs.Courses.{Course, Attempt, Answer, seen_in}
 use Rattle.mx_legal.specs.Events.{IsEvent}
 use Rattle.mx_legal.specs.Falls.{IsGateCall, AreGated, printed_ring}
 use Rattle.mx_legal.specs.Lines.{Goes, IsEnd}
-use Rattle.mx_legal.specs.Next.{Next, Reference, Asks, Calls, Ends, Nowhere}
+use Rattle.mx_legal.specs.Filling.{due}
+use Rattle.mx_legal.specs.Next.{Next, Reference, Asks, Fills, Calls, Ends, Nowhere}
 use Rattle.mx_legal.specs.Rings.{IsKept, LineRingsLaw, RingsLaw}
 use Rattle.mx_legal.specs.Settings.{Setting, judged}
 use Rattle.mx_legal.specs.Standing.{FullLaw}
 use Rattle.mx_legal.specs.Transcripts.{Step}
 use Rattle.mx_legal.proofs.AwaitLaws.{replied_asks}
-use Rattle.mx_legal.proofs.Ends.{IsEnded, first_ends, answer_ends, next_never}
+use Rattle.mx_legal.proofs.Ends.{IsEnded, first_ends, since_ends, next_never}
 use Rattle.mx_legal.proofs.LastReference.{seen_end}
 use Rattle.mx_legal.proofs.Moving.{IsMoved, IsGateSeen, stays}
 
--- after an answer a line asks for no reference
-linked_asks : (g : Registers) (given : Reply) (r : Reference) → linked g given ≡ Asks r → ⊥
-linked_asks g (reply.Refused why) r e = cc
-linked_asks g _ r e = cc
+-- a line that asks for a reference after an answer asks for the first of a new attempt
+linked_asks : (g : Registers) (line : Line) (given : Reply) (r : Reference) → linked g line given ≡ Asks r
+    → attempts g line [] ≡ Asks r
+linked_asks g line (reply.Linked segno word fresh linkage) r e = e
+linked_asks g line (reply.Refused why) r e = absurd cc
+linked_asks g line reply.Done r e = absurd cc
+linked_asks g line (reply.Status status) r e = absurd cc
+linked_asks g line (reply.Names names) r e = absurd cc
+linked_asks g line (reply.Segno known) r e = absurd cc
+linked_asks g line reply.Sent r e = absurd cc
+linked_asks g line (reply.Message sender word) r e = absurd cc
+linked_asks g line reply.Nobody r e = absurd cc
+linked_asks g line reply.Waiting r e = absurd cc
 
-answered_asks : (g : Registers) (line : Line) (request : Request) (given : Reply) (r : Reference) → answered g line request given ≡ Asks r → ⊥
-answered_asks g (Ask asked) request given r e = replied_asks g request given r e
-answered_asks g (Set word) request given r e = cc
-answered_asks g (Epp n o) request given r e = linked_asks g given r e
-answered_asks g (Lda o) request given r e = linked_asks g given r e
-answered_asks g (Sta o) request given r e = linked_asks g given r e
-answered_asks g (Spri n o) request given r e = linked_asks g given r e
-answered_asks g Fetch request given r e = linked_asks g given r e
-answered_asks g (Call o) request given r e = linked_asks g given r e
-answered_asks g (Return o) request given r e = linked_asks g given r e
+answered_asks : (g : Registers) (line : Line) (request : Request) (given : Reply) (r : Reference)
+    → answered g line request given ≡ Asks r → attempts g line [] ≡ Asks r
+answered_asks g (Ask asked) request given r e = absurd (replied_asks g request given r e)
+answered_asks g (Set word) request given r e = absurd cc
+answered_asks g (Epp n o) request given r e = linked_asks g (Epp n o) given r e
+answered_asks g (Lda o) request given r e = linked_asks g (Lda o) given r e
+answered_asks g (Sta o) request given r e = linked_asks g (Sta o) given r e
+answered_asks g (Spri n o) request given r e = linked_asks g (Spri n o) given r e
+answered_asks g Fetch request given r e = linked_asks g Fetch given r e
+answered_asks g (Call o) request given r e = linked_asks g (Call o) given r e
+answered_asks g (Return o) request given r e = linked_asks g (Return o) given r e
+
+due_asks : (g : Registers) (line : Line) (request : Request) (given : Reply) (write : Option Reference) (r : Reference)
+    → first_due write (answered g line request given) ≡ Asks r → attempts g line [] ≡ Asks r
+due_asks g line request given None r e = answered_asks g line request given r e
+due_asks g line request given (Some reference) r e = absurd cc
 
 asks_in : (g : Registers) (line : Line) (course : Course) (r : Reference) → next g line course ≡ Asks r
     → attempts g line (seen_in course) ≡ Asks r
 asks_in g line (Attempt seen) r e = e
-asks_in g line (Answer entry) r e = absurd (answered_asks g line entry.request entry.reply r e)
+asks_in g line (Answer entry filled) r e = due_asks g line entry.request entry.reply (due entry filled) r e
 
 -- the last event of a line, if there is one
 record IsLast (s : Setting) (g : Registers) (line : Line) (events : List Event2) (course : Course) : Type 0 where
@@ -108,20 +124,26 @@ by_event s g line front events (Core (Missing segno by)) between course ends now
     (first_ends g line ends now (subst (λ (c : Course). next g line c ≡ Ends ends now) led.leads e))
 by_event s g line front events (Entry number) between course ends now sound last led e =
     unmoved s g events ends now sound
-    (answer_ends g line led.entry.request led.entry.reply ends now (subst (λ (c : Course). next g line c ≡ Ends ends now) led.leads e))
-by_event s g line front events (Core (Seen el)) between course ends now sound last led e =
-    let is = seen_end g line (seen_in between) (judged s el) led.asked ends now sound led.right
-    (asks_in g line between led.asked led.next) (subst (λ (c : Course). next g line c ≡ Ends ends now) led.leads e) in
-    record {
-      sound = is.sound;
-      printed = is.printed;
-      gated = λ falls. gate_call s front events el now.ring last (is.gated falls);
-    }
+    (since_ends g line led.entry [] ends now (subst (λ (c : Course). next g line c ≡ Ends ends now) led.leads e))
+by_event s g line front events (Core (Seen el)) between course ends now sound last led e = elim led [
+  | inl made ↦
+      let is = seen_end g line (seen_in between) (judged s el) made.asked ends now sound made.right
+      (asks_in g line between made.asked made.next) (subst (λ (c : Course). next g line c ≡ Ends ends now) made.leads e) in
+      record {
+        sound = is.sound;
+        printed = is.printed;
+        gated = λ falls. gate_call s front events el now.ring last (is.gated falls);
+      }
+  | inr made ↦ unmoved s g events ends now sound
+      (since_ends g line made.entry (made.filled ++ judged s el ∷ []) ends now
+      (subst (λ (c : Course). next g line c ≡ Ends ends now) made.leads e))
+]
 
 by_end : (s : Setting) (g : Registers) (line : Line) (events : List Event2) (course : Course) (asks : Next)
     (ends : Result2) (now : Registers) → IsSound g → Goes s g line (Attempt []) events course
     → next g line course ≡ asks → IsEnd s g asks ends now → IsKept s g events ends now
 by_end s g line events course (Asks r) ends now sound goes is end = absurd end
+by_end s g line events course (Fills r) ends now sound goes is end = absurd end
 by_end s g line events course Nowhere ends now sound goes is end = absurd end
 by_end s g line events course (Calls ring request) ends now sound goes is end =
     let same : now.ring ≡ g.ring = ap (λ (r : Registers). r.ring) end.2 in
@@ -162,6 +184,7 @@ pub full_end : (s : Setting) (g : Registers) (line : Line) (course : Course) (as
     → next g line course ≡ asks
     → IsEnd s g asks result.HistoryFull after → s.full ≡ true
 full_end s g line course (Asks r) after is end = absurd end
+full_end s g line course (Fills r) after is end = absurd end
 full_end s g line course Nowhere after is end = absurd end
 full_end s g line course (Calls ring request) after is end = end.0
 full_end s g line course (Ends ends left) after is end =

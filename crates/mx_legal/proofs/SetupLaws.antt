@@ -23,7 +23,8 @@ use Rattle.mx_legal.specs.Scripts.{numbered, first_line}
 use Rattle.mx_legal.specs.Settings.{Setting}
 use Rattle.mx_legal.specs.SetupLines.{SetupLinesLaw}
 use Rattle.mx_legal.specs.Transcripts.{Step, part, events_of, entries_named, numbers_from}
-use Rattle.mx_legal.proofs.AskLines.{HasEntry, IsFullLine, AsksOnPaths, ask_line}
+use Rattle.mx_legal.proofs.AskLines.{HasEntry, IsFullLine, AreFinal, ask_line}
+use Rattle.mx_legal.proofs.FinalReplies.{IsFinal, path_final}
 use Rattle.mx_legal.proofs.Named.{named_append}
 
 abbrev Enters : Step → Type 0
@@ -34,30 +35,31 @@ IsFullStep step = IsFullLine step.1 step.2
 
 -- each line of a setup is one of these
 asked : (s : Setting) (start after : Registers) (first : ℕ) (requests : List Request) (steps : List Step)
-    → AsksOnPaths s → AreLines s start (numbered first (map Ask requests)) steps after → (place : ℕ) (step : Step)
+    → AreFinal s → AreLines s start (numbered first (map Ask requests)) steps after → (place : ℕ) (step : Step)
     → slice_get steps place ≡ Some step → Enters step ⊎ IsFullStep step
-asked s start after first [] [] paths are place step at = cc
-asked s start after first [] (made ∷ steps) paths are place step at = absurd are
-asked s start after first (request ∷ requests) [] paths are place step at = cc
-asked s start after first (request ∷ requests) (made ∷ steps) paths are zero step at =
-    subst (λ (t : Step). Enters t ⊎ IsFullStep t) (same at) (ask_line s start request made.1 made.2 are.1 paths are.2)
+asked s start after first [] [] final are place step at = cc
+asked s start after first [] (made ∷ steps) final are place step at = absurd are
+asked s start after first (request ∷ requests) [] final are place step at = cc
+asked s start after first (request ∷ requests) (made ∷ steps) final are zero step at =
+    subst (λ (t : Step). Enters t ⊎ IsFullStep t) (same at) (ask_line s start request made.1 made.2 are.1 final are.2)
   where
     same : Some made ≡ Some step → made ≡ step
     same h = cc
-asked s start after first (request ∷ requests) (made ∷ steps) paths are (suc place) step at =
-    asked s are.1 after (suc first) requests steps paths are.3 place step at
+asked s start after first (request ∷ requests) (made ∷ steps) final are (suc place) step at =
+    asked s are.1 after (suc first) requests steps final are.3 place step at
 
--- the initializer asks on paths alone, in a right journal
-on_paths : (s : Plain) (journal : List journaled.Entry) (place : ℕ) (entry : journaled.Entry) → IsRight s journal
-    → slice_get journal place ≡ Some entry → entry.process ≡ 0 → class_of entry.request ≡ OfPath
-on_paths s [] place entry right at own = cc
-on_paths s (first ∷ journal) zero entry right at own =
+-- the initializer asks on paths alone, in a right journal, and no reply to that asks for more
+final_replies : (s : Plain) (journal : List journaled.Entry) (place : ℕ) (entry : journaled.Entry) → IsRight s journal
+    → slice_get journal place ≡ Some entry → entry.process ≡ 0 → IsFinal entry.reply
+final_replies s [] place entry right at own = absurd cc
+final_replies s (first ∷ journal) zero entry right at own =
     let same : first ≡ entry = cc in
     let asks : first.process ≡ 0 → class_of first.request ≡ OfPath = right.0.maker.1 in
-    ap (λ (e : journaled.Entry). class_of e.request) (sym same)
-    ∙ asks (ap (λ (e : journaled.Entry). e.process) same ∙ own)
-on_paths s (first ∷ journal) (suc place) entry right at own =
-    on_paths (plain s first.process first.ring first.request).state journal place entry right.1 at own
+    subst (λ (e : journaled.Entry). IsFinal e.reply) same
+    (subst IsFinal right.0.reply (path_final s first.process first.ring first.request
+    (asks (ap (λ (e : journaled.Entry). e.process) same ∙ own))))
+final_replies s (first ∷ journal) (suc place) entry right at own =
+    final_replies (plain s first.process first.ring first.request).state journal place entry right.1 at own
 
 -- where the lines up to this place have an entry each, it names the entry of its place
 named_at : (steps : List Step) (place number : ℕ) (step : Step)
@@ -159,16 +161,16 @@ setup_lines_law x journal transcripts legal place step within at = elim (each pl
     steps : List Step
     steps = part transcripts 0
 
-    paths : AsksOnPaths (setting_of x journal 0)
-    paths zero entry there maker = absurd cc
-    paths (suc i) entry there maker = on_paths (opening x.principals) journal i entry legal.right there maker
+    final : AreFinal (setting_of x journal 0)
+    final zero entry there maker = absurd cc
+    final (suc i) entry there maker = final_replies (opening x.principals) journal i entry legal.right there maker
 
     each : (j : ℕ) (other : Step) → slice_get steps j ≡ Some other → Enters other ⊎ IsFullStep other
     each j other found =
         let count = legal.parts in
         let lines = legal.lines 0 (omega arith) in
         asked (setting_of x journal 0) (opening_registers 0) lines.0
-        (first_line x 0) x.setup steps paths lines.1 j other found
+        (first_line x 0) x.setup steps final lines.1 j other found
 
     named : slice_get (entries_named (events_of steps)) place ≡ Some (1 + place)
     named = ap (λ (l : List ℕ). slice_get l place) (legal.each_call_once 0)
