@@ -1,5 +1,5 @@
 -- Only who blocks is told to wait and then resumes.
-use Rattle.std.proofs.Common.{◌≡◌, ◌⊎◌, inl, inr, ℕ, refl, ap, sym, ◌∙◌}
+use Rattle.std.proofs.Common.{◌≡◌, ◌⊎◌, inl, inr, refl, ap, sym, ◌∙◌}
 use Rattle.mx_call.specs.Registers.{Registers}
 use Rattle.mx_request.specs.Classes.{class_of}
 use Rattle.mx_request.specs.declared.classes.RequestClass.TheVariants.{OfPath, OfProcess}

@@ -1,5 +1,5 @@
 -- The lines that fetch, call and return are right, by computation, and each wrong one is refused.
-use Rattle.std.proofs.Common.{◌≡◌, ℕ, false, true, [], ◌∷◌, ◌++◌, refl, ap, ◌∙◌, subst, Some, arith}
+use Rattle.std.proofs.Common.{◌≡◌, ℕ, false, true, [], ◌∷◌, refl, ap, Some, arith}
 use Rattle.std.specs.List.{slice_get}
 use Rattle.mx_sdw.specs.Judging.{judgement}
 use Rattle.mx_sdw.specs.declared.denials.Denial.TheVariants as denial
@@ -14,12 +14,13 @@ use Rattle.mx_script.specs.declared.lines.Line.TheVariants as line
 use Rattle.mx_legal.specs.declared.transcripts.Result2.{Result2}
 use Rattle.mx_legal.specs.declared.transcripts.Result2.TheVariants as result
 use Rattle.mx_legal.specs.Asking.{next}
-use Rattle.mx_legal.specs.Courses.{Course, Attempt}
+use Rattle.mx_legal.specs.Courses.{Attempt}
 use Rattle.mx_legal.specs.Elements.{IsJudged}
 use Rattle.mx_legal.specs.Lines.{IsEnd}
 use Rattle.mx_legal.specs.Next.{Reference, Asks, at_place}
 use Rattle.mx_legal.specs.PointerLines.{pointer}
 use Rattle.mx_legal.specs.Settings.{judged}
+use Rattle.mx_legal.proofs.EventByEvent as event
 use Rattle.mx_legal.specs.CallLines.{setting, access, outside, inside, back, onward, in_ring, call, call_by, return_by, a_call, a_return, a_fetch, IsOne, inside_with, RightTransfers, WrongTransfers, WrongRegisters}
 
 -- a line of one reference
@@ -28,7 +29,7 @@ one : (g : Registers) (l : Line) (r : Reference) (e : Element) (ends : Result2) 
     → IsEnd setting g (next g l (Attempt (judged setting e ∷ []))) ends after → IsOne g l e ends after
 one g l r e ends after asks right end = record {
   course = Attempt (judged setting e ∷ []);
-  so_far = (Attempt (judged setting e ∷ []), record { asked = r; next = asks; right = right; leads = refl }, refl);
+  so_far = event.made setting g l (Attempt []) r e [] _ asks right refl;
   end = end;
 }
 
@@ -37,11 +38,8 @@ peel : (g : Registers) (l : Line) (r : Reference) (e : Element) (ends : Result2)
     → next g l (Attempt []) ≡ Asks r → IsOne g l e ends after
     → IsJudged r (access e.segno) e × IsEnd setting g (next g l (Attempt (judged setting e ∷ []))) ends after
 peel g l r e ends after asks is =
-    let goes = is.so_far in
-    let same : goes.1.asked ≡ r = let n = goes.1.next in cc in (
-      subst (λ (a : Reference). IsJudged a (access e.segno) e) same goes.1.right,
-      subst (λ (c : Course). IsEnd setting g (next g l c) ends after) (goes.2 ∙ goes.1.leads) is.end,
-    )
+    let made = event.peel setting g l (Attempt []) r e [] is.course asks is.so_far in
+    (made.0, event.at_end setting g l after (Attempt (judged setting e ∷ [])) is.course ends made.1 is.end)
 
 -- a call from a ring at the place of a pointer, of another segment than the one that runs; and a return
 abbrev asks_call : ℕ → ℕ → ℕ → ℕ → Reference

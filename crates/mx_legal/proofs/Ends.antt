@@ -27,12 +27,12 @@ use Rattle.mx_script.specs.declared.lines.Line.TheVariants.{Ask, Set, Epp, Lda, 
 use Rattle.mx_legal.specs.declared.transcripts.Result2.{Result2}
 use Rattle.mx_legal.specs.declared.transcripts.Result2.TheVariants as result
 use Rattle.mx_legal.proofs.AwaitLaws.{awaits_no_end}
-use Rattle.mx_legal.specs.Asking.{next, awaits, replied, attempts, linked, answered, first_due, result_of}
+use Rattle.mx_legal.specs.Asking.{next, replied, attempts, linked, answered, first_due, result_of}
 use Rattle.mx_legal.specs.Attempts.{wants, taken, after_word, after_seen, along, attempting}
 use Rattle.mx_legal.specs.Courses.{Course, Attempt, Answer, Judged}
 use Rattle.mx_legal.specs.Falls.{printed_ring}
 use Rattle.mx_legal.specs.Filling.{due}
-use Rattle.mx_legal.specs.Next.{Next, Reference, Ends, Nowhere}
+use Rattle.mx_legal.specs.Next.{Next, Reference, Ends}
 use Rattle.mx_legal.specs.Operands.{walk_of, walk_from, base_of}
 use Rattle.mx_legal.specs.Targets.{at_target, after_target, spri_at}
 

@@ -1,5 +1,5 @@
 -- A line that ended with a reference ended with its own, or with an indirect word that led nowhere.
-use Rattle.std.proofs.Common.{◌≡◌, ℕ, List, [], ◌∷◌, ◌++◌, refl, subst, Option, Some, None}
+use Rattle.std.proofs.Common.{◌≡◌, ℕ, List, [], ◌∷◌, ◌++◌, refl, Option, Some, None}
 use Rattle.mx_sdw.specs.Descriptors.{Descriptor}
 use Rattle.mx_sdw.specs.declared.denials.Denial.{Denial}
 use Rattle.mx_ptr.specs.Pointers.{PointerParts, parts_of}
@@ -21,7 +21,7 @@ use Rattle.mx_legal.specs.Asking.{attempts}
 use Rattle.mx_legal.specs.Attempts.{wants, taken, after_word, after_seen, along, attempting}
 use Rattle.mx_legal.specs.Courses.{Judged}
 use Rattle.mx_legal.specs.Elements.{IsJudged}
-use Rattle.mx_legal.specs.Next.{Next, Reference, Asks, Ends, Nowhere}
+use Rattle.mx_legal.specs.Next.{Next, Reference, Asks, Ends}
 use Rattle.mx_legal.specs.Operands.{walk_of}
 use Rattle.mx_legal.specs.Targets.{after_target}
 use Rattle.mx_legal.proofs.Ends.{denied_ends, same_end, high_target, wants_ends, walk_current}

@@ -12,6 +12,7 @@ pub mod WalkLaws
 pub mod TraceLaws
 pub mod Growing
 pub mod Named
+pub mod EventByEvent
 mod AskLines
 mod SetupLaws
 mod WrongLineLaws

@@ -1,5 +1,5 @@
 -- The lines with pointers are right, by computation, and each wrong one is refused.
-use Rattle.std.proofs.Common.{◌≡◌, ℕ, nat_eq, ap, true, false, List, [], ◌∷◌, ◌++◌, refl, subst, Option, None, Some, arith}
+use Rattle.std.proofs.Common.{◌≡◌, inl, ℕ, nat_eq, ap, true, false, List, [], ◌∷◌, ◌++◌, refl, None, Some, arith}
 use Rattle.mx_sdw.specs.Judging.{judgement}
 use Rattle.mx_sdw.specs.declared.denials.Denial.TheVariants as denial
 use Rattle.mx_sdw.specs.declared.operations.Op.TheVariants as op
@@ -22,8 +22,9 @@ use Rattle.mx_legal.specs.Courses.{Course, Attempt, Answer, Judged}
 use Rattle.mx_legal.specs.Elements.{IsJudged}
 use Rattle.mx_legal.specs.Events.{IsEvent}
 use Rattle.mx_legal.specs.Lines.{Goes, IsEnd, IsLine}
-use Rattle.mx_legal.specs.Next.{Next, Reference, Asks, Calls, Ends}
+use Rattle.mx_legal.specs.Next.{Reference, Asks, Calls, Ends}
 use Rattle.mx_legal.specs.Settings.{Setting, entry_at, judged}
+use Rattle.mx_legal.proofs.EventByEvent as event
 use Rattle.mx_legal.specs.PointerLines.{pointer, g, setting, no_link, word, forged, refused, circle, again, link, other, stored, read, sta, lda, lda_register, epp, spri, RightPointers, WrongPointers}
 
 abbrev s : Setting
@@ -45,32 +46,32 @@ a = j again
 round : (seen : List Judged) → next g lda (Attempt seen) ≡ Asks (indirect 4)
     → IsEvent s (next g lda (Attempt seen)) (Attempt seen) (Core (Seen again)) (Attempt (seen ++ a ∷ []))
 unfolding judgement
-round seen asks = record {
+round seen asks = inl (record {
   asked = indirect 4;
   next = asks;
   right = record { kind = refl; segno = refl; word = refl; ring = refl; outcome = tt };
   leads = refl;
-}
+})
 
 first_round : IsEvent s (next g lda (Attempt [])) (Attempt []) (Core (Seen circle)) (Attempt (c ∷ []))
 unfolding judgement
-first_round = record {
+first_round = inl (record {
   asked = indirect 1;
   next = refl;
   right = record { kind = refl; segno = refl; word = refl; ring = refl; outcome = tt };
   leads = refl;
-}
+})
 
 -- the first indirect word of a line at 8|0
 first : (l : Line) (value : ℕ) → next g l (Attempt []) ≡ Asks (indirect 1)
     → IsEvent s (next g l (Attempt [])) (Attempt []) (Core (Seen (word value))) (Attempt (j (word value) ∷ []))
 unfolding judgement
-first l value asks = record {
+first l value asks = inl (record {
   asked = indirect 1;
   next = asks;
   right = record { kind = refl; segno = refl; word = refl; ring = refl; outcome = tt };
   leads = refl;
-}
+})
 
 eight_rounds : IsLine s g lda (Core (Seen circle) ∷ Core (Seen again) ∷ Core (Seen again) ∷ Core (Seen again)
     ∷ Core (Seen again) ∷ Core (Seen again) ∷ Core (Seen again) ∷ Core (Seen again) ∷ []) (result.Denied denial.IndirectLimit) g
@@ -113,12 +114,12 @@ forged_ring = record {
     first sta 150995619 refl,
     (
       _,
-      record {
+      inl (record {
         asked = record { op = op.Write; segno = 9; word = 5; ring = 4; stores = Some 5 };
         next = refl;
         right = record { kind = refl; segno = refl; word = refl; ring = refl; outcome = refl };
         leads = refl;
-      },
+      }),
       refl,
     ),
   );
@@ -131,12 +132,12 @@ by_register = record {
   course = Attempt (j read ∷ []);
   so_far = (
     _,
-    record {
+    inl (record {
       asked = record { op = op.Read; segno = 9; word = 4; ring = 4; stores = None };
       next = refl;
       right = record { kind = refl; segno = refl; word = refl; ring = refl; outcome = tt };
       leads = refl;
-    },
+    }),
     refl,
   );
   end = (refl, refl);
@@ -148,12 +149,12 @@ spelled = record {
   course = Attempt (j stored ∷ []);
   so_far = (
     _,
-    record {
+    inl (record {
       asked = record { op = op.Write; segno = 9; word = 0; ring = 1; stores = Some 159384227 };
       next = refl;
       right = record { kind = refl; segno = refl; word = refl; ring = refl; outcome = refl };
       leads = refl;
-    },
+    }),
     refl,
   );
   end = (refl, refl);
@@ -161,12 +162,12 @@ spelled = record {
 
 full_first : IsEvent (setting true) (next g lda (Attempt [])) (Attempt []) (Core (Seen link)) (Attempt (j link ∷ []))
 unfolding judgement
-full_first = record {
+full_first = inl (record {
   asked = indirect 1;
   next = refl;
   right = record { kind = refl; segno = refl; word = refl; ring = refl; outcome = tt };
   leads = refl;
-}
+})
 
 pub right_pointers : RightPointers
 right_pointers = record {
@@ -174,7 +175,7 @@ right_pointers = record {
   eighth = eight_rounds;
   no_pointer = record { course = Attempt (j other ∷ []); so_far = (_, first lda 42 refl, refl); end = (refl, refl) };
   forged_link = record {
-    course = Answer no_link;
+    course = Answer no_link [];
     so_far = (_, first lda 38 refl, (_, record { entry = no_link; there = refl; maker = refl; next = refl; leads = refl }, refl));
     end = (refl, refl);
   };
@@ -188,34 +189,25 @@ right_pointers = record {
 peel : (l : Line) (seen : List Judged) (r : Reference) (e : Element) (events : List Event2) (course : Course)
     → next g l (Attempt seen) ≡ Asks r → Goes s g l (Attempt seen) (Core (Seen e) ∷ events) course
     → IsJudged r (s.descriptor e) e × Goes s g l (Attempt (seen ++ j e ∷ [])) events course
-peel l seen r e events course asks goes =
-    let same : goes.1.asked ≡ r = let n = goes.1.next in cc in (
-      subst (λ (a : Reference). IsJudged a (s.descriptor e) e) same goes.1.right,
-      subst (λ (c : Course). Goes s g l c events course) goes.1.leads goes.2,
-    )
+peel l seen r e events course asks goes = event.peel s g l (Attempt seen) r e events course asks goes
 
 -- the call that a line asks for next, and the rest of the line
 peel_call : (l : Line) (before : Course) (number : ℕ) (entry : journaled.Entry) (events : List Event2) (course : Course)
     → entry_at s.journal number ≡ Some entry → Goes s g l before (Entry number ∷ events) course
-    → (next g l before ≡ Calls entry.ring entry.request) × Goes s g l (Answer entry) events course
+    → (next g l before ≡ Calls entry.ring entry.request) × Goes s g l (Answer entry []) events course
 peel_call l before number entry events course there goes =
-    let made = goes.1 in
-    let t = made.there in
-    let same : made.entry ≡ entry = cc in (
-      subst (λ (k : journaled.Entry). next g l before ≡ Calls k.ring k.request) same made.next,
-      subst (λ (k : journaled.Entry). Goes s g l (Answer k) events course) same
-          (subst (λ (c : Course). Goes s g l c events course) made.leads goes.2),
-    )
+    let made = event.peel_call s g l before number entry events course there goes in (made.0, made.2)
 
 -- the end of a line that has no further event
 at_end : (after : Registers) (l : Line) (before course : Course) (ends : Result2) → Goes s g l before [] course
     → IsEnd s g (next g l course) ends after → IsEnd s g (next g l before) ends after
-at_end after l before course ends goes end = subst (λ (c : Course). IsEnd s g (next g l c) ends after) goes end
+at_end after l before course ends goes end = event.at_end s g l after before course ends goes end
 
 -- a reference comes only where one is asked for
 no_reference : (l : Line) (before : Course) (e : Element) (events : List Event2) (course : Course) (ring : ℕ)
     (request : Request) → next g l before ≡ Calls ring request → Goes s g l before (Core (Seen e) ∷ events) course → ⊥
-no_reference l before e events course ring request asks goes = let n = goes.1.next in cc
+no_reference l before e events course ring request asks goes =
+    event.none_asked s g l before e events course (λ r n. cc) (λ r n. cc) goes
 
 same_calls : (a b : ℕ) (x y : Request) → Calls a x ≡ Calls b y → (a ≡ b) × (x ≡ y)
 same_calls a b x y h = (cc, cc)
@@ -282,7 +274,7 @@ wrong_pointers = record {
       let rest = (peel lda [] (indirect 1) link (Entry 1 ∷ []) is.course refl is.so_far).1 in
       let last = (peel_call lda (Attempt seen_link) 1 no_link [] is.course refl rest).1 in
       let end : IsEnd s g (Ends result.Refused g) result.Done after =
-      at_end after lda (Answer no_link) is.course result.Done last is.end in
+      at_end after lda (Answer no_link []) is.course result.Done last is.end in
       let w : result.Done ≡ result.Refused = end.0 in cc;
   below_limit = λ after is.
       let rest = (peel lda [] (indirect 1) link [] is.course refl is.so_far).1 in

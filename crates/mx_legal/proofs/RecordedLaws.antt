@@ -1,6 +1,5 @@
 -- Laws of how transcripts are kept: one more event, and one more line.
-use Rattle.std.proofs.Common.{◌≡◌, ℕ, suc, ◌+◌, ◌-◌, ◌≤◌, ◌<◌, min, nat_lt, IsTrue, List, [], ◌∷◌, ◌++◌, take, drop, length, refl, ap, sym, ◌∙◌, subst, arith}
-use Rattle.std.proofs.lemmas.Bool.Decides.{nat_tests}
+use Rattle.std.proofs.Common.{◌≡◌, ℕ, suc, ◌+◌, ◌-◌, ◌≤◌, ◌<◌, min, List, [], ◌∷◌, ◌++◌, take, drop, length, refl, ap, sym, ◌∙◌, subst, arith}
 use Rattle.std.proofs.lemmas.List.{take-append-le, take_all, drop-append-le, drop_all, length-append, length-drop}
 use Rattle.mx_legal.specs.Recorded.{Recorded, steps_from, left_from, AreEnds, recorded, IsFew}
 use Rattle.mx_legal.specs.declared.transcripts.Event2.{Event2}

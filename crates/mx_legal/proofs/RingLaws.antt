@@ -22,7 +22,6 @@ use Rattle.mx_legal.specs.Next.{Next, Reference, Asks, Fills, Calls, Ends, Nowhe
 use Rattle.mx_legal.specs.Rings.{IsKept, LineRingsLaw, RingsLaw}
 use Rattle.mx_legal.specs.Settings.{Setting, judged}
 use Rattle.mx_legal.specs.Standing.{FullLaw}
-use Rattle.mx_legal.specs.Transcripts.{Step}
 use Rattle.mx_legal.proofs.AwaitLaws.{replied_asks}
 use Rattle.mx_legal.proofs.Ends.{IsEnded, first_ends, since_ends, next_never}
 use Rattle.mx_legal.proofs.LastReference.{seen_end}

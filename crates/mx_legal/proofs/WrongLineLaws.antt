@@ -1,5 +1,5 @@
 -- Each wrong line is refused.
-use Rattle.std.proofs.Common.{◌≡◌, ℕ, true, false, List, [], ◌∷◌, refl, subst, None, Some, arith}
+use Rattle.std.proofs.Common.{◌≡◌, ℕ, true, false, List, [], ◌∷◌, refl, None, Some, arith}
 use Rattle.mx_sdw.specs.Judging.{judgement}
 use Rattle.mx_sdw.specs.declared.denials.Denial.TheVariants as denial
 use Rattle.mx_sdw.specs.declared.operations.Op.TheVariants as op
@@ -22,6 +22,7 @@ use Rattle.mx_legal.specs.Elements.{IsJudged}
 use Rattle.mx_legal.specs.Lines.{Goes, IsEnd, IsLine}
 use Rattle.mx_legal.specs.Next.{Reference, Asks, Calls, Ends}
 use Rattle.mx_legal.specs.Settings.{entry_at, judged}
+use Rattle.mx_legal.proofs.EventByEvent as event
 use Rattle.mx_legal.specs.WrongLines.{setting, g, lda, sta, read, written, outside, out, refused, WrongReferences, WrongCalls, WrongScripts}
 
 -- the reference that a line asks for first, and the rest of the line
@@ -29,37 +30,27 @@ peel : (l : Line) (r : Reference) (e : Element) (events : List Event2) (course :
     → next g l (Attempt []) ≡ Asks r
     → Goes setting g l (Attempt []) (Core (Seen e) ∷ events) course
     → IsJudged r (setting.descriptor e) e × Goes setting g l (Attempt (judged setting e ∷ [])) events course
-peel l r e events course asks goes =
-    let same : goes.1.asked ≡ r = let n = goes.1.next in cc in (
-      subst (λ (a : Reference). IsJudged a (setting.descriptor e) e) same goes.1.right,
-      subst (λ (c : Course). Goes setting g l c events course) goes.1.leads goes.2,
-    )
+peel l r e events course asks goes = event.peel setting g l (Attempt []) r e events course asks goes
 
 -- the call that a line asks for first, and the rest of the line
 peel_call : (l : Line) (number : ℕ) (entry : journaled.Entry) (events : List Event2) (course : Course)
     → entry_at setting.journal number ≡ Some entry → Goes setting g l (Attempt []) (Entry number ∷ events) course
     → (next g l (Attempt []) ≡ Calls entry.ring entry.request) × (entry.process ≡ 1)
-    × Goes setting g l (Answer entry) events course
+    × Goes setting g l (Answer entry []) events course
 peel_call l number entry events course there goes =
-    let made = goes.1 in
-    let t = made.there in
-    let same : made.entry ≡ entry = cc in (
-      subst (λ (k : journaled.Entry). next g l (Attempt []) ≡ Calls k.ring k.request) same made.next,
-      subst (λ (k : journaled.Entry). k.process ≡ 1) same made.maker,
-      subst (λ (k : journaled.Entry). Goes setting g l (Answer k) events course) same
-          (subst (λ (c : Course). Goes setting g l c events course) made.leads goes.2),
-    )
+    event.peel_call setting g l (Attempt []) number entry events course there goes
 
 -- the end of a line that has no further event
 at_end : (after : Registers) (l : Line) (before course : Course) (ends : Result2) → Goes setting g l before [] course
     → IsEnd setting g (next g l course) ends after → IsEnd setting g (next g l before) ends after
-at_end after l before course ends goes end = subst (λ (c : Course). IsEnd setting g (next g l c) ends after) goes end
+at_end after l before course ends goes end = event.at_end setting g l after before course ends goes end
 
 -- a line that has ended has no reference
 no_more : (l : Line) (before : Course) (ends : Result2) (left : Registers) (e : Element) (events : List Event2)
     (course : Course)
     → next g l before ≡ Ends ends left → Goes setting g l before (Core (Seen e) ∷ events) course → ⊥
-no_more l before ends left e events course asks goes = let n = goes.1.next in cc
+no_more l before ends left e events course asks goes =
+    event.none_asked setting g l before e events course (λ r n. cc) (λ r n. cc) goes
 
 abbrev reads : ℕ → Reference
 reads word = record { op = op.Read; segno = 8; word = word; ring = 4; stores = None }
@@ -80,7 +71,7 @@ judged_so : (l : Line) (r : Reference) (e : Element) (ends : Result2) (after : R
     → IsLine setting g l (Core (Seen e) ∷ []) ends after
 judged_so l r e ends after asks right end = record {
   course = Attempt (judged setting e ∷ []);
-  so_far = (Attempt (judged setting e ∷ []), record { asked = r; next = asks; right = right; leads = refl }, refl);
+  so_far = event.made setting g l (Attempt []) r e [] _ asks right refl;
   end = end;
 }
 
@@ -132,8 +123,8 @@ wrong_references = record {
 pub wrong_calls : WrongCalls
 wrong_calls = record {
   right_call = record {
-    course = Answer out;
-    so_far = (Answer out, record { entry = out; there = refl; maker = refl; next = refl; leads = refl }, refl);
+    course = Answer out [];
+    so_far = event.called setting g (line.Ask Logout) (Attempt []) 1 out [] _ refl refl refl refl;
     end = (refl, refl);
   };
   other_request = λ path after is.
@@ -149,7 +140,7 @@ wrong_calls = record {
   not_refused = λ after is.
       let rest = (peel_call (line.Ask Logout) 4 refused [] is.course refl is.so_far).2 in
       let end : IsEnd setting g (Ends result.Refused g) result.Done after =
-      at_end after (line.Ask Logout) (Answer refused) is.course result.Done rest is.end in
+      at_end after (line.Ask Logout) (Answer refused []) is.course result.Done rest is.end in
       let w : result.Done ≡ result.Refused = end.0 in cc;
   below_limit = λ after is.
       let end : IsEnd setting g (Calls 4 Logout) result.HistoryFull after =

@@ -1,6 +1,6 @@
 -- Lines that fetch, call and return: right ones, and wrong ones that are one change away from them, which the line rule
 -- refuses. Numbers are decimal.
-use Rattle.std.specs.Prelude.{ℕ, nat_eq, true, false, if◌then◌else◌, List, [], ◌∷◌}
+use Rattle.std.specs.Prelude.{ℕ, nat_eq, true, false, if◌then◌else◌, [], ◌∷◌}
 use Rattle.mx_sdw.specs.Descriptors.{Descriptor, segment_desc}
 use Rattle.mx_sdw.specs.declared.denials.Denial.{Denial}
 use Rattle.mx_sdw.specs.declared.denials.Denial.TheVariants as denial
@@ -14,7 +14,6 @@ use Rattle.mx_core.specs.declared.elements.Outcome.TheVariants as outcome
 use Rattle.mx_script.specs.declared.lines.Base.TheVariants.{Segment, Register}
 use Rattle.mx_script.specs.declared.lines.Line.{Line}
 use Rattle.mx_script.specs.declared.lines.Line.TheVariants as line
-use Rattle.mx_legal.specs.declared.transcripts.Event2.{Event2}
 use Rattle.mx_legal.specs.declared.transcripts.Event2.TheVariants.{Core}
 use Rattle.mx_legal.specs.declared.transcripts.Result2.{Result2}
 use Rattle.mx_legal.specs.declared.transcripts.Result2.TheVariants as result

@@ -1,6 +1,6 @@
 -- What each memory line does at its target, the effective pointer: the reference that it makes there, and what the
 -- grant makes of the registers. One row a line.
-use Rattle.std.specs.Prelude.{ℕ, false, Option, Some, None, slice_get}
+use Rattle.std.specs.Prelude.{false, Option, Some, None, slice_get}
 use Rattle.mx_sdw.specs.Descriptors.{Descriptor}
 use Rattle.mx_sdw.specs.declared.operations.Op.TheVariants as op
 use Rattle.mx_ptr.specs.Pointers.{PointerParts, pointer_word}

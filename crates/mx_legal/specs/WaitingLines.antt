@@ -1,6 +1,6 @@
 -- Lines that wait: `block` with two entries, with one, and with one and a full journal; wrong ones, each one change away
 -- from them; and the numbers that lines have in a session that sets a limit.
-use Rattle.std.specs.Prelude.{◌≡◌, ℕ, Bool, true, false, List, [], ◌∷◌, ◌++◌, map, Some, codes}
+use Rattle.std.specs.Prelude.{◌≡◌, ℕ, Bool, true, false, List, [], ◌∷◌, map, Some, codes}
 use Rattle.mx_call.specs.Registers.{Registers}
 use Rattle.mx_name.specs.Principals.{PlainPrincipal}
 use Rattle.mx_request.specs.declared.replies.Reply.TheVariants as reply
