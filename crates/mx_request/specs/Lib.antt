@@ -3,6 +3,7 @@ pub mod Decimals
 pub mod Classes
 pub mod RequestTexts
 pub mod ReplyTexts
+pub mod Sections
 pub mod Kinds
 pub mod Steps
 pub mod Reading
