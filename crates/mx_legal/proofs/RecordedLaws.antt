@@ -1,5 +1,6 @@
 -- Laws of how transcripts are kept: one more event, and one more line.
-use Rattle.std.proofs.Common.{◌≡◌, ℕ, suc, ◌+◌, ◌-◌, ◌≤◌, ◌<◌, min, List, [], ◌∷◌, ◌++◌, take, drop, length, refl, ap, sym, ◌∙◌, subst, arith}
+use Rattle.std.proofs.Common.{◌≡◌, ℕ, suc, ◌+◌, ◌-◌, ◌≤◌, ◌<◌, min, nat_lt, IsTrue, List, [], ◌∷◌, ◌++◌, take, drop, length, refl, ap, sym, ◌∙◌, subst, arith}
+use Rattle.std.proofs.lemmas.Bool.Decides.{nat_tests}
 use Rattle.std.proofs.lemmas.List.{take-append-le, take_all, drop-append-le, drop_all, length-append, length-drop}
 use Rattle.mx_legal.specs.Recorded.{Recorded, steps_from, left_from, AreEnds, recorded, IsFew}
 use Rattle.mx_legal.specs.declared.transcripts.Event2.{Event2}
@@ -51,26 +52,14 @@ ended begun events (first ∷ lines) line e are =
 
 -- one more event of the line at work
 pub pushed : (before : Recorded) (events more : List Event2) (event : Event2) (lines : List LineEnd) (most most' : ℕ) → IsFew events lines
-    → recorded events lines most most' ≡ before → 1 ≤ before.event_room → more ≡ events ++ event ∷ []
+    → recorded events lines most most' ≡ before → IsTrue before.event_room → more ≡ events ++ event ∷ []
     → IsFew more lines × (steps_from 0 more lines ≡ before.steps) × (left_from 0 more lines ≡ before.events ++ event ∷ [])
 pushed before events more event lines most most' are is room e =
     let on = longer 0 events (event ∷ []) lines are.ends in
     let n : length (events ++ event ∷ []) ≡ length events + 1 = length-append events (event ∷ []) in
-    let room' : 1 ≤ min most 4294967295 - length events = subst (λ (r : Recorded). 1 ≤ r.event_room) (sym is) room in
-    let few : length events < min most 4294967295 = grind arith in
+    let room' : IsTrue (nat_lt (length events) (min most 4294967295)) = subst (λ (r : Recorded). IsTrue r.event_room) (sym is) room in
+    let few : length events < min most 4294967295 = grind (arith, nat_tests) in
     (record { few = rw (e, n) (omega arith); ends = rw e on.ends }, rw e on.steps ∙ ap (λ (r : Recorded). r.steps) is, rw e on.left ∙ ap (λ (r : Recorded). r.events ++ event ∷ []) is)
-
--- and it takes the room of one
-pub one_less : (before : Recorded) (events more : List Event2) (event : Event2) (lines : List LineEnd) (most most' most'' : ℕ)
-    → recorded events lines most most' ≡ before → most ≤ most'' → more ≡ events ++ event ∷ []
-    → before.event_room ≤ min most'' 4294967295 - length more + 1
-one_less before events more event lines most most' most'' is grows e =
-    let n : length (events ++ event ∷ []) ≡ length events + 1 = length-append events (event ∷ []) in
-    subst (λ (r : Recorded). r.event_room ≤ min most'' 4294967295 - length more + 1) is
-    (rw (e, n) (within most most'' (length events) grows))
-  where
-    within : (a b l : ℕ) → a ≤ b → min a 4294967295 - l ≤ min b 4294967295 - (l + 1) + 1
-    within a b l h = grind arith
 
 -- the line at work has ended
 pub has_ended : (before : Recorded) (events : List Event2) (lines more : List LineEnd) (line : LineEnd) (most most' : ℕ) → IsFew events lines

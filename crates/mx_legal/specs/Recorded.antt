@@ -21,19 +21,19 @@ AreEnds begun events [] = ⊤
 AreEnds begun events (line ∷ lines) =
     (begun ≤ line.end) × (line.end ≤ begun + length events) × AreEnds line.end (drop (line.end - begun) events) lines
 
--- the lines that have ended and the events of the line at work; for how many more events there is room, and whether
--- there is room for the end of one more line
+-- the lines that have ended and the events of the line at work; whether there is room for one more event, and for the
+-- end of one more line
 pub record Recorded : Type 0 where
   pub steps : List Step
   pub events : List Event2
-  pub event_room : ℕ
+  pub event_room : Bool
   pub line_room : Bool
 
 abbrev pub recorded : List Event2 → List LineEnd → ℕ → ℕ → Recorded
 recorded events lines most_events most_lines = record {
   steps = steps_from 0 events lines;
   events = left_from 0 events lines;
-  event_room = min most_events 4294967295 - length events;
+  event_room = nat_lt (length events) (min most_events 4294967295);
   line_room = nat_lt (length lines) most_lines;
 }
 

@@ -1,6 +1,6 @@
 //! Transcripts: what each line of a process's script came to.
 
-ghost use Rattle.std.specs.Prelude.{◌≡◌, ◌≤◌, ◌+◌, [], ◌∷◌, ◌++◌, IsTrue, length, OnOk, IfOk};
+ghost use Rattle.std.specs.Prelude.{◌≡◌, [], ◌∷◌, ◌++◌, IsTrue, length, OnOk, IfOk};
 ghost use Rattle.std.specs.Iterator.{YieldsFirstBy, item_count};
 ghost use Rattle.mx_legal.specs.Asking.{result_of};
 ghost use Rattle.mx_legal.specs.Recorded.{IsStill};
@@ -175,26 +175,25 @@ impl Recording {
         self.lines.len()
     }
 
-    /// Makes room for so many more events and for the end of one more line. Want of memory changes nothing that was
-    /// recorded; nor does room.
-    pub fn reserve(&mut self, events: usize) -> Result<(), AllocError>
-        ensures event { OnOk result (events ≤ self.new.event_room) }
+    /// Makes room for one more event and for the end of one more line. Want of memory changes nothing that was recorded;
+    /// nor does room.
+    pub fn reserve(&mut self) -> Result<(), AllocError>
+        ensures event { OnOk result (IsTrue self.new.event_room) }
         ensures line { OnOk result (IsTrue self.new.line_room) }
         ensures same { IsStill self.old self.new }
     {
-        if events > u32::MAX as usize - self.events.len() {
+        if self.events.len() >= u32::MAX as usize {
             return Err(AllocError);
         }
-        self.events.reserve(events)?;
+        self.events.reserve(1)?;
         self.lines.reserve(1)
     }
 
-    /// One more event of the line at work, which takes the room of one.
+    /// One more event of the line at work.
     pub fn push(&mut self, event: Event2)
-        requires { 1 ≤ self.old.event_room }
+        requires { IsTrue self.old.event_room }
         ensures steps { self.new.steps ≡ self.old.steps }
         ensures events { self.new.events ≡ self.old.events ++ event ∷ [] }
-        ensures more { self.old.event_room ≤ self.new.event_room + 1 }
         ensures room { self.new.line_room ≡ self.old.line_room }
     {
         let Ok(()) = self.events.extend_from_slice(&[event]) else {

@@ -1,4 +1,4 @@
-use Rattle.mx_legal.proofs.RecordedLaws.{pushed, one_less}
+use Rattle.mx_legal.proofs.RecordedLaws.{pushed}
 use Rattle.mx_legal.proofs.transcripts.Recording.push.Goals as goal
 
 pub invariant_of-self : goal.invariant_of-self
@@ -9,6 +9,3 @@ returns-clause-steps c = (pushed _ _ _ _ _ _ _ c.self.invariant c.self.view_is c
 
 pub returns-clause-events : goal.returns-clause-events
 returns-clause-events c = (pushed _ _ _ _ _ _ _ c.self.invariant c.self.view_is c.requires c.in-Ok.ensures.items).2
-
-pub returns-clause-more : goal.returns-clause-more
-returns-clause-more c = one_less _ _ _ _ _ _ _ _ c.self.view_is c.in-Ok.ensures.capacity c.in-Ok.ensures.items
