@@ -6,6 +6,7 @@ use Rattle.mx_hier.specs.Branches.{Hierarchy}
 use Rattle.mx_hier.specs.Callers.{Caller}
 use Rattle.mx_hier.specs.declared.refusals.Refusal.{Refusal}
 use Rattle.mx_request.specs.Classes.{class_of}
+use Rattle.mx_request.specs.Sections.{section_in}
 use Rattle.mx_request.specs.declared.classes.RequestClass.TheVariants.{OfPath}
 use Rattle.mx_request.specs.declared.replies.Reply.{Reply}
 use Rattle.mx_request.specs.declared.replies.Reply.TheVariants as reply
@@ -19,7 +20,7 @@ use Rattle.mx_state.specs.declared.journal.Entry as journaled
 use Rattle.mx_legal.specs.Asking.{next, replied, first_due, result_of}
 use Rattle.mx_legal.specs.Courses as course
 use Rattle.mx_legal.specs.Courses.{Judged}
-use Rattle.mx_legal.specs.Filling.{section_of, section_words, snapped, due, links_of}
+use Rattle.mx_legal.specs.Filling.{section_words, snapped, due, links_of}
 use Rattle.mx_legal.specs.Next.{Reference, Ends}
 
 -- a reply that asks for no write, and tells nobody to wait
@@ -36,7 +37,7 @@ IsFinal (reply.Message sender word) = Unit {0}
 IsFinal reply.Nobody = Unit {0}
 
 no_writes : (request : Request) (ring : ℕ) (given : Reply) (links : ℕ) → IsFinal given
-    → section_words (section_of given) links ++ snapped request ring given ≡ []
+    → section_words (section_in given) links ++ snapped request ring given ≡ []
 no_writes request ring (reply.Segno known) links none =
     ap (λ (made : Option ℕ). section_words made links ++ []) none
 no_writes request ring (reply.Linked segno word fresh linkage) links none = absurd none

@@ -2,6 +2,7 @@
 -- order, and the pointer into the word of a snapped link.
 use Rattle.std.specs.Prelude.{ℕ, zero, suc, false, List, [], ◌∷◌, ◌++◌, length, Option, Some, None, slice_get}
 use Rattle.mx_ptr.specs.Pointers.{PointerParts, link_word, pointer_word}
+use Rattle.mx_request.specs.Sections.{section_in}
 use Rattle.mx_request.specs.declared.replies.Reply.{Reply}
 use Rattle.mx_request.specs.declared.replies.Reply.TheVariants as reply
 use Rattle.mx_request.specs.declared.requests.Request.{Request}
@@ -9,19 +10,6 @@ use Rattle.mx_request.specs.declared.requests.Request.TheVariants.{Link}
 use Rattle.mx_state.specs.declared.journal.Entry as journaled
 use Rattle.mx_legal.specs.Courses.{Judged}
 use Rattle.mx_legal.specs.Next.{Reference, storing}
-
--- the linkage section that was made, by its number
-abbrev pub section_of : Reply → Option ℕ
-section_of (reply.Segno known) = known.linkage
-section_of (reply.Linked segno word fresh linkage) = linkage
-section_of reply.Done = None
-section_of (reply.Refused why) = None
-section_of (reply.Status status) = None
-section_of (reply.Names names) = None
-section_of reply.Sent = None
-section_of (reply.Message sender word) = None
-section_of reply.Nobody = None
-section_of reply.Waiting = None
 
 -- a write in ring 0
 abbrev pub fill : ℕ → ℕ → ℕ → Reference
@@ -57,7 +45,7 @@ snapped request ring reply.Waiting = []
 
 -- all writes that a reply asks for, where the section that it made has so many links
 abbrev pub writes_for : journaled.Entry → ℕ → List Reference
-writes_for entry links = section_words (section_of entry.reply) links ++ snapped entry.request entry.ring entry.reply
+writes_for entry links = section_words (section_in entry.reply) links ++ snapped entry.request entry.ring entry.reply
 
 -- A section has as many words as there are links: the bound of the descriptor on which its first write was judged. It
 -- has one at least.
