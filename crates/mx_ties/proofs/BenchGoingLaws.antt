@@ -7,12 +7,12 @@ use Rattle.mx_legal.specs.declared.transcripts.Event2.TheVariants.{Entry}
 use Rattle.mx_legal.specs.Courses.{Answer}
 use Rattle.mx_reads.specs.Deeds.{Stores}
 use Rattle.mx_ties.specs.Bench.{entered_view}
-use Rattle.mx_ties.specs.BenchGoing.{IsBenched, BenchCallLaw, BenchLookLaw, BenchStampLaw, BenchOthersLaw}
+use Rattle.mx_ties.specs.BenchGoing.{IsBenched, BenchCallLaw, BenchLookLaw, BenchFillLaw, BenchStampLaw, BenchOthersLaw}
 use Rattle.mx_ties.specs.Closed.{followed}
 use Rattle.mx_ties.specs.Views.{Marked}
 use Rattle.mx_ties.proofs.JournalLists.{followed_length}
 use Rattle.mx_ties.proofs.Places.{place_last}
-use Rattle.mx_ties.proofs.SoFarLaws.{seen_step_law, entry_step_law}
+use Rattle.mx_ties.proofs.SoFarLaws.{seen_step_law, fill_step_law, entry_step_law}
 
 pub bench_call_law : BenchCallLaw
 bench_call_law x setup history views views' present memory p marked steps number line left now events course b some
@@ -25,11 +25,11 @@ bench_call_law x setup history views views' present memory p marked steps number
     ∙ ap (λ (l : List Marked). l ++ marked ∷ []) (sym retired.told) in
     let entered : length setup + suc (length history) ≡ length (followed setup history) + 1 = omega arith in
     subst (IsBenched x setup p steps number line left now (events ++ Entry (length (followed setup history) + 1) ∷ [])
-    (Answer marked.entry)) (sym mine)
-    (subst (λ (n : ℕ). IsBenched x setup p steps number line left now (events ++ Entry n ∷ []) (Answer marked.entry)
+    (Answer marked.entry [])) (sym mine)
+    (subst (λ (n : ℕ). IsBenched x setup p steps number line left now (events ++ Entry n ∷ []) (Answer marked.entry [])
     (entered_view (views p) (history ++ marked ∷ []) (length (followed setup history) + 1))) entered
     (subst (λ (h : List Marked). IsBenched x setup p steps number line left now
-    (events ++ Entry (length setup + suc (length history)) ∷ []) (Answer marked.entry)
+    (events ++ Entry (length setup + suc (length history)) ∷ []) (Answer marked.entry [])
     (entered_view (views p) h (length (followed setup history) + 1))) whole
     (entry_step_law x setup p steps number line left now events course (views p) (λ segno. limit_of x)
     (λ segno. limit_of x)
@@ -46,6 +46,16 @@ bench_look_law x setup history views views' present memory p j asked steps numbe
     (seen_step_law x setup p steps number line left now events course (views p) (λ segno. limit_of x) asked j
     (length (followed setup history))
     asks right (omega arith) (omega arith) stamps r)
+
+pub bench_fill_law : BenchFillLaw
+bench_fill_law x setup history views views' present memory p j asked value steps number line left now events entry
+    filled b is asks right granted r =
+    let low = (b.closed.retired p is.some is.most).floor in
+    let at = is.point in
+    subst (IsBenched x setup p steps number line left now _ _) (sym is.own)
+    (fill_step_law x setup p steps number line left now events entry filled (views p) (λ segno. limit_of x) asked j value
+    (length (followed setup history))
+    asks right granted (omega arith) (omega arith) r)
 
 pub bench_stamp_law : BenchStampLaw
 bench_stamp_law x setup history views present memory cell b there =

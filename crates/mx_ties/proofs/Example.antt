@@ -168,7 +168,7 @@ third = line_step_law x [] 1 [] 3 4 sta logout [] g g (Core (Seen e) ∷ [])
     (Attempt (j ∷ [])) result.Done view_stored told (λ d. (refl, refl)) second
 
 fourth : HasRunSoFar x [] 1 ((3, Core (Seen e) ∷ [], result.Done) ∷ []) 4 logout [] g (Entry 1 ∷ [])
-    (Answer logged_out) view_out told
+    (Answer logged_out []) view_out told
 fourth = entry_step_law x [] 1 ((3, Core (Seen e) ∷ [], result.Done) ∷ []) 4 logout [] g []
     (Attempt []) view_stored told told (marked ∷ []) marked 0 1
     refl refl refl refl (omega arith) (omega arith) (λ n. omega arith) (λ segno c. omega arith) third
@@ -178,7 +178,7 @@ steps = (3, Core (Seen e) ∷ [], result.Done) ∷ (4, Entry 1 ∷ [], result.Do
 
 ran : HasRun x [] 1 steps view_out
 ran = last_line_law x [] 1 ((3, Core (Seen e) ∷ [], result.Done) ∷ []) 4 logout g g (Entry 1 ∷ [])
-    (Answer logged_out) result.Done view_out told
+    (Answer logged_out []) result.Done view_out told
     (λ d. (refl, refl)) fourth
 
 set_up : IsSetUp x [] []

@@ -11,15 +11,16 @@ use Rattle.mx_script.specs.declared.lines.Line.{Line}
 use Rattle.mx_core.specs.declared.elements.Element.{Element}
 use Rattle.mx_core.specs.declared.elements.Event.{Event}
 use Rattle.mx_core.specs.declared.elements.Event.TheVariants.{Seen, Missing}
+use Rattle.mx_core.specs.declared.elements.Outcome.TheVariants.{Read, Written}
 use Rattle.mx_legal.specs.declared.transcripts.Event2.{Event2}
 use Rattle.mx_legal.specs.declared.transcripts.Event2.TheVariants.{Core, Entry}
 use Rattle.mx_legal.specs.declared.transcripts.Result2.{Result2}
 use Rattle.mx_legal.specs.declared.transcripts.Result2.TheVariants.{HistoryFull}
 use Rattle.mx_legal.specs.Access.{descriptor_of}
 use Rattle.mx_legal.specs.Asking.{next}
-use Rattle.mx_legal.specs.Courses.{Course, Judged}
+use Rattle.mx_legal.specs.Courses.{Course, Attempt, Answer, Judged, seen_in}
 use Rattle.mx_legal.specs.Deeds.{Enters, Misses}
-use Rattle.mx_legal.specs.Lines.{IsEnd}
+use Rattle.mx_legal.specs.Lines.{IsSoFar, IsEnd}
 use Rattle.mx_legal.specs.Openings.{opening_registers}
 use Rattle.mx_legal.specs.Scripts.{lines_of}
 use Rattle.mx_legal.specs.Settings.{entry_at}
@@ -30,11 +31,11 @@ use Rattle.mx_legal.proofs.Extending.{extends_law}
 use Rattle.mx_legal.proofs.GoingOn.{miss_law, call_law, line_law}
 use Rattle.mx_legal.proofs.Growing.{entry_still}
 use Rattle.mx_legal.proofs.RingLaws.{full_end}
-use Rattle.mx_legal.proofs.TraceLaws.{trace_law}
+use Rattle.mx_legal.proofs.TraceLaws.{trace_law, fill_trace_law}
 use Rattle.mx_ties.specs.Closed.{followed, entry_in}
-use Rattle.mx_ties.specs.SoFar.{AreTied, IsFullKept}
-use Rattle.mx_ties.specs.Steps.{SeenStepLaw, FirstLineLaw, NoLineLaw, MissStepLaw, EntryStepLaw, LineStepLaw, LastLineLaw}
-use Rattle.mx_ties.specs.Views.{Referred, Missed, Marked, judged_in}
+use Rattle.mx_ties.specs.SoFar.{AreTied, IsFullKept, PromisesPart, HasRunSoFar}
+use Rattle.mx_ties.specs.Steps.{SeenStepLaw, FillStepLaw, FirstLineLaw, NoLineLaw, MissStepLaw, EntryStepLaw, LineStepLaw, LastLineLaw}
+use Rattle.mx_ties.specs.Views.{Referred, Missed, Marked, View, judged_in}
 use Rattle.mx_ties.proofs.EventsMore.{events_more, named_more, named_same, judged_more, judged_same}
 use Rattle.mx_ties.proofs.JournalLists.{followed_more}
 use Rattle.mx_ties.proofs.Places.{map_at, place_kept, place_found}
@@ -72,31 +73,42 @@ full_more limit floor floor' steps events event l f = record {
       (subst (λ (k : List ℕ). slice_get k i ≡ Some number) (named_same events event) n);
 }
 
-pub seen_step_law : SeenStepLaw
-seen_step_law x setup p steps number line left now events course v told asked j floor asks right low high stamps r =
-    record {
+-- what a process knows of its line at work, it knows with a higher floor
+known_higher : (x : Outline) (front : List journaled.Entry) (floor floor' p : ℕ) (trace : List Judged)
+    (steps : List Step) (number : ℕ) (line : Line) (left : List (ℕ × Line)) (now : Registers) (events : List Event2)
+    (course : Course) → floor ≤ floor'
+    → PromisesPart x front floor trace p steps number line left now events course
+    → PromisesPart x front floor' trace p steps number line left now events course
+known_higher x front floor floor' p trace steps number line left now events course rise known d agrees =
+    extends_law (own_setting x front floor p d) (own_setting x front floor' p d)
+    (opening_registers p) now (lines_of x p) left steps number line events course (record {
+      process = refl;
+      entries = λ n entry h. h;
+      full = λ full. le_to (limit_of x) floor floor' full rise;
+      descriptors = λ place e at. refl;
+    }) (known d agrees)
+
+-- one element more, by whichever law of the line at work
+element_step : (x : Outline) (setup : List journaled.Entry) (p : ℕ) (steps : List Step) (number : ℕ) (line : Line)
+    (left : List (ℕ × Line)) (now : Registers) (events : List Event2) (course after : Course) (v : View)
+    (told : ℕ → ℕ) (j : Judged) (floor : ℕ)
+    → v.floor ≤ j.element.point → j.element.point ≤ floor
+    → ((value writer stamp : ℕ) → j.element.outcome ≡ Read value writer stamp → stamp ≤ floor)
+    → (((d : Element → Descriptor) → AgreesWith d (judged_in v.trace)
+    → IsSoFar (own_setting x (followed setup v.history) floor p d) now line events course)
+    → (d : Element → Descriptor) → AgreesWith d (judged_in v.trace ++ j ∷ [])
+    → IsSoFar (own_setting x (followed setup v.history) floor p d) now line (events ++ Core (Seen j.element) ∷ []) after)
+    → HasRunSoFar x setup p steps number line left now events course v told
+    → HasRunSoFar x setup p steps number line left now (events ++ Core (Seen j.element) ∷ []) after
+    (record v { trace = v.trace ++ Referred j ∷ []; floor = floor }) told
+element_step x setup p steps number line left now events course after v told j floor low high stamps more r =
+    let known = known_higher x (followed setup v.history) v.floor floor p (judged_in v.trace) steps number line left now
+    events course (omega arith) r.lines in record {
       lines = λ d agrees.
           let agrees' = subst (AgreesWith d) (judged_more v.trace j) agrees in
-          let less = agrees_less d (judged_in v.trace) (j ∷ []) agrees' in
-          let part = extends_law (own_setting x (followed setup v.history) v.floor p d)
-          (own_setting x (followed setup v.history) floor p d)
-          (opening_registers p) now (lines_of x p) left steps number line events course (record {
-            process = refl;
-            entries = λ n entry h. h;
-            full = λ full. le_to (limit_of x) v.floor floor full (omega arith);
-            descriptors = λ place e at. refl;
-          }) (r.lines d less) in record {
-            done = part.done;
-            at_work = trace_law (own_setting x (followed setup v.history) floor p d)
-                (judged_in v.trace) now line events course asked j
-                (λ d' a. (extends_law (own_setting x (followed setup v.history) v.floor p d')
-                (own_setting x (followed setup v.history) floor p d')
-                (opening_registers p) now (lines_of x p) left steps number line events course (record {
-                  process = refl;
-                  entries = λ n entry h. h;
-                  full = λ full. le_to (limit_of x) v.floor floor full (omega arith);
-                  descriptors = λ place e at. refl;
-                }) (r.lines d' a)).at_work) asks right d agrees';
+          let less = agrees_less d (judged_in v.trace) (j ∷ []) agrees' in record {
+            done = (known d less).done;
+            at_work = more (λ d' a. (known d' a).at_work) d agrees';
           };
       tied = subst
           (λ (l : List Event2). AreTied x setup p l
@@ -105,6 +117,24 @@ seen_step_law x setup p steps number line left now events course v told asked j 
           (seen_tied x setup p (events_of steps ++ events) v told r.tied j floor low high stamps);
       full = full_more (limit_of x) v.floor floor steps events (Seen j.element) (omega arith) r.full;
     }
+
+pub seen_step_law : SeenStepLaw
+seen_step_law x setup p steps number line left now events course v told asked j floor asks right low high stamps r =
+    element_step x setup p steps number line left now events course (Attempt (seen_in course ++ j ∷ [])) v told j floor
+    low high stamps
+    (λ known. trace_law (own_setting x (followed setup v.history) floor p (descriptor_of x [] p))
+    (judged_in v.trace) now line events course asked j known asks right) r
+
+pub fill_step_law : FillStepLaw
+fill_step_law x setup p steps number line left now events entry filled v told asked j value floor asks right granted low
+    high r =
+    element_step x setup p steps number line left now events (Answer entry filled) (Answer entry (filled ++ j ∷ [])) v
+    told j floor low high (λ value' writer stamp came. absurd (written value' writer stamp (sym granted ∙ came)))
+    (λ known. fill_trace_law (own_setting x (followed setup v.history) floor p (descriptor_of x [] p))
+    (judged_in v.trace) now line events entry filled asked j value known asks right granted) r
+  where
+    written : (value' writer stamp : ℕ) → Written value ≡ Read value' writer stamp → ⊥
+    written value' writer stamp e = cc
 
 pub miss_step_law : MissStepLaw
 miss_step_law x setup p steps number line left now events course v told told' asked segno by floor more asks above

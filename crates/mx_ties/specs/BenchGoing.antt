@@ -6,13 +6,13 @@ use Rattle.mx_state.specs.declared.journal.Entry as journaled
 use Rattle.mx_script.specs.Sessions.{Outline, limit_of}
 use Rattle.mx_script.specs.declared.lines.Line.{Line}
 use Rattle.mx_core.specs.declared.elements.Event.TheVariants.{Seen}
-use Rattle.mx_core.specs.declared.elements.Outcome.TheVariants.{Read}
+use Rattle.mx_core.specs.declared.elements.Outcome.TheVariants.{Read, Written}
 use Rattle.mx_legal.specs.declared.transcripts.Event2.{Event2}
 use Rattle.mx_legal.specs.declared.transcripts.Event2.TheVariants.{Core, Entry}
 use Rattle.mx_legal.specs.Asking.{next}
 use Rattle.mx_legal.specs.Courses.{Course, Attempt, Answer, Judged, seen_in}
 use Rattle.mx_legal.specs.Elements.{IsJudged}
-use Rattle.mx_legal.specs.Next.{Reference, Asks, Calls}
+use Rattle.mx_legal.specs.Next.{Reference, Asks, Fills, Calls}
 use Rattle.mx_legal.specs.Transcripts.{Step}
 use Rattle.mx_reads.specs.Deeds.{CellUse}
 use Rattle.mx_reads.specs.Held.{Held}
@@ -39,7 +39,7 @@ BenchCallLaw = (x : Outline) (setup : List journaled.Entry) (history : List Mark
     → views' p ≡ entered_view (views p) (history ++ marked ∷ []) (length (followed setup history) + 1)
     → IsBenched x setup p steps number line left now events course (views p)
     → IsBenched x setup p steps number line left now (events ++ Entry (length (followed setup history) + 1) ∷ [])
-    (Answer marked.entry) (views' p)
+    (Answer marked.entry []) (views' p)
 
 -- it makes the reference that its line asks for
 abbrev pub BenchLookLaw : Type 0
@@ -53,6 +53,19 @@ BenchLookLaw = (x : Outline) (setup : List journaled.Entry) (history : List Mark
     → IsBenched x setup p steps number line left now (events ++ Core (Seen j.element) ∷ [])
     (Attempt (seen_in course ++ j ∷ []))
     (views' p)
+
+-- it makes the write that a reply asks for, and is granted it
+abbrev pub BenchFillLaw : Type 0
+BenchFillLaw = (x : Outline) (setup : List journaled.Entry) (history : List Marked) (views views' : ℕ → View)
+    (present : CellUse → Bool) (memory : CellUse → Held) (p : ℕ) (j : Judged) (asked : Reference) (value : ℕ)
+    (steps : List Step) (number : ℕ) (line : Line) (left : List (ℕ × Line)) (now : Registers) (events : List Event2)
+    (entry : journaled.Entry) (filled : List Judged)
+    → IsBench x setup history views present memory → IsReferred x setup history views views' p j
+    → next now line (Answer entry filled) ≡ Fills asked → IsJudged asked j.desc j.element
+    → j.element.outcome ≡ Written value
+    → IsBenched x setup p steps number line left now events (Answer entry filled) (views p)
+    → IsBenched x setup p steps number line left now (events ++ Core (Seen j.element) ∷ [])
+    (Answer entry (filled ++ j ∷ [])) (views' p)
 
 -- what a cell holds has no stamp beyond the journal
 abbrev pub BenchStampLaw : Type 0

@@ -7,7 +7,7 @@ use Rattle.mx_script.specs.Sessions.{Outline}
 use Rattle.mx_script.specs.declared.lines.Line.{Line}
 use Rattle.mx_core.specs.declared.elements.Element.{Element}
 use Rattle.mx_core.specs.declared.elements.Event.TheVariants.{Seen, Missing}
-use Rattle.mx_core.specs.declared.elements.Outcome.TheVariants.{Read}
+use Rattle.mx_core.specs.declared.elements.Outcome.TheVariants.{Read, Written}
 use Rattle.mx_legal.specs.declared.transcripts.Event2.{Event2}
 use Rattle.mx_legal.specs.declared.transcripts.Event2.TheVariants.{Core, Entry}
 use Rattle.mx_legal.specs.declared.transcripts.Result2.{Result2}
@@ -17,7 +17,7 @@ use Rattle.mx_legal.specs.Elements.{IsJudged}
 use Rattle.mx_legal.specs.Legal.{setup_entries}
 use Rattle.mx_legal.specs.Lines.{IsEnd}
 use Rattle.mx_legal.specs.Misses.{IsChanged}
-use Rattle.mx_legal.specs.Next.{Reference, Asks, Calls}
+use Rattle.mx_legal.specs.Next.{Reference, Asks, Fills, Calls}
 use Rattle.mx_legal.specs.Openings.{opening_registers}
 use Rattle.mx_legal.specs.Scripts.{lines_of}
 use Rattle.mx_legal.specs.Standing.{own_setting}
@@ -38,6 +38,19 @@ SeenStepLaw = (x : Outline) (setup : List journaled.Entry) (p : ℕ) (steps : Li
     → HasRunSoFar x setup p steps number line left now events course v told
     → HasRunSoFar x setup p steps number line left now (events ++ Core (Seen j.element) ∷ [])
     (Attempt (seen_in course ++ j ∷ []))
+    (record v { trace = v.trace ++ Referred j ∷ []; floor = floor }) told
+
+-- a write that a reply asks for, granted, from the floor on
+abbrev pub FillStepLaw : Type 0
+FillStepLaw = (x : Outline) (setup : List journaled.Entry) (p : ℕ) (steps : List Step) (number : ℕ) (line : Line)
+    (left : List (ℕ × Line)) (now : Registers) (events : List Event2) (entry : journaled.Entry) (filled : List Judged)
+    (v : View) (told : ℕ → ℕ) (asked : Reference) (j : Judged) (value floor : ℕ)
+    → next now line (Answer entry filled) ≡ Fills asked → IsJudged asked j.desc j.element
+    → j.element.outcome ≡ Written value
+    → v.floor ≤ j.element.point → j.element.point ≤ floor
+    → HasRunSoFar x setup p steps number line left now events (Answer entry filled) v told
+    → HasRunSoFar x setup p steps number line left now (events ++ Core (Seen j.element) ∷ [])
+    (Answer entry (filled ++ j ∷ []))
     (record v { trace = v.trace ++ Referred j ∷ []; floor = floor }) told
 
 -- a miss above what the process was told, and what it is told then
@@ -63,7 +76,7 @@ EntryStepLaw = (x : Outline) (setup : List journaled.Entry) (p : ℕ) (steps : L
     → length setup + suc place ≤ told' segno)
     → HasRunSoFar x setup p steps number line left now events course v told
     → HasRunSoFar x setup p steps number line left now (events ++ Entry (length setup + suc place) ∷ [])
-    (Answer marked.entry)
+    (Answer marked.entry [])
     (record v { history = v.history ++ more; floor = floor; amount = suc v.amount }) told'
 
 -- the line ends, and the next one begins

@@ -1,14 +1,14 @@
 //! Laws over the definitions.
 
 ghost use Rattle.mx_ties.specs.Bench.{BenchOpeningLaw, BenchEntryLaw, BenchStoreLaw, BenchLoadLaw, BenchQuietLaw};
-ghost use Rattle.mx_ties.specs.BenchGoing.{BenchCallLaw, BenchLookLaw, BenchStampLaw, BenchOthersLaw};
+ghost use Rattle.mx_ties.specs.BenchGoing.{BenchCallLaw, BenchLookLaw, BenchFillLaw, BenchStampLaw, BenchOthersLaw};
 ghost use Rattle.mx_ties.specs.Counting.{CountingLaw};
 ghost use Rattle.mx_ties.specs.Finished.{FinishedLaw};
 ghost use Rattle.mx_ties.specs.Fronts.{FrontLaw};
 ghost use Rattle.mx_ties.specs.Going.{SeenLaw, MissLaw, EnteredLaw};
 ghost use Rattle.mx_ties.specs.Matching.{TransportLaw};
 ghost use Rattle.mx_ties.specs.Sample.{Sample};
-ghost use Rattle.mx_ties.specs.Steps.{FirstLineLaw, NoLineLaw, SeenStepLaw, MissStepLaw, EntryStepLaw, LineStepLaw, LastLineLaw};
+ghost use Rattle.mx_ties.specs.Steps.{FirstLineLaw, NoLineLaw, SeenStepLaw, FillStepLaw, MissStepLaw, EntryStepLaw, LineStepLaw, LastLineLaw};
 
 /// A run whose processes have all run, and whose office is closed, is legal.
 pub fn finished_law()
@@ -43,6 +43,7 @@ pub fn steps_law()
     ensures first { FirstLineLaw }
     ensures none { NoLineLaw }
     ensures seen { SeenStepLaw }
+    ensures filled { FillStepLaw }
     ensures missed { MissStepLaw }
     ensures entered { EntryStepLaw }
     ensures line { LineStepLaw }
@@ -62,6 +63,7 @@ pub fn bench_law()
 pub fn bench_going_law()
     ensures call { BenchCallLaw }
     ensures look { BenchLookLaw }
+    ensures fill { BenchFillLaw }
     ensures stamp { BenchStampLaw }
     ensures others { BenchOthersLaw }
 {}
