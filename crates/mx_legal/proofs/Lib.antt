@@ -3,6 +3,7 @@ pub mod Extending
 pub mod Outcomes
 pub mod AwaitLaws
 pub mod FinalReplies
+pub mod DueLaws
 pub mod Ends
 pub mod Moving
 pub mod LastReference

@@ -32,6 +32,7 @@ pub mod Rings
 pub mod Printed
 pub mod SetupLines
 -- laws: for whoever runs lines
+pub mod Dues
 pub mod SoFar
 pub mod Standing
 -- wrong runs that are refused
@@ -39,6 +40,7 @@ pub mod WrongLines
 pub mod PointerLines
 pub mod CallLines
 pub mod WaitingLines
+pub mod LinkLines
 pub mod WrongPoints
 pub mod WrongReads
 pub mod WrongFalls

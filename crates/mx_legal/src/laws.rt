@@ -1,5 +1,6 @@
 //! Laws over the definitions.
 
+ghost use Rattle.mx_legal.specs.Dues.{SectionWordLaw, SnappedLaw, NoMoreLaw};
 ghost use Rattle.mx_legal.specs.Printed.{EachReferenceLaw};
 ghost use Rattle.mx_legal.specs.Rings.{LineRingsLaw, RingsLaw, LegalRingsLaw};
 ghost use Rattle.mx_legal.specs.SetupLines.{SetupLinesLaw};
@@ -19,6 +20,13 @@ pub fn event_law()
     ensures fill { FillLaw }
     ensures miss { MissLaw }
     ensures call { CallLaw }
+{}
+
+/// A reply asks for the link words of the section that it made, then for the pointer of a snapped link, and for no more.
+pub fn due_law()
+    ensures word { SectionWordLaw }
+    ensures pointer { SnappedLaw }
+    ensures none { NoMoreLaw }
 {}
 
 /// A line that came to its end is one line more.
