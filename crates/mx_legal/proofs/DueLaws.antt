@@ -1,5 +1,5 @@
 -- What a reply asks for, write by write.
-use Rattle.std.proofs.Common.{◌≡◌, ℕ, zero, suc, ◌+◌, ◌<◌, ◌≤◌, Bool, false, List, [], ◌∷◌, ◌++◌, length, Option, Some, None, refl, ap, sym, ◌∙◌, subst, arith}
+use Rattle.std.proofs.Common.{◌≡◌, ℕ, zero, suc, ◌+◌, ◌<◌, ◌≤◌, Bool, false, List, ◌++◌, length, Option, Some, None, refl, ap, ◌∙◌, arith}
 use Rattle.std.specs.List.{slice_get}
 use Rattle.std.proofs.lemmas.List.{length-append}
 use Rattle.std.proofs.lemmas.Option.{slice_get_past}
@@ -128,6 +128,6 @@ no_more_law entry filled enough =
     let long = section_long (section_in entry.reply) (links_of filled) in
     let most = pointers_most entry.request entry.ring entry.reply in
     let both : length (section_words (section_in entry.reply) (links_of filled) ++ snapped entry.request entry.ring entry.reply)
-        ≡ length (section_words (section_in entry.reply) (links_of filled)) + length (snapped entry.request entry.ring entry.reply) =
+    ≡ length (section_words (section_in entry.reply) (links_of filled)) + length (snapped entry.request entry.ring entry.reply) =
     length-append (section_words (section_in entry.reply) (links_of filled)) (snapped entry.request entry.ring entry.reply) in
     slice_get_past _ (length filled) (omega (arith, long, most, both, enough))

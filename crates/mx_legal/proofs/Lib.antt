@@ -20,5 +20,6 @@ mod WrongLineLaws
 mod PointerLineLaws
 mod CallLineLaws
 mod WaitingLineLaws
+mod LinkLineLaws
 mod WrongRuleLaws
 pub mod RecordedLaws

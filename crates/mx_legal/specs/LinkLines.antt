@@ -76,9 +76,12 @@ abbrev pub stored : ℕ → ℕ → ℕ → Element
 stored segno word value =
     record { kind = kind.Write; segno = segno; word = word; ring = 0; point = 12; outcome = outcome.Written value }
 
--- octal 46 and 246: the link words 0 and 1
+-- octal 46, the link word 0; octal 246 is the link word 1
 abbrev pub word_0 : Element
 word_0 = stored 9 0 38
+
+abbrev pub denied_word : Element
+denied_word = record (stored 12 0 38) { outcome = outcome.Denied denial.NotWritable }
 
 -- octal 1240001643: the pointer to 12|7 with ring 4
 abbrev pub snapped : Element
@@ -110,24 +113,24 @@ pub record RightLinks : Type 0 where
   -- the object is made known, and its link word stored in its linkage section
   pub made : IsLine (setting false) g initiate (Entry 1 ∷ Core (Seen word_0) ∷ []) result.Done g
   -- it is known already, and no section is made
-  pub known : IsLine (setting false) g initiate (Entry 7 ∷ []) result.Done g
+  pub known_before : IsLine (setting false) g initiate (Entry 7 ∷ []) result.Done g
   -- the first use: the link is met and snapped, and the line begins anew
-  pub snapped : IsLine (setting false) g (epp 2)
+  pub first_use : IsLine (setting false) g (epp 2)
       (Core (Seen met) ∷ Entry 2 ∷ Core (Seen snapped) ∷ Core (Seen followed) ∷ []) (target 2)
       (loaded g 2 (pointer 4 10 7))
   -- the second use, without a fault
-  pub again : IsLine (setting false) g (epp 3) (Core (Seen followed) ∷ []) (target 3) (loaded g 3 (pointer 4 10 7))
+  pub second_use : IsLine (setting false) g (epp 3) (Core (Seen followed) ∷ []) (target 3) (loaded g 3 (pointer 4 10 7))
   -- in ring 1 by a register in ring 4: the call is made in the ring in which the link was read
-  pub outer : IsLine (setting false) in_ring_1 epp_register
+  pub by_register : IsLine (setting false) in_ring_1 epp_register
       (Core (Seen met) ∷ Entry 2 ∷ Core (Seen snapped) ∷ Core (Seen followed) ∷ []) (target 2)
       (loaded in_ring_1 2 (pointer 4 10 7))
   -- the target's linkage section is made too: its two link words come before the pointer
-  pub section_too : IsLine (setting false) g (epp 2)
+  pub with_section : IsLine (setting false) g (epp 2)
       (Core (Seen met) ∷ Entry 5 ∷ Core (Seen (stored 11 0 38)) ∷ Core (Seen (stored 11 1 166)) ∷ Core (Seen snapped)
       ∷ Core (Seen followed) ∷ []) (target 2) (loaded g 2 (pointer 4 10 7))
   -- the link is refused; the link found the journal full
-  pub refused : IsLine (setting false) g (epp 2) (Core (Seen met) ∷ Entry 3 ∷ []) result.Refused g
-  pub full : IsLine (setting true) g (epp 2) (Core (Seen met) ∷ []) result.HistoryFull g
+  pub link_refused : IsLine (setting false) g (epp 2) (Core (Seen met) ∷ Entry 3 ∷ []) result.Refused g
+  pub link_full : IsLine (setting true) g (epp 2) (Core (Seen met) ∷ []) result.HistoryFull g
 
 -- no such line
 abbrev pub Never : Registers → Line → List Event2 → Result2 → Type 0
@@ -142,7 +145,7 @@ pub record WrongLinks : Type 0 where
   -- its write is missed, or denied
   pub missed : Never g initiate (Entry 1 ∷ Core (Missing 9 1) ∷ []) result.Done
   pub denied : Never g initiate
-      (Entry 6 ∷ Core (Seen (record (stored 12 0 38) { outcome = outcome.Denied denial.NotWritable })) ∷ [])
+      (Entry 6 ∷ Core (Seen denied_word) ∷ [])
       (result.Denied denial.NotWritable)
   -- the pointer is not stored; it is stored with ring 0, or with further indirection
   pub unsnapped : Never g (epp 2) (Core (Seen met) ∷ Entry 2 ∷ Core (Seen followed) ∷ []) (target 2)

@@ -7,6 +7,7 @@ ghost use Rattle.mx_legal.specs.SetupLines.{SetupLinesLaw};
 ghost use Rattle.mx_legal.specs.SoFar.{ReferenceLaw, FillLaw, MissLaw, CallLaw, LineLaw, ExtendsLaw, GrownLaw, OneOutcomeLaw};
 ghost use Rattle.mx_legal.specs.Standing.{WalkBegunLaw, WalkLaw, TraceLaw, FillTraceLaw, PromiseLaw, FullLaw};
 ghost use Rattle.mx_legal.specs.CallLines.{RightTransfers, WrongTransfers, WrongRegisters};
+ghost use Rattle.mx_legal.specs.LinkLines.{RightLinks, WrongLinks};
 ghost use Rattle.mx_legal.specs.PointerLines.{RightPointers, WrongPointers};
 ghost use Rattle.mx_legal.specs.WaitingLines.{RightWaits, WrongWaits, LimitLines};
 ghost use Rattle.mx_legal.specs.WrongFalls.{WrongFalls};
@@ -88,6 +89,13 @@ pub fn a_wait_is_two_entries()
     ensures right { RightWaits }
     ensures wrong { WrongWaits }
     ensures numbers { LimitLines }
+{}
+
+/// An object with a link is made known with its link words; the link is snapped at its first use, and the line begins anew. A
+/// line that departs from it is refused.
+pub fn a_snapped_link_begins_anew()
+    ensures right { RightLinks }
+    ensures wrong { WrongLinks }
 {}
 
 /// Wrong runs, each one change away from a right one that stands beside them, are refused: at least three by each
