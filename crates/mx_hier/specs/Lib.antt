@@ -31,3 +31,4 @@ pub mod Who
 pub mod Listed
 pub mod Stops
 pub mod NameTexts
+pub mod Linkage

@@ -1,37 +1,68 @@
 -- `initiate PATH [NAME]`, `terminate S` and `link S|W`: the requests on what a process knows.
-use Rattle.std.specs.Prelude.{ℕ, Bool, false, List, [], ◌∷◌, Option, Some, None, Result, Ok, Err}
-use Rattle.mx_hier.specs.Rules.{first_of, onward, unless}
+use Rattle.std.specs.Prelude.{ℕ, List, Option, Some, None, Result, Ok, Err, is_some, if◌then◌else◌}
+use Rattle.mx_hier.specs.Rules.{onward}
 use Rattle.mx_hier.specs.declared.refusals.Refusal.{Refusal}
-use Rattle.mx_hier.specs.declared.refusals.Refusal.TheVariants.{NameDup, KstFull, NotLinkage, UnknownSegno}
-use Rattle.mx_kst.specs.Initiating.{Initiated, is_taken, is_full, initiated}
+use Rattle.mx_hier.specs.declared.refusals.Refusal.TheVariants as refusal
 use Rattle.mx_kst.specs.KnownSegments.{KnownSegments}
-use Rattle.mx_request.specs.declared.replies.Reply.TheVariants.{Done, Refused, Segno}
+use Rattle.mx_kst.specs.Names.{named}
+use Rattle.mx_link.specs.declared.resolving.LinkError.{LinkError}
+use Rattle.mx_link.specs.declared.resolving.LinkError.TheVariants.{SegmentNotFound, NotObject, NoDefinition, Memory}
+use Rattle.mx_link.specs.declared.resolving.Target.{Target}
+use Rattle.mx_request.specs.declared.replies.Reply.TheVariants.{Done, Refused, Segno, Linked}
 use Rattle.mx_state.specs.declared.states.ProcessState.{ProcessState}
+use Rattle.mx_state.specs.Askers.{unmade}
+use Rattle.mx_state.specs.Connecting.{Connected, connect}
+use Rattle.mx_state.specs.Linking.{Link, link_at, link_target, found_uid}
 use Rattle.mx_state.specs.Plain.{Plain, Answer, answer, with_process}
 
--- the name stands in the ring for another number; the segment is not known, and no number is left
-abbrev pub initiate_refusals : KnownSegments → ℕ → ℕ → Option (List ℕ) → List (Bool × Refusal)
-initiate_refusals known uid ring name =
-    (is_taken known uid ring name, NameDup) ∷ (is_full known uid false, KstFull) ∷ []
+-- the state in which a segment has become known to the process
+abbrev pub knowing_more : Plain → ℕ → ProcessState → Connected → Plain
+knowing_more s p process connected =
+    record (with_process s p (record process { known = connected.after })) { hierarchy = connected.hierarchy }
 
--- how the segment is known then; no segment has a linkage section yet
-abbrev pub known_then : KnownSegments → ℕ → Option (List ℕ) → ℕ → Result Initiated Refusal
-known_then known ring name uid =
-    unless (first_of (initiate_refusals known uid ring name)) (initiated known uid ring name None)
-
-abbrev pub given : Plain → ℕ → ProcessState → Result Initiated Refusal → Answer
-given s p process (Ok known) = answer (Segno known.known) (with_process s p (record process { known = known.after }))
+abbrev pub given : Plain → ℕ → ProcessState → Result Connected Refusal → Answer
+given s p process (Ok connected) = answer (Segno connected.known) (knowing_more s p process connected)
 given s p process (Err why) = answer (Refused why) s
 
 -- `initiate`, by the uid of the segment at the path, or why there is none
 abbrev pub initiate : Plain → ℕ → ℕ → ProcessState → Option (List ℕ) → Result ℕ Refusal → Answer
-initiate s p ring process name segment = given s p process (onward segment (known_then process.known ring name))
+initiate s p ring process name segment =
+    given s p process (onward segment (connect s.hierarchy process.known ring name))
 
 -- `terminate`, by what is known without the number, unless that is not the number of a known segment
 abbrev pub terminate : Plain → ℕ → ProcessState → Option KnownSegments → Answer
 terminate s p process (Some known) = answer Done (with_process s p (record process { known = known }))
-terminate s p process None = answer (Refused UnknownSegno) s
+terminate s p process None = answer (Refused refusal.UnknownSegno) s
 
--- `link`: a process has no linkage section yet
-abbrev pub link : Plain → Answer
-link s = answer (Refused NotLinkage) s
+-- the name under which the segment that was found becomes known in the ring, unless the ring has it already
+abbrev pub free_name : KnownSegments → ℕ → List ℕ → Option (List ℕ)
+free_name known ring name = if is_some (named known.names ring name) then None else Some name
+
+abbrev pub linked : Plain → ℕ → ProcessState → ℕ → Result Connected Refusal → Answer
+linked s p process word (Ok connected) =
+    answer (Linked connected.known.segno word connected.known.fresh connected.known.linkage)
+    (knowing_more s p process connected)
+linked s p process word (Err why) = answer (Refused why) s
+
+-- what is found is a segment of the hierarchy
+abbrev pub link_to : Plain → ℕ → ℕ → ProcessState → Link → ℕ → Option ℕ → Answer
+link_to s p ring process link word (Some uid) =
+    linked s p process word (connect s.hierarchy process.known ring (free_name process.known ring link.segment) uid)
+link_to s p ring process link word None = unmade s
+
+-- where the link leads, or why it leads nowhere; want of memory is no answer of the plain supervisor
+abbrev pub link_towards : Plain → ℕ → ℕ → ProcessState → Link → Result Target LinkError → Answer
+link_towards s p ring process link (Ok to) = link_to s p ring process link to.word (found_uid process.known to.found)
+link_towards s p ring process link (Err SegmentNotFound) = answer (Refused refusal.SegmentNotFound) s
+link_towards s p ring process link (Err NotObject) = answer (Refused refusal.NotObject) s
+link_towards s p ring process link (Err NoDefinition) = answer (Refused refusal.NoDefinition) s
+link_towards s p ring process link (Err Memory) = unmade s
+
+abbrev pub link_by : Plain → ℕ → ℕ → ProcessState → Option Link → Answer
+link_by s p ring process None = answer (Refused refusal.NotLinkage) s
+link_by s p ring process (Some link) =
+    link_towards s p ring process link (link_target s.hierarchy process ring link)
+
+-- `link`, by the word of a linkage section at which the fault came, in the ring in which it was read
+abbrev pub link : Plain → ℕ → ℕ → ProcessState → ℕ → ℕ → Answer
+link s p ring process segno word = link_by s p ring process (link_at s.hierarchy process.known segno word)

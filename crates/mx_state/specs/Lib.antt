@@ -1,11 +1,15 @@
 pub mod Plain
 pub mod Askers
 pub mod Numbers
+pub mod Sections
+pub mod Connecting
+pub mod Linking
 pub mod Knowing
 pub mod OwnState
 pub mod Messages
 pub mod Requests
 pub mod Table
+pub mod Told
 pub mod Changes
 pub mod History
 pub mod Serving

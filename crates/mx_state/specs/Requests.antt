@@ -71,6 +71,6 @@ plain s p ring (ask.Terminate segno) =
     on_process s p (λ process. terminate s p process (kst.terminate process.known segno))
 plain s p ring (ask.Wakeup to word) = on_process s p (λ process. wakeup s p to word)
 plain s p ring ask.Block = on_process s p (λ process. block s p)
-plain s p ring (ask.Link segno word) = on_process s p (λ process. link s)
+plain s p ring (ask.Link segno word) = on_process s p (λ process. link s p ring process segno word)
 plain s p ring ask.Resume = on_process s p (λ process. block s p)
 plain s p ring ask.Logout = on_process s p (λ process. logout s p)

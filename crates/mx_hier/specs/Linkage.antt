@@ -1,0 +1,30 @@
+-- What the hierarchy says of linkage sections: how many links an object has, which brackets a section made of it now
+-- has, and the page that it is given. A page that was given out stays so.
+use Rattle.std.specs.Prelude.{ℕ, length, Option, Some, None}
+use Rattle.std.specs.Option.{option_map}
+use Rattle.mx_object.specs.Objects.{PlainObjectMap}
+use Rattle.mx_pages.specs.Runs.{run_given, after_run}
+use Rattle.mx_sdw.specs.Rings.{Bracketing}
+use Rattle.mx_hier.specs.Branches.{Hierarchy, segment_at, object_at}
+
+-- a segment that is no object has no links
+abbrev pub links_of : Option PlainObjectMap → ℕ
+links_of None = 0
+links_of (Some object) = length object.links
+
+abbrev pub links_at : Hierarchy → ℕ → ℕ
+links_at h uid = links_of (object_at h uid)
+
+-- written where the object is written, and read where it is read
+abbrev pub linkage_brackets : Bracketing → Bracketing
+linkage_brackets object = record { r1 = object.r1; r2 = object.r2; r3 = object.r2 }
+
+abbrev pub linkage_brackets_at : Hierarchy → ℕ → Option Bracketing
+linkage_brackets_at h uid = option_map (λ segment. linkage_brackets segment.brackets) (segment_at h uid)
+
+-- the page that is given out next
+abbrev pub page_given : Hierarchy → Option ℕ
+page_given h = run_given h.pages 1
+
+abbrev pub with_page_given : Hierarchy → Hierarchy
+with_page_given h = record h { pages = after_run h.pages 1 (page_given h) }
