@@ -1,16 +1,16 @@
 -- What a request does to the branches leaves every segment on pages of its own.
-use Rattle.std.proofs.Common.{◌≡◌, ◌≢◌, ◌⊎◌, inl, inr, ℕ, ◌+◌, ◌-◌, ◌<◌, ◌≤◌, eqb, cond, not, Bool, true, false, List, [], ◌∷◌, ◌++◌, Option, Some, None, refl, sym, ap, subst, ◌∙◌, arith}
+use Rattle.std.proofs.Common.{◌≡◌, ◌≢◌, ◌⊎◌, inl, inr, ℕ, ◌+◌, ◌-◌, ◌<◌, ◌≤◌, eqb, cond, not, nat_le, Bool, true, false, List, [], ◌∷◌, ◌++◌, Option, Some, None, refl, sym, ap, subst, ◌∙◌, arith}
 use Rattle.std.proofs.lemmas.Bool.{eqb-true, ne_eqb}
 use Rattle.std.specs.Option.{option_and_then}
 use Rattle.mx_acl.specs.Access.{Access}
 use Rattle.mx_object.specs.Objects.{PlainObjectMap}
-use Rattle.mx_pages.specs.Runs.{PageMap, pages_for, IsFreeRun, IsFree, after_run}
+use Rattle.mx_pages.specs.Runs.{PageMap, page_count, pages_for, IsFreeRun, IsFree, run_given, after_run}
 use Rattle.mx_sdw.specs.Rings.{Bracketing}
 use Rattle.mx_hier.specs.declared.branches.Branch.{Branch}
 use Rattle.mx_hier.specs.declared.branches.Segment.{Segment}
 use Rattle.mx_hier.specs.declared.branches.Node.{Node}
 use Rattle.mx_hier.specs.declared.branches.Node.TheVariants.{Directory as IsDirectory, Segment as IsSegment, Link as IsLink}
-use Rattle.mx_hier.specs.Branches.{branch_of, as_segment, segment_in}
+use Rattle.mx_hier.specs.Branches.{Hierarchy, branch_of, as_segment, segment_in, segment_at}
 use Rattle.mx_hier.specs.Changing.{changed, with_node, acl_changed}
 use Rattle.mx_hier.specs.Delete.{without}
 use Rattle.mx_hier.specs.SetBrackets.{bracketed}
@@ -256,3 +256,26 @@ pub stored_at : (branches : List Branch) (next uid : ℕ) (pages : PageMap) (obj
     → branch.node ≡ IsSegment segment → IsSound branches next pages objects → IsStored segment
 stored_at branches next uid pages objects branch segment is node sound =
     sound.stored uid segment (ap (option_and_then (λ (branch : Branch). as_segment branch.node)) is ∙ ap as_segment node)
+
+-- a page that is given out, if there is one, is free no more, and every other is as it was
+pub sound_paged : (branches : List Branch) (next : ℕ) (pages after : PageMap) (objects : Objects) → after ≡ after_run pages 1 (run_given pages 1)
+    → IsSound branches next pages objects → IsSound branches next after objects
+sound_paged branches next pages after objects given sound = rw given (record {
+  first = sound.first;
+  last = sound.last;
+  stored = sound.stored;
+  taken = λ uid page segment is has free. sound.taken uid page segment is has (was_free page (nat_le (pages.unused + 1) page_count) free);
+  apart = sound.apart;
+  maps = sound.maps;
+})
+  where
+    was_free : (page : ℕ) (b : Bool) → IsFree (after_run pages 1 (cond b (Some pages.unused) None)) page → IsFree pages page
+    was_free page true free = (omega (arith, free.0), free.1)
+    was_free page false free = free
+
+-- a page that is free is that of no segment
+pub page_apart : (h : Hierarchy) (page uid : ℕ) (segment : Segment) → IsSound h.branches h.next h.pages h.objects → IsFreeRun h.pages 1 page
+    → segment_at h uid ≡ Some segment → HasPage segment page → ⊥
+page_apart h page uid segment sound run is has =
+    let at : page + 0 ≡ page = omega arith in
+    sound.taken uid page segment is has (subst (IsFree h.pages) at (run 0 (omega arith)))

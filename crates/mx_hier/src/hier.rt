@@ -1,6 +1,6 @@
 //! The hierarchy.
 
-ghost use Rattle.std.specs.Prelude.{◌≡◌, ◌<◌, ◌≤◌, [], ◌∷◌, IfOk, IfSome};
+ghost use Rattle.std.specs.Prelude.{◌≡◌, ◌<◌, ◌≤◌, [], ◌∷◌, IfOk, IfSome, is_some};
 ghost use Rattle.std.specs.Option.{option_map};
 ghost use Rattle.mx_hier.specs.Branches.{Hierarchy, directory_at, segment_at, object_at, target_at, holder, holding};
 ghost use Rattle.mx_hier.specs.Objects.{gate_of};
@@ -88,8 +88,15 @@ impl Hier {
         }
     }
 
-    /// The map of the object segment of a uid, of a deleted one too.
-    pub(crate) fn object_at(&self, uid: u32) -> Option<&ObjectMap>
+    /// Whether a segment stands at a uid: one that was deleted does not. Takes no memory.
+    pub fn is_segment(&self, uid: u32) -> bool
+        ensures { result ≡ is_some (segment_at self.now uid) }
+    {
+        self.segment_at(uid).is_some()
+    }
+
+    /// The map of the object segment of a uid, of a deleted one too. Takes no memory.
+    pub fn object_at(&self, uid: u32) -> Option<&ObjectMap>
         ensures value { option_map (λ object. object.now) result ≡ object_at self.now uid }
         ensures gates { gate_of (object_at self.now uid) ≤ 1024 }
     {
@@ -106,8 +113,9 @@ impl Hier {
         }
     }
 
-    /// The uid of the directory that holds the entry of a uid; the root holds itself.
-    pub(crate) fn holder(&self, uid: u32) -> Option<u32>
+    /// The uid of the directory that holds the entry of a uid now; the root holds itself. None where it was deleted.
+    /// Takes no memory.
+    pub fn holder(&self, uid: u32) -> Option<u32>
         ensures { result ≡ holder self.now uid }
     {
         if uid == 0 {

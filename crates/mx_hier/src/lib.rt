@@ -1,10 +1,11 @@
 //! The hierarchy: directories, segments, object segments and links, and every request that reaches them by a pathname.
 //!
 //! A contract sees a hierarchy as the root directory, a plain list of branches, the next uid, the pages, and the maps
-//! of object segments by uid, which stay when their segments are deleted. Each request is a definition over that list, with its refusals in the order of the table, and each call has the exact
-//! answer and the exact hierarchy that its definition gives; a refusal, and the want of memory, change nothing.
-//! Behind it stand a table of branches by uid and a map of names for each directory. Stands on names, access lists,
-//! brackets and pages.
+//! of object segments by uid, which stay when their segments are deleted. Each request is a definition over that list,
+//! with its refusals in the order of the table, and each call has the exact answer and the exact hierarchy that its
+//! definition gives; a refusal, and the want of memory, change nothing. Behind it stand a table of branches by uid and a
+//! map of names for each directory. What linkage sections are made of, an object's links and brackets and a page, is
+//! asked for by uid. Stands on names, access lists, brackets, pages and object maps.
 #![tactic(auto)]
 
 mod asking;
@@ -15,6 +16,7 @@ mod children;
 mod finding;
 mod hier;
 mod laws;
+mod linkage;
 mod making;
 mod names;
 mod objects;

@@ -2,6 +2,8 @@
 use Rattle.std.specs.Prelude.{◌≡◌, ◌≢◌, ℕ, ◌<◌, Bool, Option, Some, None}
 use Rattle.mx_kst.specs.declared.lots.Lot.{Lot}
 use Rattle.mx_kst.specs.declared.lots.Lot.TheVariants.{Free, Linkage}
+use Rattle.mx_request.specs.Classes.{class_of}
+use Rattle.mx_request.specs.declared.classes.RequestClass.TheVariants.{OfPath}
 use Rattle.mx_request.specs.declared.replies.Reply.{Reply}
 use Rattle.mx_request.specs.declared.replies.Reply.TheVariants as reply
 use Rattle.mx_request.specs.declared.requests.Request.{Request}
@@ -56,17 +58,23 @@ abbrev pub NewSectionLaw : Type 0
 NewSectionLaw = (s : Plain) (p ring n : ℕ) (request : Request) → section_in (plain s p ring request).reply ≡ Some n
     → HasSection (plain s p ring request).state p n
 
+-- and a reply to a request on a path tells of none
+abbrev pub PathTellsLaw : Type 0
+PathTellsLaw = (s : Plain) (p ring : ℕ) (request : Request) → class_of request ≡ OfPath
+    → section_in (plain s p ring request).reply ≡ None
+
 -- a link that was resolved is a word of a linkage section, and still is
 abbrev pub ResolvedLaw : Type 0
 ResolvedLaw = (s : Plain) (p ring segno word to at : ℕ) (fresh : Bool) (linkage : Option ℕ)
     → (plain s p ring (ask.Link segno word)).reply ≡ reply.Linked to at fresh linkage
     → HasLinkWord (plain s p ring (ask.Link segno word)).state p segno word
 
--- an entry of another process leaves what a process has of its own, and the descriptors of its linkage sections
+-- an entry of another process leaves what a process has of its own
 abbrev pub OthersLaw : Type 0
 OthersLaw = (s : Plain) (p q ring : ℕ) (request : Request) → q ≢ p
     → process_at (plain s q ring request).state.processes p ≡ process_at s.processes p
 
+-- and the descriptors of its linkage sections
 abbrev pub SectionsStayLaw : Type 0
 SectionsStayLaw = (s : Plain) (p q ring segno : ℕ) (request : Request) → q ≢ p → HasSection s p segno
     → descriptor (plain s q ring request).state p segno ≡ descriptor s p segno

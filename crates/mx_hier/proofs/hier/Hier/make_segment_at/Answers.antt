@@ -1,6 +1,5 @@
-use Rattle.std.proofs.Common.{rules, Option, ◌∙◌, refl, sym, ap, subst, arith}
+use Rattle.std.proofs.Common.{rules, ◌∙◌, refl, sym, ap, subst}
 use Rattle.std.specs.Option.{option_copied}
-use Rattle.mx_object.specs.Objects.{PlainObjectMap}
 use Rattle.mx_pages.specs.Runs.{IsFreeRun, run_given, after_run, pages_for}
 use Rattle.mx_hier.specs.MakeSegment.{Wanted}
 use Rattle.mx_hier.specs.Objects.{with_object}
