@@ -18,8 +18,10 @@ use Rattle.mx_hier.specs.SetDirectoryBrackets.{set_dir_brackets}
 use Rattle.mx_hier.specs.Status.{status}
 use Rattle.mx_hier.specs.declared.refusals.Refusal.{Refusal}
 use Rattle.mx_hier.specs.Rules.{first_of, onward, unless}
-use Rattle.mx_kst.specs.Initiating.{Initiated}
 use Rattle.mx_kst.specs.KnownSegments.{KnownSegments}
+use Rattle.mx_link.specs.declared.resolving.LinkError.{LinkError}
+use Rattle.mx_link.specs.declared.resolving.LinkError.TheVariants as error
+use Rattle.mx_link.specs.declared.resolving.Target.{Target}
 use Rattle.mx_kst.specs.Terminating as kst
 use Rattle.mx_mail.specs.Processes as mail
 use Rattle.mx_mail.specs.Processes.{PlainProcess}
@@ -35,7 +37,9 @@ use Rattle.mx_state.specs.declared.applied.Applied.{Applied}
 use Rattle.mx_state.specs.declared.states.ProcessState.{ProcessState}
 use Rattle.mx_state.specs.Askers.{Asker, Initializer, Process, Nobody, asker, initial_caller, caller, answered_caller, answered_process}
 use Rattle.mx_state.specs.Changes.{AreChanges}
-use Rattle.mx_state.specs.Knowing.{known_then, given, initiate, link, terminate}
+use Rattle.mx_state.specs.Connecting.{Connected, connect}
+use Rattle.mx_state.specs.Knowing.{free_name, given, initiate, link, link_by, link_to, link_towards, linked, terminate}
+use Rattle.mx_state.specs.Linking.{Link, found_uid, link_at, link_target}
 use Rattle.mx_state.specs.Messages.{block, logout, sent, taken_reply, wakeup, wakeup_refusals}
 use Rattle.mx_state.specs.OwnState.{change_wdir, set_rules}
 use Rattle.mx_state.specs.Laws.{RefusalLaw, PathLaw}
@@ -69,9 +73,29 @@ told_still : {A : Type 0} (s : Plain) (as_reply : A → Reply) (meant : Result A
 told_still s as_reply (Ok value) = λ why e. refl
 told_still s as_reply (Err other) = λ why e. refl
 
-given_still : (s : Plain) (p : ℕ) (process : ProcessState) (meant : Result Initiated Refusal) → IsStill s (given s p process meant)
+given_still : (s : Plain) (p : ℕ) (process : ProcessState) (meant : Result Connected Refusal) → IsStill s (given s p process meant)
 given_still s p process (Err other) = λ why e. refl
 given_still s p process (Ok known) = λ why e. cc
+
+linked_still : (s : Plain) (p : ℕ) (process : ProcessState) (word : ℕ) (meant : Result Connected Refusal) → IsStill s (linked s p process word meant)
+linked_still s p process word (Err other) = λ why e. refl
+linked_still s p process word (Ok known) = λ why e. cc
+
+link_still : (s : Plain) (p ring : ℕ) (process : ProcessState) (o : Option Link) → IsStill s (link_by s p ring process o)
+link_still s p ring process None = λ why e. refl
+link_still s p ring process (Some it) = by_target (link_target s.hierarchy process ring it)
+  where
+    by_uid : (word : ℕ) (o : Option ℕ) → IsStill s (link_to s p ring process it word o)
+    by_uid word (Some uid) =
+        linked_still s p process word (connect s.hierarchy process.known ring (free_name process.known ring it.segment) uid)
+    by_uid word None = λ why e. refl
+
+    by_target : (r : Result Target LinkError) → IsStill s (link_towards s p ring process it r)
+    by_target (Ok to) = by_uid to.word (found_uid process.known to.found)
+    by_target (Err error.SegmentNotFound) = λ why e. refl
+    by_target (Err error.NotObject) = λ why e. refl
+    by_target (Err error.NoDefinition) = λ why e. refl
+    by_target (Err error.Memory) = λ why e. refl
 
 terminate_still : (s : Plain) (p : ℕ) (process : ProcessState) (meant : Option KnownSegments) → IsStill s (terminate s p process meant)
 terminate_still s p process None = λ why e. refl
@@ -132,7 +156,7 @@ refusal_leaves s p ring (ask.Initiate path name) =
     process_still s (asker s.processes p)
     (λ process. initiate s p ring process name (segment s.hierarchy (caller process ring) path))
     (λ process. given_still s p process
-    (onward (segment s.hierarchy (caller process ring) path) (known_then process.known ring name)))
+    (onward (segment s.hierarchy (caller process ring) path) (connect s.hierarchy process.known ring name)))
 refusal_leaves s p ring (ask.Terminate segno) =
     process_still s (asker s.processes p) (λ process. terminate s p process (kst.terminate process.known segno))
     (λ process. terminate_still s p process (kst.terminate process.known segno))
@@ -140,7 +164,9 @@ refusal_leaves s p ring (ask.Wakeup to word) =
     process_still s (asker s.processes p) (λ process. wakeup s p to word) (λ process. wakeup_still s p to word)
 refusal_leaves s p ring ask.Block =
     process_still s (asker s.processes p) (λ process. block s p) (λ process. block_still s p)
-refusal_leaves s p ring (ask.Link segno word) = process_still s (asker s.processes p) (λ process. link s) (λ process why e. refl)
+refusal_leaves s p ring (ask.Link segno word) =
+    process_still s (asker s.processes p) (λ process. link s p ring process segno word)
+    (λ process. link_still s p ring process (link_at s.hierarchy process.known segno word))
 refusal_leaves s p ring ask.Resume =
     process_still s (asker s.processes p) (λ process. block s p) (λ process. block_still s p)
 refusal_leaves s p ring ask.Logout =

@@ -10,5 +10,7 @@ pub mod LinkLaws
 pub mod RenewingLaws
 pub mod KnowingLaws
 pub mod LeavingLaws
+pub mod ConnectingLaws
+pub mod ToldLaws
 pub mod MessageLaws
 pub mod WaitingLaws

@@ -62,7 +62,7 @@ pub there_again : (processes : List ProcessState) (p i : ℕ) (process other : P
 there_again processes p i process other low at e =
     process_at_place (slice_set processes i other) p low ∙ rw at (slice_get-set_same processes i other process e)
 
-elsewhere : (processes : List ProcessState) (p i : ℕ) (other : ProcessState) → ((1 ≤ p) × (p - 1 ≡ i) → ⊥)
+pub elsewhere : (processes : List ProcessState) (p i : ℕ) (other : ProcessState) → ((1 ≤ p) × (p - 1 ≡ i) → ⊥)
     → process_at (slice_set processes i other) p ≡ process_at processes p
 elsewhere processes p i other apart = by_zero (cases_eq p 0)
   where

@@ -6,9 +6,11 @@ use Rattle.mx_hier.specs.ChangeWorkingDirectory.{directory}
 use Rattle.mx_hier.specs.Initiate.{segment}
 use Rattle.mx_hier.specs.Rules.{first_of, onward, unless}
 use Rattle.mx_hier.specs.declared.refusals.Refusal.{Refusal}
-use Rattle.mx_kst.specs.Initiating.{Initiated}
 use Rattle.mx_kst.specs.KnownSegments.{KnownSegments}
 use Rattle.mx_kst.specs.Terminating as kst
+use Rattle.mx_link.specs.declared.resolving.LinkError.{LinkError}
+use Rattle.mx_link.specs.declared.resolving.LinkError.TheVariants as error
+use Rattle.mx_link.specs.declared.resolving.Target.{Target}
 use Rattle.mx_mail.specs.Processes as mail
 use Rattle.mx_mail.specs.Processes.{PlainProcess}
 use Rattle.mx_mail.proofs.SleepingLaws.{awake_other}
@@ -26,7 +28,9 @@ use Rattle.mx_state.specs.declared.journal.Entry.{Entry}
 use Rattle.mx_state.specs.declared.states.ProcessState.{ProcessState}
 use Rattle.mx_state.specs.Askers.{caller, on_process}
 use Rattle.mx_state.specs.History.{IsRight, IsRightEntry, opening, replay}
-use Rattle.mx_state.specs.Knowing.{given, initiate, known_then, link, terminate}
+use Rattle.mx_state.specs.Connecting.{Connected, connect}
+use Rattle.mx_state.specs.Knowing.{free_name, given, initiate, link, link_by, link_to, link_towards, linked, terminate}
+use Rattle.mx_state.specs.Linking.{Link, found_uid, link_at, link_target}
 use Rattle.mx_state.specs.Messages.{block, is_ready, logout, sent, taken_reply, wakeup, wakeup_refusals}
 use Rattle.mx_state.specs.OwnState.{change_wdir, set_rules}
 use Rattle.mx_state.specs.Plain.{Plain, Answer}
@@ -121,10 +125,32 @@ module _ (s : Plain) (p : ℕ) (low : 1 ≤ p) (process : ProcessState) (at : sl
     change_wdir_steps path (Ok where_to) = left_alone s p (ask.ChangeWdir path) _ refl (λ now. refl)
     change_wdir_steps path (Err why) = left_alone s p (ask.ChangeWdir path) _ refl (λ now. refl)
 
-    initiate_steps : (path : List ℕ) (name : Option (List ℕ)) (meant : Result Initiated Refusal)
+    initiate_steps : (path : List ℕ) (name : Option (List ℕ)) (meant : Result Connected Refusal)
         → Steps s p (ask.Initiate path name) (given s p process meant)
     initiate_steps path name (Ok known) = left_alone s p (ask.Initiate path name) _ refl (λ now. refl)
     initiate_steps path name (Err why) = left_alone s p (ask.Initiate path name) _ refl (λ now. refl)
+
+    linked_steps : (segno word at : ℕ) (meant : Result Connected Refusal)
+        → Steps s p (ask.Link segno word) (linked s p process at meant)
+    linked_steps segno word at (Ok known) = left_alone s p (ask.Link segno word) _ refl (λ now. refl)
+    linked_steps segno word at (Err why) = left_alone s p (ask.Link segno word) _ refl (λ now. refl)
+
+    link_steps : (ring segno word : ℕ) (o : Option Link) → Steps s p (ask.Link segno word) (link_by s p ring process o)
+    link_steps ring segno word None = left_alone s p (ask.Link segno word) _ refl (λ now. refl)
+    link_steps ring segno word (Some it) = by_target (link_target s.hierarchy process ring it)
+      where
+        by_uid : (at : ℕ) (o : Option ℕ) → Steps s p (ask.Link segno word) (link_to s p ring process it at o)
+        by_uid at (Some uid) =
+            linked_steps segno word at
+            (connect s.hierarchy process.known ring (free_name process.known ring it.segment) uid)
+        by_uid at None = left_alone s p (ask.Link segno word) _ refl (λ now. refl)
+
+        by_target : (r : Result Target LinkError) → Steps s p (ask.Link segno word) (link_towards s p ring process it r)
+        by_target (Ok to) = by_uid to.word (found_uid process.known to.found)
+        by_target (Err error.SegmentNotFound) = left_alone s p (ask.Link segno word) _ refl (λ now. refl)
+        by_target (Err error.NotObject) = left_alone s p (ask.Link segno word) _ refl (λ now. refl)
+        by_target (Err error.NoDefinition) = left_alone s p (ask.Link segno word) _ refl (λ now. refl)
+        by_target (Err error.Memory) = left_alone s p (ask.Link segno word) _ refl (λ now. refl)
 
     terminate_steps : (segno : ℕ) (meant : Option KnownSegments)
         → Steps s p (ask.Terminate segno) (terminate s p process meant)
@@ -215,7 +241,7 @@ steps s p ring (ask.Initiate path name) low within =
     own_steps s p low w.0 w.1 (ask.Initiate path name)
     (λ process. initiate s p ring process name (segment s.hierarchy (caller process ring) path))
     (initiate_steps s p low w.0 w.1 path name
-    (onward (segment s.hierarchy (caller w.0 ring) path) (known_then w.0.known ring name)))
+    (onward (segment s.hierarchy (caller w.0 ring) path) (connect s.hierarchy w.0.known ring name)))
 steps s p ring (ask.Terminate segno) low within =
     let w = some_in s.processes (p - 1) (omega arith) in
     own_steps s p low w.0 w.1 (ask.Terminate segno)
@@ -231,8 +257,8 @@ steps s p ring ask.Block low within =
     own_steps s p low w.0 w.1 ask.Block (λ process. block s p) (block_steps s p ask.Block (λ r now. refl))
 steps s p ring (ask.Link segno word) low within =
     let w = some_in s.processes (p - 1) (omega arith) in
-    own_steps s p low w.0 w.1 (ask.Link segno word) (λ process. link s)
-    (left_alone s p (ask.Link segno word) _ refl (λ now. refl))
+    own_steps s p low w.0 w.1 (ask.Link segno word) (λ process. link s p ring process segno word)
+    (link_steps s p low w.0 w.1 ring segno word (link_at s.hierarchy w.0.known segno word))
 steps s p ring ask.Resume low within =
     let w = some_in s.processes (p - 1) (omega arith) in
     own_steps s p low w.0 w.1 ask.Resume (λ process. block s p) (block_steps s p ask.Resume (λ r now. refl))

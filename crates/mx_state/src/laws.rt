@@ -1,6 +1,7 @@
 //! What follows from the definitions alone.
 
 ghost use Rattle.mx_state.specs.Laws.{RefusalLaw, PathLaw, UnknownLaw};
+ghost use Rattle.mx_state.specs.Told.{NewSectionLaw, PathTellsLaw, SectionDescLaw, ResolvedLaw, OnlyLinkLaw, LinkRepliesLaw, OthersLaw, SectionsStayLaw};
 ghost use Rattle.mx_state.specs.Waiting.{DoesLaw, OneRunsLaw, WaitsForLaw};
 
 /// A request that is refused leaves the state; one on a path leaves what is the processes' own, and the mail.
@@ -12,6 +13,28 @@ pub fn what_a_request_leaves()
 /// No process knows a number beyond the last, 127.
 pub fn numbers_beyond_the_last_are_unknown()
     ensures { UnknownLaw }
+{}
+
+/// A linkage section of which a reply tells is there, to read and write within its brackets; a reply to a request on a
+/// path tells of none.
+pub fn a_section_that_is_told_is_there()
+    ensures told { NewSectionLaw }
+    ensures on_path { PathTellsLaw }
+    ensures descriptor { SectionDescLaw }
+{}
+
+/// Only `link` is answered that a link leads to a word, and every `link` of a process that is not refused is answered so;
+/// the link is then a word of a linkage section, and stays one.
+pub fn a_link_is_resolved_or_refused()
+    ensures resolved { ResolvedLaw }
+    ensures only { OnlyLinkLaw }
+    ensures replies { LinkRepliesLaw }
+{}
+
+/// A request leaves what every other process has of its own, and the descriptors of its linkage sections.
+pub fn what_a_request_leaves_to_others()
+    ensures own { OthersLaw }
+    ensures sections { SectionsStayLaw }
 {}
 
 /// Whether a process runs, waits or has ended is what its own entries of a right journal say.

@@ -27,8 +27,9 @@ mod tables;
 pub use applied::Applied;
 pub use journal::{Entry, Journal};
 pub use laws::{
-    a_process_does_what_its_entries_say, not_all_wait_for_one_another,
-    numbers_beyond_the_last_are_unknown, what_a_request_leaves,
+    a_link_is_resolved_or_refused, a_process_does_what_its_entries_say,
+    a_section_that_is_told_is_there, not_all_wait_for_one_another,
+    numbers_beyond_the_last_are_unknown, what_a_request_leaves, what_a_request_leaves_to_others,
 };
 pub use mx_core::{Change, Changes};
 pub use mx_request::{Known, Reply, Request};

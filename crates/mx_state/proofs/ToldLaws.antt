@@ -1,0 +1,619 @@
+-- What replies tell of linkage sections and links.
+use Rattle.std.proofs.Common.{◌≡◌, ◌≢◌, ◌⊎◌, ◌≤◌, ◌<◌, ◌-◌, ◌==◌, ℕ, Bool, true, false, cond, ltb, List, [], ◌∷◌, length, Option, Some, None, is_some, Result, Ok, Err, inl, inr, refl, sym, ap, ◌∙◌, subst, slice_get, arith}
+use Rattle.std.proofs.lemmas.Bool.{cases_eq, cases_lt, ltb-true, ne_eqb}
+use Rattle.std.specs.Option.{option_and_then, option_map}
+use Rattle.mx_hier.specs.Branches.{Hierarchy, holder, object_at, segment_at}
+use Rattle.mx_hier.specs.Callers.{Caller, Subject}
+use Rattle.mx_hier.specs.ChangeWorkingDirectory.{directory}
+use Rattle.mx_hier.specs.CreateDirectory.{create_dir}
+use Rattle.mx_hier.specs.CreateLink.{create_link}
+use Rattle.mx_hier.specs.CreateObject.{create_object}
+use Rattle.mx_hier.specs.CreateSegment.{create_seg}
+use Rattle.mx_hier.specs.Delete.{delete}
+use Rattle.mx_hier.specs.DeleteAclEntry.{del_acl}
+use Rattle.mx_hier.specs.Find.{find_at, find_in}
+use Rattle.mx_hier.specs.Initiate.{segment}
+use Rattle.mx_hier.specs.List.{list}
+use Rattle.mx_hier.specs.Rename.{rename}
+use Rattle.mx_hier.specs.Rules.{first_of, onward, unless}
+use Rattle.mx_hier.specs.SetAcl.{set_acl}
+use Rattle.mx_hier.specs.SetBrackets.{set_brackets}
+use Rattle.mx_hier.specs.SetDirectoryBrackets.{set_dir_brackets}
+use Rattle.mx_hier.specs.Status.{status}
+use Rattle.mx_hier.specs.declared.refusals.Refusal.{Refusal}
+use Rattle.mx_hier.specs.declared.refusals.Refusal.TheVariants as refusal
+use Rattle.mx_kst.specs.KnownSegments.{KnownSegments}
+use Rattle.mx_kst.specs.Names.{named}
+use Rattle.mx_kst.specs.Terminating as kst
+use Rattle.mx_kst.specs.declared.lots.Lot.{Lot}
+use Rattle.mx_kst.specs.declared.lots.Lot.TheVariants.{Free, Stack, Branch, Linkage}
+use Rattle.mx_link.specs.Targets.{at_word, in_object, in_segment, target}
+use Rattle.mx_link.specs.declared.resolving.LinkError.{LinkError}
+use Rattle.mx_link.specs.declared.resolving.LinkError.TheVariants as error
+use Rattle.mx_link.specs.declared.resolving.Target.{Target}
+use Rattle.mx_mail.specs.Processes.{PlainProcess}
+use Rattle.mx_mail.specs.declared.mail.Taken.{Taken}
+use Rattle.mx_mail.specs.declared.mail.Taken.TheVariants as taken
+use Rattle.mx_object.specs.Objects.{PlainObjectMap, word_of}
+use Rattle.mx_request.specs.Classes.{class_of}
+use Rattle.mx_request.specs.Sections.{section_in}
+use Rattle.mx_request.specs.declared.classes.RequestClass.TheVariants.{OfPath}
+use Rattle.mx_request.specs.declared.replies.Reply.{Reply}
+use Rattle.mx_request.specs.declared.replies.Reply.TheVariants as reply
+use Rattle.mx_request.specs.declared.requests.Request.{Request}
+use Rattle.mx_request.specs.declared.requests.Request.TheVariants as ask
+use Rattle.mx_sdw.specs.Descriptors.{segment_desc}
+use Rattle.mx_sdw.specs.Rings.{Bracketing}
+use Rattle.mx_search.specs.Searching.{answers, first_found}
+use Rattle.mx_search.specs.declared.rules.Rule.{Rule}
+use Rattle.mx_search.specs.declared.rules.Rule.TheVariants.{InitiatedSegments, ReferencingDir, WorkingDir, Directory}
+use Rattle.mx_search.specs.declared.searching.Found.{Found}
+use Rattle.mx_search.specs.declared.searching.Found.TheVariants as found
+use Rattle.mx_state.specs.declared.states.ProcessState.{ProcessState}
+use Rattle.mx_state.specs.Askers.{Asker, Initializer, Process, Nobody, answered_caller, asker, caller, initial_caller, on_path, on_process, process_or_nobody, unmade}
+use Rattle.mx_state.specs.Connecting.{Connected, connect}
+use Rattle.mx_state.specs.Knowing.{free_name, given, initiate, knowing_more, link, link_by, link_to, link_towards, linked, terminate}
+use Rattle.mx_state.specs.Linking as linking
+use Rattle.mx_state.specs.Linking.{Link, branch_found, found_uid, known_uid, link_at, link_in, link_target, rule_finds, standing}
+use Rattle.mx_state.specs.Messages.{block, logout, sent, taken_reply, wakeup}
+use Rattle.mx_state.specs.Numbers.{stands_for}
+use Rattle.mx_state.specs.OwnState.{change_wdir, set_rules}
+use Rattle.mx_state.specs.Plain.{Plain, Answer, answer, process_at, with_process}
+use Rattle.mx_state.specs.Requests.{changed, plain, told}
+use Rattle.mx_state.specs.Table.{descriptor, process_desc, standing_desc}
+use Rattle.mx_state.specs.Told.{HasLinkWord, HasSection, IsLinked, IsRefused, IsSection, LinkRepliesLaw, NewSectionLaw, OnlyLinkLaw, OthersLaw, PathTellsLaw, ResolvedLaw, SectionDescLaw, SectionsStayLaw, lot_by, lot_in}
+use Rattle.mx_state.proofs.ConnectingLaws.{SectionAt, given_below, section_is_there, stands_still}
+use Rattle.mx_state.proofs.LeavingLaws.{path_request_leaves}
+use Rattle.mx_state.proofs.Lists.{some_in}
+use Rattle.mx_state.proofs.NumberLaws.{nothing_beyond, stands_within}
+use Rattle.mx_state.proofs.ProcessLaws.{elsewhere, there_again, to_process}
+
+-- a reply that is neither that a segment is known nor that a link leads to a word
+abbrev is_plain : Reply → Bool
+is_plain reply.Done = true
+is_plain (reply.Refused why) = true
+is_plain (reply.Status status) = true
+is_plain (reply.Names names) = true
+is_plain (reply.Segno known) = false
+is_plain (reply.Linked segno word fresh linkage) = false
+is_plain reply.Sent = true
+is_plain (reply.Message sender word) = true
+is_plain reply.Nobody = true
+is_plain reply.Waiting = true
+
+-- it tells of no linkage section
+tells_nothing : (given : Reply) → is_plain given ≡ true → section_in given ≡ None
+tells_nothing reply.Done e = refl
+tells_nothing (reply.Refused why) e = refl
+tells_nothing (reply.Status status) e = refl
+tells_nothing (reply.Names names) e = refl
+tells_nothing (reply.Segno known) e = cc
+tells_nothing (reply.Linked segno word fresh linkage) e = cc
+tells_nothing reply.Sent e = refl
+tells_nothing (reply.Message sender word) e = refl
+tells_nothing reply.Nobody e = refl
+tells_nothing reply.Waiting e = refl
+
+-- what a request of process p leaves to the other processes, and what its reply tells
+record IsTold (s : Plain) (p : ℕ) (given : Answer) : Type 0 where
+  others : (q : ℕ) → q ≢ p → process_at given.state.processes q ≡ process_at s.processes q
+  section : (n : ℕ) → section_in given.reply ≡ Some n → HasSection given.state p n
+
+plainly_told : (s : Plain) (p : ℕ) (given : Answer) → is_plain given.reply ≡ true
+    → ((q : ℕ) → q ≢ p → process_at given.state.processes q ≡ process_at s.processes q) → IsTold s p given
+plainly_told s p given quiet others = record {
+  others = others;
+  section = λ n e. let none = sym (tells_nothing given.reply quiet) ∙ e in absurd (cc);
+}
+
+-- the processes are left
+left_told : (s : Plain) (p : ℕ) (given : Answer) → is_plain given.reply ≡ true → given.state.processes ≡ s.processes → IsTold s p given
+left_told s p given quiet same = plainly_told s p given quiet (λ q apart. ap (λ xs. process_at xs q) same)
+
+-- requests on a path
+plain_changed : (s : Plain) (meant : Result Hierarchy Refusal) → is_plain (changed s meant).reply ≡ true
+plain_changed s (Ok h) = refl
+plain_changed s (Err why) = refl
+
+plain_answer : (s : Plain) (a : Asker) (ring : ℕ) (given : Caller → Answer) → ((who : Caller) → is_plain (given who).reply ≡ true)
+    → is_plain (answered_caller s a ring given).reply ≡ true
+plain_answer s Initializer ring given quiet = quiet (initial_caller ring)
+plain_answer s (Process process) ring given quiet = quiet (caller process ring)
+plain_answer s Nobody ring given quiet = refl
+
+change_answer : (s : Plain) (p ring : ℕ) (meant : Caller → Result Hierarchy Refusal)
+    → is_plain (on_path s p ring (λ who. changed s (meant who))).reply ≡ true
+change_answer s p ring meant =
+    plain_answer s (asker s.processes p) ring (λ who. changed s (meant who)) (λ who. plain_changed s (meant who))
+
+told_answer : {A : Type 0} (s : Plain) (p ring : ℕ) (as_reply : A → Reply) (meant : Caller → Result A Refusal)
+    → ((value : A) → is_plain (as_reply value) ≡ true)
+    → is_plain (on_path s p ring (λ who. told s as_reply (meant who))).reply ≡ true
+told_answer {A = A} s p ring as_reply meant quiet =
+    plain_answer s (asker s.processes p) ring (λ who. told s as_reply (meant who)) (λ who. by_meant (meant who))
+  where
+    by_meant : (r : Result A Refusal) → is_plain (told s as_reply r).reply ≡ true
+    by_meant (Ok value) = quiet value
+    by_meant (Err why) = refl
+
+plain_on_path : (s : Plain) (p ring : ℕ) (request : Request) → class_of request ≡ OfPath → is_plain (plain s p ring request).reply ≡ true
+plain_on_path s p ring (ask.CreateDir path d1 d2) e = change_answer s p ring (λ who. create_dir s.hierarchy who path d1 d2)
+plain_on_path s p ring (ask.CreateSeg path words brackets) e = change_answer s p ring (λ who. create_seg s.hierarchy who path words brackets)
+plain_on_path s p ring (ask.CreateObject path words brackets object) e =
+    change_answer s p ring (λ who. create_object s.hierarchy who path words brackets object)
+plain_on_path s p ring (ask.CreateLink path to) e = change_answer s p ring (λ who. create_link s.hierarchy who path to)
+plain_on_path s p ring (ask.Rename path name) e = change_answer s p ring (λ who. rename s.hierarchy who path name)
+plain_on_path s p ring (ask.Delete path) e = change_answer s p ring (λ who. delete s.hierarchy who path)
+plain_on_path s p ring (ask.SetAcl path id modes) e = change_answer s p ring (λ who. set_acl s.hierarchy who path id modes)
+plain_on_path s p ring (ask.DelAcl path id) e = change_answer s p ring (λ who. del_acl s.hierarchy who path id)
+plain_on_path s p ring (ask.SetBrackets path brackets) e = change_answer s p ring (λ who. set_brackets s.hierarchy who path brackets)
+plain_on_path s p ring (ask.SetDirBrackets path d1 d2) e = change_answer s p ring (λ who. set_dir_brackets s.hierarchy who path d1 d2)
+plain_on_path s p ring (ask.Status path) e = told_answer s p ring reply.Status (λ who. status s.hierarchy who path) (λ value. refl)
+plain_on_path s p ring (ask.List path) e = told_answer s p ring reply.Names (λ who. list s.hierarchy who path) (λ value. refl)
+plain_on_path s p ring (ask.ChangeWdir path) e = cc
+plain_on_path s p ring (ask.SetRules rules) e = cc
+plain_on_path s p ring (ask.Initiate path name) e = cc
+plain_on_path s p ring (ask.Terminate segno) e = cc
+plain_on_path s p ring (ask.Wakeup to word) e = cc
+plain_on_path s p ring ask.Block e = cc
+plain_on_path s p ring (ask.Link segno word) e = cc
+plain_on_path s p ring ask.Resume e = cc
+plain_on_path s p ring ask.Logout e = cc
+
+pub path_tells_law : PathTellsLaw
+path_tells_law s p ring request of = tells_nothing (plain s p ring request).reply (plain_on_path s p ring request of)
+
+path_told : (s : Plain) (p ring : ℕ) (request : Request) → class_of request ≡ OfPath → IsTold s p (plain s p ring request)
+path_told s p ring request of =
+    left_told s p (plain s p ring request) (plain_on_path s p ring request of) (path_request_leaves s p ring request of).0
+
+-- requests on what a process has of its own
+by_process : (P : Answer → Type 0) (s : Plain) (p : ℕ) (given : ProcessState → Answer) → P (unmade s)
+    → ((process : ProcessState) → 1 ≤ p → slice_get s.processes (p - 1) ≡ Some process → P (given process)) → P (on_process s p given)
+by_process P s p given none some = by_zero (cases_eq p 0)
+  where
+    by_place : (o : Option ProcessState) → 1 ≤ p → slice_get s.processes (p - 1) ≡ o → P (on_process s p given)
+    by_place None low e = subst P (sym (nobody low e)) none
+      where
+        nobody : 1 ≤ p → slice_get s.processes (p - 1) ≡ None → on_process s p given ≡ unmade s
+        nobody low e = rw (ne_eqb p 0 (λ z. omega (arith, z, low)), e) refl
+    by_place (Some process) low e = subst P (sym (to_process s p (p - 1) process given low refl e)) (some process low e)
+
+    by_zero : (p ≡ 0) ⊎ (p ≡ 0 → ⊥) → P (on_process s p given)
+    by_zero (inl zero) = subst P (sym (setup zero)) none
+      where
+        setup : p ≡ 0 → on_process s p given ≡ unmade s
+        setup zero = rw zero refl
+    by_zero (inr more) = by_place (slice_get s.processes (p - 1)) (omega arith) refl
+
+unmade_told : (s : Plain) (p : ℕ) → IsTold s p (unmade s)
+unmade_told s p = left_told s p (unmade s) refl refl
+
+-- one process is another now
+replaced : (s : Plain) (p q : ℕ) (other : ProcessState) → 1 ≤ p → q ≢ p
+    → process_at (with_process s p other).processes q ≡ process_at s.processes q
+replaced s p q other low apart = elsewhere s.processes q (p - 1) other (λ both. apart (omega (arith, both.0, both.1, low)))
+
+plain_taken : (given : Taken) → is_plain (taken_reply given) ≡ true
+plain_taken (taken.Message sender word) = refl
+plain_taken taken.Nobody = refl
+plain_taken taken.Waiting = refl
+
+plain_sent : (s : Plain) (p : ℕ) (meant : Result (List PlainProcess) Refusal) → IsTold s p (sent s meant)
+plain_sent s p (Ok after) = left_told s p (sent s (Ok after)) refl refl
+plain_sent s p (Err why) = left_told s p (sent s (Err why)) refl refl
+
+module _ (s : Plain) (p ring : ℕ) (process : ProcessState) (low : 1 ≤ p) (at : slice_get s.processes (p - 1) ≡ Some process) where
+  change_wdir_told : (meant : Result (List (List ℕ)) Refusal) → IsTold s p (change_wdir s p process meant)
+  change_wdir_told (Ok path) = plainly_told s p (change_wdir s p process (Ok path)) refl (λ q apart. replaced s p q _ low apart)
+  change_wdir_told (Err why) = left_told s p (change_wdir s p process (Err why)) refl refl
+
+  terminate_told : (meant : Option KnownSegments) → IsTold s p (terminate s p process meant)
+  terminate_told (Some known) = plainly_told s p (terminate s p process (Some known)) refl (λ q apart. replaced s p q _ low apart)
+  terminate_told None = left_told s p (terminate s p process None) refl refl
+
+  -- what a number of the process stands for afterwards
+  now_stands : (c : Connected) (n : ℕ) → lot_in (knowing_more s p process c) p n ≡ stands_for c.after.lots n
+  now_stands c n =
+      ap (λ o. lot_by o n) (there_again s.processes p (p - 1) process (record process { known = c.after }) low refl at)
+
+  told_section : (c : Connected) (n : ℕ) → SectionAt c.after.lots n → HasSection (knowing_more s p process c) p n
+  told_section c n there =
+      record { words = there.words; section = subst (λ lot. IsSection lot there.words) (sym (now_stands c n)) there.section }
+
+  given_told : (uid : ℕ) (name : Option (List ℕ)) (meant : Result Connected Refusal) → connect s.hierarchy process.known ring name uid ≡ meant
+      → IsTold s p (given s p process meant)
+  given_told uid name (Ok c) e = record {
+    others = λ q apart. replaced s p q _ low apart;
+    section = λ n f. told_section c n (section_is_there s.hierarchy process.known uid ring n name c e f);
+  }
+  given_told uid name (Err why) e = left_told s p (given s p process (Err why)) refl refl
+
+  initiate_told : (name : Option (List ℕ)) (found : Result ℕ Refusal) → IsTold s p (initiate s p ring process name found)
+  initiate_told name (Ok uid) = given_told uid name (connect s.hierarchy process.known ring name uid) refl
+  initiate_told name (Err why) = left_told s p (initiate s p ring process name (Err why)) refl refl
+
+  linked_told : (uid word : ℕ) (name : Option (List ℕ)) (meant : Result Connected Refusal) → connect s.hierarchy process.known ring name uid ≡ meant
+      → IsTold s p (linked s p process word meant)
+  linked_told uid word name (Ok c) e = record {
+    others = λ q apart. replaced s p q _ low apart;
+    section = λ n f. told_section c n (section_is_there s.hierarchy process.known uid ring n name c e f);
+  }
+  linked_told uid word name (Err why) e = left_told s p (linked s p process word (Err why)) refl refl
+
+  link_told : (o : Option Link) → IsTold s p (link_by s p ring process o)
+  link_told None = left_told s p (link_by s p ring process None) refl refl
+  link_told (Some it) = by_target (link_target s.hierarchy process ring it)
+    where
+      by_uid : (word : ℕ) (o : Option ℕ) → IsTold s p (link_to s p ring process it word o)
+      by_uid word (Some uid) =
+          linked_told uid word (free_name process.known ring it.segment)
+          (connect s.hierarchy process.known ring (free_name process.known ring it.segment) uid) refl
+      by_uid word None = unmade_told s p
+
+      by_target : (r : Result Target LinkError) → IsTold s p (link_towards s p ring process it r)
+      by_target (Ok to) = by_uid to.word (found_uid process.known to.found)
+      by_target (Err error.SegmentNotFound) = left_told s p (link_towards s p ring process it (Err error.SegmentNotFound)) refl refl
+      by_target (Err error.NotObject) = left_told s p (link_towards s p ring process it (Err error.NotObject)) refl refl
+      by_target (Err error.NoDefinition) = left_told s p (link_towards s p ring process it (Err error.NoDefinition)) refl refl
+      by_target (Err error.Memory) = unmade_told s p
+
+is_told : (s : Plain) (p ring : ℕ) (request : Request) → IsTold s p (plain s p ring request)
+is_told s p ring (ask.CreateDir path d1 d2) = path_told s p ring (ask.CreateDir path d1 d2) refl
+is_told s p ring (ask.CreateSeg path words brackets) = path_told s p ring (ask.CreateSeg path words brackets) refl
+is_told s p ring (ask.CreateObject path words brackets object) = path_told s p ring (ask.CreateObject path words brackets object) refl
+is_told s p ring (ask.CreateLink path to) = path_told s p ring (ask.CreateLink path to) refl
+is_told s p ring (ask.Rename path name) = path_told s p ring (ask.Rename path name) refl
+is_told s p ring (ask.Delete path) = path_told s p ring (ask.Delete path) refl
+is_told s p ring (ask.SetAcl path id modes) = path_told s p ring (ask.SetAcl path id modes) refl
+is_told s p ring (ask.DelAcl path id) = path_told s p ring (ask.DelAcl path id) refl
+is_told s p ring (ask.SetBrackets path brackets) = path_told s p ring (ask.SetBrackets path brackets) refl
+is_told s p ring (ask.SetDirBrackets path d1 d2) = path_told s p ring (ask.SetDirBrackets path d1 d2) refl
+is_told s p ring (ask.Status path) = path_told s p ring (ask.Status path) refl
+is_told s p ring (ask.List path) = path_told s p ring (ask.List path) refl
+is_told s p ring (ask.ChangeWdir path) =
+    by_process (IsTold s p) s p (λ process. change_wdir s p process (directory s.hierarchy (caller process ring) path)) (unmade_told s p)
+    (λ process low at. change_wdir_told s p ring process low at (directory s.hierarchy (caller process ring) path))
+is_told s p ring (ask.SetRules rules) =
+    by_process (IsTold s p) s p (λ process. set_rules s p process rules) (unmade_told s p)
+    (λ process low at. plainly_told s p (set_rules s p process rules) refl (λ q apart. replaced s p q _ low apart))
+is_told s p ring (ask.Initiate path name) =
+    by_process (IsTold s p) s p (λ process. initiate s p ring process name (segment s.hierarchy (caller process ring) path)) (unmade_told s p)
+    (λ process low at. initiate_told s p ring process low at name (segment s.hierarchy (caller process ring) path))
+is_told s p ring (ask.Terminate segno) =
+    by_process (IsTold s p) s p (λ process. terminate s p process (kst.terminate process.known segno)) (unmade_told s p)
+    (λ process low at. terminate_told s p ring process low at (kst.terminate process.known segno))
+is_told s p ring (ask.Wakeup to word) =
+    by_process (IsTold s p) s p (λ process. wakeup s p to word) (unmade_told s p) (λ process low at. plain_sent s p _)
+is_told s p ring ask.Block =
+    by_process (IsTold s p) s p (λ process. block s p) (unmade_told s p)
+    (λ process low at. left_told s p (block s p) (plain_taken _) refl)
+is_told s p ring (ask.Link segno word) =
+    by_process (IsTold s p) s p (λ process. link s p ring process segno word) (unmade_told s p)
+    (λ process low at. link_told s p ring process low at (link_at s.hierarchy process.known segno word))
+is_told s p ring ask.Resume =
+    by_process (IsTold s p) s p (λ process. block s p) (unmade_told s p)
+    (λ process low at. left_told s p (block s p) (plain_taken _) refl)
+is_told s p ring ask.Logout =
+    by_process (IsTold s p) s p (λ process. logout s p) (unmade_told s p)
+    (λ process low at. left_told s p (logout s p) refl refl)
+
+pub new_section_law : NewSectionLaw
+new_section_law s p ring n request e = (is_told s p ring request).section n e
+
+pub others_law : OthersLaw
+others_law s p q ring request apart = (is_told s q ring request).others p (λ same. apart (sym same))
+
+-- the descriptor of a linkage section, which is computed from its process alone
+section_desc : (h : Hierarchy) (p segno words : ℕ) (o : Option ProcessState) (is : IsSection (lot_by o segno) words)
+    → (brackets : Bracketing) × (page : ℕ) × (process_desc h p o segno ≡ segment_desc brackets true false true 0 page words)
+section_desc h p segno words None is = let none = is.is in absurd (cc)
+section_desc h p segno words (Some process) is = (is.brackets, is.page, ap (standing_desc h p process) is.is)
+
+pub section_desc_law : SectionDescLaw
+section_desc_law s p segno words is = section_desc s.hierarchy p segno words (process_at s.processes p) is
+
+section_stays : (h k : Hierarchy) (p segno words : ℕ) (o : Option ProcessState) → IsSection (lot_by o segno) words
+    → process_desc k p o segno ≡ process_desc h p o segno
+section_stays h k p segno words None is = refl
+section_stays h k p segno words (Some process) is =
+    ap (standing_desc k p process) is.is ∙ sym (ap (standing_desc h p process) is.is)
+
+pub sections_stay_law : SectionsStayLaw
+sections_stay_law s p q ring segno request apart has =
+    let after = (plain s q ring request).state in
+    ap (λ o. process_desc after.hierarchy p o segno) (others_law s p q ring request apart)
+    ∙ section_stays s.hierarchy after.hierarchy p segno has.words (process_at s.processes p) has.section
+
+-- a reply that a link leads to a word
+abbrev is_linked : Reply → Bool
+is_linked (reply.Linked segno word fresh linkage) = true
+is_linked reply.Done = false
+is_linked (reply.Refused why) = false
+is_linked (reply.Status status) = false
+is_linked (reply.Names names) = false
+is_linked (reply.Segno known) = false
+is_linked reply.Sent = false
+is_linked (reply.Message sender word) = false
+is_linked reply.Nobody = false
+is_linked reply.Waiting = false
+
+-- is given to no other request
+unlinked : (given : Reply) → is_plain given ≡ true → is_linked given ≡ false
+unlinked reply.Done e = refl
+unlinked (reply.Refused why) e = refl
+unlinked (reply.Status status) e = refl
+unlinked (reply.Names names) e = refl
+unlinked (reply.Segno known) e = refl
+unlinked (reply.Linked segno word fresh linkage) e = cc
+unlinked reply.Sent e = refl
+unlinked (reply.Message sender word) e = refl
+unlinked reply.Nobody e = refl
+unlinked reply.Waiting e = refl
+
+abbrev IsUnlinked : Answer → Type 0
+IsUnlinked given = is_linked given.reply ≡ false
+
+unlinked_path : (s : Plain) (p ring : ℕ) (request : Request) → class_of request ≡ OfPath → IsUnlinked (plain s p ring request)
+unlinked_path s p ring request of = unlinked (plain s p ring request).reply (plain_on_path s p ring request of)
+
+unlinked_wdir : (s : Plain) (p : ℕ) (process : ProcessState) (meant : Result (List (List ℕ)) Refusal) → IsUnlinked (change_wdir s p process meant)
+unlinked_wdir s p process (Ok path) = refl
+unlinked_wdir s p process (Err why) = refl
+
+unlinked_given : (s : Plain) (p : ℕ) (process : ProcessState) (meant : Result Connected Refusal) → IsUnlinked (given s p process meant)
+unlinked_given s p process (Ok c) = refl
+unlinked_given s p process (Err why) = refl
+
+unlinked_end : (s : Plain) (p : ℕ) (process : ProcessState) (meant : Option KnownSegments) → IsUnlinked (terminate s p process meant)
+unlinked_end s p process (Some known) = refl
+unlinked_end s p process None = refl
+
+unlinked_sent : (s : Plain) (meant : Result (List PlainProcess) Refusal) → IsUnlinked (sent s meant)
+unlinked_sent s (Ok after) = refl
+unlinked_sent s (Err why) = refl
+
+unlinked_block : (s : Plain) (p : ℕ) → IsUnlinked (block s p)
+unlinked_block s p = unlinked (block s p).reply (plain_taken _)
+
+-- the request is `link`
+record IsLink (request : Request) : Type 0 where
+  segno : ℕ
+  word : ℕ
+  is : request ≡ ask.Link segno word
+
+link_or_unlinked : (s : Plain) (p ring : ℕ) (request : Request) → IsUnlinked (plain s p ring request) ⊎ IsLink request
+link_or_unlinked s p ring (ask.CreateDir path d1 d2) = inl (unlinked_path s p ring (ask.CreateDir path d1 d2) refl)
+link_or_unlinked s p ring (ask.CreateSeg path words brackets) = inl (unlinked_path s p ring (ask.CreateSeg path words brackets) refl)
+link_or_unlinked s p ring (ask.CreateObject path words brackets object) =
+    inl (unlinked_path s p ring (ask.CreateObject path words brackets object) refl)
+link_or_unlinked s p ring (ask.CreateLink path to) = inl (unlinked_path s p ring (ask.CreateLink path to) refl)
+link_or_unlinked s p ring (ask.Rename path name) = inl (unlinked_path s p ring (ask.Rename path name) refl)
+link_or_unlinked s p ring (ask.Delete path) = inl (unlinked_path s p ring (ask.Delete path) refl)
+link_or_unlinked s p ring (ask.SetAcl path id modes) = inl (unlinked_path s p ring (ask.SetAcl path id modes) refl)
+link_or_unlinked s p ring (ask.DelAcl path id) = inl (unlinked_path s p ring (ask.DelAcl path id) refl)
+link_or_unlinked s p ring (ask.SetBrackets path brackets) = inl (unlinked_path s p ring (ask.SetBrackets path brackets) refl)
+link_or_unlinked s p ring (ask.SetDirBrackets path d1 d2) = inl (unlinked_path s p ring (ask.SetDirBrackets path d1 d2) refl)
+link_or_unlinked s p ring (ask.Status path) = inl (unlinked_path s p ring (ask.Status path) refl)
+link_or_unlinked s p ring (ask.List path) = inl (unlinked_path s p ring (ask.List path) refl)
+link_or_unlinked s p ring (ask.ChangeWdir path) =
+    inl (by_process IsUnlinked s p (λ process. change_wdir s p process (directory s.hierarchy (caller process ring) path)) refl
+    (λ process low at. unlinked_wdir s p process _))
+link_or_unlinked s p ring (ask.SetRules rules) =
+    inl (by_process IsUnlinked s p (λ process. set_rules s p process rules) refl (λ process low at. refl))
+link_or_unlinked s p ring (ask.Initiate path name) =
+    inl (by_process IsUnlinked s p (λ process. initiate s p ring process name (segment s.hierarchy (caller process ring) path)) refl
+    (λ process low at. unlinked_given s p process _))
+link_or_unlinked s p ring (ask.Terminate segno) =
+    inl (by_process IsUnlinked s p (λ process. terminate s p process (kst.terminate process.known segno)) refl
+    (λ process low at. unlinked_end s p process _))
+link_or_unlinked s p ring (ask.Wakeup to word) =
+    inl (by_process IsUnlinked s p (λ process. wakeup s p to word) refl (λ process low at. unlinked_sent s _))
+link_or_unlinked s p ring ask.Block =
+    inl (by_process IsUnlinked s p (λ process. block s p) refl (λ process low at. unlinked_block s p))
+link_or_unlinked s p ring (ask.Link segno word) = inr (record { segno = segno; word = word; is = refl })
+link_or_unlinked s p ring ask.Resume =
+    inl (by_process IsUnlinked s p (λ process. block s p) refl (λ process low at. unlinked_block s p))
+link_or_unlinked s p ring ask.Logout =
+    inl (by_process IsUnlinked s p (λ process. logout s p) refl (λ process low at. refl))
+
+pub only_link_law : OnlyLinkLaw
+only_link_law s p ring request to at fresh linkage e =
+    elim (link_or_unlinked s p ring request) [
+      | inl none ↦ let clash : true ≡ false = sym (ap is_linked e) ∙ none in absurd (cc)
+      | inr link ↦ (link.segno, link.word, link.is)
+    ]
+
+-- a link is that of a word of a linkage section
+link_is : (h : Hierarchy) (known : KnownSegments) (word : ℕ) (lot : Lot) (it : Link) → link_in h known word lot ≡ Some it
+    → (words : ℕ) × IsSection lot words × (word < words)
+link_is h known word Free it e = cc
+link_is h known word (Stack ring) it e = cc
+link_is h known word (Branch uid) it e = cc
+link_is h known word (Linkage of page brackets words) it e = by_test (ltb word words) refl e
+  where
+    by_test : (b : Bool) → ltb word words ≡ b → cond b (linking.link_by h word (known_uid known of)) None ≡ Some it
+        → (words' : ℕ) × IsSection (Linkage of page brackets words) words' × (word < words')
+    by_test true t e = (words, record { of = of; page = page; brackets = brackets; is = refl }, ltb-true word words t)
+    by_test false t e = cc
+
+-- a section that stands for a number within the last is given
+section_below : (lots : List Lot) (segno words : ℕ) → IsSection (stands_for lots segno) words → segno < length lots
+section_below lots segno words is = by_number (cases_lt 127 segno)
+  where
+    by_number : (127 < segno) ⊎ (segno ≤ 127) → segno < length lots
+    by_number (inl beyond) = let none = sym (nothing_beyond lots segno beyond) ∙ is.is in absurd (cc)
+    by_number (inr within) =
+        given_below lots segno (Linkage is.of is.page is.brackets words) (sym (stands_within lots segno within) ∙ is.is) (λ f. cc)
+
+module _ (s : Plain) (p ring segno word to at : ℕ) (fresh : Bool) (linkage : Option ℕ) where
+  abbrev ToWord : Answer → Type 0
+  ToWord given = given.reply ≡ reply.Linked to at fresh linkage → HasLinkWord given.state p segno word
+
+  module _ (process : ProcessState) (low : 1 ≤ p) (place : slice_get s.processes (p - 1) ≡ Some process) (words : ℕ)
+      (is : IsSection (stands_for process.known.lots segno) words) (within : word < words) where
+    still_there : (uid : ℕ) (name : Option (List ℕ)) (c : Connected) → connect s.hierarchy process.known ring name uid ≡ Ok c
+        → HasLinkWord (knowing_more s p process c) p segno word
+    still_there uid name c e = record {
+      words = words;
+      section = subst (λ lot. IsSection lot words)
+          (sym (now_stands s p ring process low place c segno
+          ∙ stands_still s.hierarchy process.known uid ring segno name c e (section_below process.known.lots segno words is))) is;
+      within = within;
+    }
+
+    linked_word : (uid target : ℕ) (name : Option (List ℕ)) (meant : Result Connected Refusal)
+        → connect s.hierarchy process.known ring name uid ≡ meant → ToWord (linked s p process target meant)
+    linked_word uid target name (Ok c) e f = still_there uid name c e
+    linked_word uid target name (Err why) e f = cc
+
+    towards_word : (it : Link) (r : Result Target LinkError) → ToWord (link_towards s p ring process it r)
+    towards_word it (Ok found) f = by_uid (found_uid process.known found.found) f
+      where
+        by_uid : (o : Option ℕ) → ToWord (link_to s p ring process it found.word o)
+        by_uid (Some uid) =
+            linked_word uid found.word (free_name process.known ring it.segment)
+            (connect s.hierarchy process.known ring (free_name process.known ring it.segment) uid) refl
+        by_uid None = λ f. cc
+    towards_word it (Err error.SegmentNotFound) f = cc
+    towards_word it (Err error.NotObject) f = cc
+    towards_word it (Err error.NoDefinition) f = cc
+    towards_word it (Err error.Memory) f = cc
+
+  by_word : (process : ProcessState) → 1 ≤ p → slice_get s.processes (p - 1) ≡ Some process → (o : Option Link)
+      → link_at s.hierarchy process.known segno word ≡ o → ToWord (link_by s p ring process o)
+  by_word process low place None e = λ f. cc
+  by_word process low place (Some it) e =
+      let is = link_is s.hierarchy process.known word (stands_for process.known.lots segno) it e in
+      towards_word process low place is.0 is.1 is.2 it (link_target s.hierarchy process ring it)
+
+pub resolved_law : ResolvedLaw
+resolved_law s p ring segno word to at fresh linkage =
+    by_process (ToWord s p ring segno word to at fresh linkage) s p (λ process. link s p ring process segno word) (λ f. cc)
+    (λ process low place. by_word s p ring segno word to at fresh linkage process low place (link_at s.hierarchy process.known segno word) refl)
+
+-- what a rule finds is a segment that is known, or a branch
+known_found : (h : Hierarchy) (known : KnownSegments) (it : Found) (o : Option ℕ) → option_and_then (standing h known) o ≡ Some it
+    → (uid : ℕ) × (found_uid known it ≡ Some uid)
+known_found h known it None e = cc
+known_found h known it (Some segno) e = by_uid (known_uid known segno) refl e
+  where
+    by_test : (uid : ℕ) (b : Bool) → known_uid known segno ≡ Some uid → cond b (Some (found.Known segno)) None ≡ Some it
+        → (uid : ℕ) × (found_uid known it ≡ Some uid)
+    by_test uid true f e = let same : found.Known segno ≡ it = cc in (uid, ap (found_uid known) (sym same) ∙ f)
+    by_test uid false f e = cc
+
+    by_uid : (o : Option ℕ) → known_uid known segno ≡ o
+        → cond (is_some (option_and_then (segment_at h) o)) (Some (found.Known segno)) None ≡ Some it
+        → (uid : ℕ) × (found_uid known it ≡ Some uid)
+    by_uid None f e = cc
+    by_uid (Some uid) f e = by_test uid (is_some (segment_at h uid)) f e
+
+branch_is_found : (known : KnownSegments) (it : Found) (o : Option ℕ) → branch_found o ≡ Some it → (uid : ℕ) × (found_uid known it ≡ Some uid)
+branch_is_found known it None e = cc
+branch_is_found known it (Some uid) e = let same : found.Branch uid ≡ it = cc in (uid, ap (found_uid known) (sym same))
+
+rule_found : (h : Hierarchy) (process : ProcessState) (ring object : ℕ) (rule : Rule) (name : List ℕ) (it : Found)
+    → rule_finds h process ring object rule name ≡ Some it → (uid : ℕ) × (found_uid process.known it ≡ Some uid)
+rule_found h process ring object InitiatedSegments name it e = known_found h process.known it (named process.known.names ring name) e
+rule_found h process ring object ReferencingDir name it e = branch_is_found process.known it _ e
+rule_found h process ring object WorkingDir name it e = branch_is_found process.known it _ e
+rule_found h process ring object (Directory path) name it e = branch_is_found process.known it _ e
+
+-- what all rules find, one of them finds
+one_found : (answer : Rule → List ℕ → Option Found) (rules : List Rule) (name : List ℕ) (it : Found)
+    → first_found (answers answer rules name) ≡ Some it → (rule : Rule) × (answer rule name ≡ Some it)
+one_found answer [] name it e = cc
+one_found answer (rule ∷ rules) name it e = by_answer (answer rule name) refl e (one_found answer rules name it)
+  where
+    by_answer : (o : Option Found) → answer rule name ≡ o → first_found (o ∷ answers answer rules name) ≡ Some it
+        → (first_found (answers answer rules name) ≡ Some it → (rule : Rule) × (answer rule name ≡ Some it))
+        → (rule : Rule) × (answer rule name ≡ Some it)
+    by_answer None f e later = later e
+    by_answer (Some own) f e later = (rule, f ∙ e)
+
+-- a target is at the symbol's word in the object that is found
+pub record IsTarget (object_of : Found → Option PlainObjectMap) (symbol : List ℕ) (given : Option Found) (to : Target) : Type 0 where
+  pub there : given ≡ Some to.found
+  pub object : PlainObjectMap
+  pub has : object_of to.found ≡ Some object
+  pub word : word_of object symbol ≡ Some to.word
+
+pub target_is : (object_of : Found → Option PlainObjectMap) (symbol : List ℕ) (given : Option Found) (to : Target)
+    → in_segment object_of given symbol ≡ Ok to → IsTarget object_of symbol given to
+target_is object_of symbol None to e = absurd (cc)
+target_is object_of symbol (Some it) to e = by_object (object_of it) refl e
+  where
+    by_word : (object : PlainObjectMap) (o : Option ℕ) → object_of it ≡ Some object → word_of object symbol ≡ o → at_word it o ≡ Ok to
+        → IsTarget object_of symbol (Some it) to
+    by_word object None f g e = absurd (cc)
+    by_word object (Some word) f g e =
+        let same : record { found = it; word = word } ≡ to = cc in
+        let own : it ≡ to.found = ap (λ (t : Target). t.found) same in
+        let at : word ≡ to.word = ap (λ (t : Target). t.word) same in
+        record { there = ap Some own; object = object; has = ap object_of (sym own) ∙ f; word = g ∙ ap Some at }
+
+    by_object : (o : Option PlainObjectMap) → object_of it ≡ o → in_object it o symbol ≡ Ok to → IsTarget object_of symbol (Some it) to
+    by_object None f e = absurd (cc)
+    by_object (Some object) f e = by_word object (word_of object symbol) f refl e
+
+-- and no definition wants for memory
+remembers : (object_of : Found → Option PlainObjectMap) (symbol : List ℕ) (given : Option Found)
+    → in_segment object_of given symbol ≡ Err error.Memory → ⊥
+remembers object_of symbol None e = apart e
+  where
+    apart : ◌≡◌ {A = Result Target LinkError} (Err error.SegmentNotFound) (Err error.Memory) → ⊥
+    apart e = cc
+remembers object_of symbol (Some it) e = by_object (object_of it) e
+  where
+    by_word : (o : Option ℕ) → at_word it o ≡ Err error.Memory → ⊥
+    by_word None e = cc
+    by_word (Some word) e = cc
+
+    by_object : (o : Option PlainObjectMap) → in_object it o symbol ≡ Err error.Memory → ⊥
+    by_object None e = cc
+    by_object (Some object) e = by_word (word_of object symbol) e
+
+-- where a link leads there is a segment
+pub target_found : (h : Hierarchy) (process : ProcessState) (ring : ℕ) (it : Link) (to : Target) → link_target h process ring it ≡ Ok to
+    → (uid : ℕ) × (found_uid process.known to.found ≡ Some uid)
+target_found h process ring it to e =
+    let answer = rule_finds h process ring it.object in
+    let is = target_is (linking.found_object h process.known) it.symbol (first_found (answers answer process.rules it.segment)) to e in
+    let one = one_found answer process.rules it.segment to.found is.there in
+    rule_found h process ring it.object one.0 it.segment to.found one.1
+
+-- a link is resolved or refused
+abbrev IsAnswered : Answer → Type 0
+IsAnswered given = IsRefused given.reply ⊎ IsLinked given.reply
+
+linked_answered : (s : Plain) (p : ℕ) (process : ProcessState) (word : ℕ) (meant : Result Connected Refusal)
+    → IsAnswered (linked s p process word meant)
+linked_answered s p process word (Ok c) = inr (c.known.segno, word, c.known.fresh, c.known.linkage, refl)
+linked_answered s p process word (Err why) = inl (why, refl)
+
+link_answered : (s : Plain) (p ring : ℕ) (process : ProcessState) (o : Option Link) → IsAnswered (link_by s p ring process o)
+link_answered s p ring process None = inl (refusal.NotLinkage, refl)
+link_answered s p ring process (Some it) = by_target (link_target s.hierarchy process ring it) refl
+  where
+    by_uid : (word : ℕ) (o : Option ℕ) → (uid : ℕ) × (o ≡ Some uid) → IsAnswered (link_to s p ring process it word o)
+    by_uid word (Some uid) some =
+        linked_answered s p process word
+        (connect s.hierarchy process.known ring (free_name process.known ring it.segment) uid)
+    by_uid word None some = let e = some.1 in absurd (cc)
+
+    by_target : (r : Result Target LinkError) → link_target s.hierarchy process ring it ≡ r → IsAnswered (link_towards s p ring process it r)
+    by_target (Ok to) e =
+        by_uid to.word (found_uid process.known to.found) (target_found s.hierarchy process ring it to e)
+    by_target (Err error.SegmentNotFound) e = inl (refusal.SegmentNotFound, refl)
+    by_target (Err error.NotObject) e = inl (refusal.NotObject, refl)
+    by_target (Err error.NoDefinition) e = inl (refusal.NoDefinition, refl)
+    by_target (Err error.Memory) e =
+        absurd (remembers (linking.found_object s.hierarchy process.known) it.symbol
+        (first_found (answers (rule_finds s.hierarchy process ring it.object) process.rules it.segment)) e)
+
+pub link_replies_law : LinkRepliesLaw
+link_replies_law s p ring segno word low within =
+    let w = some_in s.processes (p - 1) (omega (arith, low, within)) in
+    subst IsAnswered (sym (to_process s p (p - 1) w.0 (λ process. link s p ring process segno word) low refl w.1))
+    (link_answered s p ring w.0 (link_at s.hierarchy w.0.known segno word))
