@@ -1,6 +1,5 @@
 -- Laws of addresses: what is read as one spells it, and an address that fits is read back.
-use Rattle.std.proofs.Common.{◌≡◌, ℕ, ◌==◌, ◌^◌, ◌<◌, ◌≤◌, nat_le, true, false, List, [], ◌∷◌, ◌++◌, Some, codes, refl, ap, sym, ◌∙◌, subst, arith, append_assoc}
-use Rattle.std.proofs.lemmas.Bool.Decides.{nat_tests}
+use Rattle.std.proofs.Common.{◌≡◌, ℕ, ◌==◌, ◌^◌, ◌<◌, nat_le, true, false, List, ◌∷◌, ◌++◌, Some, codes, refl, ◌∙◌, arith, append_assoc}
 use Rattle.std.proofs.lemmas.List.Folds.{list_all-append}
 use Rattle.mx_name.proofs.CutLaws.{cut_takes, cut_again}
 use Rattle.mx_name.proofs.TextLaws.{all_free}
@@ -8,18 +7,13 @@ use Rattle.mx_name.specs.Cuts.{cut_at}
 use Rattle.mx_name.specs.Names.{is_free}
 use Rattle.mx_sdw.proofs.OctalLaws.{octal_number_takes, octal_number_fits, octal_number_below, octal_has_digits}
 use Rattle.mx_sdw.specs.Octal.{is_octal_digit, octal, octal_number}
+use Rattle.mx_request.proofs.FieldLaws.{at_most, at_most_test}
 use Rattle.mx_request.proofs.StepLaws.{both, both_hold, bind_some, when_some}
 use Rattle.mx_request.specs.declared.requests.Request.{Request}
 use Rattle.mx_request.specs.declared.requests.Request.TheVariants.{Link}
 use Rattle.mx_request.specs.Fields.{address_text}
 use Rattle.mx_request.specs.Reading.{link_at}
-use Rattle.mx_request.specs.RequestTexts.{fits_request, is_word_address}
-
-at_most : (a b : ℕ) → nat_le a b ≡ true → a ≤ b
-at_most a b e = grind (arith, nat_tests)
-
-at_most_test : (a b : ℕ) → a ≤ b → nat_le a b ≡ true
-at_most_test a b h = grind (arith, nat_tests)
+use Rattle.mx_request.specs.RequestTexts.{fits_request}
 
 -- a number has octal digits alone
 octal_free : (byte n : ℕ) → is_octal_digit byte ≡ false → is_free byte (octal n) ≡ true

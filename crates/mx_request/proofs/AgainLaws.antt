@@ -1,5 +1,5 @@
 -- Laws of lines: a request that fits is read back from its line, so that no two have one line.
-use Rattle.std.proofs.Common.{◌≡◌, ℕ, ◌≤◌, nat_le, length, arith, true, ◌&&◌, List, [], ◌∷◌, ◌++◌, map, Option, Some, None, Result, Ok, Err, IfOk, codes, refl, ap, sym, ◌∙◌}
+use Rattle.std.proofs.Common.{◌≡◌, ℕ, ◌≤◌, nat_le, length, arith, true, ◌&&◌, List, ◌∷◌, ◌++◌, map, Option, Some, None, Result, Ok, Err, IfOk, codes, refl, ap, sym, ◌∙◌}
 use Rattle.std.proofs.lemmas.Bool.Decides.{nat_tests}
 use Rattle.std.specs.Fmt.{decimal}
 use Rattle.std.specs.List.{list_all}
@@ -10,25 +10,26 @@ use Rattle.mx_acl.proofs.ModesLaws.{modes_again}
 use Rattle.mx_acl.specs.Modes.{modes_text}
 use Rattle.mx_acl.specs.declared.modes.Modes.{Modes}
 use Rattle.mx_sdw.specs.Octal.{octal}
-use Rattle.mx_object.specs.Objects.{PlainObjectMap, of_gates}
-use Rattle.mx_search.specs.Rules.{rules_of}
+use Rattle.mx_object.specs.Objects.{PlainObjectMap}
 use Rattle.mx_search.specs.declared.rules.Rule.{Rule}
 use Rattle.mx_request.specs.declared.requests.Request.{Request}
 use Rattle.mx_request.specs.declared.requests.Request.TheVariants.{CreateDir, CreateSeg, CreateObject, CreateLink, Rename, Delete, SetAcl, DelAcl, SetBrackets, SetDirBrackets, Status, List as ListNames, ChangeWdir, SetRules, Initiate, Terminate, Wakeup, Block, Link, Resume, Logout}
 use Rattle.mx_request.specs.declared.reading.kinds.Kind.{Kind}
 use Rattle.mx_request.specs.declared.reading.kinds.Kind.TheVariants.{CreateDir as OfCreateDir, CreateSeg as OfCreateSeg, CreateObject as OfCreateObject, CreateLink as OfCreateLink, Rename as OfRename, Delete as OfDelete, SetAcl as OfSetAcl, DelAcl as OfDelAcl, SetBrackets as OfSetBrackets, SetDirBrackets as OfSetDirBrackets, Status as OfStatus, List as OfList, ChangeWdir as OfChangeWdir, SetRules as OfSetRules, Initiate as OfInitiate, Terminate as OfTerminate, Wakeup as OfWakeup, Link as OfLink}
-use Rattle.mx_request.specs.Fields.{line_of, ring_text}
+use Rattle.mx_request.specs.Fields.{line_of, ring_text, is_name}
 use Rattle.mx_request.specs.Kinds.{kind_word}
-use Rattle.mx_request.specs.Reading.{create_dir_at, create_seg_at, create_object_at, create_link_at, rename_at, set_acl_at, del_acl_at, set_brackets_at, set_dir_brackets_at, set_rules_at, initiate_at, terminate_at, fields_at, request_at}
-use Rattle.mx_request.specs.RequestTexts.{request_text, rule_text, name_fields, is_pathname, is_name, is_name_or_none, is_identifier, is_ring, is_rule, are_brackets, are_rules, is_plain, fits_request}
-use Rattle.mx_request.proofs.StepLaws.{both, some_is}
+use Rattle.mx_request.specs.Reading.{create_dir_at, create_seg_at, create_object_at, create_link_at, rename_at, set_acl_at, del_acl_at, set_brackets_at, set_dir_brackets_at, fields_at, request_at}
+use Rattle.mx_request.specs.ObjectTexts.{object_fields, fits_object}
+use Rattle.mx_request.specs.RequestTexts.{request_text, rule_text, is_pathname, is_identifier, is_ring, is_rule, are_brackets, fits_request}
+use Rattle.mx_request.proofs.StepLaws.{both, faultless, some_is}
 use Rattle.mx_name.proofs.CutLaws.{cut_again}
-use Rattle.mx_request.proofs.FieldLaws.{words_again, words_free, ring_again, ring_free, brackets_again, brackets_behind, gated_fields, gated_again, gated_behind, segno_again}
+use Rattle.mx_request.proofs.FieldLaws.{words_again, words_free, ring_again, ring_free, brackets_again, brackets_behind, before_again, before_behind, segno_again}
+use Rattle.mx_request.proofs.ObjectLaws.{object_again}
 use Rattle.mx_request.proofs.RuleLaws.{cut_none, rules_again, rules_behind}
 use Rattle.mx_request.proofs.AddressLaws.{link_again}
 use Rattle.mx_request.proofs.MessageLaws.{wakeup_again}
 use Rattle.mx_request.proofs.KindLaws.{kind_again, kind_bytes, kind_not_bare}
-use Rattle.mx_request.proofs.TakenLaws.{faultless, path_again, path_free, id_again, id_free, request_takes}
+use Rattle.mx_request.proofs.TakenLaws.{path_again, path_free, id_again, id_free, request_takes}
 
 -- the word of a line says how its fields are read
 by_kind : (kind : Kind) (text : List ℕ) → request_at (kind_word kind ++ 32 ∷ text) ≡ fields_at kind text
@@ -65,34 +66,24 @@ create_seg_again path words brackets e =
       path_again path f.0,
     ) refl
 
-plain_map : (object : PlainObjectMap) → is_plain object ≡ true → of_gates object.gate ≡ object
-plain_map object e = parts object.gate object.definitions object.links e
-  where
-    parts : (gate : ℕ) (definitions : List (List ℕ × ℕ)) (links : List (List ℕ × List ℕ))
-        → is_plain (record { gate = gate; definitions = definitions; links = links }) ≡ true
-        → of_gates gate ≡ record { gate = gate; definitions = definitions; links = links }
-    parts gate [] [] e = refl
-    parts gate [] (link ∷ links) e = absurd cc
-    parts gate (definition ∷ definitions) links e = absurd cc
-
 create_object_again : (path : List ℕ) (words : ℕ) (brackets : List ℕ) (object : PlainObjectMap)
     → fits_request (CreateObject path words brackets object) ≡ true
-    → create_object_at (path ++ 32 ∷ line_of (decimal words ∷ gated_fields brackets object.gate))
+    → create_object_at (path ++ 32 ∷ line_of (decimal words ∷ map ring_text brackets ++ object_fields object))
     ≡ Some (CreateObject path words brackets object)
 create_object_again path words brackets object e =
-    let gate : ℕ = object.gate in
-    let f = both (is_pathname path) (nat_le words 99999 && (are_brackets brackets && (nat_le gate 9999 && is_plain object))) e in
-    let g = both (nat_le words 99999) (are_brackets brackets && (nat_le gate 9999 && is_plain object)) f.1 in
-    let i = both (are_brackets brackets) (nat_le gate 9999 && is_plain object) g.1 in
-    let j = both (nat_le gate 9999) (is_plain object) i.1 in
-        rw (
-      gated_behind (decimal words) brackets gate i.0,
-      cut_again 32 path (decimal words ++ 32 ∷ line_of (gated_fields brackets gate)) (path_free path f.0),
-      cut_again 32 (decimal words) (line_of (gated_fields brackets gate)) (words_free 32 words refl g.0),
+    let f = both (is_pathname path) (nat_le words 99999 && (are_brackets brackets && fits_object object)) e in
+    let g = both (nat_le words 99999) (are_brackets brackets && fits_object object) f.1 in
+    let h = both (are_brackets brackets) (fits_object object) g.1 in
+    let rest : List ℕ = line_of (map ring_text brackets ++ object_fields object) in
+    rw (
+      before_behind (decimal words) brackets _ _ h.0,
+      cut_again 32 path (decimal words ++ 32 ∷ rest) (path_free path f.0),
+      cut_again 32 (decimal words) rest (words_free 32 words refl g.0),
       words_again words g.0,
-      gated_again brackets gate i.0 j.0,
+      before_again brackets _ _ h.0,
+      object_again object h.1,
       path_again path f.0,
-    ) (ap (λ o. Some (CreateObject path words brackets o)) (plain_map object j.1))
+    ) refl
 
 create_link_again : (path target : List ℕ) → fits_request (CreateLink path target) ≡ true
     → create_link_at (path ++ 32 ∷ target) ≡ Some (CreateLink path target)

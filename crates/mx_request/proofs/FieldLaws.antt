@@ -15,7 +15,7 @@ use Rattle.mx_name.proofs.CutLaws.{cut_takes, cut_again}
 use Rattle.mx_name.specs.Cuts.{cut_at}
 use Rattle.mx_request.specs.Fields.{line_of, ring_text}
 use Rattle.mx_request.specs.Decimals.{is_digit, decimal_after, decimal_number}
-use Rattle.mx_request.specs.Reading.{ring_at, brackets_at, gated_brackets_at}
+use Rattle.mx_request.specs.Reading.{ring_at, brackets_at, brackets_before}
 use Rattle.mx_request.specs.RequestTexts.{is_ring, is_segno, are_brackets}
 
 -- decimal numbers
@@ -48,10 +48,10 @@ begins_decimal : (n : ℕ) → n < 2 ^ 64 → begins_number (decimal n) ≡ true
 begins_decimal zero h = rw (decimal_digit 0 (lit< tt)) refl
 begins_decimal (suc n) h = begins_large (decimal (suc n)) (decimal_nonempty (suc n) h) (first_decimal (suc n) (omega arith) h)
 
-at_most : (a b : ℕ) → nat_le a b ≡ true → a ≤ b
+pub at_most : (a b : ℕ) → nat_le a b ≡ true → a ≤ b
 at_most a b e = grind (arith, nat_tests)
 
-at_most_test : (a b : ℕ) → a ≤ b → nat_le a b ≡ true
+pub at_most_test : (a b : ℕ) → a ≤ b → nat_le a b ≡ true
 at_most_test a b h = grind (arith, nat_tests)
 
 -- a number of so many digits is one of at most more digits
@@ -244,63 +244,56 @@ brackets_behind field brackets e =
     let P : List ℕ → Type 0 = λ b. line_of (field ∷ map ring_text b) ≡ field ++ 32 ∷ line_of (map ring_text b) in
     subst P (sym three.are) refl
 
--- three rings with a number behind them
-abbrev pub gated_fields : List ℕ → ℕ → List (List ℕ)
-gated_fields rings gate = map ring_text rings ++ decimal gate ∷ []
+-- three rings, with fields behind them
+pub record IsBefore (text rings rest : List ℕ) : Type 0 where
+  pub fits : are_brackets rings ≡ true
+  pub spelled : (field last : List ℕ) (more : List (List ℕ)) → line_of (last ∷ more) ≡ rest
+      → line_of (field ∷ map ring_text rings ++ last ∷ more) ≡ field ++ 32 ∷ text
 
-pub record IsGated (text rings : List ℕ) (gate : ℕ) : Type 0 where
-  pub spelled : line_of (gated_fields rings gate) ≡ text
-  pub brackets : are_brackets rings ≡ true
-  pub few : nat_le gate 9999 ≡ true
-  pub behind : (field : List ℕ) → line_of (field ∷ gated_fields rings gate) ≡ field ++ 32 ∷ line_of (gated_fields rings gate)
-
-three_gated : (r1 r2 r3 gate : ℕ) (text x rest y more z last : List ℕ) → text ≡ x ++ 32 ∷ rest → rest ≡ y ++ 32 ∷ more → more ≡ z ++ 32 ∷ last
+three_before : (r1 r2 r3 : ℕ) (text x mid y end z rest : List ℕ) → text ≡ x ++ 32 ∷ mid → mid ≡ y ++ 32 ∷ end → end ≡ z ++ 32 ∷ rest
     → (ring_text r1 ≡ x) × (is_ring r1 ≡ true) → (ring_text r2 ≡ y) × (is_ring r2 ≡ true) → (ring_text r3 ≡ z) × (is_ring r3 ≡ true)
-    → (decimal gate ≡ last) × (nat_le gate 9999 ≡ true) → IsGated text (r1 ∷ r2 ∷ r3 ∷ []) gate
-three_gated r1 r2 r3 gate text x rest y more z last e f g h i j k = record {
-  spelled = rw (e, f, g, ← h.0, ← i.0, ← j.0, ← k.0) refl;
-  brackets = rw (h.1, i.1, j.1) refl;
-  few = k.1;
-  behind = λ field. refl;
+    → IsBefore text (r1 ∷ r2 ∷ r3 ∷ []) rest
+three_before r1 r2 r3 text x mid y end z rest e f g h i j = record {
+  fits = rw (h.1, i.1, j.1) refl;
+  spelled = λ field last more k. rw (k, e, f, g, ← h.0, ← i.0, ← j.0) refl;
 }
 
-pub gated_takes : (text : List ℕ) (gated : List ℕ × ℕ) → gated_brackets_at text ≡ Some gated → IsGated text gated.0 gated.1
-gated_takes text gated e =
-    let p = bind_some (cut_at 32 text) _ gated e in
-    let q = bind_some (cut_at 32 p.0.1) _ gated p.2 in
-    let r = bind_some (cut_at 32 q.0.1) _ gated q.2 in
-    let r1 = bind_some (ring_at p.0.0) _ gated r.2 in
-    let r2 = bind_some (ring_at q.0.0) _ gated r1.2 in
-    let r3 = bind_some (ring_at r.0.0) _ gated r2.2 in
-    let gate = bind_some (decimal_number 4 r.0.1) _ gated r3.2 in
-    subst (λ (g : List ℕ × ℕ). IsGated text g.0 g.1) (some_is _ _ gate.2)
-    (three_gated r1.0 r2.0 r3.0 gate.0 text p.0.0 p.0.1 q.0.0 q.0.1 r.0.0 r.0.1
+pub before_takes : (text : List ℕ) (p : List ℕ × List ℕ) → brackets_before text ≡ Some p → IsBefore text p.0 p.1
+before_takes text result e =
+    let p = bind_some (cut_at 32 text) _ result e in
+    let q = bind_some (cut_at 32 p.0.1) _ result p.2 in
+    let r = bind_some (cut_at 32 q.0.1) _ result q.2 in
+    let r1 = bind_some (ring_at p.0.0) _ result r.2 in
+    let r2 = bind_some (ring_at q.0.0) _ result r1.2 in
+    let r3 = bind_some (ring_at r.0.0) _ result r2.2 in
+    subst (λ (g : List ℕ × List ℕ). IsBefore text g.0 g.1) (some_is _ _ r3.2)
+    (three_before r1.0 r2.0 r3.0 text p.0.0 p.0.1 q.0.0 q.0.1 r.0.0 r.0.1
     (cut_takes 32 text p.0 p.1).0 (cut_takes 32 p.0.1 q.0 q.1).0 (cut_takes 32 q.0.1 r.0 r.1).0
-    (ring_takes p.0.0 r1.0 r1.1) (ring_takes q.0.0 r2.0 r2.1) (ring_takes r.0.0 r3.0 r3.1) (gate_takes r.0.1 gate.0 gate.1))
+    (ring_takes p.0.0 r1.0 r1.1) (ring_takes q.0.0 r2.0 r2.1) (ring_takes r.0.0 r3.0 r3.1))
 
-gated_rings_again : (r1 r2 r3 gate : ℕ) → is_ring r1 ≡ true → is_ring r2 ≡ true → is_ring r3 ≡ true → nat_le gate 9999 ≡ true
-    → gated_brackets_at (ring_text r1 ++ 32 ∷ (ring_text r2 ++ 32 ∷ (ring_text r3 ++ 32 ∷ decimal gate))) ≡ Some (r1 ∷ r2 ∷ r3 ∷ [], gate)
-gated_rings_again r1 r2 r3 gate e f g h =
+three_again : (r1 r2 r3 : ℕ) (rest : List ℕ) → is_ring r1 ≡ true → is_ring r2 ≡ true → is_ring r3 ≡ true
+    → brackets_before (ring_text r1 ++ 32 ∷ (ring_text r2 ++ 32 ∷ (ring_text r3 ++ 32 ∷ rest))) ≡ Some (r1 ∷ r2 ∷ r3 ∷ [], rest)
+three_again r1 r2 r3 rest e f g =
     rw (
-      cut_again 32 (ring_text r1) (ring_text r2 ++ 32 ∷ (ring_text r3 ++ 32 ∷ decimal gate)) (ring_free 32 r1 refl e),
-      cut_again 32 (ring_text r2) (ring_text r3 ++ 32 ∷ decimal gate) (ring_free 32 r2 refl f),
-      cut_again 32 (ring_text r3) (decimal gate) (ring_free 32 r3 refl g),
+      cut_again 32 (ring_text r1) (ring_text r2 ++ 32 ∷ (ring_text r3 ++ 32 ∷ rest)) (ring_free 32 r1 refl e),
+      cut_again 32 (ring_text r2) (ring_text r3 ++ 32 ∷ rest) (ring_free 32 r2 refl f),
+      cut_again 32 (ring_text r3) rest (ring_free 32 r3 refl g),
       ring_again r1 e,
       ring_again r2 f,
       ring_again r3 g,
-      gate_again gate h,
     ) refl
 
-pub gated_again : (brackets : List ℕ) (gate : ℕ) → are_brackets brackets ≡ true → nat_le gate 9999 ≡ true
-    → gated_brackets_at (line_of (gated_fields brackets gate)) ≡ Some (brackets, gate)
-gated_again brackets gate e few =
+pub before_again : (brackets last : List ℕ) (more : List (List ℕ)) → are_brackets brackets ≡ true
+    → brackets_before (line_of (map ring_text brackets ++ last ∷ more)) ≡ Some (brackets, line_of (last ∷ more))
+before_again brackets last more e =
     let three = three_of brackets e in
-    let P : List ℕ → Type 0 = λ b. gated_brackets_at (line_of (gated_fields b gate)) ≡ Some (b, gate) in
-    subst P (sym three.are) (gated_rings_again three.r1 three.r2 three.r3 gate three.first three.second three.third few)
+    let P : List ℕ → Type 0 = λ b. brackets_before (line_of (map ring_text b ++ last ∷ more)) ≡ Some (b, line_of (last ∷ more)) in
+    subst P (sym three.are) (three_again three.r1 three.r2 three.r3 (line_of (last ∷ more)) three.first three.second three.third)
 
-pub gated_behind : (field brackets : List ℕ) (gate : ℕ) → are_brackets brackets ≡ true
-    → line_of (field ∷ gated_fields brackets gate) ≡ field ++ 32 ∷ line_of (gated_fields brackets gate)
-gated_behind field brackets gate e =
+-- a field before them has a blank behind it
+pub before_behind : (field brackets last : List ℕ) (more : List (List ℕ)) → are_brackets brackets ≡ true
+    → line_of (field ∷ map ring_text brackets ++ last ∷ more) ≡ field ++ 32 ∷ line_of (map ring_text brackets ++ last ∷ more)
+before_behind field brackets last more e =
     let three = three_of brackets e in
-    let P : List ℕ → Type 0 = λ b. line_of (field ∷ gated_fields b gate) ≡ field ++ 32 ∷ line_of (gated_fields b gate) in
+    let P : List ℕ → Type 0 = λ b. line_of (field ∷ map ring_text b ++ last ∷ more) ≡ field ++ 32 ∷ line_of (map ring_text b ++ last ∷ more) in
     subst P (sym three.are) refl

@@ -1,5 +1,5 @@
 -- Laws of bytes that no line has, such as the newline.
-use Rattle.std.proofs.Common.{◌≡◌, ℕ, ◌==◌, nat_le, nat_eq, ltb, true, false, ◌&&◌, List, [], ◌∷◌, ◌++◌, map, length, Option, Some, None, codes, refl, ◌∙◌, decimal}
+use Rattle.std.proofs.Common.{◌≡◌, ℕ, ◌==◌, nat_le, nat_eq, ltb, true, false, ◌&&◌, List, [], ◌∷◌, ◌++◌, map, length, Option, Some, None, codes, refl, ◌∙◌}
 use Rattle.std.proofs.lemmas.List.Folds.{list_all-append}
 use Rattle.std.specs.List.{list_all}
 use Rattle.mx_name.proofs.TextLaws.{all_free, name_is_free, pathname_is_free, acl_id_is_free}
@@ -14,17 +14,18 @@ use Rattle.mx_request.specs.declared.requests.Request.TheVariants.{CreateDir, Cr
 use Rattle.mx_request.specs.declared.reading.kinds.Kind.{Kind}
 use Rattle.mx_request.specs.declared.reading.kinds.Kind.TheVariants.{CreateDir as OfCreateDir, CreateSeg as OfCreateSeg, CreateObject as OfCreateObject, CreateLink as OfCreateLink, Rename as OfRename, Delete as OfDelete, SetAcl as OfSetAcl, DelAcl as OfDelAcl, SetBrackets as OfSetBrackets, SetDirBrackets as OfSetDirBrackets, Status as OfStatus, List as OfList, ChangeWdir as OfChangeWdir, SetRules as OfSetRules, Initiate as OfInitiate, Terminate as OfTerminate, Wakeup as OfWakeup, Link as OfLink}
 use Rattle.mx_sdw.specs.Octal.{is_octal_digit}
-use Rattle.mx_request.specs.Fields.{line_of, ring_text}
+use Rattle.mx_request.specs.Fields.{line_of, ring_text, is_name}
 use Rattle.mx_request.specs.Kinds.{kind_word}
 use Rattle.mx_request.specs.Decimals.{is_digit}
-use Rattle.mx_request.specs.RequestTexts.{request_text, request_fields, rule_text, name_fields, is_pathname, is_name, is_name_or_none, is_identifier, is_ring, is_rule, are_brackets, is_plain, fits_request}
-use Rattle.mx_request.proofs.StepLaws.{both, both_hold}
-use Rattle.mx_request.proofs.FieldLaws.{words_free, gate_free, ring_free, segno_free}
+use Rattle.mx_request.specs.ObjectTexts.{object_fields, fits_object}
+use Rattle.mx_request.specs.RequestTexts.{request_text, request_fields, rule_text, name_fields, is_pathname, is_name_or_none, is_identifier, is_ring, is_rule, are_brackets, fits_request}
+use Rattle.mx_request.proofs.StepLaws.{both, both_hold, faultless}
+use Rattle.mx_request.proofs.FieldLaws.{words_free, ring_free, segno_free}
 use Rattle.mx_request.proofs.RuleLaws.{rule_free}
 use Rattle.mx_request.proofs.AddressLaws.{address_free}
+use Rattle.mx_request.proofs.ObjectLaws.{object_free}
 use Rattle.mx_request.proofs.MessageLaws.{message_free}
 use Rattle.mx_request.proofs.KindLaws.{kind_bytes}
-use Rattle.mx_request.proofs.TakenLaws.{faultless}
 
 -- bytes that no line has: those of no field, and not the blank
 pub record IsForeign (byte : ℕ) : Type 0 where
@@ -34,6 +35,8 @@ pub record IsForeign (byte : ℕ) : Type 0 where
   pub no_digit : is_digit byte ≡ false
   pub no_octal_digit : is_octal_digit byte ≡ false
   pub no_bar : (124 == byte) ≡ false
+  pub no_colon : (58 == byte) ≡ false
+  pub no_dollar : (36 == byte) ≡ false
   pub no_letter : ltb 96 byte ≡ false
   pub no_dot : (46 == byte) ≡ false
   pub no_star : (42 == byte) ≡ false
@@ -90,15 +93,14 @@ fields_free byte foreign (CreateSeg path words brackets) e =
     both_hold _ _ (word_free byte foreign OfCreateSeg) (both_hold _ _ (path_fields byte foreign path f.0)
     (both_hold _ _ (words_free byte words foreign.no_digit g.0) (brackets_free byte brackets foreign.no_digit g.1)))
 fields_free byte foreign (CreateObject path words brackets object) e =
-    let gate : ℕ = object.gate in
-    let f = both (is_pathname path) (nat_le words 99999 && (are_brackets brackets && (nat_le gate 9999 && is_plain object))) e in
-    let g = both (nat_le words 99999) (are_brackets brackets && (nat_le gate 9999 && is_plain object)) f.1 in
-    let i = both (are_brackets brackets) (nat_le gate 9999 && is_plain object) g.1 in
-    let j = both (nat_le gate 9999) (is_plain object) i.1 in
+    let f = both (is_pathname path) (nat_le words 99999 && (are_brackets brackets && fits_object object)) e in
+    let g = both (nat_le words 99999) (are_brackets brackets && fits_object object) f.1 in
+    let h = both (are_brackets brackets) (fits_object object) g.1 in
     both_hold _ _ (word_free byte foreign OfCreateObject) (both_hold _ _ (path_fields byte foreign path f.0)
     (both_hold _ _ (words_free byte words foreign.no_digit g.0)
-    (list_all-append _ (map ring_text brackets) (decimal gate ∷ [])
-    ∙ both_hold _ _ (brackets_free byte brackets foreign.no_digit i.0) (both_hold _ _ (gate_free byte gate foreign.no_digit j.0) refl))))
+    (list_all-append _ (map ring_text brackets) (object_fields object)
+    ∙ both_hold _ _ (brackets_free byte brackets foreign.no_digit h.0)
+    (object_free byte object foreign.no_name foreign.no_digit foreign.no_octal_digit foreign.no_colon foreign.no_dollar h.1))))
 fields_free byte foreign (CreateLink path target) e =
     let f = both (is_pathname path) (is_pathname target) e in
     both_hold _ _ (word_free byte foreign OfCreateLink) (both_hold _ _ (path_fields byte foreign path f.0)
@@ -160,6 +162,8 @@ newline_free request e = request_free 10 newline request e
       no_digit = refl;
       no_octal_digit = refl;
       no_bar = refl;
+      no_colon = refl;
+      no_dollar = refl;
       no_letter = refl;
       no_dot = refl;
       no_star = refl;
@@ -177,6 +181,8 @@ equals_free request e = request_free 61 equals request e
       no_digit = refl;
       no_octal_digit = refl;
       no_bar = refl;
+      no_colon = refl;
+      no_dollar = refl;
       no_letter = refl;
       no_dot = refl;
       no_star = refl;

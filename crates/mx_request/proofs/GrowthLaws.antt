@@ -1,5 +1,6 @@
 -- Laws of a text that is written field by field.
 use Rattle.std.proofs.Common.{◌≡◌, ℕ, List, [], ◌∷◌, ◌++◌, sym, ap, append-nil, append_assoc, ◌∙◌, Result, Ok, Err, OnOk, OnErr}
+use Rattle.std.proofs.lemmas.Grind.{flat_map-append}
 use Rattle.mx_request.specs.Fields.{line_of}
 use Rattle.mx_request.specs.Growth.{IsGrown, blank_before}
 
@@ -25,16 +26,14 @@ pub words_grow : (old new added more word path words : List ℕ) (fields : List 
 words_grow old new added more word path words fields e f g =
     g ∙ rw (f, e, line_grows words fields) (simp append_assoc)
 
--- after rings, where a number is added behind them
-pub gate_grows : (old new added word path words gate : List ℕ) (rings : List (List ℕ))
-    → added ≡ old ++ line_of (word ∷ path ∷ words ∷ rings) → new ≡ added ++ 32 ∷ gate
-    → new ≡ old ++ line_of (word ∷ path ∷ words ∷ rings ++ gate ∷ [])
-gate_grows old new added word path words gate rings e f =
-    f ∙ rw (e, line_grows words rings, line_grows words (rings ++ gate ∷ []), blanks rings) (simp append_assoc)
-  where
-    blanks : (rings : List (List ℕ)) → blank_before (rings ++ gate ∷ []) ≡ blank_before rings ++ 32 ∷ gate
-    blanks [] = ap (λ xs. 32 ∷ xs) (append-nil gate)
-    blanks (ring ∷ rings) = ap (λ xs. 32 ∷ (ring ++ xs)) (blanks rings) ∙ ap (λ xs. 32 ∷ xs) (sym (append_assoc ring (blank_before rings) (32 ∷ gate)))
+-- after rings
+pub map_grows : (old new added word path words : List ℕ) (rings fields : List (List ℕ))
+    → added ≡ old ++ line_of (word ∷ path ∷ words ∷ rings) → new ≡ added ++ blank_before fields
+    → new ≡ old ++ line_of (word ∷ path ∷ words ∷ rings ++ fields)
+map_grows old new added word path words rings fields e f =
+    f
+    ∙ rw (e, line_grows words rings, line_grows words (rings ++ fields), flat_map-append (λ (field : List ℕ). 32 ∷ field) rings fields)
+    (simp append_assoc)
 
 -- what has grown twice has grown, also where the second time fails
 pub grown_on : {A E : Type 0} (result : Result A E) (old mid new : List ℕ) → IsGrown old mid → IsGrown mid new → OnErr result (IsGrown old new)

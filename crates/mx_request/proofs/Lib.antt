@@ -2,6 +2,7 @@ pub mod StepLaws
 pub mod FieldLaws
 pub mod RuleLaws
 pub mod AddressLaws
+pub mod ObjectLaws
 pub mod MessageLaws
 pub mod KindLaws
 pub mod ClassLaws

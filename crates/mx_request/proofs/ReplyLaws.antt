@@ -1,10 +1,9 @@
 -- Laws of replies: a reply that fits is found again in its fields, so that no two have one text.
-use Rattle.std.proofs.Common.{◌≡◌, ℕ, ◌==◌, ◌-◌, ◌<◌, ◌≤◌, ◌^◌, nat_lt, ltb, Bool, true, false, if◌then◌else◌, not, ◌&&◌, List, [], ◌∷◌, ◌++◌, length, Option, Some, None, codes, refl, ap, sym, ◌∙◌, subst, arith, append-nil, append_assoc}
+use Rattle.std.proofs.Common.{◌≡◌, ℕ, ◌==◌, ◌-◌, ◌<◌, ◌≤◌, ◌^◌, nat_lt, ltb, Bool, true, false, if◌then◌else◌, not, List, [], ◌∷◌, ◌++◌, length, Option, Some, None, codes, refl, ap, sym, ◌∙◌, arith, append-nil, append_assoc}
 use Rattle.std.proofs.lemmas.Bool.Decides.{nat_tests}
 use Rattle.std.proofs.lemmas.Fmt.{digits_value-decimal, digits_decimal}
 use Rattle.std.proofs.lemmas.List.Elements.{All-cons, All-nil}
 use Rattle.std.proofs.lemmas.List.Splits.{slice_split_at, slice_split_none}
-use Rattle.std.proofs.lemmas.Str.Parse.{IsNumeralModel}
 use Rattle.std.specs.Cmp.Lexicographic.{pointwise}
 use Rattle.std.specs.Fmt.{decimal}
 use Rattle.std.specs.List.{All, find, list_all, slice_split}
@@ -14,8 +13,7 @@ use Rattle.mx_name.specs.Paths.{names_text, path_text}
 use Rattle.mx_sdw.proofs.OctalLaws.{octal_has_digits, octal_value-octal}
 use Rattle.mx_sdw.specs.Octal.{is_octal_digit, octal, octal_value}
 use Rattle.mx_acl.proofs.ModesLaws.{modes_again, modes_is_free}
-use Rattle.mx_acl.specs.Modes.{modes_of_text, modes_text}
-use Rattle.mx_acl.specs.declared.modes.Modes.{Modes}
+use Rattle.mx_acl.specs.Modes.{modes_of_text}
 use Rattle.mx_hier.specs.Refusals.{refusal_number, refusal_text}
 use Rattle.mx_hier.specs.declared.asking.Status as said
 use Rattle.mx_hier.specs.declared.asking.Status.TheVariants.{Segment, Object, Directory, Link}
@@ -27,14 +25,13 @@ use Rattle.mx_name.specs.Cuts.{cut_at}
 use Rattle.mx_request.proofs.AddressLaws.{address_free}
 use Rattle.mx_request.proofs.ForeignLaws.{free_append, line_free}
 use Rattle.mx_request.proofs.LineLaws.{same_fields}
-use Rattle.mx_request.proofs.StepLaws.{both, both_hold, fails, some_is}
-use Rattle.mx_request.proofs.TakenLaws.{faultless}
+use Rattle.mx_request.proofs.StepLaws.{both, both_hold, faultless, fails, some_is}
 use Rattle.mx_request.specs.declared.replies.Reply.{Reply}
 use Rattle.mx_request.specs.declared.replies.Reply.TheVariants.{Done, Refused, Status, Names, Segno, Linked, Sent, Message, Nobody, Waiting}
-use Rattle.mx_request.specs.Fields.{ring_text}
+use Rattle.mx_request.specs.Fields.{ring_text, is_name}
 use Rattle.mx_request.specs.Decimals.{decimal_after, is_digit}
 use Rattle.mx_request.specs.ReplyTexts.{fits_reply, fits_status, fresh_text, linkage_fields, reply_fields, reply_text, status_fields}
-use Rattle.mx_request.specs.RequestTexts.{is_name, is_ring}
+use Rattle.mx_request.specs.RequestTexts.{is_ring}
 use Rattle.mx_request.specs.Steps.{◌>>=◌}
 
 -- numbers

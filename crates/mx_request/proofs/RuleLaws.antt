@@ -1,5 +1,5 @@
 -- Laws of search rules in a line: what a rule is read as is spelled so, and a rule that fits is read back.
-use Rattle.std.proofs.Common.{◌≡◌, ℕ, zero, suc, ◌+◌, ◌-◌, ◌<◌, ◌≤◌, ◌==◌, nat_le, nat_lt, ltb, Bool, true, false, cond, not, ◌&&◌, List, [], ◌∷◌, ◌++◌, map, length, Option, Some, None, is_none, Result, codes, refl, ap, sym, subst, append_assoc, ◌∙◌, arith}
+use Rattle.std.proofs.Common.{◌≡◌, ℕ, zero, suc, ◌+◌, ◌-◌, ◌<◌, ◌≤◌, ◌==◌, nat_le, nat_lt, Bool, true, false, cond, not, ◌&&◌, List, [], ◌∷◌, ◌++◌, map, length, Option, Some, None, codes, refl, ap, sym, subst, append_assoc, ◌∙◌, arith}
 use Rattle.std.proofs.lemmas.Bool.{eqb-true, ne_eqb}
 use Rattle.std.proofs.lemmas.Bool.Decides.{nat_tests}
 use Rattle.std.specs.List.{list_all, slice_split, onto_first}
@@ -11,7 +11,7 @@ use Rattle.mx_name.proofs.PathLaws.{pathname_names}
 use Rattle.mx_name.proofs.Splitting.{some_part}
 use Rattle.mx_name.proofs.TextLaws.{all_free, path_pathname, path_again, pathname_again, pathname_takes, pathname_is_free}
 use Rattle.mx_name.specs.Answers.{unless}
-use Rattle.mx_name.specs.Cuts.{cut_at, behind}
+use Rattle.mx_name.specs.Cuts.{cut_at}
 use Rattle.mx_name.specs.Names.{is_free, is_name_byte, name_fault}
 use Rattle.mx_name.specs.Pathnames.{is_absolute, climbs, names_of, first_fault, is_pathname_byte, pathname_fault, pathname_of}
 use Rattle.mx_name.specs.Paths.{IsPath, path_text, names_text, resolved, resolve_fault, resolution}
@@ -19,18 +19,11 @@ use Rattle.mx_name.specs.declared.paths.PathError.{PathError}
 use Rattle.mx_name.specs.declared.paths.PathError.TheVariants.{AboveRoot, TooLong}
 use Rattle.mx_search.specs.declared.rules.Rule.{Rule}
 use Rattle.mx_search.specs.declared.rules.Rule.TheVariants.{InitiatedSegments, ReferencingDir, WorkingDir, Directory}
-use Rattle.mx_request.specs.Fields.{line_of}
+use Rattle.mx_request.specs.Fields.{line_of, is_name}
 use Rattle.mx_request.specs.Reading.{directory_at, rule_at, rules_by, rules_at, rules_after}
-use Rattle.mx_request.specs.RequestTexts.{is_name, is_path, is_rule, rule_text}
+use Rattle.mx_request.specs.RequestTexts.{is_path, is_rule, rule_text}
 use Rattle.mx_request.specs.Steps.{◌>>=◌, when}
-use Rattle.mx_request.proofs.StepLaws.{both, both_hold, fails, some_is, bind_some, when_some}
-
-no_fault : {E : Type 0} (fault : Option E) → fault ≡ None → is_none fault ≡ true
-no_fault fault e = rw e refl
-
-faultless : {E : Type 0} (fault : Option E) → is_none fault ≡ true → fault ≡ None
-faultless None e = refl
-faultless (Some x) e = cc
+use Rattle.mx_request.proofs.StepLaws.{both, both_hold, fails, no_fault, faultless, some_is, bind_some, when_some}
 
 -- a text without the byte is not cut
 pub cut_none : (byte : ℕ) (text : List ℕ) → is_free byte text ≡ true → cut_at byte text ≡ None
@@ -95,7 +88,7 @@ path_is path e =
 abbrev IsText : List ℕ → Rule → Type 0
 IsText text rule = (rule_text rule ≡ text) × (is_rule rule ≡ true)
 
-unless_ok : {A E : Type 0} (fault : Option E) (value got : A) → result_ok (unless fault value) ≡ Some got → (fault ≡ None) × (value ≡ got)
+pub unless_ok : {A E : Type 0} (fault : Option E) (value got : A) → result_ok (unless fault value) ≡ Some got → (fault ≡ None) × (value ≡ got)
 unless_ok None value got e = (refl, cc)
 unless_ok (Some x) value got e = cc
 

@@ -1,5 +1,5 @@
 -- Laws of tests, and of steps that may fail.
-use Rattle.std.proofs.Common.{◌≡◌, ℕ, ◌==◌, Bool, true, false, not, ◌&&◌, List, [], ◌∷◌, Option, Some, None, refl}
+use Rattle.std.proofs.Common.{◌≡◌, ℕ, ◌==◌, Bool, true, false, not, ◌&&◌, List, [], ◌∷◌, Option, Some, None, is_none, refl}
 use Rattle.std.proofs.lemmas.Bool.{eqb-true}
 use Rattle.std.specs.Cmp.Lexicographic.{pointwise}
 use Rattle.mx_request.specs.Steps.{◌>>=◌, when}
@@ -15,6 +15,14 @@ both_hold a b p q = rw (p, q) refl
 pub fails : (b : Bool) → not b ≡ true → b ≡ false
 fails true e = cc
 fails false e = refl
+
+-- a fault that is none
+pub no_fault : {E : Type 0} (fault : Option E) → fault ≡ None → is_none fault ≡ true
+no_fault fault e = rw e refl
+
+pub faultless : {E : Type 0} (fault : Option E) → is_none fault ≡ true → fault ≡ None
+faultless None e = refl
+faultless (Some x) e = cc
 
 -- steps that succeed
 pub some_is : {A : Type 0} (a b : A) → Some a ≡ Some b → a ≡ b

@@ -1,5 +1,5 @@
 -- Laws of lines: what a line is read as spells that line.
-use Rattle.std.proofs.Common.{◌≡◌, ℕ, ◌<◌, ◌^◌, nat_le, length, arith, ◌==◌, ◌&&◌, Bool, true, false, cond, List, ◌∷◌, ◌++◌, map, Option, Some, None, is_none, codes, refl, ap, sym, ◌∙◌, subst}
+use Rattle.std.proofs.Common.{◌≡◌, ℕ, nat_le, length, ◌==◌, ◌&&◌, Bool, true, false, cond, List, ◌∷◌, ◌++◌, map, Option, Some, None, codes, refl, ap, sym, ◌∙◌, subst}
 use Rattle.std.specs.Fmt.{decimal}
 use Rattle.std.specs.List.{list_all}
 use Rattle.std.specs.Cmp.Lexicographic.{pointwise, same_text}
@@ -7,25 +7,26 @@ use Rattle.mx_name.proofs.TextLaws.{name_takes, pathname_takes, pathname_again, 
 use Rattle.mx_name.specs.Identifiers.{PlainAclId, acl_id_of, acl_id_text, id_fault}
 use Rattle.mx_name.specs.Names.{is_free, name_fault, name_of}
 use Rattle.mx_name.specs.Pathnames.{pathname_fault, pathname_of}
-use Rattle.mx_sdw.proofs.OctalLaws.{octal_number_takes, octal_number_below}
-use Rattle.mx_sdw.specs.Octal.{octal, octal_number}
+use Rattle.mx_sdw.specs.Octal.{octal_number}
 use Rattle.mx_acl.proofs.ModesLaws.{modes_takes}
 use Rattle.mx_acl.specs.Modes.{modes_text, modes_of_text}
 use Rattle.mx_search.specs.Rules.{rules_of}
 use Rattle.mx_search.specs.declared.rules.Rule.{Rule}
 use Rattle.mx_request.specs.declared.requests.Request.{Request}
-use Rattle.mx_request.specs.declared.requests.Request.TheVariants.{Delete, Status, List as ListNames, ChangeWdir, SetRules, Initiate, Terminate, Wakeup, Block, Link, Resume, Logout}
+use Rattle.mx_request.specs.declared.requests.Request.TheVariants.{Delete, Status, List as ListNames, ChangeWdir, SetRules, Initiate, Block, Resume, Logout}
 use Rattle.mx_request.specs.declared.reading.kinds.Kind.{Kind}
 use Rattle.mx_request.specs.declared.reading.kinds.Kind.TheVariants.{CreateDir as OfCreateDir, CreateSeg as OfCreateSeg, CreateObject as OfCreateObject, CreateLink as OfCreateLink, Rename as OfRename, Delete as OfDelete, SetAcl as OfSetAcl, DelAcl as OfDelAcl, SetBrackets as OfSetBrackets, SetDirBrackets as OfSetDirBrackets, Status as OfStatus, List as OfList, ChangeWdir as OfChangeWdir, SetRules as OfSetRules, Initiate as OfInitiate, Terminate as OfTerminate, Wakeup as OfWakeup, Link as OfLink}
 use Rattle.mx_name.specs.Cuts.{cut_at}
 use Rattle.mx_request.specs.Fields.{line_of, ring_text}
 use Rattle.mx_request.specs.Kinds.{kind_of, kind_word}
 use Rattle.mx_request.specs.Decimals.{decimal_number}
-use Rattle.mx_request.specs.Reading.{ring_at, brackets_at, gated_brackets_at, create_dir_at, create_seg_at, create_object_at, create_link_at, rename_at, delete_at, set_acl_at, del_acl_at, set_brackets_at, set_dir_brackets_at, status_at, list_at, change_wdir_at, rules_at, set_rules_at, initiate_by, initiate_at, terminate_at, wakeup_at, link_at, fields_at, worded_at, bare_at, bare_or_worded, request_at}
-use Rattle.mx_request.specs.RequestTexts.{request_text, rule_text, is_pathname, is_identifier, is_rule, is_segno, are_rules, fits_request}
-use Rattle.mx_request.proofs.StepLaws.{both, both_hold, some_is, bind_some, when_some}
+use Rattle.mx_request.specs.Reading.{ring_at, brackets_at, brackets_before, create_dir_at, create_seg_at, create_object_at, create_link_at, rename_at, delete_at, set_acl_at, del_acl_at, set_brackets_at, set_dir_brackets_at, status_at, list_at, change_wdir_at, rules_at, set_rules_at, initiate_by, initiate_at, terminate_at, wakeup_at, link_at, fields_at, bare_at, bare_or_worded, request_at}
+use Rattle.mx_request.specs.ReadingObjects.{object_at}
+use Rattle.mx_request.specs.RequestTexts.{request_text, is_pathname, is_identifier, is_rule, fits_request}
+use Rattle.mx_request.proofs.StepLaws.{both, both_hold, no_fault, faultless, some_is, bind_some, when_some}
 use Rattle.mx_name.proofs.CutLaws.{cut_takes}
-use Rattle.mx_request.proofs.FieldLaws.{words_takes, ring_takes, brackets_takes, gated_fields, gated_takes, segno_takes}
+use Rattle.mx_request.proofs.FieldLaws.{words_takes, ring_takes, brackets_takes, before_takes, segno_takes}
+use Rattle.mx_request.proofs.ObjectLaws.{object_takes}
 use Rattle.mx_request.proofs.RuleLaws.{AreText, rules_take}
 use Rattle.mx_request.proofs.AddressLaws.{link_reads}
 use Rattle.mx_request.proofs.MessageLaws.{wakeup_reads}
@@ -35,13 +36,6 @@ use Rattle.mx_request.proofs.KindLaws.{kind_takes}
 pub record IsLine (line : List ℕ) (request : Request) : Type 0 where
   pub spelled : request_text request ≡ line
   pub fits : fits_request request ≡ true
-
-pub no_fault : {E : Type 0} (fault : Option E) → fault ≡ None → is_none fault ≡ true
-no_fault fault e = rw e refl
-
-pub faultless : {E : Type 0} (fault : Option E) → is_none fault ≡ true → fault ≡ None
-faultless None e = refl
-faultless (Some x) e = cc
 
 -- fields
 pub path_takes : (text path : List ℕ) → pathname_of text ≡ Some path → (path ≡ text) × (is_pathname path ≡ true)
@@ -112,17 +106,19 @@ create_object_takes text request e =
     let p = bind_some (cut_at 32 text) _ request e in
     let q = bind_some (cut_at 32 p.0.1) _ request p.2 in
     let words = bind_some (decimal_number 5 q.0.0) _ request q.2 in
-    let gated = bind_some (gated_brackets_at q.0.1) _ request words.2 in
-    let path = bind_some (pathname_of p.0.0) _ request gated.2 in
+    let r = bind_some (brackets_before q.0.1) _ request words.2 in
+    let object = bind_some (object_at r.0.1) _ request r.2 in
+    let path = bind_some (pathname_of p.0.0) _ request object.2 in
     let a = path_takes p.0.0 path.0 path.1 in
     let b = words_takes q.0.0 words.0 words.1 in
-    let c = gated_takes q.0.1 gated.0 gated.1 in
+    let c = before_takes q.0.1 r.0 r.1 in
+    let d = object_takes r.0.1 object.0 object.1 in
     subst (IsLine (codes "create_object" ++ 32 ∷ text)) (some_is _ _ path.2)
     (record {
-      spelled = ap (λ xs. codes "create_object" ++ 32 ∷ (path.0 ++ 32 ∷ xs)) (c.behind (decimal words.0))
-          ∙ three_parts (codes "create_object") path.0 (decimal words.0) (line_of (gated_fields gated.0.0 gated.0.1)) text p.0.0 p.0.1 q.0.0 q.0.1
-          (cut_takes 32 text p.0 p.1).0 (cut_takes 32 p.0.1 q.0 q.1).0 a.0 b.0 c.spelled;
-      fits = both_hold _ _ a.1 (both_hold _ _ b.1 (both_hold _ _ c.brackets (both_hold _ _ c.few refl)));
+      spelled = ap (λ xs. codes "create_object" ++ 32 ∷ (path.0 ++ 32 ∷ xs)) (c.spelled (decimal words.0) _ _ d.spelled)
+          ∙ three_parts (codes "create_object") path.0 (decimal words.0) q.0.1 text p.0.0 p.0.1 q.0.0 q.0.1
+          (cut_takes 32 text p.0 p.1).0 (cut_takes 32 p.0.1 q.0 q.1).0 a.0 b.0 refl;
+      fits = both_hold _ _ a.1 (both_hold _ _ b.1 (both_hold _ _ c.fits d.fits));
     })
 
 create_link_takes : (text : List ℕ) (request : Request) → create_link_at text ≡ Some request → IsLine (codes "create_link" ++ 32 ∷ text) request

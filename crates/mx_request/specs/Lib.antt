@@ -1,10 +1,12 @@
 pub mod Fields
 pub mod Decimals
 pub mod Classes
+pub mod ObjectTexts
 pub mod RequestTexts
 pub mod ReplyTexts
 pub mod Sections
 pub mod Kinds
 pub mod Steps
+pub mod ReadingObjects
 pub mod Reading
 pub mod Growth

@@ -9,7 +9,6 @@ use Rattle.mx_name.specs.Paths.{resolution}
 use Rattle.mx_name.specs.Identifiers.{acl_id_of}
 use Rattle.mx_sdw.specs.Octal.{is_octal_digit, octal_number}
 use Rattle.mx_acl.specs.Modes.{modes_of_text}
-use Rattle.mx_object.specs.Objects.{of_gates}
 use Rattle.mx_search.specs.Rules.{rules_of}
 use Rattle.mx_search.specs.declared.rules.Rule.{Rule}
 use Rattle.mx_search.specs.declared.rules.Rule.TheVariants.{InitiatedSegments, ReferencingDir, WorkingDir, Directory}
@@ -19,6 +18,7 @@ use Rattle.mx_request.specs.declared.reading.kinds.Kind.{Kind}
 use Rattle.mx_request.specs.declared.reading.kinds.Kind.TheVariants.{CreateDir as OfCreateDir, CreateSeg as OfCreateSeg, CreateObject as OfCreateObject, CreateLink as OfCreateLink, Rename as OfRename, Delete as OfDelete, SetAcl as OfSetAcl, DelAcl as OfDelAcl, SetBrackets as OfSetBrackets, SetDirBrackets as OfSetDirBrackets, Status as OfStatus, List as OfList, ChangeWdir as OfChangeWdir, SetRules as OfSetRules, Initiate as OfInitiate, Terminate as OfTerminate, Wakeup as OfWakeup, Link as OfLink}
 use Rattle.mx_request.specs.Decimals.{decimal_number}
 use Rattle.mx_request.specs.Kinds.{kind_of}
+use Rattle.mx_request.specs.ReadingObjects.{object_at}
 use Rattle.mx_request.specs.RequestTexts.{is_process_number}
 use Rattle.mx_request.specs.Steps.{◌>>=◌, when}
 
@@ -35,17 +35,16 @@ brackets_at text =
     ring_at q.1 >>= λ r3.
     Some (r1 ∷ r2 ∷ r3 ∷ [])
 
--- three rings, and a number of at most four digits behind them
-abbrev pub gated_brackets_at : List ℕ → Option (List ℕ × ℕ)
-gated_brackets_at text =
+-- three rings, and what stands behind them
+abbrev pub brackets_before : List ℕ → Option (List ℕ × List ℕ)
+brackets_before text =
     cut_at 32 text >>= λ p.
     cut_at 32 p.1 >>= λ q.
     cut_at 32 q.1 >>= λ r.
     ring_at p.0 >>= λ r1.
     ring_at q.0 >>= λ r2.
     ring_at r.0 >>= λ r3.
-    decimal_number 4 r.1 >>= λ gate.
-    Some (r1 ∷ r2 ∷ r3 ∷ [], gate)
+    Some (r1 ∷ r2 ∷ r3 ∷ [], r.1)
 
 -- what follows the word of each kind of line
 abbrev pub create_dir_at : List ℕ → Option Request
@@ -71,9 +70,10 @@ create_object_at text =
     cut_at 32 text >>= λ p.
     cut_at 32 p.1 >>= λ q.
     decimal_number 5 q.0 >>= λ words.
-    gated_brackets_at q.1 >>= λ gated.
+    brackets_before q.1 >>= λ r.
+    object_at r.1 >>= λ object.
     pathname_of p.0 >>= λ path.
-    Some (CreateObject path words gated.0 (of_gates gated.1))
+    Some (CreateObject path words r.0 object)
 
 abbrev pub create_link_at : List ℕ → Option Request
 create_link_at text =

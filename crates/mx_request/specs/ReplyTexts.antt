@@ -10,8 +10,8 @@ use Rattle.mx_hier.specs.declared.asking.Status as said
 use Rattle.mx_hier.specs.declared.asking.Status.TheVariants.{Segment, Object, Directory, Link}
 use Rattle.mx_request.specs.declared.replies.Reply.{Reply}
 use Rattle.mx_request.specs.declared.replies.Reply.TheVariants.{Done, Refused, Status, Names, Segno, Linked, Sent, Message, Nobody, Waiting}
-use Rattle.mx_request.specs.Fields.{line_of, ring_text, address_text}
-use Rattle.mx_request.specs.RequestTexts.{is_name, is_ring}
+use Rattle.mx_request.specs.Fields.{line_of, ring_text, is_name, address_text}
+use Rattle.mx_request.specs.RequestTexts.{is_ring}
 
 -- whether the segment has become known by this request
 abbrev pub fresh_text : Bool → List ℕ

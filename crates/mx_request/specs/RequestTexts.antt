@@ -1,19 +1,18 @@
 -- The requests, each as its line in a script and in the journal.
-use Rattle.std.specs.Prelude.{ℕ, ◌^◌, Bool, true, false, ◌&&◌, nat_le, nat_lt, nat_eq, List, [], ◌∷◌, ◌++◌, map, length, Option, None, Some, is_none, codes}
+use Rattle.std.specs.Prelude.{ℕ, ◌^◌, Bool, true, ◌&&◌, nat_le, nat_lt, nat_eq, List, [], ◌∷◌, ◌++◌, map, length, Option, None, Some, is_none, codes}
 use Rattle.std.specs.Fmt.{decimal}
 use Rattle.std.specs.List.{list_all}
-use Rattle.mx_name.specs.Names.{name_fault}
 use Rattle.mx_name.specs.Pathnames.{pathname_fault}
 use Rattle.mx_name.specs.Paths.{path_text}
 use Rattle.mx_name.specs.Identifiers.{PlainAclId, acl_id_text, id_fault}
 use Rattle.mx_sdw.specs.Octal.{octal}
 use Rattle.mx_acl.specs.Modes.{modes_text}
-use Rattle.mx_object.specs.Objects.{PlainObjectMap}
 use Rattle.mx_search.specs.declared.rules.Rule.{Rule}
 use Rattle.mx_search.specs.declared.rules.Rule.TheVariants.{InitiatedSegments, ReferencingDir, WorkingDir, Directory}
 use Rattle.mx_request.specs.declared.requests.Request.{Request}
 use Rattle.mx_request.specs.declared.requests.Request.TheVariants.{CreateDir, CreateSeg, CreateObject, CreateLink, Rename, Delete, SetAcl, DelAcl, SetBrackets, SetDirBrackets, Status, List as ListNames, ChangeWdir, SetRules, Initiate, Terminate, Wakeup, Block, Link, Resume, Logout}
-use Rattle.mx_request.specs.Fields.{line_of, ring_text, address_text}
+use Rattle.mx_request.specs.Fields.{line_of, ring_text, is_name, address_text}
+use Rattle.mx_request.specs.ObjectTexts.{object_fields, fits_object}
 
 -- a search rule: a directory is given by its path from the root
 abbrev pub rule_text : Rule → List ℕ
@@ -27,13 +26,13 @@ abbrev pub name_fields : Option (List ℕ) → List (List ℕ)
 name_fields None = []
 name_fields (Some name) = name ∷ []
 
--- the fields of a request's line: WORDS, GATE and a process's number are decimal, a ring one digit, a segment number and
--- a word octal
+-- the fields of a request's line: WORDS and a process's number are decimal, a ring one digit, a segment number and a word
+-- octal
 abbrev pub request_fields : Request → List (List ℕ)
 request_fields (CreateDir path d1 d2) = codes "create_dir" ∷ path ∷ ring_text d1 ∷ ring_text d2 ∷ []
 request_fields (CreateSeg path words brackets) = codes "create_seg" ∷ path ∷ decimal words ∷ map ring_text brackets
 request_fields (CreateObject path words brackets object) =
-    codes "create_object" ∷ path ∷ decimal words ∷ map ring_text brackets ++ decimal object.gate ∷ []
+    codes "create_object" ∷ path ∷ decimal words ∷ map ring_text brackets ++ object_fields object
 request_fields (CreateLink path target) = codes "create_link" ∷ path ∷ target ∷ []
 request_fields (Rename path name) = codes "rename" ∷ path ∷ name ∷ []
 request_fields (Delete path) = codes "delete" ∷ path ∷ []
@@ -57,13 +56,10 @@ abbrev pub request_text : Request → List ℕ
 request_text request = line_of (request_fields request)
 
 -- What a line may say: pathnames, names and identifiers of their grammar, rings to 7, three brackets (in any order),
--- WORDS of at most five digits, GATE of at most four, segment numbers to octal 7777, addresses to octal 7777|37777,
--- processes from 1 to 99, words of 36 bits, and 1 to 16 search rules.
+-- WORDS of at most five digits, the maps of objects that their fields can say, segment numbers to octal 7777, addresses
+-- to octal 7777|37777, processes from 1 to 99, words of 36 bits, and 1 to 16 search rules.
 abbrev pub is_pathname : List ℕ → Bool
 is_pathname path = is_none (pathname_fault path)
-
-abbrev pub is_name : List ℕ → Bool
-is_name name = is_none (name_fault name)
 
 abbrev pub is_identifier : PlainAclId → Bool
 is_identifier id = is_none (id_fault id)
@@ -102,19 +98,11 @@ is_process_number p = nat_le 1 p && nat_le p 99
 abbrev pub is_word : ℕ → Bool
 is_word word = nat_lt word (2 ^ 36)
 
-abbrev pub has_none : {A : Type 0} → List A → Bool
-has_none [] = true
-has_none (x ∷ xs) = false
-
--- an object map without definitions and links
-abbrev pub is_plain : PlainObjectMap → Bool
-is_plain object = has_none object.definitions && has_none object.links
-
 abbrev pub fits_request : Request → Bool
 fits_request (CreateDir path d1 d2) = is_pathname path && (is_ring d1 && is_ring d2)
 fits_request (CreateSeg path words brackets) = is_pathname path && (nat_le words 99999 && are_brackets brackets)
 fits_request (CreateObject path words brackets object) =
-    is_pathname path && (nat_le words 99999 && (are_brackets brackets && (nat_le object.gate 9999 && is_plain object)))
+    is_pathname path && (nat_le words 99999 && (are_brackets brackets && fits_object object))
 fits_request (CreateLink path target) = is_pathname path && is_pathname target
 fits_request (Rename path name) = is_pathname path && is_name name
 fits_request (Delete path) = is_pathname path

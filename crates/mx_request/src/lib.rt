@@ -54,6 +54,9 @@ create_seg >udd>a 99999 7 0 3
 create_seg a 0 4 4 4
 create_object >udd>a 99999 7 0 3 9999
 create_object a 0 4 4 4 0
+create_object >a 64 4 4 4 1 d:sqrt:5 d:cos:37777 l:math$sqrt l:math$sqrt
+create_object >a 64 4 4 4 9999 d:d:0 d:l:0
+create_object >a 64 4 4 4 0 l:d$l
 create_link >a <<b>c
 rename > x
 delete >
@@ -122,8 +125,25 @@ create_seg >a 10 4 4 4 4
 create_object >a 10 4 4 4
 create_object >a 10 4 4 4 01
 create_object >a 10 4 4 4 10000
-create_object >a 10 4 4 4 0 d:sqrt:0
-create_object >a 10 4 4 4 0 l:math$sqrt
+create_object >a 10 4 4 4 0\x20
+create_object >a 10 4 4 4 0 d:sqrt:5\x20
+create_object >a 10 4 4 4 0  d:sqrt:5
+create_object >a 10 4 4 4 0 d:sqrt:5  l:math$sqrt
+create_object >a 10 4 4 4 0 l:math$sqrt d:sqrt:5
+create_object >a 10 4 4 4 0 d:sqrt:5 d:cos:6 d:sqrt:7
+create_object >a 10 4 4 4 0 d:sqrt
+create_object >a 10 4 4 4 0 d:sqrt:
+create_object >a 10 4 4 4 0 d:sqrt:05
+create_object >a 10 4 4 4 0 d:sqrt:8
+create_object >a 10 4 4 4 0 d:sqrt:40000
+create_object >a 10 4 4 4 0 d::5
+create_object >a 10 4 4 4 0 d:sqrt:5:5
+create_object >a 10 4 4 4 0 l:math
+create_object >a 10 4 4 4 0 l:$x
+create_object >a 10 4 4 4 0 l:a$
+create_object >a 10 4 4 4 0 l:a$b$c
+create_object >a 10 4 4 4 0 x:a
+create_object >a 10 4 4 4 0 sqrt
 set_acl >a *.*.* er
 set_acl >a *.*.* rs
 set_acl >a *.*.*\x20
@@ -168,6 +188,33 @@ end";
         Ok(())
     }
 
+    // An object with the definitions `s00`, `s01`, .. and so many links.
+    fn object_line(alloc: Global, definitions: u8, links: u8) -> Result<Vec<u8>, Fail> {
+        let mut line = Vec::new(alloc);
+        line.extend_from_slice(b"create_object >a 64 4 4 4 0")?;
+        for n in 0..definitions {
+            line.extend_from_slice(b" d:s")?;
+            line.extend_from_slice(&[b'0' + n / 10 % 10, b'0' + n % 10])?;
+            line.extend_from_slice(b":7")?;
+        }
+        for _ in 0..links {
+            line.extend_from_slice(b" l:math$sqrt")?;
+        }
+        Ok(line)
+    }
+
+    #[test]
+    fn an_object_has_at_most_64_definitions_and_64_links(rt: HostRuntime) -> Result<(), Fail> {
+        let alloc = rt.alloc();
+        let most = object_line(alloc, 64, 64)?;
+        assert!(rt; written(alloc, most.as_slice())? == most);
+        for (definitions, links) in [(65, 0), (65, 63), (0, 65), (63, 65), (65, 64)] {
+            let line = object_line(alloc, definitions, links)?;
+            assert!(rt; Request::read(alloc, line.as_slice())?.is_none());
+        }
+        Ok(())
+    }
+
     // Whether this is the reply's text.
     fn is_text(alloc: Global, reply: &Reply, text: &[u8]) -> Result<bool, Fail> {
         let mut out = Vec::new(alloc);
@@ -184,6 +231,9 @@ end";
             (known(8, true), b"segno 10 new"),
             (linked(8, 9), b"segno 10 new linkage 11"),
             (known(0o177, false), b"segno 177 old"),
+            (snapped(true, None), b"linked 12|7 new"),
+            (snapped(true, Some(11)), b"linked 12|7 new linkage 13"),
+            (snapped(false, None), b"linked 12|7 old"),
             (Reply::Sent, b"sent"),
             (message(15, 0o52), b"message 15 52"),
             (Reply::Nobody, b"nobody"),
@@ -238,6 +288,15 @@ end";
             fresh: true,
             linkage: Some(linkage),
         })
+    }
+
+    fn snapped(fresh: bool, linkage: Option<u16>) -> Reply {
+        Reply::Linked {
+            segno: 10,
+            word: 7,
+            fresh,
+            linkage,
+        }
     }
 
     fn message(sender: u8, value: u64) -> Reply {

@@ -7,18 +7,19 @@ ghost use Rattle.mx_request.specs.Reading.{create_dir_at, create_seg_at, create_
 mod decimals;
 mod fields;
 mod kinds;
+mod objects;
 mod rules;
 
 use crate::requests::Request;
 pub use decimals::read_decimal;
-use fields::{read_brackets, read_gated_brackets, read_id, read_name, read_path, read_ring};
+use fields::{cut_brackets, read_brackets, read_id, read_name, read_path, read_ring};
 use kinds::Kind;
 use mx_acl::Modes;
 use mx_list::Sequence;
 use mx_name::cut;
-use mx_object::ObjectMap;
 use mx_sdw::{Word, read_octal_number};
 use mx_search::Rules;
+use objects::read_object;
 use rules::read_rules;
 use std::alloc::{AllocError, Global};
 
@@ -127,27 +128,29 @@ fn read_create_seg(alloc: Global, fields: &[u8]) -> Result<Option<Request>, Allo
     }))
 }
 
-/// `PATH WORDS R1 R2 R3 GATE`
+/// `PATH WORDS R1 R2 R3 GATE d:SYMBOL:W ... l:NAME$SYMBOL ...`
 fn read_create_object(alloc: Global, fields: &[u8]) -> Result<Option<Request>, AllocError>
     ensures { IfOk result (λ request. request ≡ create_object_at fields.now) }
 {
     let Some((path, rest)) = cut(b' ', fields) else {
         return Ok(None);
     };
-    let Some((words, gated)) = cut(b' ', rest) else {
+    let Some((words, rest)) = cut(b' ', rest) else {
         return Ok(None);
     };
     let Some(words) = read_decimal(words, 5) else {
         return Ok(None);
     };
-    let Some(gated) = read_gated_brackets(gated) else {
+    let Some(rings) = cut_brackets(rest) else {
+        return Ok(None);
+    };
+    let Some(map) = read_object(alloc, rings.1)? else {
         return Ok(None);
     };
     let Some(path) = read_path(alloc, path)? else {
         return Ok(None);
     };
-    let brackets = gated.0;
-    let map = ObjectMap::of_gates(alloc, gated.1);
+    let brackets = rings.0;
     Ok(Some(Request::CreateObject {
         path,
         words,

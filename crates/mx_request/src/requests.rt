@@ -30,7 +30,8 @@ pub enum Request {
         brackets: [Ring; 3],
     },
     /// `create_object PATH WORDS R1 R2 R3 GATE d:SYMBOL:W ... l:NAME$SYMBOL ...`: make an object segment of so many words
-    /// with this map, of whose words the first are gates.
+    /// with this map. Its first GATE words are gates; each of up to 64 definitions gives a symbol its word, and each of
+    /// up to 64 links names a segment and a symbol of it.
     CreateObject {
         path: Pathname,
         words: u32,
@@ -125,8 +126,9 @@ pub type Requests = Sequence<Request>;
 impl Request {
     /// The request whose line this is, without its newline; `None` exactly where no request has this line. WORDS is
     /// decimal with at most five digits, GATE with at most four, a ring one digit, a segment number octal up to 7777, an
-    /// address octal up to 7777|37777, a process decimal from 1 to 99, a word octal with 36 bits; there are 1 to 16
-    /// search rules; the fields have exactly one blank between each two.
+    /// address octal up to 7777|37777, a process decimal from 1 to 99, a word octal with 36 bits; an object's definitions
+    /// stand before its links, at most 64 of either, no symbol is defined twice, and W is octal up to 37777; there are 1
+    /// to 16 search rules; the fields have exactly one blank between each two.
     pub fn read(alloc: Global, line: &[u8]) -> Result<Option<Request>, AllocError>
         ensures found { (request : RequestValue) → result ≡ Ok (Some request)
             → (request_text request ≡ line.now) × (fits_request request ≡ true) }
@@ -151,7 +153,7 @@ impl Request {
         }
     }
 
-    /// Another such request, which takes memory for its pathnames and search rules alone.
+    /// Another such request, which takes memory for its pathnames, its search rules and its map alone.
     pub fn copy(&self) -> Result<Request, AllocError>
         ensures { IfOk result (λ request. request ≡ self.now) }
     {

@@ -1,6 +1,7 @@
 //! The texts of requests and replies, added to bytes.
 
 mod fields;
+mod objects;
 mod replies;
 mod requests;
 

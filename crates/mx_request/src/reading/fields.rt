@@ -1,13 +1,12 @@
 //! The fields of a line.
 
 ghost use Rattle.std.specs.Prelude.{◌≡◌, [], ◌∷◌, IfOk};
+ghost use Rattle.std.specs.Option.{option_map};
 ghost use Rattle.mx_name.specs.Identifiers.{acl_id_of};
 ghost use Rattle.mx_name.specs.Names.{name_of};
 ghost use Rattle.mx_name.specs.Pathnames.{pathname_of};
-ghost use Rattle.mx_request.specs.Decimals.{decimal_number};
-ghost use Rattle.mx_request.specs.Reading.{ring_at, brackets_at, gated_brackets_at};
+ghost use Rattle.mx_request.specs.Reading.{ring_at, brackets_at, brackets_before};
 
-use super::decimals::read_decimal;
 use mx_name::{AclId, EntryName, NameError, Pathname, cut};
 use mx_sdw::Ring;
 use std::alloc::{AllocError, Global};
@@ -43,16 +42,15 @@ pub(super) fn read_brackets(text: &[u8]) -> Option<[Ring; 3]>
     Some([read_ring(r1)?, read_ring(r2)?, read_ring(r3)?])
 }
 
-/// R1, R2, R3 and GATE.
-pub(super) fn read_gated_brackets(text: &[u8]) -> Option<([Ring; 3], u16)>
-    ensures { result ≡ gated_brackets_at text.now }
+/// R1, R2 and R3, and what stands behind them.
+pub(super) fn cut_brackets(text: &[u8]) -> Option<([Ring; 3], &[u8])>
+    ensures { option_map (λ p. (p.0, p.1.now)) result ≡ brackets_before text.now }
 {
     let (r1, rest) = cut(b' ', text)?;
     let (r2, rest) = cut(b' ', rest)?;
-    let (r3, gate) = cut(b' ', rest)?;
+    let (r3, rest) = cut(b' ', rest)?;
     let brackets = [read_ring(r1)?, read_ring(r2)?, read_ring(r3)?];
-    let gate = read_gate(gate)?;
-    Some((brackets, gate))
+    Some((brackets, rest))
 }
 
 /// A ring, one digit.
@@ -72,13 +70,4 @@ fn ring_of(digit: u8) -> Option<Ring>
         b'0'..=b'7' => Ring::new(digit - b'0'),
         _ => None,
     }
-}
-
-/// GATE, a decimal number of at most four digits.
-#[tactic(auto, using(crate::proofs::FieldLaws::gate_below))]
-fn read_gate(text: &[u8]) -> Option<u16>
-    ensures { result ≡ decimal_number 4 text.now }
-{
-    let gate = read_decimal(text, 4)?;
-    Some(gate as u16)
 }

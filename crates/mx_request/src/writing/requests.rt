@@ -8,12 +8,15 @@ ghost use Rattle.mx_sdw.specs.Octal.{octal};
 ghost use Rattle.mx_acl.specs.Modes.{modes_text};
 ghost use Rattle.mx_request.specs.Fields.{line_of, ring_text, address_text};
 ghost use Rattle.mx_request.specs.Growth.{IsGrown, blank_before};
+ghost use Rattle.mx_request.specs.ObjectTexts.{object_fields};
 ghost use Rattle.mx_request.specs.RequestTexts.{name_fields, request_text, rule_text};
 
 use super::fields::{push_address, push_field, push_message, push_number, push_ring, push_rings};
+use super::objects::push_map;
 use crate::requests::Request;
 use mx_acl::Modes;
 use mx_name::{AclId, EntryName, Pathname};
+use mx_object::ObjectMap;
 use mx_sdw::{Ring, write_octal};
 use mx_search::Rule;
 use std::alloc::AllocError;
@@ -35,7 +38,7 @@ pub(crate) fn push_request(out: &mut Vec<u8>, request: &Request) -> Result<(), A
             words,
             brackets,
             map,
-        } => push_object(out, b"create_object", path, *words, brackets, map.gate()),
+        } => push_object(out, b"create_object", path, *words, brackets, map),
         Request::CreateLink { path, target } => push_link(out, b"create_link", path, target),
         Request::Rename { path, name } => push_name(out, b"rename", path, name),
         Request::Delete { path } => push_path(out, b"delete", path),
@@ -213,23 +216,23 @@ fn push_seg(
     push_rings(out, brackets)
 }
 
-/// `WORD PATH WORDS R1 R2 R3 GATE`
-#[tactic(auto, using(crate::proofs::GrowthLaws::gate_grows, crate::proofs::GrowthLaws::grown_on))]
+/// `WORD PATH WORDS R1 R2 R3 GATE d:SYMBOL:W ... l:NAME$SYMBOL ...`
+#[tactic(auto, using(crate::proofs::GrowthLaws::map_grows, crate::proofs::GrowthLaws::grown_on))]
 fn push_object(
     out: &mut Vec<u8>,
     word: &[u8],
     path: &Pathname,
     words: u32,
     brackets: &[Ring; 3],
-    gate: u16,
+    object: &ObjectMap,
 ) -> Result<(), AllocError>
     ensures ok { OnOk result (out.new.items
         ≡ out.old.items
-        ++ line_of (word.now ∷ path.now ∷ decimal words ∷ map ring_text brackets.now ++ decimal gate ∷ [])) }
+        ++ line_of (word.now ∷ path.now ∷ decimal words ∷ map ring_text brackets.now ++ object_fields object.now)) }
     ensures err { OnErr result (IsGrown out.old.items out.new.items) }
 {
     push_seg(out, word, path, words, brackets)?;
-    push_number(out, u64::from(gate))
+    push_map(out, object)
 }
 
 /// `WORD PATH ID MODES`
