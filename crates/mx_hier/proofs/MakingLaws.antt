@@ -1,6 +1,9 @@
 -- A refusal of every request that makes an entry is that of each.
-use Rattle.std.proofs.Common.{◌≡◌, ◌==◌, ◌≤◌, ◌||◌, ltb, ℕ, is_none, Option, None, refl, arith, Bool, true, false, cond, List, [], ◌∷◌, ◌++◌, Some, Result, Ok, Err, ap}
+use Rattle.std.proofs.Common.{◌≡◌, ◌==◌, ◌≤◌, ◌<◌, leb, ◌||◌, ltb, ℕ, is_none, Option, None, refl, arith, Bool, true, false, cond, List, [], ◌∷◌, ◌++◌, Some, Result, Ok, Err, ap, sym, ◌∙◌}
 use Rattle.std.proofs.lemmas.Bool.{or_parts}
+use Rattle.std.specs.List.{list_any}
+use Rattle.std.specs.Map.{lookup}
+use Rattle.mx_name.specs.Names.{same_name}
 use Rattle.mx_object.specs.Objects.{PlainObjectMap}
 use Rattle.mx_hier.specs.declared.branches.Directory.{Directory}
 use Rattle.mx_hier.specs.declared.making.Place.{Place}
@@ -10,7 +13,7 @@ use Rattle.mx_pages.specs.Runs.{pages_for, run_given}
 use Rattle.mx_hier.specs.Branches.{Hierarchy, directory_at}
 use Rattle.mx_hier.specs.Brackets.{settable}
 use Rattle.mx_hier.specs.Callers.{Subject, on}
-use Rattle.mx_hier.specs.Objects.{gate_of}
+use Rattle.mx_hier.specs.Objects.{gate_of, defined_in}
 use Rattle.mx_hier.specs.MakeSegment.{Wanted, reaches_beyond, is_bad_length, make_segment_refusals, make_segment_at, new_segment, segment_added}
 use Rattle.mx_hier.specs.Making.{making_refusals, made}
 use Rattle.mx_hier.specs.Rules.{first_of, onward, required, unless}
@@ -63,13 +66,42 @@ few_gates words (Some object) few e =
     below : (words gate : ℕ) → ltb words gate ≡ false → gate ≤ words
     below words gate e = grind arith
 
+-- a definition at a word that there is
+words_below : (definitions : List (List ℕ × ℕ)) (words word : ℕ) (symbol : List ℕ)
+    → list_any (λ definition. leb words definition.1) definitions ≡ false → lookup (same_name symbol) definitions ≡ Some word → word < words
+words_below [] words word symbol e f = absurd (cc)
+words_below (x ∷ xs) words word symbol e f =
+    let parts = or_parts (leb words x.1) _ e in
+    by_name (same_name symbol x.0) parts.0 f (words_below xs words word symbol parts.1)
+  where
+    below : (at : ℕ) → leb words at ≡ false → at < words
+    below at e = grind arith
+
+    by_name : (b : Bool) → leb words x.1 ≡ false → cond b (Some x.1) (lookup (same_name symbol) xs) ≡ Some word
+        → (lookup (same_name symbol) xs ≡ Some word → word < words) → word < words
+    by_name true e f later = let same : x.1 ≡ word = cc in below word (ap (leb words) (sym same) ∙ e)
+    by_name false e f later = later f
+
+few_words_defined : (words : ℕ) (object : Option PlainObjectMap) → words ≤ 1024 → on (reaches_beyond words) object ≡ false
+    → (word : ℕ) (symbol : List ℕ) → defined_in object symbol ≡ Some word → word < 1024
+few_words_defined words None few e word symbol f = absurd (cc)
+few_words_defined words (Some object) few e word symbol f =
+    let within : word < words = words_below object.definitions words word symbol (or_parts (ltb words object.gate) _ e).1 f in
+    omega (arith, within, few)
+
 pub record IsGoodLength (words : ℕ) (object : Option PlainObjectMap) : Type 0 where
   pub some : 1 ≤ words
   pub few : words ≤ 1024
   pub gates : gate_of object ≤ 1024
+  pub defined : (word : ℕ) (symbol : List ℕ) → defined_in object symbol ≡ Some word → word < 1024
 
 pub good_length : (words : ℕ) (object : Option PlainObjectMap) → is_bad_length words object ≡ false → IsGoodLength words object
 good_length words object e =
     let f = all_false (words == 0) (ltb 1024 words) (on (reaches_beyond words) object) e in
     let few = few_words words f.1 in
-    record { some = some_words words f.0; few = few; gates = few_gates words object few f.2 }
+    record {
+      some = some_words words f.0;
+      few = few;
+      gates = few_gates words object few f.2;
+      defined = few_words_defined words object few f.2;
+    }

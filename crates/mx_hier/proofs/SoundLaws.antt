@@ -15,7 +15,7 @@ use Rattle.mx_hier.specs.Changing.{changed, with_node, acl_changed}
 use Rattle.mx_hier.specs.Delete.{without}
 use Rattle.mx_hier.specs.SetBrackets.{bracketed}
 use Rattle.mx_hier.specs.SetDirectoryBrackets.{dir_bracketed}
-use Rattle.mx_hier.specs.Objects.{Objects, with_object, gate_of}
+use Rattle.mx_hier.specs.Objects.{Objects, with_object, gate_of, defined_in}
 use Rattle.mx_hier.specs.Sound.{IsStored, HasPage, AreObjects, IsSound}
 use Rattle.mx_hier.specs.Listed.{Listed}
 use Rattle.mx_hier.proofs.ObjectLaws.{objects_later, objects_with}
@@ -213,8 +213,10 @@ pub sound_made : (pages after : PageMap) (objects with : Objects) (object : Opti
     → new ≡ record { branches = old.branches ++ branch ∷ []; next = 1 + old.next }
     → as_segment branch.node ≡ Some made → 1 ≤ made.words → made.words ≤ 1024 → old.next < 4294967295
     → IsFreeRun pages (pages_for made.words) made.page → after ≡ after_run pages (pages_for made.words) (Some made.page)
-    → with ≡ with_object objects old.next object → gate_of object ≤ 1024 → IsSound old.branches old.next pages objects → IsSound new.branches new.next after with
-sound_made pages after objects with object old new branch made e node some most left run given kept gates sound =
+    → with ≡ with_object objects old.next object → gate_of object ≤ 1024
+    → ((word : ℕ) (symbol : List ℕ) → defined_in object symbol ≡ Some word → word < 1024)
+    → IsSound old.branches old.next pages objects → IsSound new.branches new.next after with
+sound_made pages after objects with object old new branch made e node some most left run given kept gates words sound =
     subst (λ (t : Listed). IsSound t.branches t.next after with) (sym e) (subst (λ (map : PageMap). IsSound (old.branches ++ branch ∷ []) (1 + old.next) map with) (sym given) (record {
       first = omega arith;
       last = omega arith;
@@ -236,7 +238,7 @@ sound_made pages after objects with object old new branch made e node some most 
           | inr later ↦ absurd (differ (new.0 ∙ sym later.0))
         ]
       ];
-      maps = subst (λ (o : Objects). AreObjects o (1 + old.next)) (sym kept) (objects_with objects old.next object gates sound.maps);
+      maps = subst (λ (o : Objects). AreObjects o (1 + old.next)) (sym kept) (objects_with objects old.next object gates words sound.maps);
     }))
   where
     count : 1 ≤ pages_for made.words

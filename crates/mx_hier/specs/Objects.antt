@@ -2,7 +2,7 @@
 -- branches: a map stays when its segment is deleted, for the linkage sections that were made of it.
 use Rattle.std.specs.Prelude.{ℕ, ◌==◌, List, [], ◌∷◌, ◌++◌, Option, Some, None}
 use Rattle.std.specs.Map.{lookup}
-use Rattle.mx_object.specs.Objects.{PlainObjectMap}
+use Rattle.mx_object.specs.Objects.{PlainObjectMap, word_of}
 
 abbrev pub Objects : Type 0
 Objects = List (ℕ × PlainObjectMap)
@@ -20,3 +20,8 @@ with_object objects uid (Some object) = objects ++ (uid, object) ∷ []
 abbrev pub gate_of : Option PlainObjectMap → ℕ
 gate_of None = 0
 gate_of (Some object) = object.gate
+
+-- the word with which a symbol is defined: with none where there is no map
+abbrev pub defined_in : Option PlainObjectMap → List ℕ → Option ℕ
+defined_in None symbol = None
+defined_in (Some object) symbol = word_of object symbol

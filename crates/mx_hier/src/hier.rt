@@ -1,9 +1,9 @@
 //! The hierarchy.
 
-ghost use Rattle.std.specs.Prelude.{◌≡◌, ◌<◌, ◌≤◌, [], ◌∷◌, IfOk, IfSome, is_some};
+ghost use Rattle.std.specs.Prelude.{◌≡◌, ◌<◌, ◌≤◌, ℕ, List, [], ◌∷◌, Some, IfOk, IfSome, IsTrue, is_some};
 ghost use Rattle.std.specs.Option.{option_map};
 ghost use Rattle.mx_hier.specs.Branches.{Hierarchy, directory_at, segment_at, object_at, target_at, holder, holding};
-ghost use Rattle.mx_hier.specs.Objects.{gate_of};
+ghost use Rattle.mx_hier.specs.Objects.{gate_of, defined_in};
 ghost use Rattle.mx_hier.specs.Opening.{root, opening};
 ghost use Rattle.mx_hier.specs.Sound.{IsStored};
 
@@ -90,7 +90,8 @@ impl Hier {
 
     /// Whether a segment stands at a uid: one that was deleted does not. Takes no memory.
     pub fn is_segment(&self, uid: u32) -> bool
-        ensures { result ≡ is_some (segment_at self.now uid) }
+        ensures value { result ≡ is_some (segment_at self.now uid) }
+        ensures below { IsTrue result → uid < self.now.next }
     {
         self.segment_at(uid).is_some()
     }
@@ -99,6 +100,7 @@ impl Hier {
     pub fn object_at(&self, uid: u32) -> Option<&ObjectMap>
         ensures value { option_map (λ object. object.now) result ≡ object_at self.now uid }
         ensures gates { gate_of (object_at self.now uid) ≤ 1024 }
+        ensures words { (word : ℕ) (symbol : List ℕ) → defined_in (object_at self.now uid) symbol ≡ Some word → word < 1024 }
     {
         object_in(&self.objects, uid)
     }

@@ -48,7 +48,7 @@ pub fn listed_names_ascend(hier: &Hier, dir: u32)
 {}
 
 /// Every segment has pages of its own, none of which is free; no uid after the last is given, and none that is yet to
-/// be given has an object map.
+/// be given has an object map; no map has a gate or a definition beyond the longest segment.
 pub fn segments_have_pages_of_their_own(hier: &Hier)
     ensures { IsSound hier.now.branches hier.now.next hier.now.pages hier.now.objects }
 {

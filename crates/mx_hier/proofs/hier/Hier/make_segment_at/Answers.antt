@@ -18,7 +18,7 @@ invariant_of-self-2 c =
     (c.allot-first.ensures.after ∙ ap (λ n. after_run c.self.inside.pages n (run_given c.self.inside.pages n)) c.pages_for-2.ensures
     ∙ ap (after_run c.self.inside.pages (pages_for c.args.words)) (ap (run_given c.self.inside.pages) (sym c.pages_for.ensures) ∙ sym c.in-Some-next.ensures.run))
     (c.add_object.ensures ∙ (λ i. with_object (c.copy_with_room.ensures.same i) (c.next-uid.ensures i) (c.in_ok-object.ensures.copy i)))
-    length.gates c.self.invariant
+    length.gates length.defined c.self.invariant
 
 pub returns-in_err-parent-clause-answer : goal.returns-in_err-parent-clause-answer
 returns-in_err-parent-clause-answer c =
