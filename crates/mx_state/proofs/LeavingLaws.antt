@@ -34,12 +34,13 @@ use Rattle.mx_request.specs.declared.requests.Request.TheVariants as ask
 use Rattle.mx_request.specs.declared.replies.Reply.{Reply}
 use Rattle.mx_request.specs.declared.replies.Reply.TheVariants as reply
 use Rattle.mx_state.specs.declared.applied.Applied.{Applied}
+use Rattle.mx_state.specs.declared.linking.Link.{Link}
 use Rattle.mx_state.specs.declared.states.ProcessState.{ProcessState}
 use Rattle.mx_state.specs.Askers.{Asker, Initializer, Process, Nobody, asker, initial_caller, caller, answered_caller, answered_process}
 use Rattle.mx_state.specs.Changes.{AreChanges}
 use Rattle.mx_state.specs.Connecting.{Connected, connect}
 use Rattle.mx_state.specs.Knowing.{free_name, given, initiate, link, link_by, link_to, link_towards, linked, terminate}
-use Rattle.mx_state.specs.Linking.{Link, found_uid, link_at, link_target}
+use Rattle.mx_state.specs.Linking.{found_uid, link_at, link_target}
 use Rattle.mx_state.specs.Messages.{block, logout, sent, taken_reply, wakeup, wakeup_refusals}
 use Rattle.mx_state.specs.OwnState.{change_wdir, set_rules}
 use Rattle.mx_state.specs.Laws.{RefusalLaw, PathLaw}

@@ -6,11 +6,12 @@ pub mod SegmentLaws
 pub mod Descriptors
 pub mod AnswerLaws
 pub mod ProcessLaws
-pub mod LinkLaws
 pub mod RenewingLaws
 pub mod KnowingLaws
+pub mod ConnectionLaws
 pub mod LeavingLaws
 pub mod ConnectingLaws
+pub mod LinkingLaws
 pub mod ToldLaws
 pub mod MessageLaws
 pub mod WaitingLaws

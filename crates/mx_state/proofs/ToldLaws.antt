@@ -1,9 +1,8 @@
 -- What replies tell of linkage sections and links.
-use Rattle.std.proofs.Common.{◌≡◌, ◌≢◌, ◌⊎◌, ◌≤◌, ◌<◌, ◌-◌, ◌==◌, ℕ, Bool, true, false, cond, ltb, List, [], ◌∷◌, length, Option, Some, None, is_some, Result, Ok, Err, inl, inr, refl, sym, ap, ◌∙◌, subst, slice_get, arith}
+use Rattle.std.proofs.Common.{◌≡◌, ◌≢◌, ◌⊎◌, ◌≤◌, ◌<◌, ◌-◌, ℕ, Bool, true, false, cond, ltb, List, length, Option, Some, None, Result, Ok, Err, inl, inr, refl, sym, ap, ◌∙◌, subst, slice_get, arith}
 use Rattle.std.proofs.lemmas.Bool.{cases_eq, cases_lt, ltb-true, ne_eqb}
-use Rattle.std.specs.Option.{option_and_then, option_map}
-use Rattle.mx_hier.specs.Branches.{Hierarchy, holder, object_at, segment_at}
-use Rattle.mx_hier.specs.Callers.{Caller, Subject}
+use Rattle.mx_hier.specs.Branches.{Hierarchy}
+use Rattle.mx_hier.specs.Callers.{Caller}
 use Rattle.mx_hier.specs.ChangeWorkingDirectory.{directory}
 use Rattle.mx_hier.specs.CreateDirectory.{create_dir}
 use Rattle.mx_hier.specs.CreateLink.{create_link}
@@ -11,11 +10,9 @@ use Rattle.mx_hier.specs.CreateObject.{create_object}
 use Rattle.mx_hier.specs.CreateSegment.{create_seg}
 use Rattle.mx_hier.specs.Delete.{delete}
 use Rattle.mx_hier.specs.DeleteAclEntry.{del_acl}
-use Rattle.mx_hier.specs.Find.{find_at, find_in}
 use Rattle.mx_hier.specs.Initiate.{segment}
 use Rattle.mx_hier.specs.List.{list}
 use Rattle.mx_hier.specs.Rename.{rename}
-use Rattle.mx_hier.specs.Rules.{first_of, onward, unless}
 use Rattle.mx_hier.specs.SetAcl.{set_acl}
 use Rattle.mx_hier.specs.SetBrackets.{set_brackets}
 use Rattle.mx_hier.specs.SetDirectoryBrackets.{set_dir_brackets}
@@ -23,18 +20,16 @@ use Rattle.mx_hier.specs.Status.{status}
 use Rattle.mx_hier.specs.declared.refusals.Refusal.{Refusal}
 use Rattle.mx_hier.specs.declared.refusals.Refusal.TheVariants as refusal
 use Rattle.mx_kst.specs.KnownSegments.{KnownSegments}
-use Rattle.mx_kst.specs.Names.{named}
 use Rattle.mx_kst.specs.Terminating as kst
 use Rattle.mx_kst.specs.declared.lots.Lot.{Lot}
 use Rattle.mx_kst.specs.declared.lots.Lot.TheVariants.{Free, Stack, Branch, Linkage}
-use Rattle.mx_link.specs.Targets.{at_word, in_object, in_segment, target}
+use Rattle.mx_link.specs.Targets.{target}
 use Rattle.mx_link.specs.declared.resolving.LinkError.{LinkError}
 use Rattle.mx_link.specs.declared.resolving.LinkError.TheVariants as error
 use Rattle.mx_link.specs.declared.resolving.Target.{Target}
 use Rattle.mx_mail.specs.Processes.{PlainProcess}
 use Rattle.mx_mail.specs.declared.mail.Taken.{Taken}
 use Rattle.mx_mail.specs.declared.mail.Taken.TheVariants as taken
-use Rattle.mx_object.specs.Objects.{PlainObjectMap, word_of}
 use Rattle.mx_request.specs.Classes.{class_of}
 use Rattle.mx_request.specs.Sections.{section_in}
 use Rattle.mx_request.specs.declared.classes.RequestClass.TheVariants.{OfPath}
@@ -45,25 +40,23 @@ use Rattle.mx_request.specs.declared.requests.Request.TheVariants as ask
 use Rattle.mx_sdw.specs.Descriptors.{segment_desc}
 use Rattle.mx_sdw.specs.Rings.{Bracketing}
 use Rattle.mx_search.specs.Searching.{answers, first_found}
-use Rattle.mx_search.specs.declared.rules.Rule.{Rule}
-use Rattle.mx_search.specs.declared.rules.Rule.TheVariants.{InitiatedSegments, ReferencingDir, WorkingDir, Directory}
-use Rattle.mx_search.specs.declared.searching.Found.{Found}
-use Rattle.mx_search.specs.declared.searching.Found.TheVariants as found
+use Rattle.mx_state.specs.declared.linking.Link.{Link}
 use Rattle.mx_state.specs.declared.states.ProcessState.{ProcessState}
-use Rattle.mx_state.specs.Askers.{Asker, Initializer, Process, Nobody, answered_caller, asker, caller, initial_caller, on_path, on_process, process_or_nobody, unmade}
+use Rattle.mx_state.specs.Askers.{Asker, Initializer, Process, Nobody, answered_caller, asker, caller, initial_caller, on_path, on_process, unmade}
 use Rattle.mx_state.specs.Connecting.{Connected, connect}
 use Rattle.mx_state.specs.Knowing.{free_name, given, initiate, knowing_more, link, link_by, link_to, link_towards, linked, terminate}
 use Rattle.mx_state.specs.Linking as linking
-use Rattle.mx_state.specs.Linking.{Link, branch_found, found_uid, known_uid, link_at, link_in, link_target, rule_finds, standing}
+use Rattle.mx_state.specs.Linking.{branch_found, found_uid, known_uid, link_at, link_in, link_target, rule_finds, standing}
 use Rattle.mx_state.specs.Messages.{block, logout, sent, taken_reply, wakeup}
 use Rattle.mx_state.specs.Numbers.{stands_for}
 use Rattle.mx_state.specs.OwnState.{change_wdir, set_rules}
-use Rattle.mx_state.specs.Plain.{Plain, Answer, answer, process_at, with_process}
+use Rattle.mx_state.specs.Plain.{Plain, Answer, process_at, with_process}
 use Rattle.mx_state.specs.Requests.{changed, plain, told}
-use Rattle.mx_state.specs.Table.{descriptor, process_desc, standing_desc}
-use Rattle.mx_state.specs.Told.{HasLinkWord, HasSection, IsLinked, IsRefused, IsSection, LinkRepliesLaw, NewSectionLaw, OnlyLinkLaw, OthersLaw, PathTellsLaw, ResolvedLaw, SectionDescLaw, SectionsStayLaw, lot_by, lot_in}
+use Rattle.mx_state.specs.Table.{process_desc, standing_desc}
+use Rattle.mx_state.specs.Told.{HasLinkWord, HasSection, IsLinked, IsLinkedWithin, IsRefused, IsSection, LinkRepliesLaw, NewSectionLaw, OnlyLinkLaw, OthersLaw, PathTellsLaw, ResolvedLaw, SectionDescLaw, SectionsStayLaw, lot_by, lot_in}
 use Rattle.mx_state.proofs.ConnectingLaws.{SectionAt, given_below, section_is_there, stands_still}
 use Rattle.mx_state.proofs.LeavingLaws.{path_request_leaves}
+use Rattle.mx_state.proofs.LinkingLaws.{remembers, target_stands}
 use Rattle.mx_state.proofs.Lists.{some_in}
 use Rattle.mx_state.proofs.NumberLaws.{nothing_beyond, stands_within}
 use Rattle.mx_state.proofs.ProcessLaws.{elsewhere, there_again, to_process}
@@ -424,6 +417,27 @@ only_link_law s p ring request to at fresh linkage e =
       | inr link ↦ (link.segno, link.word, link.is)
     ]
 
+-- any other reply names no place
+unlinked_within : (given : Reply) → is_linked given ≡ false → IsLinkedWithin given
+unlinked_within reply.Done e = tt
+unlinked_within (reply.Refused why) e = tt
+unlinked_within (reply.Status value) e = tt
+unlinked_within (reply.Names names) e = tt
+unlinked_within (reply.Segno known) e = tt
+unlinked_within (reply.Linked segno word fresh linkage) e = absurd (cc)
+unlinked_within reply.Sent e = tt
+unlinked_within (reply.Message sender word) e = tt
+unlinked_within reply.Nobody e = tt
+unlinked_within reply.Waiting e = tt
+
+pub linked_within : (s : Plain) (p ring : ℕ) (request : Request) (given : Answer) → plain s p ring request ≡ given
+    → ((segno word : ℕ) → request ≡ ask.Link segno word → IsLinkedWithin given.reply) → IsLinkedWithin given.reply
+linked_within s p ring request given e within =
+    elim (link_or_unlinked s p ring request) [
+      | inl none ↦ unlinked_within given.reply (sym (ap (λ (a : Answer). is_linked a.reply) e) ∙ none)
+      | inr link ↦ within link.segno link.word link.is
+    ]
+
 -- a link is that of a word of a linkage section
 link_is : (h : Hierarchy) (known : KnownSegments) (word : ℕ) (lot : Lot) (it : Link) → link_in h known word lot ≡ Some it
     → (words : ℕ) × IsSection lot words × (word < words)
@@ -492,97 +506,6 @@ resolved_law s p ring segno word to at fresh linkage =
     by_process (ToWord s p ring segno word to at fresh linkage) s p (λ process. link s p ring process segno word) (λ f. cc)
     (λ process low place. by_word s p ring segno word to at fresh linkage process low place (link_at s.hierarchy process.known segno word) refl)
 
--- what a rule finds is a segment that is known, or a branch
-known_found : (h : Hierarchy) (known : KnownSegments) (it : Found) (o : Option ℕ) → option_and_then (standing h known) o ≡ Some it
-    → (uid : ℕ) × (found_uid known it ≡ Some uid)
-known_found h known it None e = cc
-known_found h known it (Some segno) e = by_uid (known_uid known segno) refl e
-  where
-    by_test : (uid : ℕ) (b : Bool) → known_uid known segno ≡ Some uid → cond b (Some (found.Known segno)) None ≡ Some it
-        → (uid : ℕ) × (found_uid known it ≡ Some uid)
-    by_test uid true f e = let same : found.Known segno ≡ it = cc in (uid, ap (found_uid known) (sym same) ∙ f)
-    by_test uid false f e = cc
-
-    by_uid : (o : Option ℕ) → known_uid known segno ≡ o
-        → cond (is_some (option_and_then (segment_at h) o)) (Some (found.Known segno)) None ≡ Some it
-        → (uid : ℕ) × (found_uid known it ≡ Some uid)
-    by_uid None f e = cc
-    by_uid (Some uid) f e = by_test uid (is_some (segment_at h uid)) f e
-
-branch_is_found : (known : KnownSegments) (it : Found) (o : Option ℕ) → branch_found o ≡ Some it → (uid : ℕ) × (found_uid known it ≡ Some uid)
-branch_is_found known it None e = cc
-branch_is_found known it (Some uid) e = let same : found.Branch uid ≡ it = cc in (uid, ap (found_uid known) (sym same))
-
-rule_found : (h : Hierarchy) (process : ProcessState) (ring object : ℕ) (rule : Rule) (name : List ℕ) (it : Found)
-    → rule_finds h process ring object rule name ≡ Some it → (uid : ℕ) × (found_uid process.known it ≡ Some uid)
-rule_found h process ring object InitiatedSegments name it e = known_found h process.known it (named process.known.names ring name) e
-rule_found h process ring object ReferencingDir name it e = branch_is_found process.known it _ e
-rule_found h process ring object WorkingDir name it e = branch_is_found process.known it _ e
-rule_found h process ring object (Directory path) name it e = branch_is_found process.known it _ e
-
--- what all rules find, one of them finds
-one_found : (answer : Rule → List ℕ → Option Found) (rules : List Rule) (name : List ℕ) (it : Found)
-    → first_found (answers answer rules name) ≡ Some it → (rule : Rule) × (answer rule name ≡ Some it)
-one_found answer [] name it e = cc
-one_found answer (rule ∷ rules) name it e = by_answer (answer rule name) refl e (one_found answer rules name it)
-  where
-    by_answer : (o : Option Found) → answer rule name ≡ o → first_found (o ∷ answers answer rules name) ≡ Some it
-        → (first_found (answers answer rules name) ≡ Some it → (rule : Rule) × (answer rule name ≡ Some it))
-        → (rule : Rule) × (answer rule name ≡ Some it)
-    by_answer None f e later = later e
-    by_answer (Some own) f e later = (rule, f ∙ e)
-
--- a target is at the symbol's word in the object that is found
-pub record IsTarget (object_of : Found → Option PlainObjectMap) (symbol : List ℕ) (given : Option Found) (to : Target) : Type 0 where
-  pub there : given ≡ Some to.found
-  pub object : PlainObjectMap
-  pub has : object_of to.found ≡ Some object
-  pub word : word_of object symbol ≡ Some to.word
-
-pub target_is : (object_of : Found → Option PlainObjectMap) (symbol : List ℕ) (given : Option Found) (to : Target)
-    → in_segment object_of given symbol ≡ Ok to → IsTarget object_of symbol given to
-target_is object_of symbol None to e = absurd (cc)
-target_is object_of symbol (Some it) to e = by_object (object_of it) refl e
-  where
-    by_word : (object : PlainObjectMap) (o : Option ℕ) → object_of it ≡ Some object → word_of object symbol ≡ o → at_word it o ≡ Ok to
-        → IsTarget object_of symbol (Some it) to
-    by_word object None f g e = absurd (cc)
-    by_word object (Some word) f g e =
-        let same : record { found = it; word = word } ≡ to = cc in
-        let own : it ≡ to.found = ap (λ (t : Target). t.found) same in
-        let at : word ≡ to.word = ap (λ (t : Target). t.word) same in
-        record { there = ap Some own; object = object; has = ap object_of (sym own) ∙ f; word = g ∙ ap Some at }
-
-    by_object : (o : Option PlainObjectMap) → object_of it ≡ o → in_object it o symbol ≡ Ok to → IsTarget object_of symbol (Some it) to
-    by_object None f e = absurd (cc)
-    by_object (Some object) f e = by_word object (word_of object symbol) f refl e
-
--- and no definition wants for memory
-remembers : (object_of : Found → Option PlainObjectMap) (symbol : List ℕ) (given : Option Found)
-    → in_segment object_of given symbol ≡ Err error.Memory → ⊥
-remembers object_of symbol None e = apart e
-  where
-    apart : ◌≡◌ {A = Result Target LinkError} (Err error.SegmentNotFound) (Err error.Memory) → ⊥
-    apart e = cc
-remembers object_of symbol (Some it) e = by_object (object_of it) e
-  where
-    by_word : (o : Option ℕ) → at_word it o ≡ Err error.Memory → ⊥
-    by_word None e = cc
-    by_word (Some word) e = cc
-
-    by_object : (o : Option PlainObjectMap) → in_object it o symbol ≡ Err error.Memory → ⊥
-    by_object None e = cc
-    by_object (Some object) e = by_word (word_of object symbol) e
-
--- where a link leads there is a segment
-pub target_found : (h : Hierarchy) (process : ProcessState) (ring : ℕ) (it : Link) (to : Target) → link_target h process ring it ≡ Ok to
-    → (uid : ℕ) × (found_uid process.known to.found ≡ Some uid)
-target_found h process ring it to e =
-    let answer = rule_finds h process ring it.object in
-    let is = target_is (linking.found_object h process.known) it.symbol (first_found (answers answer process.rules it.segment)) to e in
-    let one = one_found answer process.rules it.segment to.found is.there in
-    rule_found h process ring it.object one.0 it.segment to.found one.1
-
 -- a link is resolved or refused
 abbrev IsAnswered : Answer → Type 0
 IsAnswered given = IsRefused given.reply ⊎ IsLinked given.reply
@@ -604,7 +527,8 @@ link_answered s p ring process (Some it) = by_target (link_target s.hierarchy pr
 
     by_target : (r : Result Target LinkError) → link_target s.hierarchy process ring it ≡ r → IsAnswered (link_towards s p ring process it r)
     by_target (Ok to) e =
-        by_uid to.word (found_uid process.known to.found) (target_found s.hierarchy process ring it to e)
+        let stands = target_stands s.hierarchy process ring it to e in
+        by_uid to.word (found_uid process.known to.found) (stands.uid, stands.found)
     by_target (Err error.SegmentNotFound) e = inl (refusal.SegmentNotFound, refl)
     by_target (Err error.NotObject) e = inl (refusal.NotObject, refl)
     by_target (Err error.NoDefinition) e = inl (refusal.NoDefinition, refl)

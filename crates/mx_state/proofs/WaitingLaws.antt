@@ -25,13 +25,14 @@ use Rattle.mx_request.specs.declared.replies.Reply.{Reply}
 use Rattle.mx_request.specs.declared.requests.Request.{Request}
 use Rattle.mx_request.specs.declared.requests.Request.TheVariants as ask
 use Rattle.mx_state.specs.declared.journal.Entry.{Entry}
+use Rattle.mx_state.specs.declared.linking.Link.{Link}
 use Rattle.mx_state.specs.declared.states.ProcessState.{ProcessState}
 use Rattle.mx_state.specs.Askers.{caller, on_process}
 use Rattle.mx_state.specs.History.{IsRight, IsRightEntry, opening, replay}
 use Rattle.mx_state.specs.Connecting.{Connected, connect}
 use Rattle.mx_state.specs.Knowing.{free_name, given, initiate, link, link_by, link_to, link_towards, linked, terminate}
-use Rattle.mx_state.specs.Linking.{Link, found_uid, link_at, link_target}
-use Rattle.mx_state.specs.Messages.{block, is_ready, logout, sent, taken_reply, wakeup, wakeup_refusals}
+use Rattle.mx_state.specs.Linking.{found_uid, link_at, link_target}
+use Rattle.mx_state.specs.Messages.{block, logout, sent, taken_reply, wakeup, wakeup_refusals}
 use Rattle.mx_state.specs.OwnState.{change_wdir, set_rules}
 use Rattle.mx_state.specs.Plain.{Plain, Answer}
 use Rattle.mx_state.specs.Requests.{plain}

@@ -9,10 +9,11 @@ use Rattle.mx_link.specs.declared.resolving.LinkError.{LinkError}
 use Rattle.mx_link.specs.declared.resolving.LinkError.TheVariants.{SegmentNotFound, NotObject, NoDefinition, Memory}
 use Rattle.mx_link.specs.declared.resolving.Target.{Target}
 use Rattle.mx_request.specs.declared.replies.Reply.TheVariants.{Done, Refused, Segno, Linked}
+use Rattle.mx_state.specs.declared.linking.Link.{Link}
 use Rattle.mx_state.specs.declared.states.ProcessState.{ProcessState}
 use Rattle.mx_state.specs.Askers.{unmade}
 use Rattle.mx_state.specs.Connecting.{Connected, connect}
-use Rattle.mx_state.specs.Linking.{Link, link_at, link_target, found_uid}
+use Rattle.mx_state.specs.Linking.{link_at, link_target, found_uid}
 use Rattle.mx_state.specs.Plain.{Plain, Answer, answer, with_process}
 
 -- the state in which a segment has become known to the process

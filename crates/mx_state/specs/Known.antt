@@ -1,24 +1,64 @@
--- Helpers that only private contracts cite: what a process knows after its table was asked.
-use Rattle.std.specs.Prelude.{◌≡◌, ℕ, List, [], ◌∷◌, Result, Ok, Err, slice_set, if◌then◌else◌}
-use Rattle.mx_core.specs.declared.changes.Change.{Change}
+-- Helpers that only private contracts cite: what a process knows after its table was asked, and where a link leads.
+use Rattle.std.specs.Prelude.{◌≡◌, ℕ, List, Option, Some, None, Result, Ok, Err, length, slice_set}
+use Rattle.std.specs.List.{All}
+use Rattle.mx_hier.specs.Branches.{Hierarchy}
+use Rattle.mx_hier.specs.Rules.{first_of, unless}
+use Rattle.mx_hier.specs.declared.refusals.HierError.{HierError}
+use Rattle.mx_hier.specs.declared.refusals.HierError.TheVariants as given
 use Rattle.mx_hier.specs.declared.refusals.Refusal.{Refusal}
-use Rattle.mx_kst.specs.Initiating.{Initiated}
+use Rattle.mx_hier.specs.declared.refusals.Refusal.TheVariants as refusal
 use Rattle.mx_kst.specs.KnownSegments.{KnownSegments}
-use Rattle.mx_kst.specs.declared.segments.Known.{Known}
-use Rattle.mx_sdw.specs.Descriptors.{Descriptor}
+use Rattle.mx_kst.specs.Sections.{PlainSection}
+use Rattle.mx_link.specs.declared.resolving.LinkError.{LinkError}
+use Rattle.mx_link.specs.declared.resolving.LinkError.TheVariants.{SegmentNotFound, NotObject, NoDefinition, Memory}
+use Rattle.mx_link.specs.declared.resolving.Target.{Target}
+use Rattle.mx_state.specs.declared.knowing.Connection.{Connection}
+use Rattle.mx_state.specs.declared.linking.Link.{Link}
+use Rattle.mx_state.specs.declared.linking.Place.{Place}
 use Rattle.mx_state.specs.declared.states.ProcessState.{ProcessState}
-use Rattle.mx_state.specs.Changes.{change}
+use Rattle.mx_state.specs.Changes.{AreChanges, IsBounded}
+use Rattle.mx_state.specs.Connecting.{Connected, connect_refusals}
+use Rattle.mx_state.specs.Knowing.{knowing_more}
+use Rattle.mx_state.specs.Linking.{found_uid, link_target}
+use Rattle.mx_state.specs.Plain.{Plain}
+use Rattle.mx_state.specs.Sections.{section_made}
 
 -- the processes, of which one knows this
 abbrev pub knowing : List ProcessState → ℕ → ProcessState → KnownSegments → List ProcessState
 knowing processes i process known = slice_set processes i (record process { known = known })
 
--- a segment became known to the process in a place as it is meant, or was refused as is meant
-abbrev pub Knows : Result Initiated Refusal → List ProcessState → ℕ → ProcessState → Result Known Refusal → List ProcessState → Type 0
-Knows meant processes i process (Ok known) new =
-    (after : KnownSegments) × (meant ≡ Ok (record { known = known; after = after })) × (new ≡ knowing processes i process after)
-Knows meant processes i process (Err why) new = (meant ≡ Err why) × (new ≡ processes)
+-- the linkage section that is to be made of a segment, unless it is refused that the segment becomes known
+abbrev pub section_or_refusal : Hierarchy → KnownSegments → ℕ → ℕ → Option (List ℕ) → Result (Option PlainSection) Refusal
+section_or_refusal h known uid ring name =
+    unless (first_of (connect_refusals h known uid ring name)) (section_made h known uid)
 
--- the descriptor of a number that is given now
-abbrev pub given_changes : ℕ → Known → Descriptor → List Change
-given_changes p known desc = if known.fresh then change p known.segno desc ∷ [] else []
+-- a segment became known to process p as it is meant, and the descriptors are told that this changed
+pub record IsConnected (old new : Plain) (p : ℕ) (process : ProcessState) (meant : Result Connected Refusal) (connection : Connection) : Type 0 where
+  pub after : Connected
+  pub as_meant : meant ≡ Ok after
+  pub known : connection.known ≡ after.known
+  pub state : new ≡ knowing_more old p process after
+  pub changes : AreChanges old new connection.changes
+  pub bounded : All IsBounded connection.changes
+  pub count : length new.processes ≡ length old.processes
+
+-- or was refused as is meant
+abbrev pub Connects : Plain → Plain → ℕ → ProcessState → Result Connected Refusal → Result Connection Refusal → Type 0
+Connects old new p process meant (Ok connection) = IsConnected old new p process meant connection
+Connects old new p process meant (Err why) = (meant ≡ Err why) × (new ≡ old)
+
+-- why a link leads nowhere; want of memory is no refusal
+abbrev pub link_refusal : LinkError → Option Refusal
+link_refusal SegmentNotFound = Some refusal.SegmentNotFound
+link_refusal NotObject = Some refusal.NotObject
+link_refusal NoDefinition = Some refusal.NoDefinition
+link_refusal Memory = None
+
+-- where a link leads, or why it leads nowhere, as it is meant
+abbrev pub Leads : Hierarchy → ProcessState → ℕ → Link → Result Place HierError → Type 0
+Leads h process ring link (Ok place) =
+    (to : Target) × (link_target h process ring link ≡ Ok to)
+    × (found_uid process.known to.found ≡ Some place.uid) × (place.word ≡ to.word)
+Leads h process ring link (Err (given.Refused why)) =
+    (error : LinkError) × (link_target h process ring link ≡ Err error) × (link_refusal error ≡ Some why)
+Leads h process ring link (Err given.Memory) = Unit {0}

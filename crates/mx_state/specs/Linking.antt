@@ -16,7 +16,9 @@ use Rattle.mx_search.specs.declared.rules.Rule.{Rule}
 use Rattle.mx_search.specs.declared.rules.Rule.TheVariants.{InitiatedSegments, ReferencingDir, WorkingDir, Directory}
 use Rattle.mx_search.specs.declared.searching.Found.{Found}
 use Rattle.mx_search.specs.declared.searching.Found.TheVariants as found
+use Rattle.mx_state.specs.Askers.{caller}
 use Rattle.mx_state.specs.Numbers.{stands_for}
+use Rattle.mx_state.specs.declared.linking.Link.{Link}
 use Rattle.mx_state.specs.declared.states.ProcessState.{ProcessState}
 
 -- the uid of a segment of the hierarchy that a number stands for
@@ -37,19 +39,24 @@ standing h known segno =
 abbrev pub branch_found : Option ℕ → Option Found
 branch_found uid = option_map found.Branch uid
 
--- What a rule finds under a name, for a process in a ring, where the link is one of the object of this uid: a segment
--- with this reference name in the ring; or one of this name in the directory that holds the object now, in the working
--- directory or in a named one, links followed, to which some access is left.
+-- a segment with this reference name in the ring
+abbrev pub initiated_finds : Hierarchy → ProcessState → ℕ → List ℕ → Option Found
+initiated_finds h process ring name = option_and_then (standing h process.known) (named process.known.names ring name)
+
+-- one of this name in the directory that holds the object of this uid now
+abbrev pub referencing_dir_finds : Hierarchy → Subject → ℕ → List ℕ → Option Found
+referencing_dir_finds h who object name = branch_found (option_and_then (λ dir. find_in h who dir name) (holder h object))
+
+-- What a rule finds under a name, for a process in a ring, where the link is one of the object of this uid: in a
+-- directory links are followed, and what is found is a segment to which some access is left.
 abbrev pub rule_finds : Hierarchy → ProcessState → ℕ → ℕ → Rule → List ℕ → Option Found
-rule_finds h process ring object InitiatedSegments name =
-    option_and_then (standing h process.known) (named process.known.names ring name)
+rule_finds h process ring object InitiatedSegments name = initiated_finds h process ring name
 rule_finds h process ring object ReferencingDir name =
-    let who : Subject = record { principal = process.principal; ring = ring } in
-    branch_found (option_and_then (λ dir. find_in h who dir name) (holder h object))
+    referencing_dir_finds h (caller process ring).subject object name
 rule_finds h process ring object WorkingDir name =
-    branch_found (find_at h (record { principal = process.principal; ring = ring }) process.working_directory name)
+    branch_found (find_at h (caller process ring).subject process.working_directory name)
 rule_finds h process ring object (Directory path) name =
-    branch_found (find_at h (record { principal = process.principal; ring = ring }) path name)
+    branch_found (find_at h (caller process ring).subject path name)
 
 -- the uid of what is found
 abbrev pub found_uid : KnownSegments → Found → Option ℕ
@@ -60,14 +67,9 @@ found_uid known (found.Branch uid) = Some uid
 abbrev pub found_object : Hierarchy → KnownSegments → Found → Option PlainObjectMap
 found_object h known it = option_and_then (object_at h) (found_uid known it)
 
--- the object of a linkage section, and the names of its link of this number: of its segment and its symbol. None where
--- the number is not that of a linkage section, or the word not below its number of links. The object may have been
--- deleted: its map stands.
-pub record Link : Type 0 where
-  pub object : ℕ
-  pub segment : List ℕ
-  pub symbol : List ℕ
-
+-- The link of a word of a linkage section: its object, and the names of its segment and its symbol. None where the number
+-- is not that of a linkage section, or the word not below its number of links. The object may have been deleted: its map
+-- stands.
 abbrev pub link_names : ℕ → Option (List ℕ × List ℕ) → Option Link
 link_names object None = None
 link_names object (Some names) = Some (record { object = object; segment = names.0; symbol = names.1 })

@@ -1,35 +1,45 @@
 //! Requests on what a process knows.
 
-ghost use Rattle.std.specs.Prelude.{◌≡◌, ◌≤◌, ◌<◌, [], true, Some, length, slice_get, vec_len, vec_capacity, IfOk, IfSome, OnErr};
-ghost use Rattle.std.specs.List.{All};
+ghost use Rattle.std.specs.Prelude.{◌≡◌, ◌≤◌, ◌<◌, [], true, Some, Ok, length, slice_get, vec_len, IfOk, IfSome, OnErr};
 ghost use Rattle.std.specs.Option.{option_copied};
+ghost use Rattle.mx_kst.specs.Initiating.{initiate};
 ghost use Rattle.mx_kst.specs.KnownSegments.{KnownSegments};
 ghost use Rattle.mx_kst.specs.Lots.{last_number, lot_of, is_branch};
+ghost use Rattle.mx_kst.specs.Sections.{IsWithinPage};
 ghost use Rattle.mx_kst.specs.Terminating as kst;
 ghost use Rattle.mx_request.specs.declared.requests.Request.TheVariants as ask;
-ghost use Rattle.mx_sdw.specs.Admissible.{IsAdmissible};
-ghost use Rattle.mx_state.specs.Known.{knowing, Knows, given_changes};
-ghost use Rattle.mx_state.specs.Knowing.{known_then};
+ghost use Rattle.mx_state.specs.Connecting.{connect, with_section_page};
+ghost use Rattle.mx_state.specs.Known.{knowing, section_or_refusal, Connects};
+ghost use Rattle.mx_state.specs.Knowing.{free_name};
+ghost use Rattle.mx_state.specs.Plain.{process_at};
 ghost use Rattle.mx_state.specs.Requests.{plain};
 ghost use Rattle.mx_state.specs.Serving.{Serves};
+ghost use Rattle.mx_state.specs.Told.{IsLinkedWithin};
 ghost use Rattle.mx_state.specs.declared.states.ProcessState.{ProcessState as ProcessValue};
 
 use crate::applied::Applied;
 use crate::callers::{own_caller, process_in};
+use crate::linking::{link_at, place_of};
 use crate::renewing::{held_two, renewed};
 use crate::replies::refused;
 use crate::states::{ProcessState, State};
-use mx_core::{Change, Changes};
-use mx_hier::Refusal;
-use mx_kst::{Known, KstError, Lot};
+use mx_core::Changes;
+use mx_hier::{Hier, Refusal};
+use mx_kst::{Known, Kst, KstError, LAST_NUMBER, Lot, Section};
 use mx_name::{EntryName, Pathname};
 use mx_request::Reply;
-use mx_sdw::{Desc, Ring};
+use mx_sdw::Ring;
 use std::alloc::{AllocError, Global};
 
+/// How a segment is known now, and the descriptors that this changed.
+#[derive(Debug, Drop)]
+pub struct Connection {
+    pub known: Known,
+    pub changes: Changes,
+}
+
 impl State {
-    /// Makes a segment known, with a reference name in the ring where one is given: one that is known keeps its number,
-    /// and another gets the next one. The only descriptor that changes is that of a number that is given now.
+    /// Makes a segment known, with a reference name in the ring where one is given.
     pub(crate) fn initiate(
         &mut self,
         alloc: Global,
@@ -44,22 +54,94 @@ impl State {
             (Serves self.old self.new (plain self.old p ring (ask.Initiate path.now (option_copied name.entry)))) }
         ensures err { OnErr result (self.new ≡ self.old) }
     {
-        let i = usize::from(p) - 1;
-        let process = process_in(self.processes.as_slice(), i);
+        let process = process_in(self.processes.as_slice(), usize::from(p) - 1);
         let who = own_caller(process, ring);
         let uid = match self.hier.segment(alloc, &who, path) {
             Ok(uid) => uid,
             Err(error) => return refused(alloc, error),
         };
-        let desc = self.hier.desc_of(uid, &process.principal);
-        let room = Vec::with_capacity(alloc, 1)?;
-        match know(&mut self.processes, i, uid, ring, name)? {
-            Ok(known) => Ok(Applied {
-                reply: Reply::Segno(known),
-                changes: given_changes(p, &known, desc, room),
+        match self.connect(alloc, p, ring, name, uid)? {
+            Ok(connection) => Ok(Applied {
+                reply: Reply::Segno(connection.known),
+                changes: connection.changes,
             }),
             Err(why) => Ok(Applied::unchanged(alloc, Reply::Refused(why))),
         }
+    }
+
+    /// Resolves a link: the segment to which it leads becomes known, under the link's name of it where the ring has that
+    /// name for nothing yet.
+    pub(crate) fn link(
+        &mut self,
+        alloc: Global,
+        p: u8,
+        ring: Ring,
+        segno: u16,
+        word: u16,
+    ) -> Result<Applied, AllocError>
+        requires some { 1 ≤ p }
+        requires process { p ≤ length self.old.processes }
+        ensures served { IfOk result (Serves self.old self.new (plain self.old p ring (ask.Link segno word))) }
+        ensures linked { IfOk result (λ applied. IsLinkedWithin applied.reply) }
+        ensures err { OnErr result (self.new ≡ self.old) }
+    {
+        let process = process_in(self.processes.as_slice(), usize::from(p) - 1);
+        let Some(link) = link_at(&self.hier, &process.known, segno, word) else {
+            return Ok(Applied::unchanged(alloc, Reply::Refused(Refusal::NotLinkage)));
+        };
+        let to = match place_of(alloc, &self.hier, process, ring, &link) {
+            Ok(to) => to,
+            Err(error) => return refused(alloc, error),
+        };
+        let name = free_name(&process.known, ring, link.segment);
+        match self.connect(alloc, p, ring, name.as_ref(), to.uid)? {
+            Ok(connection) => Ok(Applied {
+                reply: Reply::Linked {
+                    segno: connection.known.segno,
+                    word: to.word,
+                    fresh: connection.known.fresh,
+                    linkage: connection.known.linkage,
+                },
+                changes: connection.changes,
+            }),
+            Err(why) => Ok(Applied::unchanged(alloc, Reply::Refused(why))),
+        }
+    }
+
+    /// Makes a segment known to a process, with a reference name in the ring where one is given, or tells why not: one
+    /// that is known keeps its number; another gets the next one, and its linkage section, where it has links, the one
+    /// after that. The only descriptors that change are those of numbers that are given now. All memory is taken before
+    /// anything changes.
+    fn connect(
+        &mut self,
+        alloc: Global,
+        p: u8,
+        ring: Ring,
+        name: Option<&EntryName>,
+        uid: u32,
+    ) -> Result<Result<Connection, Refusal>, AllocError>
+        requires some { 1 ≤ p }
+        requires process { p ≤ length self.old.processes }
+        requires made { uid < self.old.hierarchy.next }
+        ensures connected { IfOk result (λ given. (process : ProcessValue) → process_at self.old.processes p ≡ Some process
+            → Connects self.old self.new p process
+            (connect self.old.hierarchy process.known ring (option_copied name.entry) uid) given) }
+        ensures number { IfOk result (λ given. IfOk given (λ connection. connection.known.segno ≤ last_number)) }
+        ensures err { OnErr result (self.new ≡ self.old) }
+    {
+        let i = usize::from(p) - 1;
+        let process = process_in(self.processes.as_slice(), i);
+        let section = match section(&self.hier, &process.known, uid, ring, name) {
+            Ok(section) => section,
+            Err(why) => return Ok(Err(why)),
+        };
+        let next = LAST_NUMBER + 1 - process.known.left();
+        let held = held_two(alloc, &self.hier, self.processes.as_slice(), p, next)?;
+        let room = Vec::with_capacity(alloc, held.len())?;
+        let known = know(&mut self.processes, i, uid, ring, name, section)?;
+        give_page(&mut self.hier, &section);
+        let changes = renewed(&self.hier, self.processes.as_slice(), &held, room);
+        Ok(Ok(Connection { known, changes }))
     }
 
     /// Takes a segment's number and names away, and its linkage section. The only descriptors that change are those of
@@ -90,58 +172,79 @@ impl State {
             changes,
         })
     }
+}
 
-    /// Snaps a link: refused, as a process has no linkage section yet.
-    #[tactic(auto, using(crate::proofs::LinkLaws::link_serves))]
-    pub(crate) fn link(&self, alloc: Global, p: u8, ring: Ring, segno: u16, word: u16) -> Applied
-        requires some { 1 ≤ p }
-        requires process { p ≤ length self.now.processes }
-        ensures { Serves self.now self.now (plain self.now p ring (ask.Link segno word)) result }
-    {
-        Applied::unchanged(alloc, Reply::Refused(Refusal::NotLinkage))
+// The linkage section that is to be made of a segment, or why the segment cannot become known to a process.
+fn section(
+    hier: &Hier,
+    known: &Kst,
+    uid: u32,
+    ring: Ring,
+    name: Option<&EntryName>,
+) -> Result<Option<Section>, Refusal>
+    ensures value { result ≡ section_or_refusal hier.now known.now uid ring (option_copied name.entry) }
+    ensures within { IfOk result (λ section. IfSome section (λ section. IsWithinPage section.page section.words)) }
+{
+    let words = hier.links(uid);
+    match known.refusal(uid, ring, name, words > 0) {
+        None => {}
+        Some(KstError::NameDup) => return Err(Refusal::NameDup),
+        Some(KstError::Full) => return Err(Refusal::KstFull),
+        Some(KstError::Memory) => unreachable!(),
+    }
+    if words == 0 || known.by_uid(uid).is_some() {
+        return Ok(None);
+    }
+    let Some(page) = hier.free_page() else {
+        return Err(Refusal::NoPages);
+    };
+    match hier.linkage_brackets(uid) {
+        Some(brackets) => Ok(Section::new(page, brackets, words)),
+        None => Ok(None),
     }
 }
 
-// Makes a segment known to the process in a place, or tells why not.
+// Makes a segment known to the process in a place, with this linkage section. What would be refused is not asked for.
 fn know(
     processes: &mut Vec<ProcessState>,
     i: usize,
     uid: u32,
     ring: Ring,
     name: Option<&EntryName>,
-) -> Result<Result<Known, Refusal>, AllocError>
+    section: Option<Section>,
+) -> Result<Known, AllocError>
     requires within { i < vec_len processes.old }
-    ensures known { IfOk result (λ told. (process : ProcessValue) → slice_get processes.old.items i ≡ Some process
-        → Knows (known_then process.known ring (option_copied name.entry) uid) processes.old.items i process
-        told processes.new.items) }
+    ensures known { IfOk result (λ known. (process : ProcessValue) → slice_get processes.old.items i ≡ Some process
+        → (after : KnownSegments)
+        × (initiate process.known uid ring (option_copied name.entry) section
+        ≡ Ok (record { known = known; after = after }))
+        × (processes.new.items ≡ knowing processes.old.items i process after)) }
     ensures err { OnErr result (processes.new.items ≡ processes.old.items) }
     ensures count { vec_len processes.new ≡ vec_len processes.old }
 {
-    match processes[i].known.initiate(uid, ring, name, None) {
-        Ok(known) => Ok(Ok(known)),
-        Err(KstError::NameDup) => Ok(Err(Refusal::NameDup)),
-        Err(KstError::Full) => Ok(Err(Refusal::KstFull)),
-        Err(KstError::Memory) => Err(AllocError),
+    match processes[i].known.initiate(uid, ring, name, section) {
+        Ok(known) => Ok(known),
+        Err(_) => Err(AllocError),
     }
 }
 
-// The descriptor of a number that is given now, in the room that is given.
-fn given_changes(p: u8, known: &Known, desc: Desc, room: Vec<Change>) -> Changes
-    requires empty { room.items ≡ [] }
-    requires room { 1 ≤ vec_capacity room }
-    requires admissible { IsAdmissible desc }
-    ensures value { result ≡ given_changes p known.now desc }
-    ensures admissible { All (λ change. IsAdmissible change.desc) result }
+// Gives out the page of a linkage section, if there is one.
+fn give_page(hier: &mut Hier, section: &Option<Section>)
+    ensures { hier.new ≡ with_section_page hier.old section.now }
 {
-    let mut changes = room;
-    if known.fresh {
-        changes.push_reserved(Change {
-            process: p,
-            segno: known.segno,
-            desc,
-        });
+    if section.is_some() {
+        hier.take_page();
     }
-    Changes::of(changes)
+}
+
+// The name of a segment that is found, unless the ring has it already.
+fn free_name(known: &Kst, ring: Ring, name: EntryName) -> Option<EntryName>
+    ensures { result ≡ free_name known.now ring name }
+{
+    match known.by_name(ring, &name) {
+        Some(_) => None,
+        None => Some(name),
+    }
 }
 
 // Whether the number is that of a known segment.

@@ -15,6 +15,7 @@ mod changing;
 mod journal;
 mod knowing;
 mod laws;
+mod linking;
 mod messages;
 mod openings;
 mod own_state;

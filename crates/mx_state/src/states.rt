@@ -12,6 +12,7 @@ ghost use Rattle.mx_state.specs.Plain.{answer};
 ghost use Rattle.mx_state.specs.Requests.{plain};
 ghost use Rattle.mx_state.specs.Serving.{Serves, RefusesQuietly};
 ghost use Rattle.mx_state.specs.Table.{descriptor};
+ghost use Rattle.mx_state.specs.Told.{IsLinkedWithin};
 
 use crate::applied::Applied;
 use crate::openings::{fresh_processes, make_initializer};
@@ -81,7 +82,7 @@ impl State {
 
     /// Answers the request of process `p` in a ring as the plain supervisor does; process 0 is the initializer, which
     /// makes requests on paths alone. The changes are exactly the descriptors that differ afterwards. A refusal changes
-    /// nothing, and nor does want of memory, the only error.
+    /// nothing, and nor does want of memory, the only error. Where a link leads is a place that a pointer can name.
     pub fn apply(
         &mut self,
         alloc: Global,
@@ -94,6 +95,7 @@ impl State {
         ensures changes { IfOk result (λ applied. AreChanges self.old self.new applied.changes) }
         ensures bounded { IfOk result (λ applied. All IsBounded applied.changes) }
         ensures refused { IfOk result (RefusesQuietly self.old self.new) }
+        ensures linked { IfOk result (λ applied. IsLinkedWithin applied.reply) }
         ensures processes { length self.new.processes ≡ length self.old.processes }
         ensures err { OnErr result (self.new ≡ self.old) }
     {
@@ -110,6 +112,8 @@ impl State {
     ) -> Result<Applied, AllocError>
         requires { MayAsk self.old p request.now }
         ensures served { IfOk result (Serves self.old self.new (plain self.old p ring request.now)) }
+        ensures linked { (segno word : ℕ) → request.now ≡ ask.Link segno word
+            → IfOk result (λ applied. IsLinkedWithin applied.reply) }
         ensures err { OnErr result (self.new ≡ self.old) }
     {
         match request {
@@ -146,7 +150,7 @@ impl State {
             Request::Terminate { segno } => self.terminate(alloc, p, ring, *segno),
             Request::Wakeup { to, word } => self.wakeup(alloc, p, ring, *to, *word),
             Request::Block => Ok(self.block(alloc, p, ring)),
-            Request::Link { segno, word } => Ok(self.link(alloc, p, ring, *segno, *word)),
+            Request::Link { segno, word } => self.link(alloc, p, ring, *segno, *word),
             Request::Resume => Ok(self.block(alloc, p, ring)),
             Request::Logout => Ok(self.logout(alloc, p, ring)),
         }

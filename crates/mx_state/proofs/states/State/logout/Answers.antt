@@ -1,4 +1,4 @@
-use Rattle.std.proofs.Common.{◌≡◌, ap, sym}
+use Rattle.std.proofs.Common.{ap, sym}
 use Rattle.mx_request.specs.declared.replies.Reply.TheVariants.{Done}
 use Rattle.mx_request.specs.declared.requests.Request.TheVariants as ask
 use Rattle.mx_state.specs.Messages.{logout}
