@@ -1,5 +1,5 @@
 -- Laws of drafts: a step adds its row, the rows of a session lead to that session, and a draft goes on to some session.
-use Rattle.std.proofs.Common.{◌≡◌, ℕ, ◌+◌, ◌<◌, ◌≤◌, ◌==◌, nat_le, nat_lt, Bool, true, false, cond, not, ◌&&◌, List, [], ◌∷◌, ◌++◌, map, length, Option, Some, None, codes, refl, ap, sym, ◌∙◌, subst, append_assoc, append-nil, length-append, arith}
+use Rattle.std.proofs.Common.{◌≡◌, ℕ, ◌+◌, ◌≤◌, ◌==◌, nat_le, nat_lt, Bool, true, false, cond, not, ◌&&◌, List, [], ◌∷◌, ◌++◌, map, length, Option, Some, None, is_none, codes, refl, ap, sym, ◌∙◌, subst, append_assoc, append-nil, length-append, arith}
 use Rattle.std.proofs.lemmas.Bool.{eqb-true, eq-eqb}
 use Rattle.std.proofs.lemmas.List.{map-append}
 use Rattle.std.proofs.lemmas.List.Folds.{list_all-append}
@@ -9,13 +9,16 @@ use Rattle.mx_request.proofs.StepLaws.{both, both_hold, fails, some_is, when_som
 use Rattle.mx_request.specs.Steps.{◌>>=◌}
 use Rattle.mx_request.specs.Classes.{class_of}
 use Rattle.mx_request.specs.RequestTexts.{fits_request, is_pathname, are_brackets, is_process_number, is_word}
+use Rattle.mx_object.specs.Objects.{PlainObjectMap, map_fault}
+use Rattle.mx_request.specs.Fields.{is_name}
+use Rattle.mx_request.specs.ObjectTexts.{fits_object, is_definition, is_link}
 use Rattle.mx_request.specs.declared.requests.Request.{Request}
 use Rattle.mx_request.specs.declared.requests.Request.TheVariants.{CreateDir, CreateSeg, CreateObject, CreateLink, Rename, Delete, SetAcl, DelAcl, SetBrackets, SetDirBrackets, Status, List as ListNames, ChangeWdir, SetRules, Initiate, Terminate, Wakeup, Block, Link, Resume, Logout}
 use Rattle.mx_script.proofs.FieldLaws.{at_most, at_most_test, below, below_test}
 use Rattle.mx_script.specs.Drafts.{history_step, setup_step, set_up, with_processes, with_process, may_stand, script_on, script_step, process_step, step}
 use Rattle.mx_script.specs.FirstBadLine.{BeginsText}
 use Rattle.mx_script.specs.Progress.{front_rows, rows_so_far, texts_so_far, goes_before, IsSetUp, IsOpen, IsSound, run}
-use Rattle.mx_script.specs.Sessions.{Outline, outline, is_session, is_count, is_limit, is_history, is_short, is_for_setup, is_setup_request, is_for_script, is_script_line, is_logout, is_last, ends, is_script, are_processes}
+use Rattle.mx_script.specs.Sessions.{Outline, outline, is_session, is_count, is_limit, is_history, is_short, is_short_object, is_short_definition, is_for_setup, is_setup_request, is_for_script, is_script_line, is_logout, is_last, ends, is_script, are_processes}
 use Rattle.mx_script.specs.SessionTexts.{rows_of, row_text, asked, setup_rows, history_rows, process_rows, fits, fits_line}
 use Rattle.mx_script.specs.declared.lines.Line.{Line}
 use Rattle.mx_script.specs.declared.lines.Line.TheVariants.{Ask, Set, Epp, Lda, Sta, Spri, Fetch, Call, Return}
@@ -28,14 +31,26 @@ pub none_is_some : {A : Type 0} (a : A) → None ≡ Some a → ⊥
 none_is_some a e = cc
 
 -- what a line can say may stand in a session
+short_definitions : (definitions : List (List ℕ × ℕ)) → list_all is_definition definitions ≡ true
+    → list_all is_short_definition definitions ≡ true
+short_definitions [] e = refl
+short_definitions (definition ∷ definitions) e =
+    let f = both (is_definition definition) (list_all is_definition definitions) e in
+    both_hold _ _ (both (is_name definition.0) (nat_le definition.1 16383) f.0).1 (short_definitions definitions f.1)
+
+short_object : (object : PlainObjectMap) → fits_object object ≡ true → is_short_object object ≡ true
+short_object object e =
+    let links : Bool = list_all is_link object.links && is_none (map_fault object) in
+    let f = both (nat_le object.gate 9999) (list_all is_definition object.definitions && links) e in
+    both_hold _ _ f.0 (short_definitions object.definitions (both (list_all is_definition object.definitions) links f.1).0)
+
 short_request : (request : Request) → fits_request request ≡ true → is_short request ≡ true
 short_request (CreateSeg path words brackets) e =
     (both (nat_le words 99999) (are_brackets brackets) (both (is_pathname path) (nat_le words 99999 && are_brackets brackets) e).1).0
 short_request (CreateObject path words brackets object) e =
-    let gated : Bool = nat_le object.gate 9999 && is_plain object in
-    let f = both (is_pathname path) (nat_le words 99999 && (are_brackets brackets && gated)) e in
-    let g = both (nat_le words 99999) (are_brackets brackets && gated) f.1 in
-    both_hold _ _ g.0 (both (nat_le object.gate 9999) (is_plain object) (both (are_brackets brackets) gated g.1).1).0
+    let f = both (is_pathname path) (nat_le words 99999 && (are_brackets brackets && fits_object object)) e in
+    let g = both (nat_le words 99999) (are_brackets brackets && fits_object object) f.1 in
+    both_hold _ _ g.0 (short_object object (both (are_brackets brackets) (fits_object object) g.1).1)
 short_request (CreateDir path d1 d2) e = refl
 short_request (CreateLink path target) e = refl
 short_request (Rename path name) e = refl

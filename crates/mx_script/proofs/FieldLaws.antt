@@ -3,7 +3,7 @@ use Rattle.std.proofs.Common.{◌≡◌, ℕ, ◌^◌, ◌<◌, ◌≤◌, nat_l
 use Rattle.std.proofs.lemmas.Bool.Decides.{nat_tests}
 use Rattle.mx_name.proofs.TextLaws.{all_free}
 use Rattle.mx_name.specs.Names.{is_free}
-use Rattle.mx_sdw.proofs.OctalLaws.{octal_number_takes, octal_number_fits, octal_number_below, octal_has_digits}
+use Rattle.mx_sdw.proofs.OctalLaws.{octal_number_takes, octal_number_fits, octal_has_digits}
 use Rattle.mx_sdw.specs.Octal.{is_octal_digit, octal, octal_number}
 use Rattle.std.specs.Fmt.{decimal}
 use Rattle.mx_request.proofs.FieldLaws.{number_takes, number_again, number_free}

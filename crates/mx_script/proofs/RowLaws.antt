@@ -6,8 +6,7 @@ use Rattle.mx_name.specs.Names.{is_free}
 use Rattle.mx_name.specs.Principals.{components_fault, principal_of, principal_text}
 use Rattle.mx_request.specs.declared.requests.Request.{Request}
 use Rattle.mx_request.specs.declared.requests.Request.TheVariants.{CreateDir, CreateSeg, CreateObject, CreateLink, Rename, Delete, SetAcl, DelAcl, SetBrackets, SetDirBrackets, Status, List as ListNames, ChangeWdir, SetRules, Initiate, Terminate, Wakeup, Block, Link, Resume, Logout}
-use Rattle.mx_request.proofs.StepLaws.{some_is, bind_some, when_some, same_bytes}
-use Rattle.mx_request.proofs.TakenLaws.{no_fault, faultless}
+use Rattle.mx_request.proofs.StepLaws.{no_fault, faultless, some_is, bind_some, when_some, same_bytes}
 use Rattle.mx_script.proofs.FrontLaws.{after_takes}
 use Rattle.mx_script.proofs.FieldLaws.{word_takes, word_again, word_free, history_takes, history_again, history_free}
 use Rattle.mx_script.proofs.OperandLaws.{operand_takes, operand_again, operand_free, register_operand_takes, register_operand_again, register_operand_free}

@@ -1,5 +1,5 @@
 -- Helpers that only private contracts cite: what each field of a line is read as.
-use Rattle.std.specs.Prelude.{ℕ, nat_le, ◌==◌, Bool, true, false, List, [], ◌∷◌, Option, None, Some, codes}
+use Rattle.std.specs.Prelude.{ℕ, nat_le, ◌==◌, Bool, true, false, List, Option, None, Some, codes}
 use Rattle.std.specs.Cmp.Lexicographic.{pointwise}
 use Rattle.mx_sdw.specs.Octal.{octal_number}
 use Rattle.mx_sdw.specs.Words.{word_of}

@@ -3,6 +3,7 @@
 use Rattle.std.specs.Prelude.{◌≡◌, ◌-◌, ◌<◌, ◌≤◌, ℕ, ◌+◌, ◌==◌, ◌^◌, nat_le, Bool, true, false, ◌&&◌, if◌then◌else◌, List, [], ◌∷◌, length, Option, Some, None}
 use Rattle.std.specs.List.{list_all, sum_by}
 use Rattle.mx_name.specs.Principals.{PlainPrincipal}
+use Rattle.mx_object.specs.Objects.{PlainObjectMap}
 use Rattle.mx_request.specs.declared.requests.Request.{Request}
 use Rattle.mx_request.specs.declared.requests.Request.TheVariants.{CreateDir, CreateSeg, CreateObject, CreateLink, Rename, Delete, SetAcl, DelAcl, SetBrackets, SetDirBrackets, Status, List as ListNames, ChangeWdir, SetRules, Initiate, Terminate, Wakeup, Block, Link, Resume, Logout}
 use Rattle.mx_request.specs.Classes.{class_of}
@@ -30,12 +31,20 @@ outline version history setup principals scripts = record {
   scripts = scripts;
 }
 
--- WORDS has at most five digits, GATE four, a segment number four octal ones, and a process to be woken up a number from
--- 1 to 99; the types bound all other parts of a request
+-- the word of a definition is at most octal 37777
+abbrev pub is_short_definition : List ℕ × ℕ → Bool
+is_short_definition definition = nat_le definition.1 16383
+
+-- GATE has at most four digits, and each definition is short; the type bounds all other parts of a map
+abbrev pub is_short_object : PlainObjectMap → Bool
+is_short_object object = nat_le object.gate 9999 && list_all is_short_definition object.definitions
+
+-- WORDS has at most five digits, a segment number four octal ones, and a process to be woken up a number from 1 to 99;
+-- the types bound all other parts of a request
 abbrev pub is_short : Request → Bool
 is_short (CreateDir path d1 d2) = true
 is_short (CreateSeg path words brackets) = nat_le words 99999
-is_short (CreateObject path words brackets object) = nat_le words 99999 && nat_le object.gate 9999
+is_short (CreateObject path words brackets object) = nat_le words 99999 && is_short_object object
 is_short (CreateLink path target) = true
 is_short (Rename path name) = true
 is_short (Delete path) = true

@@ -80,6 +80,14 @@ mod tests {
                 Some(1),
             ),
             (
+                b"multics 1\ncreate_object >a 1 4 4 4 0 d:x:37777 l:m$y\nprocess A.B.a\nlogout\nend\n",
+                None,
+            ),
+            (
+                b"multics 1\ncreate_object >a 1 4 4 4 0 d:x:40000 l:m$y\nprocess A.B.a\nlogout\nend\n",
+                Some(2),
+            ),
+            (
                 b"multics 1\ninitiate >a\nprocess A.B.a\nlogout\nend\n",
                 Some(2),
             ),

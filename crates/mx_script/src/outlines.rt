@@ -2,11 +2,12 @@
 
 ghost use Rattle.std.specs.Prelude.{◌≡◌, ◌&&◌};
 ghost use Rattle.std.specs.List.{list_all};
-ghost use Rattle.mx_script.specs.Sessions.{is_short, is_for_setup, is_for_script, is_setup_request, are_processes, is_count, is_history, is_limit, is_script, is_script_line, ends, is_logout, is_register, is_base, is_address};
+ghost use Rattle.mx_script.specs.Sessions.{is_short, is_short_object, is_short_definition, is_for_setup, is_for_script, is_setup_request, are_processes, is_count, is_history, is_limit, is_script, is_script_line, ends, is_logout, is_register, is_base, is_address};
 ghost use Rattle.mx_script.specs.Drafts.{may_stand};
 
 use crate::lines::{Base, Line, Operand, Script};
-use mx_name::Principal;
+use mx_name::{EntryName, Principal};
+use mx_object::ObjectMap;
 use mx_request::{Request, RequestClass};
 
 /// Whether a setup may ask all this.
@@ -38,14 +39,13 @@ fn is_for_script(class: RequestClass) -> bool
     }
 }
 
-// WORDS has at most five digits, GATE four, a segment number four octal ones, a process to be woken up a number from
-// 1 to 99.
+// WORDS has at most five digits, a segment number four octal ones, a process to be woken up a number from 1 to 99.
 fn is_short(request: &Request) -> bool
     ensures { result ≡ is_short request.now }
 {
     match request {
         Request::CreateSeg { words, .. } => *words <= 99_999,
-        Request::CreateObject { words, map, .. } => *words <= 99_999 && map.gate() <= 9_999,
+        Request::CreateObject { words, map, .. } => *words <= 99_999 && is_short_object(map),
         Request::Terminate { segno } => *segno <= 0o7777,
         Request::Wakeup { to, .. } => 1 <= *to && *to <= 99,
         Request::CreateDir { .. }
@@ -66,6 +66,23 @@ fn is_short(request: &Request) -> bool
         | Request::Resume
         | Request::Logout => true,
     }
+}
+
+// GATE has at most four digits, and the word of each definition is at most octal 37777.
+fn is_short_object(map: &ObjectMap) -> bool
+    ensures { result ≡ is_short_object map.now }
+{
+    map.gate() <= 9_999 && are_short_definitions(map.definitions())
+}
+
+fn are_short_definitions(definitions: &[(EntryName, u16)]) -> bool
+    ensures { result ≡ list_all is_short_definition definitions.now }
+{
+    definitions.iter().all(
+        |definition: &(EntryName, u16)| -> bool
+            ensures { result ≡ is_short_definition definition.now }
+        { definition.1 <= 0o37777 },
+    )
 }
 
 /// Whether these are 1 to 15 processes, with a script each.
