@@ -1,5 +1,5 @@
 -- The fields of the lines of a session text: which texts can stand in each, by the readers' own definitions.
-use Rattle.std.specs.Prelude.{ℕ, ◌==◌, Bool, false, List, Option, Some, None, is_some, codes}
+use Rattle.std.specs.Prelude.{ℕ, ◌==◌, Bool, false, ◌||◌, List, Option, Some, None, is_some, codes}
 use Rattle.std.specs.Cmp.Lexicographic.{pointwise}
 use Rattle.mx_acl.specs.Modes.{modes_of_text}
 use Rattle.mx_name.specs.Identifiers.{acl_id_of}
@@ -8,12 +8,15 @@ use Rattle.mx_name.specs.Pathnames.{pathname_of}
 use Rattle.mx_name.specs.Principals.{principal_of}
 use Rattle.mx_request.specs.Decimals.{decimal_number}
 use Rattle.mx_request.specs.Reading.{ring_at, rule_at}
+use Rattle.mx_request.specs.ReadingObjects.{definition_at, object_link_at}
 use Rattle.mx_request.specs.RequestTexts.{is_process_number}
+use Rattle.mx_request.specs.Steps.{◌>>=◌}
 use Rattle.mx_script.specs.Fields.{operand_at}
+use Rattle.mx_script.specs.Fronts.{after}
 use Rattle.mx_script.specs.Sessions.{is_history}
 use Rattle.mx_sdw.specs.Octal.{octal_number}
 use Rattle.mx_lint.specs.declared.fields.Field.{Field}
-use Rattle.mx_lint.specs.declared.fields.Field.TheVariants.{Version, Limit, Principal, Path, Target, Words, R1, R2, R3, D1, D2, Gate, Name, Id, Modes, Rule, Segno, Receiver, Word, Register, Operand}
+use Rattle.mx_lint.specs.declared.fields.Field.TheVariants.{Version, Limit, Principal, Path, Target, Words, R1, R2, R3, D1, D2, Gate, Definition, ObjectLink, DefinitionOrLink, Name, Id, Modes, Rule, Segno, Receiver, Word, Register, Operand}
 
 -- a number that is read, of which this holds
 abbrev pub is_number : Option ℕ → (ℕ → Bool) → Bool
@@ -25,6 +28,13 @@ is_limit_text text = is_number (decimal_number 6 text) is_history
 
 abbrev pub is_receiver_text : List ℕ → Bool
 is_receiver_text text = is_number (decimal_number 2 text) is_process_number
+
+-- what one can say behind `d:` and `l:`
+abbrev pub is_definition_text : List ℕ → Bool
+is_definition_text text = is_some (after (codes "d:") text >>= definition_at)
+
+abbrev pub is_object_link_text : List ℕ → Bool
+is_object_link_text text = is_some (after (codes "l:") text >>= object_link_at)
 
 -- the text can stand in the field
 abbrev pub is_field : Field → List ℕ → Bool
@@ -40,6 +50,9 @@ is_field R3 text = is_some (ring_at text)
 is_field D1 text = is_some (ring_at text)
 is_field D2 text = is_some (ring_at text)
 is_field Gate text = is_some (decimal_number 4 text)
+is_field Definition text = is_definition_text text
+is_field ObjectLink text = is_object_link_text text
+is_field DefinitionOrLink text = is_definition_text text || is_object_link_text text
 is_field Name text = is_some (name_of text)
 is_field Id text = is_some (acl_id_of text)
 is_field Modes text = is_some (modes_of_text text)

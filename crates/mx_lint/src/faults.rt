@@ -4,6 +4,7 @@ use crate::fields::Field;
 use crate::forms::Form;
 use crate::orders::Order;
 use crate::places::Place;
+use crate::reading::{is_definition, is_object_link};
 use crate::texts::Shown;
 use mx_name::cut;
 use std::alloc::{AllocError, Global};
@@ -32,6 +33,10 @@ pub enum Fault<'a> {
     Wrong(Form, Field, &'a [u8]),
     /// There is more behind the last field.
     Extra(Form, &'a [u8]),
+    /// A definition of an object stands behind a link.
+    DefinitionBehindLink(&'a [u8]),
+    /// A symbol of an object was defined before.
+    DefinedTwice(&'a [u8]),
     /// A line that is right by itself.
     Unexplained,
 }
@@ -130,7 +135,90 @@ fn field_fault<'a>(
         }
         rest = after;
     }
-    Ok(rest.map(|text| Fault::Extra(form, text)))
+    match rest {
+        Some(text) if form == Form::CreateObject => object_fault(alloc, text),
+        Some(text) => Ok(Some(Fault::Extra(form, text))),
+        None => Ok(None),
+    }
+}
+
+// The first field behind GATE that is wrong, or can not stand at its place.
+fn object_fault<'a>(alloc: Global, fields: &'a [u8]) -> Result<Option<Fault<'a>>, AllocError> {
+    let mut seen = Seen {
+        symbols: Vec::new(alloc),
+        links: 0,
+    };
+    for field in fields.split(|byte| *byte == b' ') {
+        if let Some(fault) = seen.fault(field)? {
+            return Ok(Some(fault));
+        }
+    }
+    Ok(None)
+}
+
+/// The most definitions and the most links of an object.
+const MOST: usize = 64;
+
+/// The definitions and links of an object up to a field.
+#[derive(Drop)]
+struct Seen<'a> {
+    symbols: Vec<&'a [u8]>,
+    links: usize,
+}
+
+impl<'a> Seen<'a> {
+    // What is wrong with the next field.
+    fn fault(&mut self, field: &'a [u8]) -> Result<Option<Fault<'a>>, AllocError> {
+        if is_definition(field) {
+            self.definition_fault(field)
+        } else if is_object_link(field) {
+            Ok(self.link_fault(field))
+        } else {
+            let wanted = if field.starts_with(b"d:") {
+                Field::Definition
+            } else if field.starts_with(b"l:") {
+                Field::ObjectLink
+            } else {
+                Field::DefinitionOrLink
+            };
+            Ok(Some(Fault::Wrong(Form::CreateObject, wanted, field)))
+        }
+    }
+
+    fn definition_fault(&mut self, field: &'a [u8]) -> Result<Option<Fault<'a>>, AllocError> {
+        let symbol = symbol_of(field);
+        if self.links > 0 {
+            return Ok(Some(Fault::DefinitionBehindLink(field)));
+        }
+        if self.symbols.contains(&symbol) {
+            return Ok(Some(Fault::DefinedTwice(symbol)));
+        }
+        if self.symbols.len() >= MOST {
+            return Ok(Some(Fault::Extra(Form::CreateObject, field)));
+        }
+        self.symbols.push(symbol)?;
+        Ok(None)
+    }
+
+    fn link_fault(&mut self, field: &'a [u8]) -> Option<Fault<'a>> {
+        if self.links >= MOST {
+            return Some(Fault::Extra(Form::CreateObject, field));
+        }
+        self.links += 1;
+        None
+    }
+}
+
+// The symbol of a definition.
+fn symbol_of(field: &[u8]) -> &[u8] {
+    let said = match cut(b':', field) {
+        Some((_, said)) => said,
+        None => field,
+    };
+    match cut(b':', said) {
+        Some((symbol, _)) => symbol,
+        None => said,
+    }
 }
 
 impl<'a> Fault<'a> {
@@ -140,6 +228,7 @@ impl<'a> Fault<'a> {
             Fault::Missing(form, _) | Fault::Wrong(form, _, _) | Fault::Extra(form, _) => {
                 Some(*form)
             }
+            Fault::DefinitionBehindLink(_) | Fault::DefinedTwice(_) => Some(Form::CreateObject),
             Fault::TextEnds(_)
             | Fault::NoNewline
             | Fault::Empty
@@ -180,6 +269,17 @@ impl<'a> Display for Fault<'a> {
             Fault::Extra(form, text) => {
                 write!(f, "{} wants {}; ", form.word(), form.shape())?;
                 write!(f, "`{}` is too much", Shown(text))
+            }
+            Fault::DefinitionBehindLink(field) => {
+                let form = Form::CreateObject;
+                write!(f, "{} wants {}; ", form.word(), form.shape())?;
+                write!(f, "`{}` is behind a link; ", Shown(field))?;
+                f.write_str("definitions stand before links")
+            }
+            Fault::DefinedTwice(symbol) => {
+                let form = Form::CreateObject;
+                write!(f, "{} wants {}; ", form.word(), form.shape())?;
+                write!(f, "the symbol `{}` is defined twice", Shown(symbol))
             }
             Fault::Unexplained => f.write_str("this line cannot stand here"),
         }

@@ -3,7 +3,9 @@
 ghost use Rattle.std.specs.Prelude.{◌≡◌, IfOk};
 ghost use Rattle.mx_lint.specs.Fields.{is_field};
 
-use crate::reading::{is_limit, is_operand, is_pathname, is_receiver, is_ring, is_rule};
+use crate::reading::{
+    is_definition, is_limit, is_object_link, is_operand, is_pathname, is_receiver, is_ring, is_rule,
+};
 use mx_acl::Modes;
 use mx_name::{AclId, EntryName, Principal};
 use mx_request::read_decimal;
@@ -25,6 +27,9 @@ pub enum Field {
     D1,
     D2,
     Gate,
+    Definition,
+    ObjectLink,
+    DefinitionOrLink,
     Name,
     Id,
     Modes,
@@ -52,6 +57,9 @@ impl Field {
             Field::D1 => "D1",
             Field::D2 => "D2",
             Field::Gate => "GATE",
+            Field::Definition => "d:SYMBOL:W",
+            Field::ObjectLink => "l:NAME$SYMBOL",
+            Field::DefinitionOrLink => "a field behind GATE",
             Field::Name => "NAME",
             Field::Id => "ID",
             Field::Modes => "MODES",
@@ -80,6 +88,11 @@ impl Field {
                 "a ring, one digit from 0 to 7"
             }
             Field::Gate => "a decimal number of at most 4 digits, with no leading zero",
+            Field::Definition => {
+                "`d:`, a name, `:` and a word number, octal from 0 to 37777, with no leading zero"
+            }
+            Field::ObjectLink => "`l:`, the name of a segment, `$` and a name",
+            Field::DefinitionOrLink => "d:SYMBOL:W or l:NAME$SYMBOL",
             Field::Name => { "a name: 1 to 32 characters, none of > < * ? $ , | : =" }
             Field::Id => "Person.Project.tag, with `*` in place of any of the three",
             Field::Modes => "`null`, or letters of `rew`, or letters of `sma`, in this order",
@@ -106,6 +119,9 @@ impl Field {
             Field::Principal => Ok(Principal::read(text).is_ok()),
             Field::Words => Ok(read_decimal(text, 5).is_some()),
             Field::Gate => Ok(read_decimal(text, 4).is_some()),
+            Field::Definition => Ok(is_definition(text)),
+            Field::ObjectLink => Ok(is_object_link(text)),
+            Field::DefinitionOrLink => Ok(is_definition(text) || is_object_link(text)),
             Field::R1 | Field::R2 | Field::R3 | Field::D1 | Field::D2 | Field::Register => {
                 Ok(is_ring(text))
             }

@@ -139,7 +139,8 @@ impl Form {
         }
     }
 
-    /// The fields behind the word, in order; the last of them may be left out where `least` says so.
+    /// The fields behind the word, in order; the last of them may be left out where `least` says so. Behind those of an
+    /// object come its definitions and links.
     pub(crate) fn fields(self) -> &'static [Field] {
         match self {
             Form::Header => &[Field::Version],
@@ -188,7 +189,9 @@ impl Form {
             Form::Process => "PRINCIPAL",
             Form::CreateDir | Form::SetDirBrackets => "PATH D1 D2",
             Form::CreateSeg => "PATH WORDS R1 R2 R3",
-            Form::CreateObject => "PATH WORDS R1 R2 R3 GATE",
+            Form::CreateObject => {
+                "PATH WORDS R1 R2 R3 GATE {d:SYMBOL:W} {l:NAME$SYMBOL}, at most 64 of either"
+            }
             Form::CreateLink => "PATH TARGET",
             Form::Rename => "PATH NAME",
             Form::Initiate => "PATH [NAME]",
@@ -217,7 +220,7 @@ impl Form {
             Form::End => "end",
             Form::CreateDir => "create_dir >udd 7 7",
             Form::CreateSeg => "create_seg >udd>a 64 4 4 4",
-            Form::CreateObject => "create_object >udd>gate 64 1 3 5 2",
+            Form::CreateObject => "create_object >udd>math 64 1 3 5 2 d:sqrt:1 l:io$write",
             Form::CreateLink => "create_link >here >udd>a",
             Form::Rename => "rename >udd>a b",
             Form::Delete => "delete >udd>a",

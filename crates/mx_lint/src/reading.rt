@@ -1,14 +1,17 @@
 //! Readers of single fields.
 
 ghost use Rattle.std.specs.Prelude.{◌≡◌, IfOk, MatchOption, None, Some, is_some};
+ghost use Rattle.mx_name.specs.Names.{name_of};
 ghost use Rattle.mx_name.specs.Pathnames.{is_absolute, pathname_of};
 ghost use Rattle.mx_request.specs.Reading.{directory_at, ring_at, rule_at};
+ghost use Rattle.mx_request.specs.ReadingObjects.{definition_at, object_link_at};
+ghost use Rattle.mx_request.specs.WordNumbers.{word_number_of};
 ghost use Rattle.mx_script.specs.Fronts.{after};
-ghost use Rattle.mx_script.specs.Fields.{base_at, offset_at, operand_at, word_number_at};
-ghost use Rattle.mx_lint.specs.Fields.{is_limit_text, is_receiver_text};
+ghost use Rattle.mx_script.specs.Fields.{base_at, offset_at, operand_at};
+ghost use Rattle.mx_lint.specs.Fields.{is_limit_text, is_receiver_text, is_definition_text, is_object_link_text};
 
-use mx_name::{NameError, Path, PathError, Pathname, cut};
-use mx_request::read_decimal;
+use mx_name::{EntryName, NameError, Path, PathError, Pathname, cut};
+use mx_request::{read_decimal, read_word_number};
 use mx_sdw::read_octal_number;
 use std::alloc::{AllocError, Global};
 
@@ -85,6 +88,52 @@ pub(crate) fn is_receiver(text: &[u8]) -> bool
     }
 }
 
+/// `d:SYMBOL:W`.
+pub(crate) fn is_definition(text: &[u8]) -> bool
+    ensures { result ≡ is_definition_text text.now }
+{
+    match after(b"d:", text) {
+        Some(said) => defines(said),
+        None => false,
+    }
+}
+
+// `SYMBOL:W`
+fn defines(text: &[u8]) -> bool
+    ensures { result ≡ is_some (definition_at text.now) }
+{
+    match cut(b':', text) {
+        Some((symbol, word)) => is_name(symbol) && is_word_number(word),
+        None => false,
+    }
+}
+
+/// `l:NAME$SYMBOL`.
+pub(crate) fn is_object_link(text: &[u8]) -> bool
+    ensures { result ≡ is_object_link_text text.now }
+{
+    match after(b"l:", text) {
+        Some(said) => links(said),
+        None => false,
+    }
+}
+
+// `NAME$SYMBOL`
+fn links(text: &[u8]) -> bool
+    ensures { result ≡ is_some (object_link_at text.now) }
+{
+    match cut(b'$', text) {
+        Some((name, symbol)) => is_name(name) && is_name(symbol),
+        None => false,
+    }
+}
+
+fn is_name(text: &[u8]) -> bool
+    ensures { result ≡ is_some (name_of text.now) }
+{
+    EntryName::read(text).is_ok()
+}
+
 /// `S|W` or `prN|W`, each with `,*` or without.
 pub(crate) fn is_operand(text: &[u8]) -> bool
     ensures { result ≡ is_some (operand_at text.now) }
@@ -123,10 +172,7 @@ fn is_offset(text: &[u8]) -> bool
 }
 
 fn is_word_number(text: &[u8]) -> bool
-    ensures { result ≡ is_some (word_number_at text.now) }
+    ensures { result ≡ is_some (word_number_of text.now) }
 {
-    match read_octal_number(text, 5) {
-        Some(word) => word <= 0o37777,
-        None => false,
-    }
+    read_word_number(text).is_some()
 }

@@ -164,8 +164,33 @@ const FIELDS: &[(&str, &str, &str)] = &[
     ),
     (
         "create_object >a 64 4 4 4 10000",
-        "create_object wants PATH WORDS R1 R2 R3 GATE; GATE is `10000`, and not a decimal number of at most 4 digits, with no leading zero",
-        "create_object >udd>gate 64 1 3 5 2",
+        "create_object wants PATH WORDS R1 R2 R3 GATE {d:SYMBOL:W} {l:NAME$SYMBOL}, at most 64 of either; GATE is `10000`, and not a decimal number of at most 4 digits, with no leading zero",
+        "create_object >udd>math 64 1 3 5 2 d:sqrt:1 l:io$write",
+    ),
+    (
+        "create_object >a 64 4 4 4 1 d:sqrt:05",
+        "create_object wants PATH WORDS R1 R2 R3 GATE {d:SYMBOL:W} {l:NAME$SYMBOL}, at most 64 of either; d:SYMBOL:W is `d:sqrt:05`, and not `d:`, a name, `:` and a word number, octal from 0 to 37777, with no leading zero",
+        "create_object >udd>math 64 1 3 5 2 d:sqrt:1 l:io$write",
+    ),
+    (
+        "create_object >a 64 4 4 4 1 d:sqrt:1 l:math",
+        "create_object wants PATH WORDS R1 R2 R3 GATE {d:SYMBOL:W} {l:NAME$SYMBOL}, at most 64 of either; l:NAME$SYMBOL is `l:math`, and not `l:`, the name of a segment, `$` and a name",
+        "create_object >udd>math 64 1 3 5 2 d:sqrt:1 l:io$write",
+    ),
+    (
+        "create_object >a 64 4 4 4 1 d:sqrt:1 sqrt:1",
+        "create_object wants PATH WORDS R1 R2 R3 GATE {d:SYMBOL:W} {l:NAME$SYMBOL}, at most 64 of either; a field behind GATE is `sqrt:1`, and not d:SYMBOL:W or l:NAME$SYMBOL",
+        "create_object >udd>math 64 1 3 5 2 d:sqrt:1 l:io$write",
+    ),
+    (
+        "create_object >a 64 4 4 4 1 d:sqrt:1 l:math$cos d:cos:2",
+        "create_object wants PATH WORDS R1 R2 R3 GATE {d:SYMBOL:W} {l:NAME$SYMBOL}, at most 64 of either; `d:cos:2` is behind a link; definitions stand before links",
+        "create_object >udd>math 64 1 3 5 2 d:sqrt:1 l:io$write",
+    ),
+    (
+        "create_object >a 64 4 4 4 1 d:sqrt:1 d:cos:2 d:sqrt:3",
+        "create_object wants PATH WORDS R1 R2 R3 GATE {d:SYMBOL:W} {l:NAME$SYMBOL}, at most 64 of either; the symbol `sqrt` is defined twice",
+        "create_object >udd>math 64 1 3 5 2 d:sqrt:1 l:io$write",
     ),
     (
         "create_link >a",
@@ -350,6 +375,24 @@ fn each_kind_of_line_is_explained(rt: HostRuntime) -> Result<(), Fail> {
             "{line:?}"
         );
     }
+    Ok(())
+}
+
+// An object with 65 links.
+#[test]
+fn a_sixty_fifth_link_is_too_much(rt: HostRuntime) -> Result<(), Fail> {
+    let alloc = rt.alloc();
+    let mut text = Vec::from_slice(alloc, b"multics 1\ncreate_object >a 0 4 4 4 0")?;
+    for _ in 0..65u8 {
+        text.extend_from_slice(b" l:a$b")?;
+    }
+    text.extend_from_slice(b"\nprocess A.B.a\nlogout\nend\n")?;
+    let told = told(alloc, &text)?;
+    assert!(rt;
+        told.starts_with(
+            b"line 2: create_object wants PATH WORDS R1 R2 R3 GATE {d:SYMBOL:W} {l:NAME$SYMBOL}, at most 64 of either; `l:a$b` is too much\n"
+        )
+    );
     Ok(())
 }
 

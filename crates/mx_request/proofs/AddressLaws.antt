@@ -1,5 +1,5 @@
 -- Laws of addresses: what is read as one spells it, and an address that fits is read back.
-use Rattle.std.proofs.Common.{◌≡◌, ℕ, ◌==◌, ◌^◌, ◌<◌, nat_le, true, false, List, ◌∷◌, ◌++◌, Some, codes, refl, ◌∙◌, arith, append_assoc}
+use Rattle.std.proofs.Common.{◌≡◌, ℕ, ◌==◌, ◌^◌, ◌<◌, nat_le, true, false, List, ◌∷◌, ◌++◌, Some, codes, refl, sym, ◌∙◌, arith, append_assoc}
 use Rattle.std.proofs.lemmas.List.Folds.{list_all-append}
 use Rattle.mx_name.proofs.CutLaws.{cut_takes, cut_again}
 use Rattle.mx_name.proofs.TextLaws.{all_free}
@@ -7,13 +7,14 @@ use Rattle.mx_name.specs.Cuts.{cut_at}
 use Rattle.mx_name.specs.Names.{is_free}
 use Rattle.mx_sdw.proofs.OctalLaws.{octal_number_takes, octal_number_fits, octal_number_below, octal_has_digits}
 use Rattle.mx_sdw.specs.Octal.{is_octal_digit, octal, octal_number}
-use Rattle.mx_request.proofs.FieldLaws.{at_most, at_most_test}
-use Rattle.mx_request.proofs.StepLaws.{both, both_hold, bind_some, when_some}
+use Rattle.mx_request.proofs.FieldLaws.{at_most, at_most_test, word_number_takes, word_number_again}
+use Rattle.mx_request.proofs.StepLaws.{both, both_hold, some_is, bind_some}
 use Rattle.mx_request.specs.declared.requests.Request.{Request}
 use Rattle.mx_request.specs.declared.requests.Request.TheVariants.{Link}
 use Rattle.mx_request.specs.Fields.{address_text}
 use Rattle.mx_request.specs.Reading.{link_at}
 use Rattle.mx_request.specs.RequestTexts.{fits_request}
+use Rattle.mx_request.specs.WordNumbers.{word_number_of}
 
 -- a number has octal digits alone
 octal_free : (byte n : ℕ) → is_octal_digit byte ≡ false → is_free byte (octal n) ≡ true
@@ -31,18 +32,18 @@ pub link_reads : (text : List ℕ) (request : Request) → link_at text ≡ Some
 link_reads text request e =
     let p = bind_some (cut_at 124 text) _ request e in
     let s = bind_some (octal_number 4 p.0.0) _ request p.2 in
-    let w = bind_some (octal_number 5 p.0.1) _ request s.2 in
-    let fits = when_some (nat_le w.0 16383) (Link s.0 w.0) request w.2 in
+    let w = bind_some (word_number_of p.0.1) _ request s.2 in
+    let number = word_number_takes p.0.1 w.0 w.1 in
     let parts = cut_takes 124 text p.0 p.1 in
     record {
       segno = s.0;
       word = w.0;
-      is = fits.1;
+      is = some_is _ _ w.2;
       spelled =
           spelled s.0 w.0 text p.0.0 p.0.1 parts.0 (octal_number_takes 4 p.0.0 s.0 s.1).0
-          (octal_number_takes 5 p.0.1 w.0 w.1).0;
+          (sym number.0);
       fits =
-          both_hold (nat_le s.0 4095) (nat_le w.0 16383) (small s.0 (octal_number_below 4 p.0.0 s.0 s.1)) fits.0;
+          both_hold (nat_le s.0 4095) (nat_le w.0 16383) (small s.0 (octal_number_below 4 p.0.0 s.0 s.1)) number.1;
     }
   where
     spelled : (s w : ℕ) (text front rest : List ℕ) → text ≡ front ++ 124 ∷ rest → front ≡ octal s → rest ≡ octal w
@@ -56,10 +57,8 @@ pub link_again : (s w : ℕ) → fits_request (Link s w) ≡ true → link_at (a
 link_again s w e =
     let f = both (nat_le s 4095) (nat_le w 16383) e in
     let low : s < 8 ^ 4 = omega (arith, at_most s 4095 f.0) in
-    let high : w < 8 ^ 5 = omega (arith, at_most w 16383 f.1) in
     let four : 0 < 4 = omega arith in
-    let five : 0 < 5 = omega arith in
-    rw (append_assoc, cut_again 124 (octal s) (octal w) (octal_free 124 s refl), octal_number_fits 4 s low four, octal_number_fits 5 w high five, f.1) refl
+    rw (append_assoc, cut_again 124 (octal s) (octal w) (octal_free 124 s refl), octal_number_fits 4 s low four, word_number_again w f.1) refl
 
 pub address_free : (byte s w : ℕ) → is_octal_digit byte ≡ false → (124 == byte) ≡ false
     → is_free byte (address_text s w) ≡ true

@@ -17,6 +17,7 @@ use Rattle.mx_request.specs.Fields.{line_of, ring_text}
 use Rattle.mx_request.specs.Decimals.{is_digit, decimal_after, decimal_number}
 use Rattle.mx_request.specs.Reading.{ring_at, brackets_at, brackets_before}
 use Rattle.mx_request.specs.RequestTexts.{is_ring, is_segno, are_brackets}
+use Rattle.mx_request.specs.WordNumbers.{word_number_of}
 
 -- decimal numbers
 digit_range : (c : ℕ) → is_digit c ≡ true → (48 ≤ c) × (c ≤ 57)
@@ -167,6 +168,19 @@ segno_free byte n other = all_free is_octal_digit byte (octal n) (no_octal byte 
   where
     no_octal : (c : ℕ) → is_digit c ≡ false → is_octal_digit c ≡ false
     no_octal c e = grind (arith, nat_tests)
+
+-- word numbers
+pub word_number_takes : (text : List ℕ) (w : ℕ) → word_number_of text ≡ Some w → (octal w ≡ text) × (nat_le w 16383 ≡ true)
+word_number_takes text w e =
+    let o = bind_some (octal_number 5 text) _ w e in
+    let few = when_some (nat_le o.0 16383) o.0 w o.2 in
+    subst (λ (n : ℕ). (octal n ≡ text) × (nat_le n 16383 ≡ true)) few.1 (sym (octal_number_takes 5 text o.0 o.1).0, few.0)
+
+pub word_number_again : (w : ℕ) → nat_le w 16383 ≡ true → word_number_of (octal w) ≡ Some w
+word_number_again w e =
+    let below : w < 8 ^ 5 = omega (arith, at_most w 16383 e) in
+    let five : 0 < 5 = omega arith in
+    rw (octal_number_fits 5 w below five, e) refl
 
 -- three rings
 pub record IsBrackets (text rings : List ℕ) : Type 0 where

@@ -1,5 +1,5 @@
 -- Laws of an object's map in a line: what its fields are read as is spelled so, and a map that fits is read back.
-use Rattle.std.proofs.Common.{◌≡◌, ℕ, zero, suc, ◌+◌, ◌-◌, ◌^◌, ◌<◌, ◌≤◌, ◌==◌, nat_le, nat_lt, Bool, true, false, cond, not, ◌&&◌, ◌||◌, List, [], ◌∷◌, ◌++◌, map, length, Option, Some, None, is_none, codes, decimal, refl, ap, sym, ◌∙◌, subst, arith, append_assoc, append-nil}
+use Rattle.std.proofs.Common.{◌≡◌, ℕ, zero, suc, ◌+◌, ◌-◌, ◌<◌, ◌≤◌, ◌==◌, nat_le, nat_lt, Bool, true, false, cond, not, ◌&&◌, ◌||◌, List, [], ◌∷◌, ◌++◌, map, length, Option, Some, None, is_none, codes, decimal, refl, ap, sym, ◌∙◌, subst, arith, append_assoc, append-nil}
 use Rattle.std.proofs.lemmas.Bool.Decides.{nat_tests}
 use Rattle.std.proofs.lemmas.List.{map-append}
 use Rattle.std.proofs.lemmas.List.Folds.{list_all-append}
@@ -9,8 +9,8 @@ use Rattle.mx_name.proofs.CutLaws.{cut_takes, cut_again}
 use Rattle.mx_name.proofs.TextLaws.{all_free, name_is_free, name_takes, name_again}
 use Rattle.mx_name.specs.Cuts.{cut_at}
 use Rattle.mx_name.specs.Names.{is_free, is_name_byte, name_fault, name_of}
-use Rattle.mx_sdw.proofs.OctalLaws.{octal_has_digits, octal_number_takes, octal_number_fits}
-use Rattle.mx_sdw.specs.Octal.{is_octal_digit, octal, octal_number}
+use Rattle.mx_sdw.proofs.OctalLaws.{octal_has_digits}
+use Rattle.mx_sdw.specs.Octal.{is_octal_digit, octal}
 use Rattle.mx_object.specs.Objects.{PlainObjectMap, has_twice, symbols_of, map_fault}
 use Rattle.mx_object.specs.declared.objects.ObjectError.{ObjectError}
 use Rattle.mx_object.specs.declared.objects.ObjectError.TheVariants.{Twice, TooMany}
@@ -18,28 +18,16 @@ use Rattle.mx_request.specs.declared.reading.objects.Parts.{Parts}
 use Rattle.mx_request.specs.Decimals.{decimal_number, is_digit}
 use Rattle.mx_request.specs.Fields.{line_of, is_name}
 use Rattle.mx_request.specs.ObjectTexts.{definition_text, link_text, object_fields, is_definition, is_link, fits_object}
-use Rattle.mx_request.specs.ReadingObjects.{word_number_at, definition_at, object_link_at, with_definition, with_link, with_field, with_fields_by, with_fields, no_parts, object_by, object_at}
+use Rattle.mx_request.specs.ReadingObjects.{definition_at, object_link_at, with_definition, with_link, with_field, with_fields_by, with_fields, no_parts, object_by, object_at}
 use Rattle.mx_request.specs.Steps.{when}
-use Rattle.mx_request.proofs.FieldLaws.{at_most, gate_takes, gate_again, gate_free}
+use Rattle.mx_request.specs.WordNumbers.{word_number_of}
+use Rattle.mx_request.proofs.FieldLaws.{gate_takes, gate_again, gate_free, word_number_takes, word_number_again}
 use Rattle.mx_request.proofs.RuleLaws.{cut_none, unless_ok}
 use Rattle.mx_request.proofs.StepLaws.{both, both_hold, no_fault, faultless, some_is, bind_some, when_some, same_bytes}
 
 -- two pieces of a text that was cut
 pieces : (byte : ℕ) (a b text x y : List ℕ) → text ≡ x ++ byte ∷ y → a ≡ x → b ≡ y → a ++ byte ∷ b ≡ text
 pieces byte a b text x y e f g = rw (e, f, g) refl
-
--- a word's number
-word_takes : (text : List ℕ) (w : ℕ) → word_number_at text ≡ Some w → (octal w ≡ text) × (nat_le w 16383 ≡ true)
-word_takes text w e =
-    let o = bind_some (octal_number 5 text) _ w e in
-    let few = when_some (nat_le o.0 16383) o.0 w o.2 in
-    subst (λ (n : ℕ). (octal n ≡ text) × (nat_le n 16383 ≡ true)) few.1 (sym (octal_number_takes 5 text o.0 o.1).0, few.0)
-
-word_again : (w : ℕ) → nat_le w 16383 ≡ true → word_number_at (octal w) ≡ Some w
-word_again w e =
-    let below : w < 8 ^ 5 = omega (arith, at_most w 16383 e) in
-    let five : 0 < 5 = omega arith in
-    rw (octal_number_fits 5 w below five, e) refl
 
 -- a definition
 definition_is : (d : List ℕ × ℕ) → definition_text d ≡ codes "d:" ++ (d.0 ++ 58 ∷ octal d.1)
@@ -50,9 +38,9 @@ definition_takes : (text : List ℕ) (d : List ℕ × ℕ) → definition_at tex
 definition_takes text d e =
     let p = bind_some (cut_at 58 text) _ d e in
     let symbol = bind_some (name_of p.0.0) _ d p.2 in
-    let word = bind_some (word_number_at p.0.1) _ d symbol.2 in
+    let word = bind_some (word_number_of p.0.1) _ d symbol.2 in
     let a = name_takes p.0.0 symbol.0 symbol.1 in
-    let b = word_takes p.0.1 word.0 word.1 in
+    let b = word_number_takes p.0.1 word.0 word.1 in
     subst (λ (d : List ℕ × ℕ). (d.0 ++ 58 ∷ octal d.1 ≡ text) × (is_definition d ≡ true)) (some_is _ _ word.2) (
       pieces 58 symbol.0 (octal word.0) text p.0.0 p.0.1 (cut_takes 58 text p.0 p.1).0 a.0 b.0,
       both_hold _ _ (no_fault (name_fault symbol.0) a.1) b.1,
@@ -62,7 +50,7 @@ definition_again : (d : List ℕ × ℕ) → is_definition d ≡ true → defini
 definition_again d e =
     let f = both (is_name d.0) (nat_le d.1 16383) e in
     let symbol = faultless (name_fault d.0) f.0 in
-    rw (cut_again 58 d.0 (octal d.1) (name_is_free 58 d.0 refl symbol), name_again d.0 symbol, word_again d.1 f.1) refl
+    rw (cut_again 58 d.0 (octal d.1) (name_is_free 58 d.0 refl symbol), name_again d.0 symbol, word_number_again d.1 f.1) refl
 
 pub definition_free : (byte : ℕ) (d : List ℕ × ℕ) → is_name_byte byte ≡ false → is_octal_digit byte ≡ false → (58 == byte) ≡ false
     → is_definition d ≡ true → is_free byte (definition_text d) ≡ true

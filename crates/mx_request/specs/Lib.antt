@@ -1,5 +1,6 @@
 pub mod Fields
 pub mod Decimals
+pub mod WordNumbers
 pub mod Classes
 pub mod ObjectTexts
 pub mod RequestTexts

@@ -1,5 +1,5 @@
 -- Helpers that only private contracts cite: what a line is read as, by its first word, and the fields of each kind.
-use Rattle.std.specs.Prelude.{ℕ, zero, suc, ◌-◌, ◌==◌, nat_le, List, [], ◌∷◌, ◌++◌, Option, None, Some, codes, if◌then◌else◌}
+use Rattle.std.specs.Prelude.{ℕ, zero, suc, ◌-◌, ◌==◌, List, [], ◌∷◌, ◌++◌, Option, None, Some, codes, if◌then◌else◌}
 use Rattle.std.specs.Cmp.Lexicographic.{pointwise}
 use Rattle.std.specs.Result.{result_ok}
 use Rattle.mx_name.specs.Cuts.{cut_at}
@@ -21,6 +21,7 @@ use Rattle.mx_request.specs.Kinds.{kind_of}
 use Rattle.mx_request.specs.ReadingObjects.{object_at}
 use Rattle.mx_request.specs.RequestTexts.{is_process_number}
 use Rattle.mx_request.specs.Steps.{◌>>=◌, when}
+use Rattle.mx_request.specs.WordNumbers.{word_number_of}
 
 abbrev pub ring_at : List ℕ → Option ℕ
 ring_at (c ∷ []) = when (is_octal_digit c) (c - 48)
@@ -187,8 +188,8 @@ abbrev pub link_at : List ℕ → Option Request
 link_at text =
     cut_at 124 text >>= λ p.
     octal_number 4 p.0 >>= λ segno.
-    octal_number 5 p.1 >>= λ word.
-    when (nat_le word 16383) (Link segno word)
+    word_number_of p.1 >>= λ word.
+    Some (Link segno word)
 
 -- the fields of a line of each kind
 abbrev pub fields_at : Kind → List ℕ → Option Request

@@ -1,25 +1,21 @@
 -- Helpers that only private contracts cite: what the fields of an object's map are read as, from GATE on.
-use Rattle.std.specs.Prelude.{ℕ, zero, suc, ◌==◌, nat_le, List, [], ◌∷◌, ◌++◌, length, Option, None, Some, codes, if◌then◌else◌}
+use Rattle.std.specs.Prelude.{ℕ, zero, suc, ◌==◌, List, [], ◌∷◌, ◌++◌, length, Option, None, Some, codes, if◌then◌else◌}
 use Rattle.std.specs.Cmp.Lexicographic.{pointwise}
 use Rattle.std.specs.Result.{result_ok}
 use Rattle.mx_name.specs.Cuts.{cut_at}
 use Rattle.mx_name.specs.Names.{name_of}
-use Rattle.mx_sdw.specs.Octal.{octal_number}
 use Rattle.mx_object.specs.Objects.{PlainObjectMap, object_map, of_gates}
 use Rattle.mx_request.specs.declared.reading.objects.Parts.{Parts}
 use Rattle.mx_request.specs.Decimals.{decimal_number}
 use Rattle.mx_request.specs.Steps.{◌>>=◌, when}
-
--- W, a word's number
-abbrev pub word_number_at : List ℕ → Option ℕ
-word_number_at text = octal_number 5 text >>= λ word. when (nat_le word 16383) word
+use Rattle.mx_request.specs.WordNumbers.{word_number_of}
 
 -- `SYMBOL:W`
 abbrev pub definition_at : List ℕ → Option (List ℕ × ℕ)
 definition_at text =
     cut_at 58 text >>= λ p.
     name_of p.0 >>= λ symbol.
-    word_number_at p.1 >>= λ word.
+    word_number_of p.1 >>= λ word.
     Some (symbol, word)
 
 -- `NAME$SYMBOL`

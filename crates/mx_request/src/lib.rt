@@ -17,7 +17,7 @@ pub use laws::{
     each_reply_has_its_own_text, each_request_has_its_own_line, the_first_word_tells_who_asks,
 };
 pub use mx_kst::Known;
-pub use reading::read_decimal;
+pub use reading::{read_decimal, read_word_number};
 pub use replies::Reply;
 pub use requests::{Request, Requests};
 

@@ -9,6 +9,7 @@ mod fields;
 mod kinds;
 mod objects;
 mod rules;
+mod words;
 
 use crate::requests::Request;
 pub use decimals::read_decimal;
@@ -22,6 +23,7 @@ use mx_search::Rules;
 use objects::read_object;
 use rules::read_rules;
 use std::alloc::{AllocError, Global};
+pub use words::read_word_number;
 
 #[tactic(auto, unfolding(crate::specs::Reading::request_at))]
 pub(crate) fn read_line(alloc: Global, line: &[u8]) -> Result<Option<Request>, AllocError>
@@ -382,13 +384,9 @@ fn read_link(fields: &[u8]) -> Option<Request>
 {
     let (segno, word) = cut(b'|', fields)?;
     let segno = read_octal_number(segno, 4)?;
-    let word = read_octal_number(word, 5)?;
-    if word <= 0o37777 {
-        Some(Request::Link {
-            segno: segno as u16,
-            word: word as u16,
-        })
-    } else {
-        None
-    }
+    let word = read_word_number(word)?;
+    Some(Request::Link {
+        segno: segno as u16,
+        word,
+    })
 }

@@ -8,10 +8,12 @@ use Rattle.mx_name.specs.Cuts.{cut_at}
 use Rattle.mx_name.specs.Names.{is_free}
 use Rattle.mx_sdw.proofs.OctalLaws.{octal_number_takes, octal_number_fits, octal_number_below}
 use Rattle.mx_sdw.specs.Octal.{is_octal_digit, octal, octal_number}
+use Rattle.mx_request.proofs.FieldLaws.{word_number_takes, word_number_again}
+use Rattle.mx_request.specs.WordNumbers.{word_number_of}
 use Rattle.mx_request.proofs.StepLaws.{both, both_hold, fails, some_is, bind_some, when_some, same_bytes}
 use Rattle.mx_script.proofs.FieldLaws.{at_most, at_most_test, octal_free}
 use Rattle.mx_script.proofs.FrontLaws.{after_takes}
-use Rattle.mx_script.specs.Fields.{operand, register_at, register_base, segment_base, base_at, word_number_at, star_at, offset_of, offset_at, operand_at, register_operand_at}
+use Rattle.mx_script.specs.Fields.{operand, register_at, register_base, segment_base, base_at, star_at, offset_of, offset_at, operand_at, register_operand_at}
 use Rattle.mx_script.specs.Fronts.{after, read_or}
 use Rattle.mx_script.specs.Sessions.{is_register, is_base, is_address}
 use Rattle.mx_script.specs.SessionTexts.{base_text, indirect_text, offset_text, operand_text}
@@ -85,20 +87,7 @@ base_free byte (Segment s) d l = octal_free byte s d
 base_free byte (Register n) d l =
     list_all-append (λ c. not (c == byte)) (codes "pr") (octal n) ∙ both_hold (is_free byte (codes "pr")) (is_free byte (octal n)) l (octal_free byte n d)
 
--- word numbers, and what stands behind a comma
-word_number_takes : (text : List ℕ) (w : ℕ) → word_number_at text ≡ Some w → (octal w ≡ text) × (nat_le w 16383 ≡ true)
-word_number_takes text w e =
-    let n = bind_some (octal_number 5 text) _ w e in
-    let fits = when_some (nat_le n.0 16383) n.0 w n.2 in
-    let P : ℕ → Type 0 = λ w. (octal w ≡ text) × (nat_le w 16383 ≡ true) in
-    subst P fits.1 (sym (octal_number_takes 5 text n.0 n.1).0, fits.0)
-
-word_number_again : (w : ℕ) → nat_le w 16383 ≡ true → word_number_at (octal w) ≡ Some w
-word_number_again w e =
-    let high : w < 8 ^ 5 = omega (arith, at_most w 16383 e) in
-    let five : 0 < 5 = omega arith in
-    rw (octal_number_fits 5 w high five, e) refl
-
+-- what stands behind a comma
 star_takes : (text : List ℕ) (indirect : Bool) → star_at text ≡ Some indirect → (text ≡ codes "*") × (indirect ≡ true)
 star_takes text indirect e =
     let f = when_some (pointwise ◌==◌ text (codes "*")) true indirect e in
@@ -111,14 +100,14 @@ pub record IsOffset (text : List ℕ) (o : ℕ × Bool) : Type 0 where
 
 plain_offset : (text : List ℕ) (o : ℕ × Bool) → offset_of text None ≡ Some o → IsOffset text o
 plain_offset text o e =
-    let w = bind_some (word_number_at text) _ o e in
+    let w = bind_some (word_number_of text) _ o e in
     let f = word_number_takes text w.0 w.1 in
     subst (IsOffset text) (some_is _ _ w.2) (record { spelled = append-nil (octal w.0) ∙ f.0; fits = f.1 })
 
 starred_offset : (text : List ℕ) (p : List ℕ × List ℕ) (o : ℕ × Bool) → cut_at 44 text ≡ Some p → offset_of text (Some p) ≡ Some o
     → IsOffset text o
 starred_offset text p o cut e =
-    let w = bind_some (word_number_at p.0) _ o e in
+    let w = bind_some (word_number_of p.0) _ o e in
     let i = bind_some (star_at p.1) _ o w.2 in
     let f = word_number_takes p.0 w.0 w.1 in
     let g = star_takes p.1 i.0 i.1 in

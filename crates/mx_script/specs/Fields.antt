@@ -1,5 +1,5 @@
 -- Helpers that only private contracts cite: what each field of a line is read as.
-use Rattle.std.specs.Prelude.{ℕ, nat_le, ◌==◌, Bool, true, false, List, Option, None, Some, codes}
+use Rattle.std.specs.Prelude.{ℕ, ◌==◌, Bool, true, false, List, Option, None, Some, codes}
 use Rattle.std.specs.Cmp.Lexicographic.{pointwise}
 use Rattle.mx_sdw.specs.Octal.{octal_number}
 use Rattle.mx_sdw.specs.Words.{word_of}
@@ -8,6 +8,7 @@ use Rattle.mx_script.specs.declared.lines.Base.TheVariants.{Segment, Register}
 use Rattle.mx_script.specs.declared.lines.Operand.{Operand}
 use Rattle.mx_name.specs.Cuts.{cut_at}
 use Rattle.mx_request.specs.Steps.{◌>>=◌, when}
+use Rattle.mx_request.specs.WordNumbers.{word_number_of}
 use Rattle.mx_script.specs.Fronts.{after, read_or}
 
 abbrev pub operand : Base → ℕ → Bool → Operand
@@ -27,18 +28,14 @@ segment_base text = octal_number 4 text >>= λ segno. Some (Segment segno)
 unfoldable pub base_at : List ℕ → Option Base
 base_at text = read_or (after (codes "pr") text) register_base (segment_base text)
 
--- a word number
-abbrev pub word_number_at : List ℕ → Option ℕ
-word_number_at text = octal_number 5 text >>= λ word. when (nat_le word 16383) word
-
 -- what stands behind a comma
 abbrev pub star_at : List ℕ → Option Bool
 star_at text = when (pointwise ◌==◌ text (codes "*")) true
 
 -- `W`, or `W,*` where the word is indirect
 abbrev pub offset_of : List ℕ → Option (List ℕ × List ℕ) → Option (ℕ × Bool)
-offset_of text None = word_number_at text >>= λ word. Some (word, false)
-offset_of text (Some p) = word_number_at p.0 >>= λ word. star_at p.1 >>= λ indirect. Some (word, indirect)
+offset_of text None = word_number_of text >>= λ word. Some (word, false)
+offset_of text (Some p) = word_number_of p.0 >>= λ word. star_at p.1 >>= λ indirect. Some (word, indirect)
 
 abbrev pub offset_at : List ℕ → Option (ℕ × Bool)
 offset_at text = offset_of text (cut_at 44 text)

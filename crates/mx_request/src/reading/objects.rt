@@ -2,14 +2,14 @@
 
 ghost use Rattle.std.specs.Prelude.{◌≡◌, IfOk};
 ghost use Rattle.mx_request.specs.Decimals.{decimal_number};
-ghost use Rattle.mx_request.specs.ReadingObjects.{word_number_at, definition_at, object_link_at, with_definition, with_link, with_field, with_fields, no_parts, object_at};
+ghost use Rattle.mx_request.specs.ReadingObjects.{definition_at, object_link_at, with_definition, with_link, with_field, with_fields, no_parts, object_at};
 ghost use Rattle.mx_request.specs.Steps.{when};
 
 use super::decimals::read_decimal;
 use super::fields::read_name;
+use super::words::read_word_number;
 use mx_name::{EntryName, cut};
 use mx_object::{Definitions, Links, ObjectError, ObjectMap};
-use mx_sdw::read_octal_number;
 use std::alloc::{AllocError, Global};
 
 /// The most fields that a map has behind GATE: 64 definitions and 64 links.
@@ -144,16 +144,4 @@ fn read_gate(text: &[u8]) -> Option<u16>
 {
     let gate = read_decimal(text, 4)?;
     Some(gate as u16)
-}
-
-/// W, octal up to 37777.
-fn read_word_number(text: &[u8]) -> Option<u16>
-    ensures { result ≡ word_number_at text.now }
-{
-    let word = read_octal_number(text, 5)?;
-    if word <= 0o37777 {
-        Some(word as u16)
-    } else {
-        None
-    }
 }

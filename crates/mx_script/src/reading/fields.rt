@@ -2,11 +2,12 @@
 
 ghost use Rattle.std.specs.Prelude.{◌≡◌};
 ghost use Rattle.mx_name.specs.Principals.{principal_of};
-ghost use Rattle.mx_script.specs.Fields.{register_at, register_base, segment_base, base_at, word_number_at, star_at, offset_at, operand_at, register_operand_at, word_at};
+ghost use Rattle.mx_script.specs.Fields.{register_at, register_base, segment_base, base_at, star_at, offset_at, operand_at, register_operand_at, word_at};
 
 use crate::lines::{Base, Operand};
 use crate::reading::cutting::after;
 use mx_name::{Principal, cut};
+use mx_request::read_word_number;
 use mx_sdw::{Word, read_octal_number};
 
 pub(crate) fn read_principal(text: &[u8]) -> Option<Principal>
@@ -102,17 +103,6 @@ fn read_star(text: &[u8]) -> Option<bool>
 {
     if text == b"*".as_slice() {
         Some(true)
-    } else {
-        None
-    }
-}
-
-fn read_word_number(text: &[u8]) -> Option<u16>
-    ensures { result ≡ word_number_at text.now }
-{
-    let word = read_octal_number(text, 5)?;
-    if word <= 0o37777 {
-        Some(word as u16)
     } else {
         None
     }
