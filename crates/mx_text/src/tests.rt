@@ -65,7 +65,12 @@ fn text(alloc: Global, journal: &Journal, transcripts: &Transcripts) -> Result<M
 fn a_full_journal_is_printed(rt: HostRuntime) -> Result<(), Fail> {
     let alloc = rt.alloc();
     let journal = Sequence::of(vec![in alloc;
-        entry(alloc, (0, 0), b"create_seg >a 64 4 4 4", Reply::Done)?,
+        entry(
+            alloc,
+            (0, 0),
+            b"create_object >a 64 4 4 4 1 d:x:5 l:m$y",
+            Reply::Done
+        )?,
     ]?);
     let denial = Denial::UnknownSegment;
     let denied = seen(Kind::Read, 1, Outcome::Denied(denial))?;
@@ -100,7 +105,7 @@ fn a_full_journal_is_printed(rt: HostRuntime) -> Result<(), Fail> {
         transcript(alloc, &script)?,
     ]?);
     let want = b"journal 1\n\
-        1 0 0 create_seg >a 64 4 4 4 = ok\n\
+        1 0 0 create_object >a 64 4 4 4 1 d:x:5 l:m$y = ok\n\
         process 0\nentry 1\nline 3 done\nline 4 history_full\n\
         process 1\nread 10|5 ring 4 point 1 denied unknown_segment\n\
         line 6 denied unknown_segment\nline 7 history_full\nline 8 pr 2 5 201|16\n\
