@@ -2,7 +2,7 @@
 //!
 //! A request is written as its line in a session's script, and so it stands in the journal. [`Request::read`] gives the
 //! request that a line spells, and `append_to` the line; each is the other's inverse. A reply has one text. Stands on
-//! names, access lists, search rules, and the replies of the hierarchy and of known segment tables.
+//! names, access lists, object maps, search rules, and the replies of the hierarchy and of known segment tables.
 #![tactic(auto)]
 
 mod classes;
