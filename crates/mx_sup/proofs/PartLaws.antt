@@ -4,7 +4,7 @@ use Rattle.std.proofs.lemmas.Bool.Decides.{nat_tests}
 use Rattle.std.proofs.lemmas.List.{drop_all}
 use Rattle.std.specs.List.{slice_get}
 use Rattle.mx_call.specs.Registers.{Registers}
-use Rattle.mx_legal.specs.Asking.{replied, result_of}
+use Rattle.mx_legal.specs.Asking.{next, result_of}
 use Rattle.mx_legal.specs.Courses.{Attempt, Answer}
 use Rattle.mx_legal.specs.Legal.{Call, call_of, setup_call, setup_entries}
 use Rattle.mx_legal.specs.Lines.{IsEnd}
@@ -28,8 +28,7 @@ use Rattle.mx_state.specs.History.{opening, IsRight}
 use Rattle.mx_state.specs.Plain.{Plain}
 use Rattle.mx_state.specs.Requests.{plain}
 use Rattle.mx_sup.specs.Setups.{setup_step, setup_steps, setup_part}
-use Rattle.mx_legal.proofs.AwaitLaws.{replied_so}
-use Rattle.mx_sup.proofs.ReplyLaws.{path_waits}
+use Rattle.mx_legal.proofs.FinalReplies.{IsFinal, final_ends, path_final}
 use Rattle.mx_ties.specs.Ran.{IsSetUp}
 use Rattle.mx_ties.specs.Views.{cores}
 
@@ -57,7 +56,8 @@ same_full full (request ∷ requests) e = e
 -- a line ends with each of their replies
 abbrev AreLast : Registers → List journaled.Entry → Type 0
 AreLast g [] = Unit {0}
-AreLast g (entry ∷ entries) = (replied g entry.request entry.reply ≡ Ends (result_of entry.reply) g) × AreLast g entries
+AreLast g (entry ∷ entries) =
+    (next g (Ask entry.request) (Answer entry []) ≡ Ends (result_of entry.reply) g) × AreLast g entries
 
 lines_done : (s : Setting) (g : Registers) (number first : ℕ) (entries : List journaled.Entry) (requests : List Request)
     → s.process ≡ 0 → g.ring ≡ 0 → AreLast g entries → AreCalls entries requests → StandFrom s.journal first entries → IsFullWhere s.full entries requests
@@ -73,9 +73,9 @@ lines_done s g number first (entry ∷ entries) (request ∷ requests) p r last 
   refl,
   g,
   record {
-    course = Answer entry;
+    course = Answer entry [];
     so_far = (
-      Answer entry,
+      Answer entry [],
       record {
         entry = entry;
         there = stand.0;
@@ -104,6 +104,7 @@ not_full reply.Done e = cc
 not_full (reply.Status status) e = cc
 not_full (reply.Names names) e = cc
 not_full (reply.Segno known) e = cc
+not_full (reply.Linked segno word fresh linkage) e = cc
 not_full reply.Sent e = cc
 not_full (reply.Message sender word) e = cc
 not_full reply.Nobody e = cc
@@ -189,15 +190,14 @@ full_where limit entries [] most h = tt
 full_where limit [] (request ∷ requests) most h = let e : limit ≤ most = h (omega arith) in grind (arith, nat_tests)
 full_where limit (entry ∷ entries) (request ∷ requests) most h = full_where limit entries requests most (λ l. h (omega (arith, l)))
 
--- the initializer's replies are to requests on paths, which nobody waits for
+-- the initializer's lines end with the replies to its requests on paths
 are_last : (g : Registers) (s : Plain) (entries : List journaled.Entry) (requests : List Request) → IsRight s entries
     → AreCalls entries requests → AreLast g entries
 are_last g s [] requests right calls = tt
 are_last g s (entry ∷ entries) [] right calls = absurd calls
 are_last g s (entry ∷ entries) (request ∷ requests) right calls = (
-  replied_so g entry.request entry.reply
-      (λ waits. path_waits s entry.process entry.ring entry.request
-      (right.0.maker.1 (ap (λ (c : Call). c.process) calls.0)) (right.0.reply ∙ waits)),
+  final_ends g entry.request entry (subst IsFinal right.0.reply (path_final s entry.process entry.ring entry.request
+      (right.0.maker.1 (ap (λ (c : Call). c.process) calls.0)))),
   are_last g (plain s entry.process entry.ring entry.request).state entries requests right.1 calls.1,
 )
 

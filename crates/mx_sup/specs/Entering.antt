@@ -6,6 +6,7 @@ use Rattle.mx_request.specs.declared.replies.Reply.{Reply}
 use Rattle.mx_request.specs.declared.requests.Request.{Request}
 use Rattle.mx_script.specs.Sessions.{Outline, limit_of}
 use Rattle.mx_state.specs.History.{IsRightEntry}
+use Rattle.mx_state.specs.Told.{IsLinkedWithin}
 use Rattle.mx_sup.specs.Supervised.{Supervised, supervised, state_of, IsHistory}
 use Rattle.mx_ties.specs.Ran.{IsSetUp}
 
@@ -16,11 +17,13 @@ pub record IsOpened (x : Outline) (s : Supervised) (steps : List Step) : Type 0 
   pub history : IsHistory s
   pub part : IsSetUp x s.journal steps
 
--- below the limit, process p's request was entered last, with the plain supervisor's reply
+-- below the limit, process p's request was entered last, with the plain supervisor's reply; a pointer to where a link leads
+-- has a word
 pub record HasEntered (old : Supervised) (p ring : ℕ) (request : Request) (entered : ℕ) (new : Supervised) : Type 0 where
   pub below : length old.journal < limit_of old.session
   pub number : entered ≡ length old.journal + 1
   pub reply : Reply
   pub right : IsRightEntry (state_of old) (record { process = p; ring = ring; request = request; reply = reply })
+  pub linked : IsLinkedWithin reply
   pub entry : new ≡ supervised old.session
       (old.journal ++ record { process = p; ring = ring; request = request; reply = reply } ∷ [])
