@@ -6,7 +6,7 @@ use crate::replays::{Changed, Judged};
 use crate::sources::source_of;
 use crate::words::{Access, add_reply, kind_word, modes, walk_words};
 use mx_legal::{Event, Event2, Kind, Outcome, Result2, entry_at};
-use mx_ptr::Pointer;
+use mx_ptr::{Pointer, is_link};
 use mx_sdw::{Denial, DescKind, Ring, Word};
 use mx_state::Journal;
 use std::alloc::{AllocError, Global};
@@ -242,6 +242,7 @@ fn add_read(out: &mut String, kind: Kind, value: Word, outcome: Outcome) -> Resu
             write!(out, "; it points to {:o}|{:o}", pointer.segno, pointer.word)?;
             write!(out, " in ring {}\n", pointer.ring.number())
         }
+        (Kind::Ind, None) if is_link(value) => out.push_str("; it is a link\n"),
         _ => out.push_str("\n"),
     }
 }

@@ -23,7 +23,9 @@ impl<'a> Display for Access<'a> {
                 let brackets = self.0.brackets();
                 write!(f, "{}, brackets {}", modes(self.0), brackets.r1().number())?;
                 write!(f, ",{},{}", brackets.r2().number(), brackets.r3().number())?;
-                write!(f, ", {} words", self.0.bound())?;
+                let bound = self.0.bound();
+                let words = if bound == 1 { "word" } else { "words" };
+                write!(f, ", {bound} {words}")?;
                 match self.0.gate() {
                     0 => Ok(()),
                     1 => f.write_str(", gate 0"),
@@ -178,6 +180,22 @@ pub(crate) fn add_reply(alloc: Global, out: &mut String, entry: &Entry) -> Resul
             )
         }
         Reply::Segno(known) => add_known(out, known),
+        Reply::Linked {
+            segno,
+            word,
+            fresh,
+            linkage,
+        } => {
+            write!(out, "the link leads to {segno:o}|{word:o}: ")?;
+            add_known(
+                out,
+                &Known {
+                    segno: *segno,
+                    fresh: *fresh,
+                    linkage: *linkage,
+                },
+            )
+        }
         Reply::Sent => out.push_str("the message is sent"),
         Reply::Message { sender, word } => {
             write!(out, "process {sender} sent {:o}", word.value())

@@ -85,6 +85,7 @@ fn label(alloc: Global, entry: &Entry) -> Result<String, AllocError> {
     match &entry.reply {
         Reply::Refused(refusal) => write!(label, ": {}", refusal.text())?,
         Reply::Segno(known) => write!(label, " = {:o}", known.segno)?,
+        Reply::Linked { segno, word, .. } => write!(label, " = {segno:o}|{word:o}")?,
         Reply::Message { sender, word } => {
             write!(label, " = {:o} from {sender}", word.value())?;
         }
