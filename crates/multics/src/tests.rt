@@ -16,6 +16,7 @@ mod calls;
 mod drills;
 mod knowing;
 mod limits;
+mod links;
 mod messages;
 mod pointers;
 mod replays;
@@ -228,7 +229,9 @@ fn other_lines_are_refused(rt: HostRuntime) -> Result<(), Fail> {
         (1, b"create_seg >>a 64 4 4 4"),
         (1, b"create_object >a 64 4 4 4"),
         (1, b"create_object >a 64 4 4 4 10000"),
-        (1, b"create_object >a 64 4 4 4 0 d:sqrt:5"),
+        (1, b"create_object >a 64 4 4 4 0 d:sqrt"),
+        (1, b"create_object >a 64 4 4 4 0 l:math"),
+        (1, b"create_object >a 64 4 4 4 0 d:sqrt:5 "),
         (1, b"create_dir >a 4"),
         (1, b"initiate >a"),
         (1, b"terminate 10"),
