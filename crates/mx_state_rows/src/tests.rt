@@ -1,3 +1,4 @@
 //! The rows, by what they are about.
 
+mod links;
 mod messages;
