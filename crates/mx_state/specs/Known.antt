@@ -28,12 +28,14 @@ abbrev pub knowing : List ProcessState → ℕ → ProcessState → KnownSegment
 knowing processes i process known = slice_set processes i (record process { known = known })
 
 -- the linkage section that is to be made of a segment, unless it is refused that the segment becomes known
-abbrev pub section_or_refusal : Hierarchy → KnownSegments → ℕ → ℕ → Option (List ℕ) → Result (Option PlainSection) Refusal
+abbrev pub section_or_refusal : Hierarchy → KnownSegments → ℕ → ℕ → Option (List ℕ)
+    → Result (Option PlainSection) Refusal
 section_or_refusal h known uid ring name =
     unless (first_of (connect_refusals h known uid ring name)) (section_made h known uid)
 
 -- a segment became known to process p as it is meant, and the descriptors are told that this changed
-pub record IsConnected (old new : Plain) (p : ℕ) (process : ProcessState) (meant : Result Connected Refusal) (connection : Connection) : Type 0 where
+pub record IsConnected (old new : Plain) (p : ℕ) (process : ProcessState) (meant : Result Connected Refusal)
+    (connection : Connection) : Type 0 where
   pub after : Connected
   pub as_meant : meant ≡ Ok after
   pub known : connection.known ≡ after.known
@@ -43,7 +45,8 @@ pub record IsConnected (old new : Plain) (p : ℕ) (process : ProcessState) (mea
   pub count : length new.processes ≡ length old.processes
 
 -- or was refused as is meant
-abbrev pub Connects : Plain → Plain → ℕ → ProcessState → Result Connected Refusal → Result Connection Refusal → Type 0
+abbrev pub Connects : Plain → Plain → ℕ → ProcessState → Result Connected Refusal → Result Connection Refusal
+    → Type 0
 Connects old new p process meant (Ok connection) = IsConnected old new p process meant connection
 Connects old new p process meant (Err why) = (meant ≡ Err why) × (new ≡ old)
 

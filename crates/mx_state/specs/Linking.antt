@@ -45,7 +45,8 @@ initiated_finds h process ring name = option_and_then (standing h process.known)
 
 -- one of this name in the directory that holds the object of this uid now
 abbrev pub referencing_dir_finds : Hierarchy → Subject → ℕ → List ℕ → Option Found
-referencing_dir_finds h who object name = branch_found (option_and_then (λ dir. find_in h who dir name) (holder h object))
+referencing_dir_finds h who object name =
+    branch_found (option_and_then (λ dir. find_in h who dir name) (holder h object))
 
 -- What a rule finds under a name, for a process in a ring, where the link is one of the object of this uid: in a
 -- directory links are followed, and what is found is a segment to which some access is left.
@@ -67,9 +68,7 @@ found_uid known (found.Branch uid) = Some uid
 abbrev pub found_object : Hierarchy → KnownSegments → Found → Option PlainObjectMap
 found_object h known it = option_and_then (object_at h) (found_uid known it)
 
--- The link of a word of a linkage section: its object, and the names of its segment and its symbol. None where the number
--- is not that of a linkage section, or the word not below its number of links. The object may have been deleted: its map
--- stands.
+-- a link of an object, and the names of its segment and its symbol
 abbrev pub link_names : ℕ → Option (List ℕ × List ℕ) → Option Link
 link_names object None = None
 link_names object (Some names) = Some (record { object = object; segment = names.0; symbol = names.1 })
@@ -86,6 +85,8 @@ link_in h known word (Branch uid) = None
 link_in h known word (Linkage of page brackets words) =
     if nat_lt word words then link_by h word (known_uid known of) else None
 
+-- The link of a word of a linkage section. None where the number is not that of a linkage section, or the word not below
+-- its number of links. The object may have been deleted: its map stands.
 abbrev pub link_at : Hierarchy → KnownSegments → ℕ → ℕ → Option Link
 link_at h known segno word = link_in h known word (stands_for known.lots segno)
 

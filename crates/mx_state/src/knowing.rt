@@ -69,8 +69,8 @@ impl State {
         }
     }
 
-    /// Resolves a link: the segment to which it leads becomes known, under the link's name of it where the ring has that
-    /// name for nothing yet.
+    /// Resolves a link: the segment to which it leads becomes known, under the link's name of it unless the ring has that
+    /// name already.
     pub(crate) fn link(
         &mut self,
         alloc: Global,
@@ -123,8 +123,8 @@ impl State {
         requires some { 1 ≤ p }
         requires process { p ≤ length self.old.processes }
         requires made { uid < self.old.hierarchy.next }
-        ensures connected { IfOk result (λ given. (process : ProcessValue) → process_at self.old.processes p ≡ Some process
-            → Connects self.old self.new p process
+        ensures connected { IfOk result (λ given. (process : ProcessValue)
+            → process_at self.old.processes p ≡ Some process → Connects self.old self.new p process
             (connect self.old.hierarchy process.known ring (option_copied name.entry) uid) given) }
         ensures number { IfOk result (λ given. IfOk given (λ connection. connection.known.segno ≤ last_number)) }
         ensures err { OnErr result (self.new ≡ self.old) }

@@ -23,8 +23,8 @@ pub fn a_section_that_is_told_is_there()
     ensures descriptor { SectionDescLaw }
 {}
 
-/// Only `link` is answered that a link leads to a word, and every `link` of a process that is not refused is answered so;
-/// the link is then a word of a linkage section, and stays one.
+/// Only `link` is answered that a link leads to a word, and every `link` of a process that is not refused is answered
+/// so; the link is then a word of a linkage section, and stays one.
 pub fn a_link_is_resolved_or_refused()
     ensures resolved { ResolvedLaw }
     ensures only { OnlyLinkLaw }

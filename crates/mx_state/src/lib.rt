@@ -1,13 +1,13 @@
 //! The plain supervisor: what every process asks for, and what it is answered, over the whole hierarchy.
 //!
-//! The definitions in `specs/` say what each request does to a state of plain lists (`Requests`, with the hierarchy's own
-//! definitions, `Knowing`, `OwnState` and `Messages`), how a segment becomes known (`Connecting`) and gets its linkage
-//! section (`Sections`), where a link leads (`Linking`), who asks (`Askers`), what a history is (`History`: replay,
-//! right), what a segment number stands for (`Numbers`), which descriptor a process has of it (`Table`), what a reply
-//! tells of linkage sections and links (`Told`), and who runs, waits or has ended (`Waiting`). [`State`] is the plain
-//! supervisor as a program: `apply` gives exactly the reply and the state of the definition, and exactly the descriptors
-//! that changed; `descriptor` is the descriptor of the definition, and `ready` whether a process would not wait. Stands
-//! on requests, the hierarchy, links and the mail; the type of a change is the core machine's.
+//! The definitions in `specs/` say what each request does to a state of plain lists (`Requests`, with the hierarchy's
+//! own definitions, `Knowing`, `OwnState` and `Messages`), how a segment becomes known (`Connecting`) and gets its
+//! linkage section (`Sections`), where a link leads (`Linking`), who asks (`Askers`), what a history is (`History`:
+//! replay, right), what a segment number stands for (`Numbers`), which descriptor a process has of it (`Table`), what a
+//! reply tells of linkage sections and links (`Told`), and who runs, waits or has ended (`Waiting`). [`State`] is the
+//! plain supervisor as a program: `apply` gives exactly the reply and the state of the definition, and exactly the
+//! descriptors that changed; `descriptor` is the descriptor of the definition, and `ready` whether a process would not
+//! wait. Stands on requests, the hierarchy, links and the mail; the type of a change is the core machine's.
 #![tactic(auto)]
 
 mod applied;

@@ -34,8 +34,8 @@ pub struct Place {
     pub word: u16,
 }
 
-/// The link of this number of a linkage section. None exactly where the segment number is not that of a linkage section,
-/// or the section has no such link.
+/// The link of a word of a linkage section. None exactly where the segment number is not that of a linkage section, or
+/// the section has no such word.
 pub(crate) fn link_at(hier: &Hier, known: &Kst, segno: u16, word: u16) -> Option<Link>
     ensures { result ≡ link_at hier.now known.now segno word }
 {
@@ -116,8 +116,8 @@ impl LinkSearch<'_> {
 
     /// A segment of this name in the directory that holds the object now.
     fn in_referencing_dir(&self, name: &EntryName) -> Result<Option<Found>, AllocError>
-        ensures { IfOk result (λ found. found
-            ≡ referencing_dir_finds self.now.hier.now (caller self.now.process.now self.now.ring).subject self.now.object name.now) }
+        ensures { IfOk result (λ found. found ≡ referencing_dir_finds
+            self.now.hier.now (caller self.now.process.now self.now.ring).subject self.now.object name.now) }
     {
         let Some(dir) = self.hier.holder(self.object) else {
             return Ok(None);
