@@ -1,5 +1,5 @@
 -- What the lines of a process ask for, on the bench.
-use Rattle.std.proofs.Common.{◌≡◌, ◌⊎◌, inl, inr, ℕ, suc, ◌<◌, ◌≤◌, ◌-◌, max, nat_le, Bool, true, false, IsTrue, IsFalse, List, [], ◌∷◌, ◌++◌, length, Some, refl, sym, ◌∙◌, ap, subst, arith}
+use Rattle.std.proofs.Common.{◌≡◌, ◌⊎◌, inl, inr, ℕ, suc, ◌<◌, ◌≤◌, ◌-◌, max, nat_le, Bool, true, false, IsTrue, IsFalse, List, [], ◌∷◌, ◌++◌, length, Option, Some, None, refl, sym, ◌∙◌, ap, subst, arith}
 use Rattle.std.proofs.lemmas.Bool.Decides.{nat_tests}
 use Rattle.std.proofs.lemmas.Option.{slice_get_within}
 use Rattle.std.specs.List.{slice_get}
@@ -10,12 +10,12 @@ use Rattle.mx_effring.specs.Walks.{wanted}
 use Rattle.mx_effring.specs.declared.walks.Want.{Want}
 use Rattle.mx_effring.specs.declared.walks.Want.TheVariants.{Done}
 use Rattle.mx_hier.specs.declared.refusals.Refusal.{Refusal}
-use Rattle.mx_hier.specs.declared.refusals.Refusal.TheVariants.{NotLinkage}
-use Rattle.mx_legal.specs.Asking.{next, answered, result_of}
+use Rattle.mx_legal.specs.Asking.{next, answered, attempts, first_due, result_of}
 use Rattle.mx_legal.specs.Attempts.{wants, after_seen, along, attempt}
 use Rattle.mx_legal.specs.Courses.{Course, Attempt, Answer, Judged}
-use Rattle.mx_legal.proofs.AwaitLaws.{replied_so}
-use Rattle.mx_legal.specs.Next.{Asks, Calls, Ends, storing}
+use Rattle.mx_legal.proofs.AwaitLaws.{IsLinked, replied_so}
+use Rattle.mx_legal.specs.Filling.{snapped}
+use Rattle.mx_legal.specs.Next.{Reference, Asks, Calls, Ends, storing}
 use Rattle.mx_legal.specs.Operands.{walk_from}
 use Rattle.mx_legal.specs.Targets.{at_target, spri_at}
 use Rattle.mx_legal.specs.Transcripts.{Step}
@@ -30,12 +30,14 @@ use Rattle.mx_script.specs.Sessions.{Outline, limit_of, is_register, is_address,
 use Rattle.mx_script.specs.declared.lines.Line.{Line}
 use Rattle.mx_script.specs.declared.lines.Line.TheVariants as line
 use Rattle.mx_script.specs.declared.lines.Operand.{Operand}
-use Rattle.mx_state.proofs.LinkLaws.{link_serves}
+use Rattle.mx_state.proofs.ToldLaws.{link_replies_law}
+use Rattle.std.specs.Prelude.{MatchOption}
 use Rattle.mx_state.specs.History.{opening, replay, IsRightEntry}
 use Rattle.mx_state.specs.Messages.{is_ready}
-use Rattle.mx_state.specs.Plain.{Plain, Answer as Replied}
+use Rattle.mx_state.specs.Plain.{Plain}
 use Rattle.mx_state.specs.Requests.{plain}
-use Rattle.mx_sup.proofs.ReplyLaws.{only_block_waits, ready_resumes}
+use Rattle.mx_state.specs.declared.journal.Entry as journaled
+use Rattle.mx_sup.proofs.ReplyLaws.{linked_only, only_block_waits, ready_resumes}
 use Rattle.mx_sup.specs.Supervised.{Supervised, state_of}
 use Rattle.mx_proc.proofs.BenchLaws.{seat_is}
 use Rattle.mx_proc.proofs.BoundLaws.{at_script_line, good_at}
@@ -43,20 +45,21 @@ use Rattle.mx_proc.proofs.NextLaws.{seat_of}
 use Rattle.mx_proc.proofs.OpeningLaws.{seat_of as process_of}
 use Rattle.mx_proc.proofs.OperandLaws.{no_request, target_asks, target_goes, link_asks, led_to}
 use Rattle.mx_proc.proofs.SeatLaws.{set_here}
-use Rattle.mx_proc.specs.Asking.{HasSeat, HasSeatWith, IsAsking, IsTold, IsUntold, IsReadyBelow, IsUnreadyBelow, IsAiming, IsEnding, EndsWith, IsToldToWait, IsCalling, IsStore, IsStoring}
-use Rattle.mx_proc.proofs.WorldLaws.{IsAt, not_told, told_blocks, waits_next}
+use Rattle.mx_proc.specs.Asking.{HasSeat, HasSeatWith, IsAnsweredBy, IsAsking, IsTold, IsToFill, IsUnfilled, IsUntold, IsReadyBelow, IsUnreadyBelow, IsAiming, IsEnding, IsToldToWait, IsCalling, IsStore, IsStoring}
+use Rattle.mx_proc.proofs.WorldLaws.{IsAt, IsFree, not_told, told_blocks, waits_next}
 use Rattle.mx_proc.specs.Benches.{world_in, IsKept}
-use Rattle.mx_proc.specs.Operands.{operand_of, IsPlaced, IsTarget, IsRegisterWord, IsLed, IsGoodProgress}
-use Rattle.mx_proc.specs.Processes.{seat_in, IsGoodAt, IsLedAt, IsStill, HasProgress, ReadsOperand, HasAsked, HasRegisters}
-use Rattle.mx_proc.specs.Running.{IsCome, IsRunning, left_of}
+use Rattle.mx_proc.specs.Operands.{operand_of, AsksFor, IsPlaced, IsTarget, IsRegisterWord, IsLed, IsGoodProgress}
+use Rattle.mx_proc.specs.Processes.{seat_in, IsGoodAt, IsLedAt, IsStill, HasProgress, ReadsOperand, StoresNothing, HasAsked, HasFill, HasRegisters, fill_of}
+use Rattle.mx_proc.specs.Running.{IsAnswered, IsCome, IsRunning, left_of}
 use Rattle.mx_proc.specs.Stepping.{IsAtLine, IsWaiting, state_in}
 use Rattle.mx_proc.specs.Worlds.{Seat, World}
+use Rattle.mx_proc.specs.declared.fills.Fill.{Fill}
 use Rattle.mx_proc.specs.declared.memory.Contents.{Contents}
 use Rattle.mx_proc.specs.declared.operands.Asked.{Asked}
 use Rattle.mx_proc.specs.declared.operands.Asked.TheVariants.{Target, First}
 use Rattle.mx_proc.specs.declared.operands.Place.{Place}
 use Rattle.mx_proc.specs.declared.operands.Progress.{Progress}
-use Rattle.mx_proc.specs.declared.operands.Progress.TheVariants.{Waiting}
+use Rattle.mx_proc.specs.declared.operands.Progress.TheVariants.{Before, Walking, AtLink, Waiting, Filling}
 use Rattle.mx_proc.specs.declared.operands.Way.TheVariants as way
 use Rattle.mx_proc.specs.declared.processes.Process.{Process}
 
@@ -163,6 +166,73 @@ seen_awake x s whole cells processes w p i waits view place h is = λ seat e tol
     = ap (λ (v : World). slice_get v.seats (p - 1)) (sym view) ∙ ap (slice_get _) (sym place) ∙ seat_of processes i h.process h.at in
     h.no is (ap (λ (seat : Seat). seat.progress) (sym (same_seats w p seat (seat_in h.process) e there)) ∙ told)
 
+-- what a process is to store
+fill_is : (progress : Progress) (it : Fill) → Some it ≡ fill_of progress → progress ≡ Filling it
+fill_is (Filling other) it e = ap Filling (sym (one it other e))
+  where
+    one : (a b : Fill) → Some a ≡ Some b → a ≡ b
+    one a b e = cc
+fill_is Before it e = absurd cc
+fill_is (Walking walk) it e = absurd cc
+fill_is (AtLink place) it e = absurd cc
+fill_is Waiting it e = absurd cc
+
+pub seen_fill : (x : Outline) (s : Supervised) (whole : List (List Step)) (cells : List Contents) (processes : List Process) (w : World) (p i : ℕ)
+    (found : Option Fill) → world_in x s whole cells processes ≡ w → i ≡ p - 1 → HasFill processes i found
+    → MatchOption found (IsUnfilled w p) (IsToFill w p)
+seen_fill x s whole cells processes w p i found view place h = by_found found h.fill
+  where
+    there : slice_get w.seats (p - 1) ≡ Some (seat_in h.process)
+    there = ap (λ (v : World). slice_get v.seats (p - 1)) (sym view) ∙ ap (slice_get _) (sym place) ∙ seat_of processes i h.process h.at
+
+    none_there : (it : Fill) (progress : Progress) → None ≡ fill_of progress → progress ≡ Filling it → ⊥
+    none_there it progress e at = none_is it (e ∙ ap fill_of at)
+      where
+        none_is : (it : Fill) → None ≡ Some it → ⊥
+        none_is it e = cc
+
+    by_found : (found : Option Fill) → found ≡ fill_of h.process.progress → MatchOption found (IsUnfilled w p) (IsToFill w p)
+    by_found None e = λ seat it seated at.
+        none_there it h.process.progress e
+        (ap (λ (seat : Seat). seat.progress) (sym (same_seats w p seat (seat_in h.process) seated there)) ∙ at)
+    by_found (Some it) e = record { seat = seat_in h.process; seated = there; is = fill_is h.process.progress it e }
+
+pub seen_stores_nothing : (x : Outline) (s : Supervised) (whole : List (List Step)) (cells : List Contents) (processes : List Process) (w : World) (p i : ℕ)
+    → world_in x s whole cells processes ≡ w → i ≡ p - 1 → IsUnfilled w p → StoresNothing processes i
+seen_stores_nothing x s whole cells processes w p i view place idle = λ q it at filling.
+    idle (seat_in q) it
+    (ap (λ (v : World). slice_get v.seats (p - 1)) (sym view) ∙ ap (slice_get _) (sym place) ∙ seat_of processes i q at) filling
+
+-- a line at work that is a request, and neither waits nor stores, is in its first attempt
+no_answer : (g : Registers) (l : Line) (request : Request) (entry : journaled.Entry) (filled : List Judged) (progress : Progress) → l ≡ line.Ask request
+    → (progress ≡ Waiting → ⊥) → IsFree progress → IsAnswered g l entry filled progress → ⊥
+no_answer g l request entry filled Before e awake free come = come.other request e
+no_answer g l request entry filled (Walking walk) e awake free come = come
+no_answer g l request entry filled (AtLink place) e awake free come = come
+no_answer g l request entry filled Waiting e awake free come = awake refl
+no_answer g l request entry filled (Filling it) e awake free come = free it refl
+
+-- only such a reply asks for a pointer
+snapped_linked : (request : Request) (ring : ℕ) (reply : Reply) (write : Reference) → snapped request ring reply ≡ write ∷ [] → IsLinked reply
+snapped_linked request ring (replies.Linked to at fresh linkage) write e = tt
+snapped_linked request ring (replies.Refused why) write e = absurd cc
+snapped_linked request ring replies.Done write e = absurd cc
+snapped_linked request ring (replies.Status status) write e = absurd cc
+snapped_linked request ring (replies.Names names) write e = absurd cc
+snapped_linked request ring (replies.Segno known) write e = absurd cc
+snapped_linked request ring replies.Sent write e = absurd cc
+snapped_linked request ring (replies.Message sender word) write e = absurd cc
+snapped_linked request ring replies.Nobody write e = absurd cc
+snapped_linked request ring replies.Waiting write e = absurd cc
+
+-- another request's line ends with its reply
+request_answered : (g : Registers) (l : Line) (asked request : Request) (ring : ℕ) (reply : Reply) → l ≡ line.Ask asked
+    → (reply ≡ replies.Waiting → ⊥) → (IsLinked reply → ⊥) → IsAnsweredBy g l ring request reply
+request_answered g l asked request ring reply e never unlinked = record {
+  ends = λ nothing. ap (λ (l : Line). answered g l request reply) e ∙ replied_so g request reply never unlinked;
+  anew = λ write some. absurd (unlinked (snapped_linked request ring reply write some));
+}
+
 -- whether a reply tells to wait
 tells_to_wait : (reply : Reply) → (reply ≡ replies.Waiting) ⊎ (reply ≡ replies.Waiting → ⊥)
 tells_to_wait replies.Waiting = inl refl
@@ -171,20 +241,20 @@ tells_to_wait replies.Done = inr (λ e. cc)
 tells_to_wait (replies.Status status) = inr (λ e. cc)
 tells_to_wait (replies.Names names) = inr (λ e. cc)
 tells_to_wait (replies.Segno known) = inr (λ e. cc)
+tells_to_wait (replies.Linked segno word fresh linkage) = inr (λ e. cc)
 tells_to_wait replies.Sent = inr (λ e. cc)
 tells_to_wait (replies.Message sender word) = inr (λ e. cc)
 tells_to_wait replies.Nobody = inr (λ e. cc)
 
 -- a request of a script, by a process that was not told to wait
 pub ask_calling : (w : World) (p : ℕ) (l : Line) (request : Request) (g : Registers) (ring : ℕ) → l ≡ line.Ask request → is_script_line l ≡ true
-    → HasSeatWith w p g → ring ≡ g.ring → IsUntold w p → IsCalling w p l ring request
-ask_calling w p l request g ring e in_script s r awake = record {
+    → HasSeatWith w p g → ring ≡ g.ring → IsUntold w p → IsUnfilled w p → IsCalling w p l ring request
+ask_calling w p l request g ring e in_script s r awake idle = record {
   awake = λ waits. awake waits.seat waits.seated waits.told;
   seat = s.seat;
   seated = s.seated;
   asks = asks;
   answers = λ reply below is. by_reply reply (tells_to_wait reply) is.reply;
-  first = λ blocks. awake s.seat s.seated;
   logs_out = λ out. same_request request Logout (sym e ∙ out);
 }
   where
@@ -195,7 +265,8 @@ ask_calling w p l request g ring e in_script s r awake = record {
     asks (Attempt seen) come =
         ap (λ (l : Line). next s.seat.registers l (Attempt seen)) e
         ∙ ap (λ (n : ℕ). Calls n request) (sym (r ∙ ap (λ (g : Registers). g.ring) s.registers))
-    asks (Answer entry) come = absurd (awake s.seat s.seated come.0)
+    asks (Answer entry filled) come =
+        absurd (no_answer s.seat.registers l request entry filled s.seat.progress e (awake s.seat s.seated) (λ it. idle s.seat it s.seated) come)
 
     not_in_script : is_script_line (line.Ask Resume) ≡ true → ⊥
     not_in_script h = cc
@@ -203,10 +274,18 @@ ask_calling w p l request g ring e in_script s r awake = record {
     no_resume : request ≡ Resume → ⊥
     no_resume h = not_in_script (ap is_script_line (sym (e ∙ ap line.Ask h)) ∙ in_script)
 
+    link_not_in_script : (segno word : ℕ) → is_script_line (line.Ask (Link segno word)) ≡ true → ⊥
+    link_not_in_script segno word h = cc
+
+    no_link : (segno word : ℕ) → request ≡ Link segno word → ⊥
+    no_link segno word h = link_not_in_script segno word (ap is_script_line (sym (e ∙ ap line.Ask h)) ∙ in_script)
+
+    unlinked : (reply : Reply) → (plain (state_in w) p ring request).reply ≡ reply → IsLinked reply → ⊥
+    unlinked reply is linked = let only = linked_only (state_in w) p ring request reply is linked in no_link only.0 only.1 only.2
+
     by_reply : (reply : Reply) → (reply ≡ replies.Waiting) ⊎ (reply ≡ replies.Waiting → ⊥) → (plain (state_in w) p ring request).reply ≡ reply
-        → EndsWith s.seat.registers l request reply ⊎ IsToldToWait l request reply
-    by_reply reply (inr never) is =
-        inl (ap (λ (l : Line). answered s.seat.registers l request reply) e ∙ replied_so s.seat.registers request reply never)
+        → IsAnsweredBy s.seat.registers l ring request reply ⊎ IsToldToWait l request reply
+    by_reply reply (inr never) is = inl (request_answered s.seat.registers l request request ring reply e never (unlinked reply is))
     by_reply reply (inl waits) is = elim (only_block_waits (state_in w) p ring request (is ∙ waits)) [
       | inl block ↦ inr (record { waits = waits; blocks = block; line_is = e ∙ ap line.Ask block })
       | inr resume ↦ absurd (no_resume resume)
@@ -222,9 +301,9 @@ resume_calling w p l g ring t e s r ready = record {
   seated = s.seated;
   asks = asks;
   answers = λ reply below is.
-      inl (ap (λ (l : Line). answered s.seat.registers l Resume reply) e
-      ∙ replied_so s.seat.registers Resume reply (λ waits. ready_resumes (state_in w) p ring (ready below) (is.reply ∙ waits)));
-  first = λ blocks. absurd (no_block blocks);
+      inl (request_answered s.seat.registers l Block Resume ring reply e
+      (λ waits. ready_resumes (state_in w) p ring (ready below) (is.reply ∙ waits))
+      (λ linked. let only = linked_only (state_in w) p ring Resume reply is.reply linked in absurd (no_link only.0 only.1 only.2)));
   logs_out = λ out. absurd (no_logout (sym e ∙ out));
 }
   where
@@ -232,8 +311,8 @@ resume_calling w p l g ring t e s r ready = record {
     both_ways true a b = cc
     both_ways false a b = cc
 
-    no_block : Resume ≡ Block → ⊥
-    no_block h = cc
+    no_link : (segno word : ℕ) → Resume ≡ Link segno word → ⊥
+    no_link segno word h = cc
 
     no_logout : line.Ask Block ≡ line.Ask Logout → ⊥
     no_logout h = cc
@@ -243,8 +322,8 @@ resume_calling w p l g ring t e s r ready = record {
 
     asks : (course : Course) → IsCome s.seat.registers l course s.seat.progress → next s.seat.registers l course ≡ Calls ring Resume
     asks (Attempt seen) come = absurd (subst (IsPlaced s.seat.registers l seen) told come).0
-    asks (Answer entry) come =
-        waits_next s.seat.registers l entry s.seat.progress come
+    asks (Answer entry filled) come =
+        waits_next s.seat.registers l entry filled (subst (IsAnswered s.seat.registers l entry filled) told come)
         ∙ ap (λ (n : ℕ). Calls n Resume) (sym (r ∙ ap (λ (g : Registers). g.ring) s.registers))
 
 -- what the supervisor tells of the bench's state
@@ -410,51 +489,84 @@ spri_storing w p l n o target g value e s v = record {
   stores = subst IsStore (sym e) tt;
 }
 
--- a link on the way of an operand is refused
-link_answers : (g : Registers) (l : Line) (o : Operand) (request : Request) (why : Refusal) → operand_of l ≡ Some o
+-- where a link on the way of an operand is refused the line ends, and where it was snapped it begins anew
+link_refused : (g : Registers) (l : Line) (o : Operand) (request : Request) (why : Refusal) → operand_of l ≡ Some o
     → answered g l request (replies.Refused why) ≡ Ends (result_of (replies.Refused why)) g
-link_answers g (line.Ask asked) o request why e = absurd (cc)
-link_answers g (line.Set word) o request why e = absurd (cc)
-link_answers g (line.Epp n operand) o request why e = refl
-link_answers g (line.Lda operand) o request why e = refl
-link_answers g (line.Sta operand) o request why e = refl
-link_answers g (line.Spri n operand) o request why e = refl
-link_answers g line.Fetch o request why e = absurd (cc)
-link_answers g (line.Call operand) o request why e = refl
-link_answers g (line.Return operand) o request why e = refl
+link_refused g (line.Ask asked) o request why e = absurd (cc)
+link_refused g (line.Set word) o request why e = absurd (cc)
+link_refused g (line.Epp n operand) o request why e = refl
+link_refused g (line.Lda operand) o request why e = refl
+link_refused g (line.Sta operand) o request why e = refl
+link_refused g (line.Spri n operand) o request why e = refl
+link_refused g line.Fetch o request why e = absurd (cc)
+link_refused g (line.Call operand) o request why e = refl
+link_refused g (line.Return operand) o request why e = refl
 
-refused_link : (s : Plain) (p ring segno word : ℕ) (reply : Reply) → 1 ≤ p
-    → IsRightEntry s (record { process = p; ring = ring; request = Link segno word; reply = reply }) → reply ≡ replies.Refused NotLinkage
-refused_link s p ring segno word reply some right =
-    let serves = link_serves s p ring segno word (record { reply = replies.Refused NotLinkage; changes = [] }) some right.maker.0 refl in
-    sym right.reply ∙ ap (λ (a : Replied). a.reply) serves.as_meant
+link_resolved : (g : Registers) (l : Line) (o : Operand) (request : Request) (to at : ℕ) (fresh : Bool) (linkage : Option ℕ) → operand_of l ≡ Some o
+    → answered g l request (replies.Linked to at fresh linkage) ≡ attempts g l []
+link_resolved g (line.Ask asked) o request to at fresh linkage e = absurd (cc)
+link_resolved g (line.Set word) o request to at fresh linkage e = absurd (cc)
+link_resolved g (line.Epp n operand) o request to at fresh linkage e = refl
+link_resolved g (line.Lda operand) o request to at fresh linkage e = refl
+link_resolved g (line.Sta operand) o request to at fresh linkage e = refl
+link_resolved g (line.Spri n operand) o request to at fresh linkage e = refl
+link_resolved g line.Fetch o request to at fresh linkage e = absurd (cc)
+link_resolved g (line.Call operand) o request to at fresh linkage e = refl
+link_resolved g (line.Return operand) o request to at fresh linkage e = refl
 
-pub link_calling : (x : Outline) (s : Supervised) (whole : List (List Step)) (room : ℕ) (cells : List Contents) (processes : List Process) (w : World) (p : ℕ)
-    (l : Line) (o : Operand) (place : Place) → IsKept x s whole room cells processes → world_in x s whole cells processes ≡ w → IsAtLine w p l
-    → operand_of l ≡ Some o → IsAsking w p o (First (way.Link place))
+link_answered : (s : Plain) (p ring segno word : ℕ) (reply : Reply) (g : Registers) (l : Line) (o : Operand) → 1 ≤ p → operand_of l ≡ Some o
+    → IsRightEntry s (record { process = p; ring = ring; request = Link segno word; reply = reply })
+    → IsAnsweredBy g l ring (Link segno word) reply
+link_answered s p ring segno word reply g l o some own right =
+    elim (link_replies_law s p ring segno word some right.maker.0) [
+      | inl r ↦ subst (IsAnsweredBy g l ring (Link segno word)) (sym r.1 ∙ right.reply) (record {
+        ends = λ nothing. link_refused g l o (Link segno word) r.0 own;
+        anew = λ write e. absurd (no_write write e);
+      })
+      | inr r ↦ subst (IsAnsweredBy g l ring (Link segno word)) (sym r.4 ∙ right.reply) (record {
+        ends = λ nothing. absurd (some_write _ nothing);
+        anew = λ write e. (no_request l o own, link_resolved g l o (Link segno word) r.0 r.1 r.2 r.3 own);
+      })
+    ]
+  where
+    no_write : (write : Reference) → [] ≡ write ∷ [] → ⊥
+    no_write write e = cc
+
+    some_write : (write : Reference) → write ∷ [] ≡ [] → ⊥
+    some_write write e = cc
+
+pub link_calling : (w : World) (p : ℕ) (l : Line) (o : Operand) (place : Place) → IsAtLine w p l → operand_of l ≡ Some o → IsAsking w p o (First (way.Link place))
     → IsCalling w p l place.ring (Link place.segno place.word)
-link_calling x s whole room cells processes w p l o place k view a own c = record {
+link_calling w p l o place a own c = record {
   awake = λ waits. awake waits.seat waits.seated waits.told;
   seat = c.seat;
   seated = c.seated;
   asks = asks;
   answers = λ reply below is.
-      inl (subst (λ (r : Reply). answered c.seat.registers l (Link place.segno place.word) r ≡ Ends (result_of r) c.seat.registers)
-      (sym (refused_link (state_in w) p place.ring place.segno place.word reply a.some is))
-      (link_answers c.seat.registers l o (Link place.segno place.word) NotLinkage own));
-  first = λ blocks. absurd (no_block blocks);
+      inl (link_answered (state_in w) p place.ring place.segno place.word reply c.seat.registers l o a.some own is);
   logs_out = λ out. absurd (no_request l o own Logout out);
 }
   where
-    no_block : Link place.segno place.word ≡ Block → ⊥
-    no_block h = cc
-
     awake : (seat : Seat) → slice_get w.seats (p - 1) ≡ Some seat → seat.progress ≡ Waiting → ⊥
     awake seat e told =
-        not_told w (p - 1) a.seat a.number l a.left (subst IsRunning view k.running) (at_place w p l a) (no_request l o own)
-        (ap (λ (seat : Seat). seat.progress) (same_seats w p a.seat seat a.seated e) ∙ told)
+        asks_nothing c.seat.progress (ap (λ (seat : Seat). seat.progress) (same_seats w p c.seat seat c.seated e) ∙ told) c.asks
+      where
+        asks_nothing : (progress : Progress) → progress ≡ Waiting → AsksFor c.seat.registers o progress (First (way.Link place)) → ⊥
+        asks_nothing progress told asked =
+            absurd (subst (λ (r : Progress). AsksFor c.seat.registers o r (First (way.Link place))) told asked)
 
     asks : (course : Course) → IsCome c.seat.registers l course c.seat.progress
         → next c.seat.registers l course ≡ Calls place.ring (Link place.segno place.word)
     asks (Attempt seen) come = link_asks c.seat.registers l o c.seat.progress place own c.asks seen come
-    asks (Answer entry) come = absurd (no_request l o own Block come.3)
+    asks (Answer entry filled) come = by_progress c.seat.progress c.asks come
+      where
+        by_progress : (progress : Progress) → AsksFor c.seat.registers o progress (First (way.Link place))
+            → IsAnswered c.seat.registers l entry filled progress
+            → next c.seat.registers l (Answer entry filled) ≡ Calls place.ring (Link place.segno place.word)
+        by_progress Before asked is =
+            ap (λ (d : Option Reference). first_due d (answered c.seat.registers l entry.request entry.reply)) is.none ∙ is.anew
+            ∙ link_asks c.seat.registers l o Before place own asked [] (refl, λ none. refl)
+        by_progress (Walking walk) asked is = absurd is
+        by_progress (AtLink other) asked is = absurd is
+        by_progress Waiting asked is = absurd asked
+        by_progress (Filling it) asked is = absurd asked

@@ -1,5 +1,5 @@
 -- Where one process waits, another goes on: no bench has only processes that have ended or wait, one of them waiting.
-use Rattle.std.proofs.Common.{◌≡◌, ◌≢◌, ◌⊎◌, inl, inr, ℕ, zero, suc, ◌<◌, ◌≤◌, ◌-◌, Bool, true, false, List, [], ◌∷◌, length, Option, Some, None, refl, sym, ◌∙◌, ap, subst, arith}
+use Rattle.std.proofs.Common.{◌≡◌, ◌⊎◌, inl, inr, ℕ, zero, suc, ◌<◌, ◌≤◌, ◌-◌, Bool, true, false, List, [], ◌∷◌, length, Option, Some, None, refl, sym, ◌∙◌, ap, subst, arith}
 use Rattle.std.proofs.lemmas.Bool.{cases_eq, ne_eqb}
 use Rattle.std.proofs.lemmas.Option.{slice_get_within}
 use Rattle.std.specs.List.{slice_get}
@@ -19,7 +19,7 @@ use Rattle.mx_state.specs.Waiting.{does, does_after, IsAwake}
 use Rattle.mx_state.specs.declared.journal.Entry as journaled
 use Rattle.mx_proc.specs.Rounds.{HaveStoppedUpTo}
 use Rattle.mx_proc.specs.Running.{IsRunning, left_of}
-use Rattle.mx_proc.specs.Standing.{IsStanding, AreStanding}
+use Rattle.mx_proc.specs.Standing.{AreStanding}
 use Rattle.mx_proc.specs.Stepping.{IsWaiting, HaveEnded, state_in}
 use Rattle.mx_proc.specs.Worlds.{Seat, World}
 

@@ -1,5 +1,5 @@
 -- The processes of a bench, as one makes a step.
-use Rattle.std.proofs.Common.{◌≡◌, ℕ, zero, suc, ◌<◌, ◌≤◌, ◌+◌, ◌-◌, ◌==◌, Bool, true, false, List, [], ◌∷◌, ◌++◌, map, drop, length, Some, refl, sym, ◌∙◌, ap, subst, arith}
+use Rattle.std.proofs.Common.{◌≡◌, ℕ, zero, suc, ◌≤◌, ◌+◌, ◌-◌, ◌==◌, Bool, true, false, List, [], ◌∷◌, ◌++◌, map, drop, length, Some, refl, sym, ◌∙◌, ap, subst, arith}
 use Rattle.std.proofs.lemmas.Bool.{eqb-true}
 use Rattle.std.specs.List.{slice_get, slice_set}
 use Rattle.mx_call.specs.Registers.{Registers, ArePackable}
@@ -14,11 +14,11 @@ use Rattle.mx_sup.specs.Supervised.{Supervised}
 use Rattle.mx_proc.proofs.SeatLaws.{set_here, set_there, set_length}
 use Rattle.mx_proc.proofs.WorldLaws.{after_line, moved, stepped, IsAt}
 use Rattle.mx_proc.specs.Benches.{world_in, first_of, IsKept}
-use Rattle.mx_proc.specs.Operands.{IsGoodProgress, steps_in}
+use Rattle.mx_proc.specs.Operands.{IsGoodProgress}
 use Rattle.mx_proc.specs.Processes.{seat_in, IsGood, AreGood, IsStill, HasEnded, HasGoneOn}
 use Rattle.mx_proc.specs.Running.{left_of, IsRunning}
 use Rattle.mx_proc.specs.Standing.{AreStanding}
-use Rattle.mx_proc.specs.Stepping.{IsSeat, IsAtLine, IsWaiting, HasMoved, HasStepped}
+use Rattle.mx_proc.specs.Stepping.{IsSeat, IsAtLine, IsWaiting, IsOnward, HasMoved, HasStepped}
 use Rattle.mx_proc.specs.Worlds.{Seat}
 use Rattle.mx_proc.specs.declared.memory.Contents.{Contents}
 use Rattle.mx_proc.specs.declared.operands.Progress.{Progress}
@@ -257,17 +257,17 @@ done_kept x s s' whole room cells cells' processes processes' i events ends regi
     fresh_progress p e = subst (IsGoodProgress p.registers) (sym e) tt
 
 -- the bench after a line that has one event more
-pub moved_kept : (x : Outline) (s s' : Supervised) (whole : List (List Step)) (room : ℕ) (cells : List Contents) (processes processes' : List Process) (i : ℕ)
+pub moved_kept : (x : Outline) (s s' : Supervised) (whole : List (List Step)) (room : ℕ) (cells cells' : List Contents) (processes processes' : List Process) (i : ℕ)
     (event : Event2) (progress : Progress)
-    → IsKept x s whole room cells processes → s'.session ≡ x → (d : IsLineMoved processes i event progress processes')
+    → IsKept x s whole room cells processes → s'.session ≡ x → length cells' ≡ 65536 → (d : IsLineMoved processes i event progress processes')
     → IsGoodProgress d.before.registers progress
-    → IsRunning (stepped (world_in x s whole cells processes) i s'.journal cells (moved (seat_in d.before) event progress))
-    → AreStanding (stepped (world_in x s whole cells processes) i s'.journal cells (moved (seat_in d.before) event progress))
-    → IsKept x s' whole room cells processes'
-moved_kept x s s' whole room cells processes processes' i event progress k same d fits r st = record {
+    → IsRunning (stepped (world_in x s whole cells processes) i s'.journal cells' (moved (seat_in d.before) event progress))
+    → AreStanding (stepped (world_in x s whole cells processes) i s'.journal cells' (moved (seat_in d.before) event progress))
+    → IsKept x s' whole room cells' processes'
+moved_kept x s s' whole room cells cells' processes processes' i event progress k same wide d fits r st = record {
   session = k.session;
   same = same;
-  wide = k.wide;
+  wide = wide;
   one = k.one;
   room_for = let f = k.room_for in let l = ap length d.set ∙ set_length processes i d.after in omega (arith, f, l);
   good = subst (AreGood x) (sym d.set) (good_set x processes i d.before d.after d.at k.good (record {
@@ -279,13 +279,13 @@ moved_kept x s s' whole room cells processes processes' i event progress k same 
   standing = subst AreStanding world st;
 }
   where
-    world : stepped (world_in x s whole cells processes) i s'.journal cells (moved (seat_in d.before) event progress)
-        ≡ world_in x s' whole cells processes'
+    world : stepped (world_in x s whole cells processes) i s'.journal cells' (moved (seat_in d.before) event progress)
+        ≡ world_in x s' whole cells' processes'
     world = ap (λ (seats : List Seat). record {
       session = x;
       journal = s'.journal;
       set_up = first_of whole;
-      cells = cells;
+      cells = cells';
       seats = seats;
     }) (ap (slice_set (map seat_in processes) i) (sym d.seat) ∙ sym (map_set seat_in processes i d.after) ∙ ap (map seat_in) (sym d.set))
 
@@ -341,12 +341,12 @@ done_stepped x s s' whole cells cells' processes processes' p i events ends regi
       one = few;
     }
 
-pub moved_stepped : (x : Outline) (s s' : Supervised) (whole : List (List Step)) (cells : List Contents) (processes processes' : List Process) (p i : ℕ)
-    (event : Event2) (progress : Progress) (more : List journaled.Entry) → i ≡ p - 1 → s'.journal ≡ s.journal ++ more → length more ≤ 1
+pub moved_stepped : (x : Outline) (s s' : Supervised) (whole : List (List Step)) (cells cells' : List Contents) (processes processes' : List Process) (p i : ℕ)
+    (event : Event2) (progress : Progress) (more : List journaled.Entry) → i ≡ p - 1 → s'.journal ≡ s.journal ++ more
     → (IsWaiting (world_in x s whole cells processes) p → ⊥) → (d : IsLineMoved processes i event progress processes')
-    → steps_in progress < steps_in d.before.progress
-    → HasMoved (world_in x s whole cells processes) p (world_in x s' whole cells processes')
-moved_stepped x s s' whole cells processes processes' p i event progress more place grown few awake d closer = record {
+    → IsOnward (world_in x s whole cells processes) (seat_in d.before) (moved (seat_in d.before) event progress) more
+    → HasMoved (world_in x s whole cells processes) p (world_in x s' whole cells' processes')
+moved_stepped x s s' whole cells cells' processes processes' p i event progress more place grown awake d onward = record {
   awake = awake;
   session = refl;
   set_up = refl;
@@ -357,11 +357,10 @@ moved_stepped x s s' whole cells processes processes' p i event progress more pl
   registers = d.registers;
   steps = ap (λ (seat : Seat). seat.steps) d.seat;
   more = ap (λ (seat : Seat). seat.events) d.seat;
-  closer = subst (λ (q : Progress). steps_in q < steps_in d.before.progress) (sym d.progress_is) closer;
   seats = ap (map seat_in) d.set ∙ map_set seat_in processes i d.after ∙ ap (λ n. slice_set (map seat_in processes) n (seat_in d.after)) place;
   entries = more;
   grown = grown;
-  one = few;
+  onward = subst (λ (seat : Seat). IsOnward (world_in x s whole cells processes) (seat_in d.before) seat more) (sym d.seat) onward;
 }
 
 -- the process that is at a line, among those of the bench

@@ -1,7 +1,7 @@
 -- Processes that were seen at their end, and what a step leaves of one.
-use Rattle.std.proofs.Common.{◌≡◌, ◌⊎◌, inl, inr, ℕ, ◌<◌, ◌≤◌, ◌+◌, ◌-◌, List, [], ◌∷◌, length, Option, Some, None, refl, sym, ◌∙◌, ap, subst, arith}
+use Rattle.std.proofs.Common.{◌≡◌, ◌⊎◌, inl, inr, ℕ, ◌<◌, ◌≤◌, ◌+◌, ◌-◌, List, Some, sym, ◌∙◌, ap, subst, arith}
 use Rattle.std.proofs.lemmas.Bool.{cases_lt}
-use Rattle.std.specs.List.{slice_get, slice_set}
+use Rattle.std.specs.List.{slice_get}
 use Rattle.mx_script.specs.Sessions.{Outline}
 use Rattle.mx_proc.proofs.SeatLaws.{set_here}
 use Rattle.mx_proc.specs.Asking.{IsTold}
@@ -9,7 +9,6 @@ use Rattle.mx_proc.specs.Ending.{WasSeenEnded, WereSeenEnded}
 use Rattle.mx_proc.specs.Running.{IsRunning}
 use Rattle.mx_proc.specs.Stepping.{HasStepped, HasEnded}
 use Rattle.mx_proc.specs.Worlds.{Seat, World}
-use Rattle.mx_proc.specs.declared.operands.Progress.{Progress}
 use Rattle.mx_proc.specs.declared.operands.Progress.TheVariants.{Before, Waiting}
 
 pub seen_one : (x : Outline) (w : World) (p : ℕ) → w.session ≡ x → IsRunning w → HasEnded w p → WereSeenEnded x p p

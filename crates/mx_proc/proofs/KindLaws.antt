@@ -1,5 +1,5 @@
 -- Each kind of step keeps the bench.
-use Rattle.std.proofs.Common.{◌≡◌, inl, inr, ℕ, suc, ◌<◌, ◌≤◌, ◌+◌, ◌-◌, List, [], ◌∷◌, ◌++◌, map, length, Some, refl, sym, ◌∙◌, ap, subst, arith, append-nil, length-append}
+use Rattle.std.proofs.Common.{◌≡◌, inl, inr, ℕ, suc, ◌<◌, ◌≤◌, ◌+◌, ◌-◌, List, [], ◌∷◌, ◌++◌, map, length, None, Some, refl, sym, ◌∙◌, ap, subst, arith, append-nil, length-append}
 use Rattle.std.proofs.lemmas.List.{take_all}
 use Rattle.std.specs.List.{slice_get}
 use Rattle.std.specs.Option.{option_map}
@@ -8,9 +8,9 @@ use Rattle.mx_core.specs.declared.elements.Element.{Element}
 use Rattle.mx_core.specs.declared.elements.Event.TheVariants.{Seen}
 use Rattle.mx_legal.specs.Access.{descriptor_of}
 use Rattle.mx_legal.specs.Asking.{next, answered, result_of}
-use Rattle.mx_legal.specs.Courses.{Attempt, Judged}
+use Rattle.mx_legal.specs.Courses.{Answer, Attempt, Judged}
 use Rattle.mx_legal.specs.Elements.{IsJudged}
-use Rattle.mx_legal.specs.Next.{Reference, Asks, Calls, Ends}
+use Rattle.mx_legal.specs.Next.{Reference, Asks, Ends}
 use Rattle.mx_legal.specs.Settings.{entry_at}
 use Rattle.mx_legal.specs.Transcripts.{Step}
 use Rattle.mx_legal.specs.declared.transcripts.Event2.TheVariants.{Core, Entry}
@@ -25,27 +25,40 @@ use Rattle.mx_script.specs.declared.lines.Line.{Line}
 use Rattle.mx_script.specs.declared.lines.Line.TheVariants as lines
 use Rattle.mx_sdw.specs.Descriptors.{Descriptor}
 use Rattle.mx_state.specs.History.{opening, replay, IsRightEntry}
+use Rattle.mx_state.specs.Plain.{Plain}
+use Rattle.mx_state.specs.Requests.{plain}
 use Rattle.mx_state.specs.Table.{descriptor}
 use Rattle.mx_state.specs.declared.journal.Entry as journaled
+use Rattle.mx_sup.proofs.HistoryLaws.{replay_more}
+use Rattle.mx_sup.proofs.ReplyLaws.{next_answered}
 use Rattle.mx_sup.specs.Entering.{HasEntered}
 use Rattle.mx_sup.specs.Supervised.{Supervised, state_of}
 use Rattle.mx_proc.proofs.BenchLaws.{line_done, line_moved, done_kept, done_stepped, moved_kept, moved_stepped, at_process, seat_is}
-use Rattle.mx_proc.proofs.WorldLaws.{Asking, Calling, IsAt, after_line, moved, stepped, end_law, full_law, call_law, wait_law, refer_law, look_law, not_told, look_awake}
+use Rattle.mx_proc.proofs.FillLaws.{Bounds, IsAfter, IsCloserBy, IsShortAfter, after_write, asks_nothing, closer_after, fills_no_logout, first_filling, logout_done, nothing_asked, short_after}
+use Rattle.mx_proc.proofs.NextLaws.{seat_of}
+use Rattle.mx_proc.proofs.PlaceLaws.{HasPlaceAfter, IsGrantable, IsGranted, first_place, grantable, granted, place_after}
+use Rattle.mx_proc.proofs.WorldLaws.{Asking, Calling, IsAt, IsFree, after_line, at_line, moved, stepped, storing_now, end_law, entered_law, fill_end_law, fill_law, full_law, call_law, refer_law, look_law, not_told, look_awake, look_free}
 use Rattle.mx_proc.proofs.StandingLaws.{line_standing, event_standing, still_there, entered_there, waits_after, out_after}
 use Rattle.mx_proc.specs.Access.{IsAccess}
 use Rattle.mx_legal.proofs.AwaitLaws.{awaits_no_end}
-use Rattle.mx_proc.specs.Asking.{IsNoRequest, IsEnding, IsCalling, IsToldToWait}
+use Rattle.mx_proc.specs.Asking.{IsNoRequest, IsAnsweredBy, IsEnding, IsCalling, IsToldToWait, IsUnfilled}
 use Rattle.mx_proc.specs.Benches.{world_in, IsKept}
+use Rattle.mx_proc.specs.Fills.{AsksToFill, HasPlace, IsReplied, IsReplyTo, IsShort, after_fill, write_of}
 use Rattle.mx_proc.specs.Operands.{IsPlaced, IsGoodProgress, steps_in}
 use Rattle.mx_proc.specs.Processes.{seat_in, IsStill, HasEnded, HasGoneOn}
-use Rattle.mx_proc.specs.Running.{IsRunning}
+use Rattle.mx_proc.specs.Running.{IsAnswered, IsRunning, left_of}
 use Rattle.mx_proc.specs.Standing.{AreStanding}
-use Rattle.mx_proc.specs.Stepping.{IsAtLine, IsWaiting, HasMoved, HasStepped}
+use Rattle.mx_proc.specs.Stepping.{IsAtLine, IsWaiting, HasMoved, HasStepped, state_in}
 use Rattle.mx_proc.specs.Worlds.{Seat}
+use Rattle.mx_proc.specs.declared.fills.Fill.{Fill}
+use Rattle.mx_proc.specs.declared.fills.Fill.TheVariants.{Words, Pointer}
+use Rattle.mx_proc.specs.declared.fills.Filled.{Filled}
+use Rattle.mx_proc.specs.declared.fills.Filled.TheVariants.{More, Anew, Done}
 use Rattle.mx_proc.specs.declared.memory.Contents.{Contents}
 use Rattle.mx_proc.specs.declared.operands.Progress.{Progress}
-use Rattle.mx_proc.specs.declared.operands.Progress.TheVariants.{Before, Walking, AtLink, Waiting}
+use Rattle.mx_proc.specs.declared.operands.Progress.TheVariants.{Before, Waiting, Filling}
 use Rattle.mx_proc.specs.declared.processes.Process.{Process}
+use Rattle.mx_proc.specs.declared.replied.Replied.TheVariants.{Store, End}
 
 -- the bench is kept, and the process has done its line
 abbrev pub Goes : Outline → Supervised → Supervised → List (List Step) → ℕ → List Contents → List Contents → List Process → List Process → ℕ → Type 0
@@ -86,29 +99,31 @@ not_ended g lines.Fetch request e = cc
 not_ended g (lines.Call o) request e = cc
 not_ended g (lines.Return o) request e = cc
 
--- whoever was not told to wait has steps left in its line
-some_left : (g : Registers) (progress : Progress) → IsGoodProgress g progress → (progress ≡ Waiting → ⊥) → 0 < steps_in progress
-some_left g Before good never = omega arith
-some_left g (Walking walk) good never = let short = good.bounded.short in omega arith
-some_left g (AtLink place) good never = omega arith
-some_left g Waiting good never = absurd (never refl)
+-- no write is due of a process that is to store nothing
+free_here : (x : Outline) (s : Supervised) (whole : List (List Step)) (cells : List Contents) (processes : List Process) (p i : ℕ) (line : Line)
+    (left : List (ℕ × Line)) (before : Process) → i ≡ p - 1 → IsUnfilled (world_in x s whole cells processes) p
+    → IsAt (world_in x s whole cells processes) i (seat_in before) (before.first + length before.recording.steps) line left
+    → IsFree before.progress
+free_here x s whole cells processes p i line left before place unfilled there = λ it e.
+    unfilled (seat_in before) it (ap (slice_get (map seat_in processes)) (sym place) ∙ there.seated) e
 
 -- a line that needs no further event
 pub end_goes : (x : Outline) (s : Supervised) (whole : List (List Step)) (room : ℕ) (cells : List Contents) (processes middle processes' : List Process)
     (p i : ℕ) (line : Line) (ends : Result2) (registers : Registers)
     → IsKept x s whole room cells processes → i ≡ p - 1 → IsAtLine (world_in x s whole cells processes) p line
-    → IsEnding (world_in x s whole cells processes) p line ends registers
+    → IsUnfilled (world_in x s whole cells processes) p → IsEnding (world_in x s whole cells processes) p line ends registers
     → IsStill processes i middle → HasEnded middle i [] ends registers processes'
     → Goes x s s whole room cells cells processes processes' p
-end_goes x s whole room cells processes middle processes' p i line ends registers k place a e still ended =
+end_goes x s whole room cells processes middle processes' p i line ends registers k place a idle e still ended =
     let d = line_done processes middle processes' i [] ends registers still ended in
     let asks : Asking (seat_in d.before) line (Ends ends registers)
     = subst (λ (seat : Seat). Asking seat line (Ends ends registers)) (seat_is x s whole cells processes p i e.seat d.before place e.seated d.at) e.asks in
     let here = at_process x s whole cells processes p i line d.before k.good place a d.at in
+    let free = free_here x s whole cells processes p i line a.left d.before place idle here in
     let w = end_law (world_in x s whole cells processes) i (seat_in d.before) (d.before.first + length d.before.recording.steps) line a.left
-    ends registers k.running here e.other asks in
+    ends registers k.running here e.other free asks in
     let st = line_standing (world_in x s whole cells processes) i (seat_in d.before) (d.before.first + length d.before.recording.steps) line a.left
-    s.journal cells [] ends registers k.session here k.standing (still_there s.journal i) (omega arith)
+    s.journal cells [] ends registers k.session here k.standing (still_there (world_in x s whole cells processes) i) (omega arith)
     (λ out below. absurd (e.other Logout out)) in (
       done_kept x s s whole room cells cells processes processes' i [] ends registers k k.same k.wide e.packable d w st,
       done_stepped x s s whole cells cells processes processes' p i [] ends registers line [] k.good place a (none_more s.journal) (omega arith)
@@ -133,7 +148,7 @@ full_goes x s whole room cells processes middle processes' p i line ring request
     let w = full_law (world_in x s whole cells processes) i (seat_in d.before) (d.before.first + length d.before.recording.steps) line a.left
     ring request k.running there asks at_limit in
     let st = line_standing (world_in x s whole cells processes) i (seat_in d.before) (d.before.first + length d.before.recording.steps) line a.left
-    s.journal cells [] result.HistoryFull registers k.session there k.standing (still_there s.journal i) (omega arith)
+    s.journal cells [] result.HistoryFull registers k.session there k.standing (still_there (world_in x s whole cells processes) i) (omega arith)
     (λ out below. absurd (omega (arith, at_limit, below))) in (
       done_kept x s s whole room cells cells processes processes' i [] result.HistoryFull registers k k.same k.wide
           (subst ArePackable after (k.good i d.before d.at).packable) d
@@ -153,6 +168,14 @@ last_at journal entry = subst (λ n. entry_at (journal ++ entry ∷ []) n ≡ So
     at : (journal : List journaled.Entry) → slice_get (journal ++ entry ∷ []) (length journal) ≡ Some entry
     at [] = refl
     at (first ∷ journal) = at journal
+
+pub entered_reply : (s s' : Supervised) (p ring : ℕ) (request : Request) (number : ℕ) → (e : HasEntered s p ring request number s')
+    → IsReplyTo s' number e.reply
+entered_reply s s' p ring request number e =
+    let entry : journaled.Entry = record { process = p; ring = ring; request = request; reply = e.reply } in
+    ap (option_map (λ (e : journaled.Entry). e.reply))
+    (subst (λ (j : List journaled.Entry). entry_at j number ≡ Some entry) (sym (ap (λ (t : Supervised). t.journal) e.entry))
+    (subst (λ n. entry_at (s.journal ++ entry ∷ []) n ≡ Some entry) (sym e.number) (last_at s.journal entry)))
 
 last_reply : (journal journal' : List journaled.Entry) (entry : journaled.Entry) (number : ℕ) (reply : Reply) → journal' ≡ journal ++ entry ∷ []
     → number ≡ length journal + 1 → option_map (λ (e : journaled.Entry). e.reply) (entry_at journal' number) ≡ Some reply → entry.reply ≡ reply
@@ -177,10 +200,11 @@ pub call_goes : (x : Outline) (s s' : Supervised) (whole : List (List Step)) (ro
     → IsKept x s whole room cells processes → i ≡ p - 1 → IsAtLine (world_in x s whole cells processes) p line
     → IsCalling (world_in x s whole cells processes) p line ring request
     → slice_get processes i ≡ Some q → registers ≡ q.registers → HasEntered s p ring request number s'
-    → option_map (λ (e : journaled.Entry). e.reply) (entry_at s'.journal number) ≡ Some reply → (reply ≡ replies.Waiting → ⊥) → ends ≡ result_of reply
+    → option_map (λ (e : journaled.Entry). e.reply) (entry_at s'.journal number) ≡ Some reply
+    → IsReplied (state_of s') p ring request reply (End ends)
     → IsStill processes i middle → HasEnded middle i (Entry number ∷ []) ends registers processes'
     → Goes x s s' whole room cells cells processes processes' p
-call_goes x s s' whole room cells processes middle processes' p i number line ring request reply ends q registers k place a c here is e replied never result still ended =
+call_goes x s s' whole room cells processes middle processes' p i number line ring request reply ends q registers k place a c here is e replied says still ended =
     let d = line_done processes middle processes' i (Entry number ∷ []) ends registers still ended in
     let after : d.before.registers ≡ registers = sym (is ∙ ap (λ (r : Process). r.registers) (same_process processes i q d.before here d.at)) in
     let own : p ≡ suc i = let one = a.some in omega (arith, place, one) in
@@ -190,21 +214,25 @@ call_goes x s s' whole room cells processes middle processes' p i number line ri
     let seat = seat_is x s whole cells processes p i c.seat d.before place c.seated d.at in
     let asks : Calling (seat_in d.before) line ring request = subst (λ (seat : Seat). Calling seat line ring request) seat c.asks in
     let below : length s.journal < limit_of x = subst (λ (y : Outline). length s.journal < limit_of y) k.same e.below in
-    let answers : answered d.before.registers line request e.reply ≡ Ends (result_of e.reply) d.before.registers
-    = subst (λ (seat : Seat). answered seat.registers line request e.reply ≡ Ends (result_of e.reply) seat.registers) seat
+    let by : IsAnsweredBy d.before.registers line ring request e.reply
+    = subst (λ (seat : Seat). IsAnsweredBy seat.registers line ring request e.reply) seat
     (elim (c.answers e.reply below (subst (λ (y : Outline). IsRightEntry (replay (opening y.principals) s.journal) entry) k.same e.right)) [
       | inl f ↦ f
-      | inr t ↦ absurd (never (sym told ∙ t.waits))
+      | inr t ↦ absurd (says.0 (sym told ∙ t.waits))
     ]) in
+    let nothing = nothing_asked (state_of s') p ring request e.reply
+    (subst (λ (r : Reply). AsksToFill (state_of s') p ring request r None) (sym told) says.1) in
+    let answers : next d.before.registers line (Answer entry []) ≡ Ends (result_of e.reply) d.before.registers
+    = next_answered d.before.registers line entry nothing.0 nothing.1 ∙ by.ends nothing.1 in
     let there = at_process x s whole cells processes p i line d.before k.good place a d.at in
     let w = call_law (world_in x s whole cells processes) i (seat_in d.before) (d.before.first + length d.before.recording.steps) line a.left entry
     k.running there own asks answers below
     (subst (λ (y : Outline). IsRightEntry (replay (opening y.principals) s.journal) entry) k.same e.right) in
     let st = line_standing (world_in x s whole cells processes) i (seat_in d.before) (d.before.first + length d.before.recording.steps) line a.left
     (s.journal ++ entry ∷ []) cells (Entry (length s.journal + 1) ∷ []) (result_of e.reply) d.before.registers k.session there k.standing
-    (λ j. entered_there s.journal entry i j own) (one_longer s.journal (s.journal ++ entry ∷ []) entry refl)
+    (λ j. entered_there (world_in x s whole cells processes) entry i j own) (one_longer s.journal (s.journal ++ entry ∷ []) entry refl)
     (λ out more. out_after s.journal entry i own (c.logs_out out)) in
-    let made = as_done s s' cells d.before number entry ends registers i after journal e.number (result ∙ ap result_of (sym told)) in (
+    let made = as_done s s' cells d.before number entry ends registers i after journal e.number (says.2 ∙ ap result_of (sym told)) in (
       done_kept x s s' whole room cells cells processes processes' i (Entry number ∷ []) ends registers k
           (ap (λ (t : Supervised). t.session) e.entry ∙ k.same) k.wide (subst ArePackable after (k.good i d.before d.at).packable) d
           (subst IsRunning made w) (subst AreStanding made st),
@@ -240,35 +268,124 @@ wait_goes x s s' whole room cells processes middle processes' p i number line ri
     let below : length s.journal < limit_of x = subst (λ (y : Outline). length s.journal < limit_of y) k.same e.below in
     let told : IsToldToWait line request e.reply
     = elim (c.answers e.reply below (subst (λ (y : Outline). IsRightEntry (replay (opening y.principals) s.journal) entry) k.same e.right)) [
-      | inl f ↦ absurd (waits_on c.seat.registers line request e.reply (said ∙ waits) f)
+      | inl f ↦ absurd (waits_on c.seat.registers line ring request e.reply (said ∙ waits) f)
       | inr t ↦ t
     ] in
     let there = at_process x s whole cells processes p i line d.before k.good place a d.at in
-    let w = wait_law (world_in x s whole cells processes) i (seat_in d.before) (d.before.first + length d.before.recording.steps) line a.left entry
-    k.running there own asks told below
+    let w = entered_law (world_in x s whole cells processes) i (seat_in d.before) (d.before.first + length d.before.recording.steps) line a.left entry
+    Waiting k.running there own asks (told.waits, told.blocks, told.line_is) below
     (subst (λ (y : Outline). IsRightEntry (replay (opening y.principals) s.journal) entry) k.same e.right) in
     let st = event_standing (world_in x s whole cells processes) i (seat_in d.before) (d.before.first + length d.before.recording.steps) line a.left
     (s.journal ++ entry ∷ []) cells (Entry (length s.journal + 1)) Waiting there k.standing
-    (λ j. entered_there s.journal entry i j own) (one_longer s.journal (s.journal ++ entry ∷ []) entry refl)
-    (λ t. waits_after s.journal entry line i own told) in
+    (λ j. entered_there (world_in x s whole cells processes) entry i j own) (one_longer s.journal (s.journal ++ entry ∷ []) entry refl)
+    (λ t. waits_after s.journal entry line i own told) (λ it e. absurd (waits_for_none it e)) in
     let made = wait_same s s' d.before number entry i journal e.number in (
-      moved_kept x s s' whole room cells processes processes' i (Entry number) Waiting k (ap (λ (t : Supervised). t.session) e.entry ∙ k.same) d tt
-          (subst IsRunning made w) (subst AreStanding made st),
-      moved_stepped x s s' whole cells processes processes' p i (Entry number) Waiting (entry ∷ []) place journal (omega arith) c.awake d
-          (some_left d.before.registers d.before.progress (k.good i d.before d.at).progress
-          (subst (λ (seat : Seat). seat.progress ≡ Waiting → ⊥) seat (c.first told.blocks))),
+      moved_kept x s s' whole room cells cells processes processes' i (Entry number) Waiting k (ap (λ (t : Supervised). t.session) e.entry ∙ k.same)
+          k.wide d tt (subst IsRunning made w) (subst AreStanding made st),
+      moved_stepped x s s' whole cells cells processes processes' p i (Entry number) Waiting (entry ∷ []) place journal c.awake d
+          (inr (refl, below, omega arith)),
     )
   where
+    waits_for_none : (it : Fill) → Waiting ≡ Filling it → ⊥
+    waits_for_none it e = cc
+
     wait_same : (s s' : Supervised) (before : Process) (number : ℕ) (entry : journaled.Entry) (i : ℕ) → s'.journal ≡ s.journal ++ entry ∷ []
         → number ≡ length s.journal + 1
         → stepped (world_in x s whole cells processes) i (s.journal ++ entry ∷ []) cells (moved (seat_in before) (Entry (length s.journal + 1)) Waiting)
         ≡ stepped (world_in x s whole cells processes) i s'.journal cells (moved (seat_in before) (Entry number) Waiting)
     wait_same s s' before number entry i journal at = rw (journal, at) refl
 
-    waits_on : (g : Registers) (line : Line) (request : Request) (given : Reply) → given ≡ replies.Waiting
-        → answered g line request given ≡ Ends (result_of given) g → ⊥
-    waits_on g line request given w f =
-        not_ended g line request (ap (λ (r : Reply). answered g line request r) (sym w) ∙ f ∙ ap (λ (r : Reply). Ends (result_of r) g) w)
+    waits_on : (g : Registers) (line : Line) (ring : ℕ) (request : Request) (given : Reply) → given ≡ replies.Waiting
+        → IsAnsweredBy g line ring request given → ⊥
+    waits_on g line ring request given w f =
+        not_ended g line request ((subst (λ (r : Reply). IsAnsweredBy g line ring request r) w f).ends refl)
+
+-- a call that was entered, and whose reply asks for writes
+pub store_goes : (x : Outline) (s s' : Supervised) (whole : List (List Step)) (room : ℕ) (cells : List Contents) (processes middle processes' : List Process)
+    (p i number : ℕ) (line : Line) (ring : ℕ) (request : Request) (reply : Reply) (it : Fill) (q : Process)
+    → IsKept x s whole room cells processes → i ≡ p - 1 → IsAtLine (world_in x s whole cells processes) p line
+    → IsCalling (world_in x s whole cells processes) p line ring request
+    → slice_get processes i ≡ Some q → HasEntered s p ring request number s'
+    → option_map (λ (e : journaled.Entry). e.reply) (entry_at s'.journal number) ≡ Some reply
+    → IsReplied (state_of s') p ring request reply (Store it)
+    → IsStill processes i middle → HasGoneOn middle i (Entry number ∷ []) (Filling it) processes'
+    → IsKept x s' whole room cells processes' × HasMoved (world_in x s whole cells processes) p (world_in x s' whole cells processes')
+store_goes x s s' whole room cells processes middle processes' p i number line ring request reply it q k place a c here e replied says still gone =
+    let d = line_moved processes middle processes' i (Entry number) (Filling it) still gone in
+    let own : p ≡ suc i = let one = a.some in omega (arith, place, one) in
+    let entry : journaled.Entry = record { process = p; ring = ring; request = request; reply = e.reply } in
+    let journal : s'.journal ≡ s.journal ++ entry ∷ [] = ap (λ (t : Supervised). t.journal) e.entry in
+    let session : s'.session ≡ x = ap (λ (t : Supervised). t.session) e.entry ∙ k.same in
+    let told : e.reply ≡ reply = last_reply s.journal s'.journal entry number reply journal e.number replied in
+    let seat = seat_is x s whole cells processes p i c.seat d.before place c.seated d.at in
+    let asks : Calling (seat_in d.before) line ring request = subst (λ (seat : Seat). Calling seat line ring request) seat c.asks in
+    let below : length s.journal < limit_of x = subst (λ (y : Outline). length s.journal < limit_of y) k.same e.below in
+    let right : IsRightEntry (replay (opening x.principals) s.journal) entry
+    = subst (λ (y : Outline). IsRightEntry (replay (opening y.principals) s.journal) entry) k.same e.right in
+    let by : IsAnsweredBy d.before.registers line ring request e.reply
+    = subst (λ (seat : Seat). IsAnsweredBy seat.registers line ring request e.reply) seat
+    (elim (c.answers e.reply below right) [
+      | inl f ↦ f
+      | inr t ↦ absurd (says.0 (sym told ∙ t.waits))
+    ]) in
+    let before : Plain = replay (opening x.principals) s.journal in
+    let after : state_of s' ≡ (plain before p ring request).state
+    = state_after s s' x entry session journal in
+    let first : AsksToFill (plain before p ring request).state p ring request e.reply (Some it)
+    = subst (λ (t : Plain). AsksToFill t p ring request e.reply (Some it)) after
+    (subst (λ (r : Reply). AsksToFill (state_of s') p ring request r (Some it)) (sym told) says.1) in
+    let there_is = first_place before p ring request e.reply it right.reply first in
+    let stays : line ≡ lines.Ask Logout → ⊥
+    = λ out. logs_nothing before p ring request e.reply it (c.logs_out out) right.reply first in
+    let filling = first_filling (plain before p ring request).state p d.before.registers line entry it first by stays there_is.1 in
+    let there = at_process x s whole cells processes p i line d.before k.good place a d.at in
+    let w = entered_law (world_in x s whole cells processes) i (seat_in d.before) (d.before.first + length d.before.recording.steps) line a.left entry
+    (Filling it) k.running there own asks filling below right in
+    let st = event_standing (world_in x s whole cells processes) i (seat_in d.before) (d.before.first + length d.before.recording.steps) line a.left
+    (s.journal ++ entry ∷ []) cells (Entry (length s.journal + 1)) (Filling it) there k.standing
+    (λ j. entered_there (world_in x s whole cells processes) entry i j own) (one_longer s.journal (s.journal ++ entry ∷ []) entry refl)
+    (λ t. absurd (waits_not it t))
+    (λ other e. subst (HasPlace (replay (opening x.principals) (s.journal ++ entry ∷ [])) (suc i)) (same_fill it other e)
+    (subst (λ (t : Plain). HasPlace t (suc i) it) (sym (replay_more (opening x.principals) s.journal entry))
+    (subst (λ n. HasPlace (plain before p ring request).state n it) own there_is.0))) in
+    let made = store_same s s' d.before number entry i journal e.number in (
+      moved_kept x s s' whole room cells cells processes processes' i (Entry number) (Filling it) k session k.wide d there_is.1
+          (subst IsRunning made w) (subst AreStanding made st),
+      moved_stepped x s s' whole cells cells processes processes' p i (Entry number) (Filling it) (entry ∷ []) place journal c.awake d
+          (inr (refl, below, short_steps it there_is.1)),
+    )
+  where
+    waits_not : (it : Fill) → Filling it ≡ Waiting → ⊥
+    waits_not it e = cc
+
+    same_fill : (it other : Fill) → Filling it ≡ Filling other → it ≡ other
+    same_fill it other e = cc
+
+    logs_nothing : (before : Plain) (p ring : ℕ) (request : Request) (given : Reply) (it : Fill) → request ≡ Logout
+        → (plain before p ring request).reply ≡ given → AsksToFill (plain before p ring request).state p ring request given (Some it) → ⊥
+    logs_nothing before p ring request given it out says first =
+        let done : given ≡ replies.Done
+        = sym says ∙ ap (λ (r : Request). (plain before p ring r).reply) out ∙ logout_done before p ring in
+        asks_nothing (plain before p ring request).state p ring request it
+        (subst (λ (r : Reply). AsksToFill (plain before p ring request).state p ring request r (Some it)) done first)
+
+    state_after : (s s' : Supervised) (x : Outline) (entry : journaled.Entry) → s'.session ≡ x → s'.journal ≡ s.journal ++ entry ∷ []
+        → state_of s' ≡ (plain (replay (opening x.principals) s.journal) entry.process entry.ring entry.request).state
+    state_after s s' x entry session journal =
+        ap (λ (y : Outline). replay (opening y.principals) s'.journal) session
+        ∙ ap (λ (j : List journaled.Entry). replay (opening x.principals) j) journal
+        ∙ replay_more (opening x.principals) s.journal entry
+
+    store_same : (s s' : Supervised) (before : Process) (number : ℕ) (entry : journaled.Entry) (i : ℕ) → s'.journal ≡ s.journal ++ entry ∷ []
+        → number ≡ length s.journal + 1
+        → stepped (world_in x s whole cells processes) i (s.journal ++ entry ∷ []) cells
+        (moved (seat_in before) (Entry (length s.journal + 1)) (Filling it))
+        ≡ stepped (world_in x s whole cells processes) i s'.journal cells (moved (seat_in before) (Entry number) (Filling it))
+    store_same s s' before number entry i journal at = rw (journal, at) refl
+
+    short_steps : (it : Fill) → IsShort it → steps_in (Filling it) ≤ 1100
+    short_steps (Words words) short = let most = short.1 in omega (arith, most)
+    short_steps (Pointer snap) short = omega arith
 
 -- what an element is judged on is the access at its point
 pub present : (x : Outline) (s : Supervised) (desc : Descriptor) (segno p i point : ℕ) (e : Element) → s.session ≡ x → p ≡ suc i
@@ -292,27 +409,29 @@ pub record IsPresent (s : Supervised) (p segno point : ℕ) (j : Judged) : Type 
 pub refer_goes : (x : Outline) (s : Supervised) (whole : List (List Step)) (room : ℕ) (cells cells' : List Contents) (processes middle processes' : List Process)
     (p i segno point : ℕ) (line : Line) (q : Process) (asked : Reference) (j : Judged) (ends : Result2) (registers : Registers)
     → IsKept x s whole room cells processes → i ≡ p - 1 → IsAtLine (world_in x s whole cells processes) p line
+    → IsUnfilled (world_in x s whole cells processes) p
     → slice_get processes i ≡ Some q → IsNoRequest line → Asking (seat_in q) line (Asks asked) → IsJudged asked j.desc j.element
     → IsPresent s p segno point j → length cells' ≡ 65536 → IsAccess cells cells' p j
     → ((seen : List Judged) → IsPlaced q.registers line seen q.progress → next q.registers line (Attempt (seen ++ j ∷ [])) ≡ Ends ends registers)
     → ArePackable registers
     → IsStill processes i middle → HasEnded middle i (Core (Seen j.element) ∷ []) ends registers processes'
     → Goes x s s whole room cells cells' processes processes' p
-refer_goes x s whole room cells cells' processes middle processes' p i segno point line q asked j ends registers k place a here other asks judged present_is wide access goes packable still ended =
+refer_goes x s whole room cells cells' processes middle processes' p i segno point line q asked j ends registers k place a idle here other asks judged present_is wide access goes packable still ended =
     let d = line_done processes middle processes' i (Core (Seen j.element) ∷ []) ends registers still ended in
     let same : q ≡ d.before = same_process processes i q d.before here d.at in
     let own : p ≡ suc i = let one = a.some in omega (arith, place, one) in
     let judged_on : j.desc ≡ descriptor_of x s.journal (suc i) j.element
     = present x s j.desc segno p i point j.element k.same own present_is.on present_is.at_end present_is.segno_is present_is.point_is in
     let there = at_process x s whole cells processes p i line d.before k.good place a d.at in
+    let free = free_here x s whole cells processes p i line a.left d.before place idle there in
     let w = refer_law (world_in x s whole cells processes) i (seat_in d.before) (d.before.first + length d.before.recording.steps) line a.left asked j
-    cells' ends registers k.running there other
+    cells' ends registers k.running there other free
     (subst (λ (r : Process). Asking (seat_in r) line (Asks asked)) same asks) judged judged_on (present_is.point_is ∙ present_is.at_end)
     (subst (λ n. IsAccess cells cells' n j) own access)
     (subst (λ (r : Process). (seen : List Judged) → IsPlaced r.registers line seen r.progress
     → next r.registers line (Attempt (seen ++ j ∷ [])) ≡ Ends ends registers) same goes) in
     let st = line_standing (world_in x s whole cells processes) i (seat_in d.before) (d.before.first + length d.before.recording.steps) line a.left
-    s.journal cells' (Core (Seen j.element) ∷ []) ends registers k.session there k.standing (still_there s.journal i) (omega arith)
+    s.journal cells' (Core (Seen j.element) ∷ []) ends registers k.session there k.standing (still_there (world_in x s whole cells processes) i) (omega arith)
     (λ out below. absurd (other Logout out)) in (
       done_kept x s s whole room cells cells' processes processes' i (Core (Seen j.element) ∷ []) ends registers k k.same wide packable d w st,
       done_stepped x s s whole cells cells' processes processes' p i (Core (Seen j.element) ∷ []) ends registers line [] k.good place a
@@ -323,34 +442,217 @@ refer_goes x s whole room cells cells' processes middle processes' p i segno poi
 pub look_goes : (x : Outline) (s : Supervised) (whole : List (List Step)) (room : ℕ) (cells : List Contents) (processes middle processes' : List Process)
     (p i segno point : ℕ) (line : Line) (q : Process) (asked : Reference) (j : Judged) (progress : Progress)
     → IsKept x s whole room cells processes → i ≡ p - 1 → IsAtLine (world_in x s whole cells processes) p line
+    → IsUnfilled (world_in x s whole cells processes) p
     → slice_get processes i ≡ Some q → IsNoRequest line → Asking (seat_in q) line (Asks asked) → IsJudged asked j.desc j.element
     → IsPresent s p segno point j → IsAccess cells cells p j
     → ((seen : List Judged) → IsPlaced q.registers line seen q.progress → IsPlaced q.registers line (seen ++ j ∷ []) progress)
     → IsGoodProgress q.registers progress → steps_in progress < steps_in q.progress
     → IsStill processes i middle → HasGoneOn middle i (Core (Seen j.element) ∷ []) progress processes'
     → IsKept x s whole room cells processes' × HasMoved (world_in x s whole cells processes) p (world_in x s whole cells processes')
-look_goes x s whole room cells processes middle processes' p i segno point line q asked j progress k place a here other asks judged present_is access placed fits closer still gone =
+look_goes x s whole room cells processes middle processes' p i segno point line q asked j progress k place a idle here other asks judged present_is access placed fits closer still gone =
     let d = line_moved processes middle processes' i (Core (Seen j.element)) progress still gone in
     let same : q ≡ d.before = same_process processes i q d.before here d.at in
     let own : p ≡ suc i = let one = a.some in omega (arith, place, one) in
     let judged_on : j.desc ≡ descriptor_of x s.journal (suc i) j.element
     = present x s j.desc segno p i point j.element k.same own present_is.on present_is.at_end present_is.segno_is present_is.point_is in
     let there = at_process x s whole cells processes p i line d.before k.good place a d.at in
+    let free = free_here x s whole cells processes p i line a.left d.before place idle there in
     let w = look_law (world_in x s whole cells processes) i (seat_in d.before) (d.before.first + length d.before.recording.steps) line a.left asked j
-    cells progress k.running there other
+    cells progress k.running there other free
     (subst (λ (r : Process). Asking (seat_in r) line (Asks asked)) same asks) judged judged_on (present_is.point_is ∙ present_is.at_end)
     (subst (λ n. IsAccess cells cells n j) own access)
     (subst (λ (r : Process). (seen : List Judged) → IsPlaced r.registers line seen r.progress
     → IsPlaced r.registers line (seen ++ j ∷ []) progress) same placed) in
     let st = event_standing (world_in x s whole cells processes) i (seat_in d.before) (d.before.first + length d.before.recording.steps) line a.left
-    s.journal cells (Core (Seen j.element)) progress there k.standing (still_there s.journal i) (omega arith)
+    s.journal cells (Core (Seen j.element)) progress there k.standing (still_there (world_in x s whole cells processes) i) (omega arith)
     (λ told. absurd (look_awake (world_in x s whole cells processes) i (seat_in d.before) (d.before.first + length d.before.recording.steps) line a.left j
-    progress k.running there other
+    progress k.running there other free
     (subst (λ (r : Process). (seen : List Judged) → IsPlaced r.registers line seen r.progress
-    → IsPlaced r.registers line (seen ++ j ∷ []) progress) same placed) told)) in (
-      moved_kept x s s whole room cells processes processes' i (Core (Seen j.element)) progress k k.same d
+    → IsPlaced r.registers line (seen ++ j ∷ []) progress) same placed) told))
+    (λ it at. absurd (look_free (world_in x s whole cells processes) i (seat_in d.before) (d.before.first + length d.before.recording.steps) line a.left j
+    progress k.running there other free
+    (subst (λ (r : Process). (seen : List Judged) → IsPlaced r.registers line seen r.progress
+    → IsPlaced r.registers line (seen ++ j ∷ []) progress) same placed) it at)) in (
+      moved_kept x s s whole room cells cells processes processes' i (Core (Seen j.element)) progress k k.same k.wide d
           (subst (λ (r : Process). IsGoodProgress r.registers progress) same fits) w st,
-      moved_stepped x s s whole cells processes processes' p i (Core (Seen j.element)) progress [] place (none_more s.journal) (omega arith)
+      moved_stepped x s s whole cells cells processes processes' p i (Core (Seen j.element)) progress [] place (none_more s.journal)
           (memory_awake x s whole cells processes p i line a.left d.before k.running place there other) d
-          (subst (λ (r : Process). steps_in progress < steps_in r.progress) same closer),
+          (inl (refl, subst (λ (r : Process). steps_in progress < steps_in r.progress) same closer)),
+    )
+
+-- how far the line has come after a write
+abbrev pub IsProgressAfter : Filled → Progress → Type 0
+IsProgressAfter (More it) progress = progress ≡ Filling it
+IsProgressAfter Anew progress = progress ≡ Before
+IsProgressAfter Done progress = ⊥
+
+answered_after : (g : Registers) (line : Line) (entry : journaled.Entry) (filled : List Judged) (after : Filled) (progress : Progress)
+    → IsProgressAfter after progress → IsAfter g line entry filled after → IsAnswered g line entry filled progress
+answered_after g line entry filled (More it) progress at is = subst (IsAnswered g line entry filled) (sym at) is
+answered_after g line entry filled Anew progress at is = subst (IsAnswered g line entry filled) (sym at) is
+answered_after g line entry filled Done progress at is = absurd at
+
+good_after : (g : Registers) (after : Filled) (progress : Progress) → IsProgressAfter after progress → IsShortAfter after → IsGoodProgress g progress
+good_after g (More it) progress at short = subst (IsGoodProgress g) (sym at) short
+good_after g Anew progress at short = subst (IsGoodProgress g) (sym at) tt
+good_after g Done progress at short = absurd at
+
+closer_by : (steps : ℕ) (after : Filled) (progress : Progress) → IsProgressAfter after progress → IsCloserBy steps after → steps_in progress < steps
+closer_by steps (More it) progress at closer = subst (λ (r : Progress). steps_in r < steps) (sym at) closer
+closer_by steps Anew progress at closer = subst (λ (r : Progress). steps_in r < steps) (sym at) closer
+closer_by steps Done progress at closer = absurd at
+
+places_after : (s : Plain) (p : ℕ) (after : Filled) (progress : Progress) → IsProgressAfter after progress → HasPlaceAfter s p after
+    → (it : Fill) → progress ≡ Filling it → HasPlace s p it
+places_after s p (More next) progress at place it e = subst (HasPlace s p) (same next it (sym at ∙ e)) place
+  where
+    same : (a b : Fill) → Filling a ≡ Filling b → a ≡ b
+    same a b e = cc
+places_after s p Anew progress at place it e = absurd (none it (sym at ∙ e))
+  where
+    none : (it : Fill) → Before ≡ Filling it → ⊥
+    none it e = cc
+places_after s p Done progress at place it e = absurd at
+
+awake_after : (after : Filled) (progress : Progress) → IsProgressAfter after progress → progress ≡ Waiting → ⊥
+awake_after (More it) progress at e = none it (sym at ∙ e)
+  where
+    none : (it : Fill) → Filling it ≡ Waiting → ⊥
+    none it e = cc
+awake_after Anew progress at e = none (sym at ∙ e)
+  where
+    none : Before ≡ Waiting → ⊥
+    none e = cc
+awake_after Done progress at e = at
+
+-- what is known of a write of process p
+pub record IsFillMade (s : Supervised) (p point : ℕ) (cells cells' : List Contents) (it : Fill) (j : Judged) : Type 0 where
+  pub judged : IsJudged (write_of it) j.desc j.element
+  pub present : IsPresent s p (write_of it).segno point j
+  pub wide : length cells' ≡ 65536
+  pub access : IsAccess cells cells' p j
+
+-- its process is to make it, and it is granted
+record IsGrantedHere (it : Fill) (j : Judged) : Type 0 where
+  pub short : IsShort it
+  pub granted : IsGranted it j.element
+  pub bounds : Bounds it j
+
+granted_here : (x : Outline) (s : Supervised) (whole : List (List Step)) (room : ℕ) (cells cells' : List Contents) (processes : List Process)
+    (p i point : ℕ) (q : Process) (it : Fill) (j : Judged)
+    → IsKept x s whole room cells processes → p ≡ suc i → slice_get processes i ≡ Some q → q.progress ≡ Filling it
+    → IsFillMade s p point cells cells' it j → IsGrantedHere it j
+granted_here x s whole room cells cells' processes p i point q it j k own here at m =
+    let short : IsShort it = subst (IsGoodProgress q.registers) at (k.good i q here).progress in
+    let place = (k.standing i (seat_in q) (seat_of processes i q here)).places it at in
+    let there : descriptor (state_of s) p (write_of it).segno ≡ descriptor (state_in (world_in x s whole cells processes)) (suc i) (write_of it).segno
+    = ap (λ n. descriptor (state_of s) n (write_of it).segno) own
+    ∙ ap (λ (y : Outline). descriptor (replay (opening y.principals) s.journal) (suc i) (write_of it).segno) k.same in
+    let g = grantable (state_in (world_in x s whole cells processes)) (suc i) it place short in
+    let on : j.desc ≡ descriptor (state_in (world_in x s whole cells processes)) (suc i) (write_of it).segno = m.present.on ∙ there in
+    record {
+      short = short;
+      granted = granted it j.desc j.element (subst (IsGrantable it) (sym on) g) m.judged;
+      bounds = g.bounds j on;
+    }
+
+-- whoever has something to store was not told to wait, and does not log out
+fill_awake : (x : Outline) (s : Supervised) (whole : List (List Step)) (cells : List Contents) (processes : List Process) (p i : ℕ) (line : Line)
+    (left : List (ℕ × Line)) (before : Process) (it : Fill) → i ≡ p - 1
+    → IsAt (world_in x s whole cells processes) i (seat_in before) (before.first + length before.recording.steps) line left
+    → before.progress ≡ Filling it → IsWaiting (world_in x s whole cells processes) p → ⊥
+fill_awake x s whole cells processes p i line left before it place there at waits =
+    let same : waits.seat ≡ seat_in before = one waits.seat (seat_in before) (sym waits.seated ∙ ap (slice_get (map seat_in processes)) (sym place) ∙ there.seated) in
+    apart it (sym at ∙ ap (λ (seat : Seat). seat.progress) (sym same) ∙ waits.told)
+  where
+    one : (a b : Seat) → Some a ≡ Some b → a ≡ b
+    one a b e = cc
+
+    apart : (it : Fill) → Filling it ≡ Waiting → ⊥
+    apart it e = cc
+
+fill_no_logout : (x : Outline) (s : Supervised) (whole : List (List Step)) (room : ℕ) (cells : List Contents) (processes : List Process) (i : ℕ) (line : Line)
+    (left : List (ℕ × Line)) (before : Process) (it : Fill) → IsKept x s whole room cells processes
+    → IsAt (world_in x s whole cells processes) i (seat_in before) (before.first + length before.recording.steps) line left
+    → before.progress ≡ Filling it → line ≡ lines.Ask Logout → ⊥
+fill_no_logout x s whole room cells processes i line left before it k there at out =
+    let r = k.running in
+    let now = storing_now x r.setup (suc i) (seat_in before) (before.first + length before.recording.steps) line left it (r.views (suc i)) at
+    (at_line x r.setup (suc i) (seat_in before) (left_of x (suc i) (seat_in before)) (before.first + length before.recording.steps) line left
+    (r.views (suc i)) there.at (r.each i (seat_in before) there.seated)) in
+    fills_no_logout before.registers line now.entry now.filled it now.is out
+
+-- a write that a reply asks for, after which the line goes on
+pub fill_goes : (x : Outline) (s : Supervised) (whole : List (List Step)) (room : ℕ) (cells cells' : List Contents) (processes middle processes' : List Process)
+    (p i point : ℕ) (line : Line) (q : Process) (it : Fill) (j : Judged) (progress : Progress)
+    → IsKept x s whole room cells processes → i ≡ p - 1 → IsAtLine (world_in x s whole cells processes) p line
+    → slice_get processes i ≡ Some q → q.progress ≡ Filling it → IsFillMade s p point cells cells' it j
+    → IsProgressAfter (after_fill it) progress
+    → IsStill processes i middle → HasGoneOn middle i (Core (Seen j.element) ∷ []) progress processes'
+    → IsKept x s whole room cells' processes' × HasMoved (world_in x s whole cells processes) p (world_in x s whole cells' processes')
+fill_goes x s whole room cells cells' processes middle processes' p i point line q it j progress k place a here at m after still gone =
+    let d = line_moved processes middle processes' i (Core (Seen j.element)) progress still gone in
+    let same : q ≡ d.before = same_process processes i q d.before here d.at in
+    let own : p ≡ suc i = let one = a.some in omega (arith, place, one) in
+    let g = granted_here x s whole room cells cells' processes p i point q it j k own here at m in
+    let judged_on : j.desc ≡ descriptor_of x s.journal (suc i) j.element
+    = present x s j.desc (write_of it).segno p i point j.element k.same own m.present.on m.present.at_end m.present.segno_is m.present.point_is in
+    let there = at_process x s whole cells processes p i line d.before k.good place a d.at in
+    let at' : d.before.progress ≡ Filling it = ap (λ (r : Process). r.progress) (sym same) ∙ at in
+    let w = fill_law (world_in x s whole cells processes) i (seat_in d.before) (d.before.first + length d.before.recording.steps) line a.left it j
+    g.granted.value cells' progress k.running there at' m.judged g.granted.written judged_on (m.present.point_is ∙ m.present.at_end)
+    (subst (λ n. IsAccess cells cells' n j) own m.access)
+    (λ entry filled filling. answered_after d.before.registers line entry (filled ++ j ∷ []) (after_fill it) progress after
+    (after_write d.before.registers line entry filled it j filling g.bounds)) in
+    let st = event_standing (world_in x s whole cells processes) i (seat_in d.before) (d.before.first + length d.before.recording.steps) line a.left
+    s.journal cells' (Core (Seen j.element)) progress there k.standing (still_there (world_in x s whole cells processes) i) (omega arith)
+    (λ told. absurd (awake_after (after_fill it) progress after told))
+    (places_after (state_in (world_in x s whole cells processes)) (suc i) (after_fill it) progress after
+    (place_after (state_in (world_in x s whole cells processes)) (suc i) it
+    ((k.standing i (seat_in q) (seat_of processes i q here)).places it at))) in (
+      moved_kept x s s whole room cells cells' processes processes' i (Core (Seen j.element)) progress k k.same m.wide d
+          (good_after d.before.registers (after_fill it) progress after (short_after it g.short)) w st,
+      moved_stepped x s s whole cells cells' processes processes' p i (Core (Seen j.element)) progress [] place (none_more s.journal)
+          (fill_awake x s whole cells processes p i line a.left d.before it place there at') d
+          (inl (
+            refl,
+            subst (λ (r : Progress). steps_in progress < steps_in r) (sym at')
+                (closer_by (steps_in (Filling it)) (after_fill it) progress after (closer_after it g.short)),
+          )),
+    )
+
+-- or after which it ends
+pub fill_end_goes : (x : Outline) (s : Supervised) (whole : List (List Step)) (room : ℕ) (cells cells' : List Contents) (processes middle processes' : List Process)
+    (p i point : ℕ) (line : Line) (q : Process) (registers : Registers) (it : Fill) (j : Judged)
+    → IsKept x s whole room cells processes → i ≡ p - 1 → IsAtLine (world_in x s whole cells processes) p line
+    → slice_get processes i ≡ Some q → registers ≡ q.registers → q.progress ≡ Filling it → IsFillMade s p point cells cells' it j
+    → after_fill it ≡ Done
+    → IsStill processes i middle → HasEnded middle i (Core (Seen j.element) ∷ []) result.Done registers processes'
+    → Goes x s s whole room cells cells' processes processes' p
+fill_end_goes x s whole room cells cells' processes middle processes' p i point line q registers it j k place a here is at m done still ended =
+    let d = line_done processes middle processes' i (Core (Seen j.element) ∷ []) result.Done registers still ended in
+    let same : q ≡ d.before = same_process processes i q d.before here d.at in
+    let after : d.before.registers ≡ registers = sym (is ∙ ap (λ (r : Process). r.registers) same) in
+    let own : p ≡ suc i = let one = a.some in omega (arith, place, one) in
+    let g = granted_here x s whole room cells cells' processes p i point q it j k own here at m in
+    let judged_on : j.desc ≡ descriptor_of x s.journal (suc i) j.element
+    = present x s j.desc (write_of it).segno p i point j.element k.same own m.present.on m.present.at_end m.present.segno_is m.present.point_is in
+    let there = at_process x s whole cells processes p i line d.before k.good place a d.at in
+    let at' : d.before.progress ≡ Filling it = ap (λ (r : Process). r.progress) (sym same) ∙ at in
+    let w = fill_end_law (world_in x s whole cells processes) i (seat_in d.before) (d.before.first + length d.before.recording.steps) line a.left it j
+    g.granted.value cells' k.running there at' m.judged g.granted.written judged_on (m.present.point_is ∙ m.present.at_end)
+    (subst (λ n. IsAccess cells cells' n j) own m.access)
+    (λ entry filled filling. subst (IsAfter d.before.registers line entry (filled ++ j ∷ [])) done
+    (after_write d.before.registers line entry filled it j filling g.bounds)) in
+    let no_logout : line ≡ lines.Ask Logout → ⊥ = fill_no_logout x s whole room cells processes i line a.left d.before it k there at' in
+    let st = line_standing (world_in x s whole cells processes) i (seat_in d.before) (d.before.first + length d.before.recording.steps) line a.left
+    s.journal cells' (Core (Seen j.element) ∷ []) result.Done registers k.session there k.standing
+    (still_there (world_in x s whole cells processes) i) (omega arith) (λ out below. absurd (no_logout out)) in (
+      done_kept x s s whole room cells cells' processes processes' i (Core (Seen j.element) ∷ []) result.Done registers k k.same m.wide
+          (subst ArePackable after (k.good i d.before d.at).packable) d
+          (subst (λ (r : Registers). IsRunning (stepped (world_in x s whole cells processes) i s.journal cells'
+          (after_line (seat_in d.before) (d.before.first + length d.before.recording.steps) (Core (Seen j.element) ∷ []) result.Done r))) after w) st,
+      done_stepped x s s whole cells cells' processes processes' p i (Core (Seen j.element) ∷ []) result.Done registers line [] k.good place a
+          (none_more s.journal) (omega arith) (omega arith)
+          (fill_awake x s whole cells processes p i line a.left d.before it place there at') d,
     )

@@ -1,6 +1,8 @@
 pub mod RaisedLaws
 pub mod SeatLaws
 pub mod CellLaws
+pub mod FillLaws
+pub mod PlaceLaws
 pub mod WorldLaws
 pub mod StandingLaws
 pub mod MadeLaws

@@ -30,8 +30,9 @@ use Rattle.mx_proc.specs.Processes.{seat_in, AreFresh}
 use Rattle.mx_proc.specs.Running.{IsBefore, left_of}
 use Rattle.mx_proc.specs.Stepping.{IsOpening}
 use Rattle.mx_proc.specs.Worlds.{Seat, held, held_when, held_in, contents_at, empty_contents, always}
+use Rattle.mx_proc.specs.declared.fills.Fill.{Fill}
 use Rattle.mx_proc.specs.declared.memory.Contents.{Contents}
-use Rattle.mx_proc.specs.declared.operands.Progress.TheVariants.{Before, Waiting}
+use Rattle.mx_proc.specs.declared.operands.Progress.TheVariants.{Before, Waiting, Filling}
 use Rattle.mx_proc.specs.declared.processes.Process.{Process}
 
 -- entries with the setup's calls are the initializer's
@@ -167,11 +168,15 @@ opening_kept x s set_up whole room cells processes session opened one wide empty
             ended = λ none below.
                 absurd (some_line x i session (sized x s processes i seat fresh session e)
                 (sym (ap (λ (q : Seat). left_of x (suc i) q) f) ∙ none));
+            places = λ it filling. absurd (free it (sym (ap (λ (q : Seat). q.progress) f) ∙ filling));
           };
     }
   where
     never : Before ≡ Waiting → ⊥
     never e = cc
+
+    free : (it : Fill) → Before ≡ Filling it → ⊥
+    free it e = cc
 
 pub is_opening : (x : Outline) (s : Supervised) (set_up : List Step) (whole : List (List Step)) (cells : List Contents) (processes : List Process)
     → IsSession x → IsOpened x s set_up → AreFresh x processes → IsOpening x (world_in x s whole cells processes)

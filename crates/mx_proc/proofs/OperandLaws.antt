@@ -24,7 +24,6 @@ use Rattle.mx_legal.specs.Targets.{at_target, after_target}
 use Rattle.mx_legal.specs.declared.transcripts.Result2.{Result2}
 use Rattle.mx_legal.specs.declared.transcripts.Result2.TheVariants as result
 use Rattle.mx_ptr.specs.Pointers.{PointerParts, IsPackable, parts_of}
-use Rattle.mx_request.specs.declared.requests.Request.{Request}
 use Rattle.mx_request.specs.declared.requests.Request.TheVariants.{Link}
 use Rattle.mx_script.specs.declared.lines.Line.{Line}
 use Rattle.mx_script.specs.declared.lines.Line.TheVariants as line
@@ -38,7 +37,7 @@ use Rattle.mx_proc.specs.Operands.{operand_of, walk_at, IsPlaced, asked_by, aske
 use Rattle.mx_proc.specs.declared.operands.Asked.TheVariants.{Target, First}
 use Rattle.mx_proc.specs.declared.operands.Place.{Place}
 use Rattle.mx_proc.specs.declared.operands.Progress.{Progress}
-use Rattle.mx_proc.specs.declared.operands.Progress.TheVariants.{Before, Walking, AtLink, Waiting}
+use Rattle.mx_proc.specs.declared.operands.Progress.TheVariants.{Before, Walking, AtLink, Waiting, Filling}
 use Rattle.mx_proc.specs.declared.operands.Way.TheVariants as way
 
 -- a memory line asks for what its attempt does
@@ -95,6 +94,7 @@ walked g l o (Walking there) walk seen own at placed = subst (IsWalked g l seen)
     same a b e = cc
 walked g l o (AtLink place) walk seen own at placed = absurd (cc)
 walked g l o Waiting walk seen own at placed = absurd (cc)
+walked g l o (Filling fill) walk seen own at placed = absurd (cc)
 
 -- so a memory line asks for what its walk does
 pub walk_next : (g : Registers) (l : Line) (o : Operand) (walk : chains.Operand) (seen : List Judged) → operand_of l ≡ Some o
@@ -129,6 +129,7 @@ at_its_target g o progress target asks = by_walk (walk_at g o progress) refl ask
     none (Walking walk) a = a
     none (AtLink place) a = cc
     none Waiting a = a
+    none (Filling fill) a = a
 
     by_walk : (walk : Option chains.Operand) → walk_at g o progress ≡ walk → asked_at walk progress (Target target)
         → IsAtTarget g o progress target
@@ -148,6 +149,7 @@ led_to g o progress place asks = by_walk (walk_at g o progress) refl asks
     none (Walking walk) a = a
     none (AtLink other) a = cc
     none Waiting a = a
+    none (Filling fill) a = a
 
     by_walk : (walk : Option chains.Operand) → walk_at g o progress ≡ walk → asked_at walk progress (First (way.Word place))
         → IsLed g o progress place
@@ -204,6 +206,7 @@ link_asks g l o progress place own asks seen placed = by_walk (walk_at g o progr
     none Before p a = absurd a
     none (Walking walk) p a = absurd a
     none Waiting p a = absurd a
+    none (Filling fill) p a = absurd a
     none (AtLink other) p a = p.0 ∙ ap (λ (x : Place). Calls x.ring (Link x.segno x.word)) (sym (same place other a))
 
     by_walk : (walk : Option chains.Operand) → walk_at g o progress ≡ walk → asked_at walk progress (First (way.Link place))
@@ -221,6 +224,7 @@ fewer_steps g o (Walking there) walk e =
     omega (arith, chain)
 fewer_steps g o (AtLink place) walk e = absurd (cc)
 fewer_steps g o Waiting walk e = absurd (cc)
+fewer_steps g o (Filling fill) walk e = absurd (cc)
 
 -- the registers after a line's own reference
 with_a : (g : Registers) (word : ℕ) → ArePackable g → ArePackable (record g { a = word })

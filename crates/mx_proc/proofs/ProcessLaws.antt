@@ -1,5 +1,5 @@
 -- One process of a list is changed in its place.
-use Rattle.std.proofs.Common.{◌≡◌, ◌⊎◌, inl, inr, ℕ, zero, suc, ◌<◌, ◌+◌, ◌^◌, Bool, IsTrue, IsFalse, List, [], ◌∷◌, ◌++◌, length, Some, refl, sym, ◌∙◌, ap, subst, arith, length-append}
+use Rattle.std.proofs.Common.{◌≡◌, ◌⊎◌, inl, inr, ℕ, zero, suc, ◌<◌, ◌+◌, ◌^◌, Bool, IsTrue, IsFalse, List, [], ◌∷◌, ◌++◌, length, Option, Some, refl, sym, ◌∙◌, ap, subst, arith, length-append}
 use Rattle.std.specs.List.{slice_get, slice_set, slice_index_or}
 use Rattle.mx_call.specs.Registers.{Registers, ArePackable}
 use Rattle.mx_legal.specs.Openings.{opening_registers}
@@ -12,11 +12,13 @@ use Rattle.mx_script.specs.declared.lines.Line.{Line}
 use Rattle.mx_script.specs.declared.lines.Operand.{Operand}
 use Rattle.mx_proc.proofs.SeatLaws.{set_here}
 use Rattle.mx_proc.specs.Operands.{IsGoodProgress, AsksFor, IsGoodAsked, IsLed}
-use Rattle.mx_proc.specs.Processes.{IsFresh, AreFreshUpTo, IsStill, HasRoom, IsCountable, IsGoodAt, IsLedAt, IsFed, HasAsked, HasFed, HasEnded, HasGoneOn, HasProgress, ReadsOperand, HasRegisters, HasLines, HasNumber}
+use Rattle.mx_proc.specs.Processes.{IsFresh, AreFreshUpTo, IsStill, HasRoom, IsCountable, IsGoodAt, IsLedAt, IsFed, HasAsked, HasFed, HasEnded, HasGoneOn, HasProgress, ReadsOperand, StoresNothing, HasFill, HasRegisters, HasLines, HasNumber, fill_of}
 use Rattle.mx_proc.specs.declared.benches.Stepped.{Stepped}
+use Rattle.mx_proc.specs.declared.fills.Fill.{Fill}
 use Rattle.mx_proc.specs.declared.operands.Asked.{Asked}
 use Rattle.mx_proc.specs.declared.operands.Place.{Place}
-use Rattle.mx_proc.specs.declared.operands.Progress.TheVariants.{Before, Waiting}
+use Rattle.mx_proc.specs.declared.operands.Progress.{Progress}
+use Rattle.mx_proc.specs.declared.operands.Progress.TheVariants.{Before, Waiting, Filling}
 use Rattle.mx_proc.specs.declared.processes.Process.{Process}
 
 get_at : {A : Type 0} (xs : List A) (i : ℕ) (d : A) → i < length xs → slice_get xs i ≡ Some (slice_index_or xs i d)
@@ -85,13 +87,13 @@ has_ended processes i q p events ends registers h first done steps idle fresh = 
   set = refl;
 }
 
--- it was told to wait
-pub has_waited : (processes : List Process) (i : ℕ) (q p : Process) (event : Event2) → i < length processes
+-- it has gone on
+pub has_gone_on : (processes : List Process) (i : ℕ) (q p : Process) (event : Event2) (progress : Progress) → i < length processes
     → p.first ≡ (slice_index_or processes i q).first → p.registers ≡ (slice_index_or processes i q).registers
     → p.recording.steps ≡ (slice_index_or processes i q).recording.steps
-    → p.recording.events ≡ (slice_index_or processes i q).recording.events ++ event ∷ [] → p.progress ≡ Waiting
-    → HasGoneOn processes i (event ∷ []) Waiting (slice_set processes i p)
-has_waited processes i q p event h first registers steps more waits = record {
+    → p.recording.events ≡ (slice_index_or processes i q).recording.events ++ event ∷ [] → p.progress ≡ progress
+    → HasGoneOn processes i (event ∷ []) progress (slice_set processes i p)
+has_gone_on processes i q p event progress h first registers steps more come = record {
   before = slice_index_or processes i q;
   at = get_at processes i q h;
   after = p;
@@ -99,7 +101,7 @@ has_waited processes i q p event h first registers steps more waits = record {
   registers = registers;
   steps = steps;
   more = more;
-  progress_is = waits;
+  progress_is = come;
   set = refl;
 }
 
@@ -108,6 +110,14 @@ pub progress_of : (processes : List Process) (i : ℕ) (q : Process) (waits : Bo
     → (IsFalse waits → (slice_index_or processes i q).progress ≡ Waiting → ⊥) → HasProgress processes i waits
 progress_of processes i q waits h waited awake =
     record { process = slice_index_or processes i q; at = get_at processes i q h; yes = waited; no = awake }
+
+pub fill_of_one : (processes : List Process) (i : ℕ) (q : Process) (found : Option Fill) → i < length processes
+    → found ≡ fill_of (slice_index_or processes i q).progress → HasFill processes i found
+fill_of_one processes i q found h e = record { process = slice_index_or processes i q; at = get_at processes i q h; fill = e }
+
+pub stores_nothing_of : (processes : List Process) (i : ℕ) (q : Process) (it : Fill) → i < length processes → StoresNothing processes i
+    → (slice_index_or processes i q).progress ≡ Filling it → ⊥
+stores_nothing_of processes i q it h nothing = nothing (slice_index_or processes i q) it (get_at processes i q h)
 
 pub reads_of : (processes : List Process) (i : ℕ) (q : Process) → i < length processes → ReadsOperand processes i
     → (slice_index_or processes i q).progress ≡ Waiting → ⊥

@@ -1,10 +1,11 @@
 -- A round of steps leaves fewer steps to make, as long as a line is left.
-use Rattle.std.proofs.Common.{◌≡◌, ◌⊎◌, inl, inr, ℕ, zero, suc, ◌<◌, ◌≤◌, ◌+◌, ◌-◌, ◌*◌, List, [], ◌∷◌, drop, length, Some, refl, sym, ◌∙◌, ap, subst, arith, length-append}
+use Rattle.std.proofs.Common.{◌≡◌, ◌⊎◌, inl, inr, ℕ, zero, suc, ◌<◌, ◌≤◌, ◌+◌, ◌-◌, ◌*◌, List, [], ◌∷◌, ◌++◌, drop, length, Some, refl, sym, ◌∙◌, ap, subst, arith, length-append}
 use Rattle.std.proofs.lemmas.Bool.{cases_lt}
 use Rattle.std.specs.List.{slice_get, slice_set}
 use Rattle.mx_legal.specs.Scripts.{lines_of}
 use Rattle.mx_legal.specs.Transcripts.{Step}
-use Rattle.mx_script.specs.Sessions.{Outline}
+use Rattle.mx_script.specs.Sessions.{Outline, limit_of}
+use Rattle.mx_state.specs.declared.journal.Entry as journaled
 use Rattle.mx_script.specs.declared.lines.Line.{Line}
 use Rattle.mx_proc.proofs.SeatLaws.{set_length, left_more}
 use Rattle.mx_proc.specs.Operands.{steps_in}
@@ -43,6 +44,62 @@ fewer x p (seat ∷ seats) (suc i) before after e less =
     plus_less : (c a b : ℕ) → a < b → c + a < c + b
     plus_less c a b h = omega arith
 
+-- fewer steps of all, and no shorter journal
+less_in_all : (old new : World) (entries : List journaled.Entry) → new.session ≡ old.session → new.journal ≡ old.journal ++ entries
+    → steps_left old.session 1 new.seats < steps_left old.session 1 old.seats → all_left new < all_left old
+less_in_all old new entries session grown less =
+    let longer : length new.journal ≡ length old.journal + length entries = ap length grown ∙ length-append old.journal entries in
+    let limit : limit_of new.session ≡ limit_of old.session = ap limit_of session in
+    let same : steps_left new.session 1 new.seats ≡ steps_left old.session 1 new.seats
+    = ap (λ (x : Outline). steps_left x 1 new.seats) session in
+    sum (limit_of old.session) (length old.journal) (length entries) (length new.journal) (limit_of new.session)
+    (steps_left new.session 1 new.seats) (steps_left old.session 1 new.seats) (steps_left old.session 1 old.seats) longer limit same less
+  where
+    sum : (limit n m n' limit' a b c : ℕ) → n' ≡ n + m → limit' ≡ limit → a ≡ b → b < c
+        → 1200 * (limit' - n') + a < 1200 * (limit - n) + c
+    sum limit n m n' limit' a b c e f g h = omega arith
+
+-- or an entry more, after which at most so many steps were added
+less_by_entry : (old new : World) (entries : List journaled.Entry) (more : ℕ) → new.session ≡ old.session → new.journal ≡ old.journal ++ entries
+    → length entries ≡ 1 → length old.journal < limit_of old.session
+    → steps_left old.session 1 new.seats ≤ steps_left old.session 1 old.seats + more → more ≤ 1100 → all_left new < all_left old
+less_by_entry old new entries more session grown one below few most =
+    let longer : length new.journal ≡ length old.journal + length entries = ap length grown ∙ length-append old.journal entries in
+    let limit : limit_of new.session ≡ limit_of old.session = ap limit_of session in
+    let same : steps_left new.session 1 new.seats ≡ steps_left old.session 1 new.seats
+    = ap (λ (x : Outline). steps_left x 1 new.seats) session in
+    sum (limit_of old.session) (length old.journal) (length entries) (length new.journal) (limit_of new.session)
+    (steps_left new.session 1 new.seats) (steps_left old.session 1 new.seats) (steps_left old.session 1 old.seats) more longer limit same one below few most
+  where
+    sum : (limit n m n' limit' a b c more : ℕ) → n' ≡ n + m → limit' ≡ limit → a ≡ b → m ≡ 1 → n < limit → b ≤ c + more → more ≤ 1100
+        → 1200 * (limit' - n') + a < 1200 * (limit - n) + c
+    sum limit n m n' limit' a b c more e f g one below few most = omega arith
+
+-- more steps of one process
+few_more : (x : Outline) (p : ℕ) (seats : List Seat) (i : ℕ) (before after : Seat) (more : ℕ) → slice_get seats i ≡ Some before
+    → steps_of x (p + i) after ≤ steps_of x (p + i) before + more → steps_left x p (slice_set seats i after) ≤ steps_left x p seats + more
+few_more x p [] i before after more e few = absurd (cc)
+few_more x p (seat ∷ seats) zero before after more e few =
+    let same : seat ≡ before = same_seat seat before e in
+    let here : p + 0 ≡ p = omega arith in
+    let l : steps_of x p after ≤ steps_of x p seat + more
+    = subst (λ n. steps_of x n after ≤ steps_of x n seat + more) here
+    (subst (λ (s : Seat). steps_of x (p + 0) after ≤ steps_of x (p + 0) s + more) (sym same) few) in
+    plus_few (steps_of x p after) (steps_of x p seat) (steps_left x (suc p) seats) more l
+  where
+    same_seat : (a b : Seat) → Some a ≡ Some b → a ≡ b
+    same_seat a b e = cc
+
+    plus_few : (a b c more : ℕ) → a ≤ b + more → a + c ≤ b + c + more
+    plus_few a b c more h = omega arith
+few_more x p (seat ∷ seats) (suc i) before after more e few =
+    let there : p + suc i ≡ suc p + i = omega arith in
+    let l = few_more x (suc p) seats i before after more e (subst (λ n. steps_of x n after ≤ steps_of x n before + more) there few) in
+    plus_few (steps_of x p seat) (steps_left x (suc p) (slice_set seats i after)) (steps_left x (suc p) seats) more l
+  where
+    plus_few : (c a b more : ℕ) → a ≤ b + more → c + a ≤ c + b + more
+    plus_few c a b more h = omega arith
+
 pub stepped_less : (old : World) (p : ℕ) (new : World) → 1 ≤ p → HasStepped old p new → all_left new < all_left old
 stepped_less old p new some h =
     let own : 1 + (p - 1) ≡ p = omega (arith, some) in
@@ -57,7 +114,8 @@ stepped_less old p new some h =
     = one_less (length h.left) (steps_in h.before.progress) (steps_of old.session p h.after) (steps_of old.session p h.before) after before in
     let l = fewer old.session 1 old.seats (p - 1) h.before h.after h.seated
     (subst (λ n. steps_of old.session n h.after < steps_of old.session n h.before) (sym own) less) in
-    rw (h.session, h.seats) l
+    less_in_all old new h.entries h.session h.grown
+    (subst (λ (seats : List Seat). steps_left old.session 1 seats < steps_left old.session 1 old.seats) (sym h.seats) l)
   where
     next : (n : ℕ) → n + 1 ≡ suc n
     next n = omega arith
@@ -70,13 +128,29 @@ moved_less old p new some h =
     let own : 1 + (p - 1) ≡ p = omega (arith, some) in
     let lines : left_of old.session p h.after ≡ left_of old.session p h.before
     = ap (λ (steps : List Step). drop (length steps) (lines_of old.session p)) h.steps in
-    let less : steps_of old.session p h.after < steps_of old.session p h.before
-    = same_lines (length (left_of old.session p h.after)) (length (left_of old.session p h.before)) (steps_in h.after.progress)
-    (steps_in h.before.progress) (ap length lines) h.closer in
-    let l = fewer old.session 1 old.seats (p - 1) h.before h.after h.seated
-    (subst (λ n. steps_of old.session n h.after < steps_of old.session n h.before) (sym own) less) in
-    rw (h.session, h.seats) l
+    elim h.onward [
+      | inl closer ↦
+          let less : steps_of old.session p h.after < steps_of old.session p h.before
+          = same_lines (length (left_of old.session p h.after)) (length (left_of old.session p h.before)) (steps_in h.after.progress)
+          (steps_in h.before.progress) (ap length lines) closer.1 in
+          let l = fewer old.session 1 old.seats (p - 1) h.before h.after h.seated
+          (subst (λ n. steps_of old.session n h.after < steps_of old.session n h.before) (sym own) less) in
+          less_in_all old new h.entries h.session h.grown
+          (subst (λ (seats : List Seat). steps_left old.session 1 seats < steps_left old.session 1 old.seats) (sym h.seats) l)
+      | inr entered ↦
+          let few : steps_of old.session p h.after ≤ steps_of old.session p h.before + 1100
+          = more_lines (length (left_of old.session p h.after)) (length (left_of old.session p h.before)) (steps_in h.after.progress)
+          (steps_in h.before.progress) (ap length lines) entered.2 in
+          let l = few_more old.session 1 old.seats (p - 1) h.before h.after 1100 h.seated
+          (subst (λ n. steps_of old.session n h.after ≤ steps_of old.session n h.before + 1100) (sym own) few) in
+          less_by_entry old new h.entries 1100 h.session h.grown entered.0 entered.1
+          (subst (λ (seats : List Seat). steps_left old.session 1 seats ≤ steps_left old.session 1 old.seats + 1100) (sym h.seats) l)
+          (omega arith)
+    ]
   where
+    more_lines : (n m a b : ℕ) → n ≡ m → a ≤ 1100 → 11 * n + a ≤ 11 * m + b + 1100
+    more_lines n m a b e h = omega arith
+
     same_lines : (n m a b : ℕ) → n ≡ m → a < b → 11 * n + a < 11 * m + b
     same_lines n m a b e h = omega arith
 

@@ -1,7 +1,6 @@
 -- Who waits and who has ended, as one process makes a step; and that not all wait.
-use Rattle.std.proofs.Common.{◌≡◌, ◌≢◌, ◌⊎◌, inl, inr, ℕ, zero, suc, ◌<◌, ◌≤◌, ◌+◌, ◌-◌, ◌==◌, Bool, true, false, cond, if◌then◌else◌, List, [], ◌∷◌, ◌++◌, drop, length, Option, Some, None, refl, sym, ◌∙◌, ap, subst, arith, length-append}
+use Rattle.std.proofs.Common.{◌≡◌, ◌⊎◌, inl, inr, ℕ, zero, suc, ◌<◌, ◌≤◌, ◌==◌, Bool, true, false, cond, if◌then◌else◌, List, [], ◌∷◌, ◌++◌, drop, length, Some, refl, sym, ◌∙◌, ap, subst, arith}
 use Rattle.std.proofs.lemmas.Bool.{cases_eq, eq-eqb, ne_eqb}
-use Rattle.std.proofs.lemmas.Option.{slice_get_within}
 use Rattle.std.specs.List.{slice_get, list_all}
 use Rattle.mx_call.specs.Registers.{Registers}
 use Rattle.mx_legal.specs.Scripts.{first_line, numbered, script_at}
@@ -17,15 +16,22 @@ use Rattle.mx_script.specs.declared.lines.Line.{Line}
 use Rattle.mx_script.specs.declared.lines.Line.TheVariants as lines
 use Rattle.mx_state.specs.Waiting.{does_after, after_request}
 use Rattle.mx_state.specs.declared.journal.Entry as journaled
+use Rattle.mx_state.specs.History.{opening, replay}
+use Rattle.mx_state.specs.Plain.{Plain}
+use Rattle.mx_sup.proofs.HistoryLaws.{replay_more}
+use Rattle.mx_proc.proofs.PlaceLaws.{others_place}
 use Rattle.mx_proc.proofs.SeatLaws.{set_here, set_there}
 use Rattle.mx_proc.proofs.WorldLaws.{IsAt, after_line, after_it, moved, stepped}
 use Rattle.mx_proc.specs.Asking.{IsToldToWait}
+use Rattle.mx_proc.specs.Fills.{HasPlace}
 use Rattle.mx_proc.specs.Running.{left_of}
 use Rattle.mx_proc.specs.Standing.{IsStanding, AreStanding}
+use Rattle.mx_proc.specs.Stepping.{state_in}
 use Rattle.mx_proc.specs.Worlds.{Seat, World}
+use Rattle.mx_proc.specs.declared.fills.Fill.{Fill}
 use Rattle.mx_proc.specs.declared.memory.Contents.{Contents}
 use Rattle.mx_proc.specs.declared.operands.Progress.{Progress}
-use Rattle.mx_proc.specs.declared.operands.Progress.TheVariants.{Before, Waiting}
+use Rattle.mx_proc.specs.declared.operands.Progress.TheVariants.{Before, Waiting, Filling}
 
 -- one entry more
 does_more : (journal : List journaled.Entry) (entry : journaled.Entry) (p : ℕ) (now : ExecutionState)
@@ -48,7 +54,7 @@ is_out : (request : Request) → is_logout (lines.Ask request) ≡ true → line
 is_out ask.Logout e = refl
 is_out (ask.CreateDir path d1 d2) e = cc
 is_out (ask.CreateSeg path words brackets) e = cc
-is_out (ask.CreateObject path words brackets gate) e = cc
+is_out (ask.CreateObject path words brackets object) e = cc
 is_out (ask.CreateLink path target) e = cc
 is_out (ask.Rename path name) e = cc
 is_out (ask.Delete path) e = cc
@@ -127,10 +133,15 @@ last_is_logout x i seat number line session e = elim (script_ends x.scripts i se
   | inr last ↦ last_logout (first_line x (suc i)) (length seat.steps) (script_at x.scripts i) number line last e
 ]
 
+-- what others entered leaves to process j + 1
+pub record IsApart (w : World) (journal : List journaled.Entry) (j : ℕ) : Type 0 where
+  pub does : does_after journal (suc j) state.Running ≡ does_after w.journal (suc j) state.Running
+  pub places : (it : Fill) → HasPlace (state_in w) (suc j) it → HasPlace (replay (opening w.session.principals) journal) (suc j) it
+
 -- where all but process i + 1 stand as they were
 stepped_standing : (w : World) (i : ℕ) (journal : List journaled.Entry) (cells : List Contents) (seat before : Seat)
     → slice_get w.seats i ≡ Some before → AreStanding w
-    → ((j : ℕ) → (j ≡ i → ⊥) → does_after journal (suc j) state.Running ≡ does_after w.journal (suc j) state.Running)
+    → ((j : ℕ) → (j ≡ i → ⊥) → IsApart w journal j)
     → length w.journal ≤ length journal
     → IsStanding (stepped w i journal cells seat) i seat → AreStanding (stepped w i journal cells seat)
 stepped_standing w i journal cells seat before at stand others longer own = λ j s e. by_place j s e (cases_eq j i)
@@ -148,15 +159,16 @@ stepped_standing w i journal cells seat before at stand others longer own = λ j
     by_place j s e (inr apart) =
         let old = stand j s (sym (set_there w.seats i j seat apart) ∙ e) in
         record {
-          waits = λ told. others j apart ∙ old.waits told;
-          ended = λ none below. others j apart ∙ old.ended none (omega (arith, below, longer));
+          waits = λ told. (others j apart).does ∙ old.waits told;
+          ended = λ none below. (others j apart).does ∙ old.ended none (omega (arith, below, longer));
+          places = λ it filling. (others j apart).places it (old.places it filling);
         }
 
 -- after a line
 pub line_standing : (w : World) (i : ℕ) (seat : Seat) (number : ℕ) (line : Line) (left : List (ℕ × Line)) (journal : List journaled.Entry)
     (cells : List Contents) (events : List Event2) (ends : Result2) (after : Registers)
     → IsSession w.session → IsAt w i seat number line left → AreStanding w
-    → ((j : ℕ) → (j ≡ i → ⊥) → does_after journal (suc j) state.Running ≡ does_after w.journal (suc j) state.Running)
+    → ((j : ℕ) → (j ≡ i → ⊥) → IsApart w journal j)
     → length w.journal ≤ length journal
     → (line ≡ lines.Ask ask.Logout → length journal < limit_of w.session → does_after journal (suc i) state.Running ≡ state.Ended)
     → AreStanding (stepped w i journal cells (after_line seat number events ends after))
@@ -166,38 +178,47 @@ line_standing w i seat number line left journal cells events ends after session 
       ended = λ none below.
           let last : left ≡ [] = sym (after_it w.session (suc i) seat number line left events ends after a.at) ∙ none in
           out (last_is_logout w.session i seat number line session (a.at ∙ ap (λ (l : List (ℕ × Line)). (number, line) ∷ l) last)) below;
+      places = λ it filling. absurd (free it filling);
     })
   where
     never : Before ≡ Waiting → ⊥
     never e = cc
 
+    free : (it : Fill) → Before ≡ Filling it → ⊥
+    free it e = cc
+
 -- after an event, at a line that is left
 pub event_standing : (w : World) (i : ℕ) (seat : Seat) (number : ℕ) (line : Line) (left : List (ℕ × Line)) (journal : List journaled.Entry)
     (cells : List Contents) (event : Event2) (progress : Progress)
     → IsAt w i seat number line left → AreStanding w
-    → ((j : ℕ) → (j ≡ i → ⊥) → does_after journal (suc j) state.Running ≡ does_after w.journal (suc j) state.Running)
+    → ((j : ℕ) → (j ≡ i → ⊥) → IsApart w journal j)
     → length w.journal ≤ length journal
     → (progress ≡ Waiting → does_after journal (suc i) state.Running ≡ state.Waiting)
+    → ((it : Fill) → progress ≡ Filling it → HasPlace (replay (opening w.session.principals) journal) (suc i) it)
     → AreStanding (stepped w i journal cells (moved seat event progress))
-event_standing w i seat number line left journal cells event progress a stand others longer waits =
+event_standing w i seat number line left journal cells event progress a stand others longer waits places =
     stepped_standing w i journal cells (moved seat event progress) seat a.seated stand others longer (record {
       waits = waits;
       ended = λ none below. absurd (some (sym a.at ∙ none));
+      places = places;
     })
   where
     some : (number, line) ∷ left ≡ [] → ⊥
     some e = cc
 
 -- nothing was entered
-pub still_there : (journal : List journaled.Entry) (i j : ℕ) → (j ≡ i → ⊥)
-    → does_after journal (suc j) state.Running ≡ does_after journal (suc j) state.Running
-still_there journal i j apart = refl
+pub still_there : (w : World) (i j : ℕ) → (j ≡ i → ⊥) → IsApart w w.journal j
+still_there w i j apart = record { does = refl; places = λ it place. place }
 
 -- an entry of process i + 1
-pub entered_there : (journal : List journaled.Entry) (entry : journaled.Entry) (i j : ℕ) → entry.process ≡ suc i → (j ≡ i → ⊥)
-    → does_after (journal ++ entry ∷ []) (suc j) state.Running ≡ does_after journal (suc j) state.Running
-entered_there journal entry i j own apart =
-    others_entry journal entry (suc j) state.Running (λ e. apart (omega (arith, own, e)))
+pub entered_there : (w : World) (entry : journaled.Entry) (i j : ℕ) → entry.process ≡ suc i → (j ≡ i → ⊥)
+    → IsApart w (w.journal ++ entry ∷ []) j
+entered_there w entry i j own apart = record {
+  does = others_entry w.journal entry (suc j) state.Running (λ e. apart (omega (arith, own, e)));
+  places = λ it place.
+      subst (λ (s : Plain). HasPlace s (suc j) it) (sym (replay_more (opening w.session.principals) w.journal entry))
+      (others_place (state_in w) (suc j) entry.process entry.ring entry.request it (λ e. apart (omega (arith, own, e))) place);
+}
 
 pub waits_after : (journal : List journaled.Entry) (entry : journaled.Entry) (line : Line) (i : ℕ) → entry.process ≡ suc i
     → IsToldToWait line entry.request entry.reply → does_after (journal ++ entry ∷ []) (suc i) state.Running ≡ state.Waiting

@@ -1,6 +1,5 @@
 -- Where a step answers `Waits`.
-use Rattle.std.proofs.Common.{◌≡◌, ℕ, suc, ◌-◌, ◌≤◌, ◌↔◌, IfOk, Result, Ok, Err, Some, [], refl, sym, ◌∙◌, ap, arith}
-use Rattle.std.specs.List.{slice_get}
+use Rattle.std.proofs.Common.{◌≡◌, ℕ, suc, ◌-◌, ◌≤◌, ◌↔◌, IfOk, Result, Ok, Err, refl, sym, ◌∙◌, ap, arith}
 use Rattle.mx_mail.specs.declared.processes.ExecutionState.{ExecutionState}
 use Rattle.mx_mail.specs.declared.processes.ExecutionState.TheVariants as state
 use Rattle.mx_state.specs.Waiting.{does_after}

@@ -1,5 +1,5 @@
 -- What is true of a bench stays true as one process makes a step.
-use Rattle.std.proofs.Common.{◌≡◌, ◌≢◌, inl, inr, ℕ, suc, ◌<◌, ◌≤◌, ◌+◌, ◌==◌, nat_le, Bool, true, false, if◌then◌else◌, List, [], ◌∷◌, ◌++◌, map, drop, length, Some, refl, sym, ◌∙◌, ap, subst, arith, length-append, append_assoc, append-nil}
+use Rattle.std.proofs.Common.{◌≡◌, ◌≢◌, inl, inr, ℕ, suc, ◌<◌, ◌≤◌, ◌+◌, ◌==◌, nat_le, Bool, true, false, if◌then◌else◌, List, [], ◌∷◌, ◌++◌, map, drop, length, Option, Some, refl, sym, ◌∙◌, ap, subst, arith, length-append, append_assoc, append-nil}
 use Rattle.std.proofs.lemmas.Bool.{eqb-true}
 use Rattle.std.proofs.lemmas.List.{map-append}
 use Rattle.std.proofs.lemmas.Option.{slice_get_within}
@@ -7,12 +7,13 @@ use Rattle.std.specs.List.{slice_get, slice_set}
 use Rattle.mx_call.specs.Registers.{Registers}
 use Rattle.mx_core.specs.declared.elements.Element.{Element}
 use Rattle.mx_core.specs.declared.elements.Event.TheVariants.{Seen}
-use Rattle.mx_core.specs.declared.elements.Outcome.TheVariants.{Read}
+use Rattle.mx_core.specs.declared.elements.Outcome.TheVariants.{Read, Written}
 use Rattle.mx_sdw.specs.Descriptors.{Descriptor}
 use Rattle.mx_legal.specs.Access.{descriptor_of}
-use Rattle.mx_legal.specs.Asking.{next, awaits, replied, answered, result_of}
-use Rattle.mx_legal.specs.Courses.{Course, Attempt, Answer, Judged}
+use Rattle.mx_legal.specs.Asking.{next, awaits, first_due, replied, answered, result_of}
+use Rattle.mx_legal.specs.Courses.{Course, Attempt, Answer, Judged, seen_in}
 use Rattle.mx_legal.specs.Elements.{IsJudged}
+use Rattle.mx_legal.specs.Filling.{links_of, section_words, snapped}
 use Rattle.mx_legal.specs.Lines.{IsEnd}
 use Rattle.mx_legal.specs.Next.{Next, Reference, Asks, Calls, Ends}
 use Rattle.mx_legal.specs.Scripts.{lines_of}
@@ -21,6 +22,7 @@ use Rattle.mx_legal.specs.declared.transcripts.Event2.{Event2}
 use Rattle.mx_legal.specs.declared.transcripts.Event2.TheVariants.{Core, Entry}
 use Rattle.mx_legal.specs.declared.transcripts.Result2.{Result2}
 use Rattle.mx_legal.specs.declared.transcripts.Result2.TheVariants as result
+use Rattle.mx_request.specs.Sections.{section_in}
 use Rattle.mx_request.specs.declared.requests.Request.{Request}
 use Rattle.mx_request.specs.declared.replies.Reply.{Reply}
 use Rattle.mx_request.specs.declared.requests.Request.TheVariants.{Block, Resume}
@@ -31,24 +33,27 @@ use Rattle.mx_state.specs.History.{opening, replay, IsRightEntry}
 use Rattle.mx_state.specs.declared.journal.Entry as journaled
 use Rattle.mx_reads.specs.Deeds.{Stores, Loads}
 use Rattle.mx_ties.proofs.BenchSteps.{bench_entry_law, bench_store_law, bench_load_law, bench_quiet_law}
-use Rattle.mx_ties.proofs.BenchGoingLaws.{bench_call_law, bench_look_law, bench_stamp_law}
+use Rattle.mx_ties.proofs.BenchGoingLaws.{bench_call_law, bench_look_law, bench_fill_law, bench_stamp_law}
 use Rattle.mx_ties.proofs.SoFarLaws.{line_step_law, last_line_law}
 use Rattle.mx_ties.specs.Bench.{IsBench, IsReferred, entered_view, referred_view}
 use Rattle.mx_ties.specs.BenchGoing.{IsBenched}
 use Rattle.mx_ties.specs.Closed.{followed, entry_in}
 use Rattle.mx_ties.specs.Uses.{use_of}
 use Rattle.mx_ties.specs.Views.{Marked, View}
+use Rattle.mx_proc.proofs.FillLaws.{asks_fill}
 use Rattle.mx_proc.proofs.CellLaws.{stored_there, stored_only_there}
 use Rattle.mx_proc.proofs.RaisedLaws.{raise, raised, raised_bench}
 use Rattle.mx_proc.proofs.SeatLaws.{set_here, set_there, set_length, left_more}
 use Rattle.mx_proc.specs.Access.{IsAccess, stored}
 use Rattle.mx_proc.specs.Operands.{IsPlaced}
-use Rattle.mx_proc.specs.Asking.{IsNoRequest, IsToldToWait}
-use Rattle.mx_proc.specs.Running.{IsCome, IsAtWork, IsBefore, left_of, IsRunning}
+use Rattle.mx_proc.specs.Asking.{IsNoRequest}
+use Rattle.mx_proc.specs.Fills.{IsFilling, write_of}
+use Rattle.mx_proc.specs.Running.{IsAnswered, IsCome, IsAtWork, IsBefore, left_of, IsRunning}
 use Rattle.mx_proc.specs.Worlds.{Seat, World, held, held_in, contents_at, always}
+use Rattle.mx_proc.specs.declared.fills.Fill.{Fill}
 use Rattle.mx_proc.specs.declared.memory.Contents.{Contents}
 use Rattle.mx_proc.specs.declared.operands.Progress.{Progress}
-use Rattle.mx_proc.specs.declared.operands.Progress.TheVariants.{Before, Waiting}
+use Rattle.mx_proc.specs.declared.operands.Progress.TheVariants.{Before, Walking, AtLink, Waiting, Filling}
 
 -- a seat after one line more, which had these events more
 abbrev pub after_line : Seat → ℕ → List Event2 → Result2 → Registers → Seat
@@ -111,21 +116,45 @@ pub at_line : (x : Outline) (setup : List journaled.Entry) (p : ℕ) (seat : Sea
     → IsAtWork x setup p seat number line left v
 at_line x setup p seat lines number line left v e is = subst (λ (l : List (ℕ × Line)). IsBefore x setup p seat l v) e is
 
--- a line that is no request is in an attempt
+-- no write is due
+abbrev pub IsFree : Progress → Type 0
+IsFree progress = (fill : Fill) → progress ≡ Filling fill → ⊥
+
+-- a line that is no request, and at which no write is due, is in an attempt, or begins one anew
 pub record IsAttempting (x : Outline) (setup : List journaled.Entry) (p : ℕ) (seat : Seat) (number : ℕ) (line : Line)
     (left : List (ℕ × Line)) (v : View) : Type 0 where
+  pub course : Course
   pub seen : List Judged
-  pub benched : IsBenched x setup p seat.steps number line left seat.registers seat.events (Attempt seen) v
+  pub so_far : seen_in course ≡ seen
+  pub alike : next seat.registers line course ≡ next seat.registers line (Attempt seen)
+  pub benched : IsBenched x setup p seat.steps number line left seat.registers seat.events course v
   pub placed : IsPlaced seat.registers line seen seat.progress
 
 pub attempting : (x : Outline) (setup : List journaled.Entry) (p : ℕ) (seat : Seat) (number : ℕ) (line : Line) (left : List (ℕ × Line)) (v : View)
-    → IsNoRequest line → IsAtWork x setup p seat number line left v → IsAttempting x setup p seat number line left v
-attempting x setup p seat number line left v other now = by_course now.course now.benched now.come
+    → IsNoRequest line → IsFree seat.progress → IsAtWork x setup p seat number line left v
+    → IsAttempting x setup p seat number line left v
+attempting x setup p seat number line left v other free now = by_course now.course now.benched now.come
   where
     by_course : (course : Course) → IsBenched x setup p seat.steps number line left seat.registers seat.events course v
         → IsCome seat.registers line course seat.progress → IsAttempting x setup p seat number line left v
-    by_course (Attempt seen) benched come = record { seen = seen; benched = benched; placed = come }
-    by_course (Answer entry) benched come = absurd (other Block come.3)
+    by_course (Attempt seen) benched come =
+        record { course = Attempt seen; seen = seen; so_far = refl; alike = refl; benched = benched; placed = come }
+    by_course (Answer entry filled) benched come = by_progress seat.progress refl come
+      where
+        by_progress : (progress : Progress) → seat.progress ≡ progress → IsAnswered seat.registers line entry filled progress
+            → IsAttempting x setup p seat number line left v
+        by_progress Waiting e is = absurd (other Block is.2)
+        by_progress (Filling fill) e is = absurd (free fill e)
+        by_progress (Walking walk) e is = absurd is
+        by_progress (AtLink place) e is = absurd is
+        by_progress Before e is = record {
+          course = Answer entry filled;
+          seen = [];
+          so_far = refl;
+          alike = ap (λ (d : Option Reference). first_due d (answered seat.registers line entry.request entry.reply)) is.none ∙ is.anew;
+          benched = benched;
+          placed = subst (IsPlaced seat.registers line []) (sym e) (refl, λ none. refl);
+        }
 
 pub after_it : (x : Outline) (p : ℕ) (seat : Seat) (number : ℕ) (line : Line) (left : List (ℕ × Line)) (events : List Event2) (ends : Result2) (after : Registers)
     → left_of x p seat ≡ (number, line) ∷ left → left_of x p (after_line seat number events ends after) ≡ left
@@ -200,12 +229,12 @@ Calling seat line ring request = (course : Course) → IsCome seat.registers lin
 
 -- a line that needs no further event
 pub end_law : (w : World) (i : ℕ) (seat : Seat) (number : ℕ) (line : Line) (left : List (ℕ × Line)) (ends : Result2) (after : Registers)
-    → IsRunning w → IsAt w i seat number line left → IsNoRequest line → Asking seat line (Ends ends after)
+    → IsRunning w → IsAt w i seat number line left → IsNoRequest line → IsFree seat.progress → Asking seat line (Ends ends after)
     → IsRunning (stepped w i w.journal w.cells (after_line seat number [] ends after))
-end_law w i seat number line left ends after r a other asks =
-    let now = attempting w.session r.setup (suc i) seat number line left (r.views (suc i)) other
+end_law w i seat number line left ends after r a other free asks =
+    let now = attempting w.session r.setup (suc i) seat number line left (r.views (suc i)) other free
     (at_line w.session r.setup (suc i) seat (left_of w.session (suc i) seat) number line left (r.views (suc i)) a.at (r.each i seat a.seated)) in
-    let e = asks now.seen now.placed in
+    let e = now.alike ∙ asks now.seen now.placed in
     record {
       setup = r.setup;
       history = r.history;
@@ -218,8 +247,8 @@ end_law w i seat number line left ends after r a other asks =
           (λ u n. refl) r.each
           (subst (λ (l : List (ℕ × Line)). IsBefore w.session r.setup (suc i) (after_line seat number [] ends after) l (r.views (suc i)))
           (sym (after_it w.session (suc i) seat number line left [] ends after a.at))
-          (ended w.session r.setup (suc i) seat number line left [] (Attempt now.seen) ends after (r.views (suc i))
-          (λ d. rw e (refl, refl)) (no_more w.session r.setup (suc i) seat number line left (Attempt now.seen) (r.views (suc i)) now.benched)));
+          (ended w.session r.setup (suc i) seat number line left [] now.course ends after (r.views (suc i))
+          (λ d. rw e (refl, refl)) (no_more w.session r.setup (suc i) seat number line left now.course (r.views (suc i)) now.benched)));
     }
 
 -- a process of the bench
@@ -299,7 +328,7 @@ record IsCalled (w : World) (r : IsRunning w) (i : ℕ) (seat : Seat) (number : 
   pub journal : w.journal ++ entry ∷ [] ≡ followed r.setup history
   pub bench : IsBench w.session r.setup history views always (held_in w.cells)
   pub benched : IsBenched w.session r.setup (suc i) seat.steps number line left seat.registers
-      (seat.events ++ Entry (length w.journal + 1) ∷ []) (Answer entry) (views (suc i))
+      (seat.events ++ Entry (length w.journal + 1) ∷ []) (Answer entry []) (views (suc i))
   pub others : (u : ℕ) → u ≢ suc i → views u ≡ r.views u
 
 called_at : (w : World) (r : IsRunning w) (i : ℕ) (seat : Seat) (number : ℕ) (line : Line) (left : List (ℕ × Line)) (entry : journaled.Entry)
@@ -329,7 +358,7 @@ called_at w r i seat number line left entry a maker asks below right =
       bench = bench_entry_law w.session r.setup r.history r.views views always always (held_in w.cells) p marked r.bench (omega arith) within maker
           refl below' right' (λ cell t. inl t) (put_own p v r.views) (put_other p v r.views);
       benched = subst (λ (j : List journaled.Entry). IsBenched w.session r.setup p seat.steps number line left seat.registers
-          (seat.events ++ Entry (length j + 1) ∷ []) (Answer entry) (views p)) (sym r.journal) called;
+          (seat.events ++ Entry (length j + 1) ∷ []) (Answer entry []) (views p)) (sym r.journal) called;
       others = put_other p v r.views;
     }
   where
@@ -343,7 +372,7 @@ called_at w r i seat number line left entry a maker asks below right =
 pub call_law : (w : World) (i : ℕ) (seat : Seat) (number : ℕ) (line : Line) (left : List (ℕ × Line)) (entry : journaled.Entry)
     → IsRunning w → IsAt w i seat number line left
     → entry.process ≡ suc i → Calling seat line entry.ring entry.request
-    → answered seat.registers line entry.request entry.reply ≡ Ends (result_of entry.reply) seat.registers
+    → next seat.registers line (Answer entry []) ≡ Ends (result_of entry.reply) seat.registers
     → length w.journal < limit_of w.session → IsRightEntry (replay (opening w.session.principals) w.journal) entry
     → IsRunning (stepped w i (w.journal ++ entry ∷ []) w.cells
     (after_line seat number (Entry (length w.journal + 1) ∷ []) (result_of entry.reply) seat.registers))
@@ -352,7 +381,7 @@ call_law w i seat number line left entry r a maker asks answers below right =
     let t = called_at w r i seat number line left entry a maker asks below right in
     let next_seat : Seat = after_line seat number (Entry (length w.journal + 1) ∷ []) (result_of entry.reply) seat.registers in
     let own : IsBefore w.session r.setup p next_seat left (t.views p)
-    = ended w.session r.setup p seat number line left (Entry (length w.journal + 1) ∷ []) (Answer entry) (result_of entry.reply)
+    = ended w.session r.setup p seat number line left (Entry (length w.journal + 1) ∷ []) (Answer entry []) (result_of entry.reply)
     seat.registers (t.views p) (λ d. rw answers (refl, refl)) t.benched in
     record {
       setup = r.setup;
@@ -367,20 +396,21 @@ call_law w i seat number line left entry r a maker asks answers below right =
           (sym (after_it w.session p seat number line left (Entry (length w.journal + 1) ∷ []) (result_of entry.reply) seat.registers a.at)) own);
     }
 
--- or its process is told to wait
-pub wait_law : (w : World) (i : ℕ) (seat : Seat) (number : ℕ) (line : Line) (left : List (ℕ × Line)) (entry : journaled.Entry)
+-- or goes on: its process is told to wait, or has something to store
+pub entered_law : (w : World) (i : ℕ) (seat : Seat) (number : ℕ) (line : Line) (left : List (ℕ × Line)) (entry : journaled.Entry)
+    (progress : Progress)
     → IsRunning w → IsAt w i seat number line left
-    → entry.process ≡ suc i → Calling seat line entry.ring entry.request → IsToldToWait line entry.request entry.reply
+    → entry.process ≡ suc i → Calling seat line entry.ring entry.request → IsAnswered seat.registers line entry [] progress
     → length w.journal < limit_of w.session → IsRightEntry (replay (opening w.session.principals) w.journal) entry
-    → IsRunning (stepped w i (w.journal ++ entry ∷ []) w.cells (moved seat (Entry (length w.journal + 1)) Waiting))
-wait_law w i seat number line left entry r a maker asks told below right =
+    → IsRunning (stepped w i (w.journal ++ entry ∷ []) w.cells (moved seat (Entry (length w.journal + 1)) progress))
+entered_law w i seat number line left entry progress r a maker asks come below right =
     let p : ℕ = suc i in
     let t = called_at w r i seat number line left entry a maker asks below right in
-    let next_seat : Seat = moved seat (Entry (length w.journal + 1)) Waiting in
+    let next_seat : Seat = moved seat (Entry (length w.journal + 1)) progress in
     let own : IsBefore w.session r.setup p next_seat ((number, line) ∷ left) (t.views p) = record {
-      course = Answer entry;
+      course = Answer entry [];
       benched = t.benched;
-      come = (refl, told.waits, told.blocks, told.line_is);
+      come = come;
     } in
     record {
       setup = r.setup;
@@ -394,22 +424,18 @@ wait_law w i seat number line left entry r a maker asks told below right =
           (subst (λ (l : List (ℕ × Line)). IsBefore w.session r.setup p next_seat l (t.views p)) (sym a.at) own);
     }
 
--- what stands after a reference of the line at work
-record IsReferredTo (w : World) (r : IsRunning w) (i : ℕ) (seat : Seat) (number : ℕ) (line : Line) (left : List (ℕ × Line))
-    (seen : List Judged) (j : Judged) (cells : List Contents) : Type 0 where
+-- what stands after a reference of the line at work, but for the line's own part
+record IsTouched (w : World) (r : IsRunning w) (i : ℕ) (j : Judged) (cells : List Contents) : Type 0 where
   pub views : ℕ → View
+  pub is : IsReferred w.session r.setup r.history r.views views (suc i) j
   pub bench : IsBench w.session r.setup r.history views always (held_in cells)
-  pub benched : IsBenched w.session r.setup (suc i) seat.steps number line left seat.registers (seat.events ++ Core (Seen j.element) ∷ [])
-      (Attempt (seen ++ j ∷ [])) (views (suc i))
+  pub stamps : (value writer stamp : ℕ) → j.element.outcome ≡ Read value writer stamp → stamp ≤ length (followed r.setup r.history)
   pub others : (u : ℕ) → u ≢ suc i → views u ≡ r.views u
 
-referred_to : (w : World) (r : IsRunning w) (i : ℕ) (seat : Seat) (number : ℕ) (line : Line) (left : List (ℕ × Line)) (asked : Reference)
-    (j : Judged) (cells : List Contents) → slice_get w.seats i ≡ Some seat
-    → (now : IsAttempting w.session r.setup (suc i) seat number line left (r.views (suc i)))
-    → next seat.registers line (Attempt now.seen) ≡ Asks asked → IsJudged asked j.desc j.element
+touched_at : (w : World) (r : IsRunning w) (i : ℕ) (seat : Seat) (j : Judged) (cells : List Contents) → slice_get w.seats i ≡ Some seat
     → j.desc ≡ descriptor_of w.session w.journal (suc i) j.element → j.element.point ≡ length w.journal
-    → IsAccess w.cells cells (suc i) j → IsReferredTo w r i seat number line left now.seen j cells
-referred_to w r i seat number line left asked j cells seated now asks judged desc point access =
+    → IsAccess w.cells cells (suc i) j → IsTouched w r i j cells
+touched_at w r i seat j cells seated desc point access =
     let p : ℕ = suc i in
     let front : List journaled.Entry = followed r.setup r.history in
     let v : View = referred_view (r.views p) j (length front) in
@@ -426,9 +452,9 @@ referred_to w r i seat number line left asked j cells seated now asks judged des
     } in
     record {
       views = views;
+      is = is;
       bench = touched views is here access;
-      benched = bench_look_law w.session r.setup r.history r.views views always (held_in w.cells) p j asked seat.steps number line left
-          seat.registers seat.events (Attempt now.seen) r.bench is asks judged (stamps front here access) now.benched;
+      stamps = stamps front here access;
       others = put_other p v r.views;
     }
   where
@@ -462,18 +488,160 @@ referred_to w r i seat number line left asked j cells seated now asks judged des
         subst (λ (c : List Contents). IsBench w.session r.setup r.history views always (held_in c)) (sym q.keeps)
         (bench_quiet_law w.session r.setup r.history r.views views always (held_in w.cells) (suc i) j r.bench is q.quiet)
 
+-- what stands after a reference that the line at work asked for
+record IsReferredTo (w : World) (r : IsRunning w) (i : ℕ) (seat : Seat) (number : ℕ) (line : Line) (left : List (ℕ × Line))
+    (seen : List Judged) (j : Judged) (cells : List Contents) : Type 0 where
+  pub views : ℕ → View
+  pub bench : IsBench w.session r.setup r.history views always (held_in cells)
+  pub benched : IsBenched w.session r.setup (suc i) seat.steps number line left seat.registers (seat.events ++ Core (Seen j.element) ∷ [])
+      (Attempt (seen ++ j ∷ [])) (views (suc i))
+  pub others : (u : ℕ) → u ≢ suc i → views u ≡ r.views u
+
+referred_to : (w : World) (r : IsRunning w) (i : ℕ) (seat : Seat) (number : ℕ) (line : Line) (left : List (ℕ × Line)) (asked : Reference)
+    (j : Judged) (cells : List Contents) → slice_get w.seats i ≡ Some seat
+    → (now : IsAttempting w.session r.setup (suc i) seat number line left (r.views (suc i)))
+    → next seat.registers line (Attempt now.seen) ≡ Asks asked → IsJudged asked j.desc j.element
+    → j.desc ≡ descriptor_of w.session w.journal (suc i) j.element → j.element.point ≡ length w.journal
+    → IsAccess w.cells cells (suc i) j → IsReferredTo w r i seat number line left now.seen j cells
+referred_to w r i seat number line left asked j cells seated now asks judged desc point access =
+    let t = touched_at w r i seat j cells seated desc point access in
+    record {
+      views = t.views;
+      bench = t.bench;
+      benched = subst (λ (seen : List Judged). IsBenched w.session r.setup (suc i) seat.steps number line left seat.registers
+          (seat.events ++ Core (Seen j.element) ∷ []) (Attempt (seen ++ j ∷ [])) (t.views (suc i))) now.so_far
+          (bench_look_law w.session r.setup r.history r.views t.views always (held_in w.cells) (suc i) j asked seat.steps number line left
+          seat.registers seat.events now.course r.bench t.is (now.alike ∙ asks) judged t.stamps now.benched);
+      others = t.others;
+    }
+
+-- what stands after a write that a reply asks for
+record IsFilledTo (w : World) (r : IsRunning w) (i : ℕ) (seat : Seat) (number : ℕ) (line : Line) (left : List (ℕ × Line))
+    (entry : journaled.Entry) (filled : List Judged) (j : Judged) (cells : List Contents) : Type 0 where
+  pub views : ℕ → View
+  pub bench : IsBench w.session r.setup r.history views always (held_in cells)
+  pub benched : IsBenched w.session r.setup (suc i) seat.steps number line left seat.registers (seat.events ++ Core (Seen j.element) ∷ [])
+      (Answer entry (filled ++ j ∷ [])) (views (suc i))
+  pub others : (u : ℕ) → u ≢ suc i → views u ≡ r.views u
+
+-- the process at work has this to store
+pub record IsStoring (x : Outline) (setup : List journaled.Entry) (p : ℕ) (seat : Seat) (number : ℕ) (line : Line) (left : List (ℕ × Line))
+    (it : Fill) (v : View) : Type 0 where
+  pub entry : journaled.Entry
+  pub filled : List Judged
+  pub benched : IsBenched x setup p seat.steps number line left seat.registers seat.events (Answer entry filled) v
+  pub is : IsFilling seat.registers line entry filled it
+
+pub storing_now : (x : Outline) (setup : List journaled.Entry) (p : ℕ) (seat : Seat) (number : ℕ) (line : Line) (left : List (ℕ × Line))
+    (it : Fill) (v : View) → seat.progress ≡ Filling it → IsAtWork x setup p seat number line left v
+    → IsStoring x setup p seat number line left it v
+storing_now x setup p seat number line left it v at now = by_course now.course now.benched now.come
+  where
+    by_course : (course : Course) → IsBenched x setup p seat.steps number line left seat.registers seat.events course v
+        → IsCome seat.registers line course seat.progress → IsStoring x setup p seat number line left it v
+    by_course (Attempt seen) benched come = absurd (subst (IsPlaced seat.registers line seen) at come).0
+    by_course (Answer entry filled) benched come = record {
+      entry = entry;
+      filled = filled;
+      benched = benched;
+      is = subst (IsAnswered seat.registers line entry filled) at come;
+    }
+
+filled_to : (w : World) (r : IsRunning w) (i : ℕ) (seat : Seat) (number : ℕ) (line : Line) (left : List (ℕ × Line)) (it : Fill)
+    (j : Judged) (value : ℕ) (cells : List Contents) → slice_get w.seats i ≡ Some seat
+    → (now : IsStoring w.session r.setup (suc i) seat number line left it (r.views (suc i)))
+    → IsJudged (write_of it) j.desc j.element → j.element.outcome ≡ Written value
+    → j.desc ≡ descriptor_of w.session w.journal (suc i) j.element → j.element.point ≡ length w.journal
+    → IsAccess w.cells cells (suc i) j → IsFilledTo w r i seat number line left now.entry now.filled j cells
+filled_to w r i seat number line left it j value cells seated now judged granted desc point access =
+    let t = touched_at w r i seat j cells seated desc point access in
+    record {
+      views = t.views;
+      bench = t.bench;
+      benched = bench_fill_law w.session r.setup r.history r.views t.views always (held_in w.cells) (suc i) j (write_of it) value seat.steps number
+          line left seat.registers seat.events now.entry now.filled r.bench t.is
+          (asks_fill seat.registers line now.entry now.filled it now.is) judged granted now.benched;
+      others = t.others;
+    }
+
+-- a write after which the line goes on
+pub fill_law : (w : World) (i : ℕ) (seat : Seat) (number : ℕ) (line : Line) (left : List (ℕ × Line)) (it : Fill) (j : Judged) (value : ℕ)
+    (cells : List Contents) (progress : Progress)
+    → IsRunning w → IsAt w i seat number line left → seat.progress ≡ Filling it → IsJudged (write_of it) j.desc j.element
+    → j.element.outcome ≡ Written value
+    → j.desc ≡ descriptor_of w.session w.journal (suc i) j.element → j.element.point ≡ length w.journal
+    → IsAccess w.cells cells (suc i) j
+    → ((entry : journaled.Entry) (filled : List Judged) → IsFilling seat.registers line entry filled it
+    → IsAnswered seat.registers line entry (filled ++ j ∷ []) progress)
+    → IsRunning (stepped w i w.journal cells (moved seat (Core (Seen j.element)) progress))
+fill_law w i seat number line left it j value cells progress r a at judged granted desc point access comes =
+    let p : ℕ = suc i in
+    let now = storing_now w.session r.setup p seat number line left it (r.views p) at
+    (at_line w.session r.setup p seat (left_of w.session p seat) number line left (r.views p) a.at (r.each i seat a.seated)) in
+    let t = filled_to w r i seat number line left it j value cells a.seated now judged granted desc point access in
+    let next_seat : Seat = moved seat (Core (Seen j.element)) progress in
+    let own : IsBefore w.session r.setup p next_seat ((number, line) ∷ left) (t.views p) = record {
+      course = Answer now.entry (now.filled ++ j ∷ []);
+      benched = t.benched;
+      come = comes now.entry now.filled now.is;
+    } in
+    record {
+      setup = r.setup;
+      history = r.history;
+      views = t.views;
+      journal = r.journal;
+      bench = t.bench;
+      set_up = r.set_up;
+      count = set_length w.seats i next_seat ∙ r.count;
+      each = each_after w.session r.setup w.seats r.views t.views i next_seat seat a.seated t.others r.each
+          (subst (λ (l : List (ℕ × Line)). IsBefore w.session r.setup p next_seat l (t.views p)) (sym a.at) own);
+    }
+
+-- a write after which the line ends
+pub fill_end_law : (w : World) (i : ℕ) (seat : Seat) (number : ℕ) (line : Line) (left : List (ℕ × Line)) (it : Fill) (j : Judged) (value : ℕ)
+    (cells : List Contents)
+    → IsRunning w → IsAt w i seat number line left → seat.progress ≡ Filling it → IsJudged (write_of it) j.desc j.element
+    → j.element.outcome ≡ Written value
+    → j.desc ≡ descriptor_of w.session w.journal (suc i) j.element → j.element.point ≡ length w.journal
+    → IsAccess w.cells cells (suc i) j
+    → ((entry : journaled.Entry) (filled : List Judged) → IsFilling seat.registers line entry filled it
+    → next seat.registers line (Answer entry (filled ++ j ∷ [])) ≡ Ends result.Done seat.registers)
+    → IsRunning (stepped w i w.journal cells (after_line seat number (Core (Seen j.element) ∷ []) result.Done seat.registers))
+fill_end_law w i seat number line left it j value cells r a at judged granted desc point access ends =
+    let p : ℕ = suc i in
+    let now = storing_now w.session r.setup p seat number line left it (r.views p) at
+    (at_line w.session r.setup p seat (left_of w.session p seat) number line left (r.views p) a.at (r.each i seat a.seated)) in
+    let t = filled_to w r i seat number line left it j value cells a.seated now judged granted desc point access in
+    let e = ends now.entry now.filled now.is in
+    let own = ended w.session r.setup p seat number line left (Core (Seen j.element) ∷ []) (Answer now.entry (now.filled ++ j ∷ [])) result.Done
+    seat.registers (t.views p) (λ d. rw e (refl, refl)) t.benched in
+    let next_seat : Seat = after_line seat number (Core (Seen j.element) ∷ []) result.Done seat.registers in
+    record {
+      setup = r.setup;
+      history = r.history;
+      views = t.views;
+      journal = r.journal;
+      bench = t.bench;
+      set_up = r.set_up;
+      count = set_length w.seats i next_seat ∙ r.count;
+      each = each_after w.session r.setup w.seats r.views t.views i next_seat seat a.seated t.others r.each
+          (subst (λ (l : List (ℕ × Line)). IsBefore w.session r.setup p next_seat l (t.views p))
+          (sym (after_it w.session p seat number line left (Core (Seen j.element) ∷ []) result.Done seat.registers a.at)) own);
+    }
+
 -- a reference after which the line ends
 pub refer_law : (w : World) (i : ℕ) (seat : Seat) (number : ℕ) (line : Line) (left : List (ℕ × Line)) (asked : Reference) (j : Judged)
     (cells : List Contents) (ends : Result2) (after : Registers)
-    → IsRunning w → IsAt w i seat number line left → IsNoRequest line → Asking seat line (Asks asked) → IsJudged asked j.desc j.element
+    → IsRunning w → IsAt w i seat number line left → IsNoRequest line → IsFree seat.progress → Asking seat line (Asks asked)
+    → IsJudged asked j.desc j.element
     → j.desc ≡ descriptor_of w.session w.journal (suc i) j.element → j.element.point ≡ length w.journal
     → IsAccess w.cells cells (suc i) j
     → ((seen : List Judged) → IsPlaced seat.registers line seen seat.progress
     → next seat.registers line (Attempt (seen ++ j ∷ [])) ≡ Ends ends after)
     → IsRunning (stepped w i w.journal cells (after_line seat number (Core (Seen j.element) ∷ []) ends after))
-refer_law w i seat number line left asked j cells ends after r a other asks judged desc point access end =
+refer_law w i seat number line left asked j cells ends after r a other free asks judged desc point access end =
     let p : ℕ = suc i in
-    let now = attempting w.session r.setup p seat number line left (r.views p) other
+    let now = attempting w.session r.setup p seat number line left (r.views p) other free
     (at_line w.session r.setup p seat (left_of w.session p seat) number line left (r.views p) a.at (r.each i seat a.seated)) in
     let t = referred_to w r i seat number line left asked j cells a.seated now (asks now.seen now.placed) judged desc point access in
     let e = end now.seen now.placed in
@@ -496,14 +664,15 @@ refer_law w i seat number line left asked j cells ends after r a other asks judg
 -- a reference after which the line goes on
 pub look_law : (w : World) (i : ℕ) (seat : Seat) (number : ℕ) (line : Line) (left : List (ℕ × Line)) (asked : Reference) (j : Judged)
     (cells : List Contents) (progress : Progress)
-    → IsRunning w → IsAt w i seat number line left → IsNoRequest line → Asking seat line (Asks asked) → IsJudged asked j.desc j.element
+    → IsRunning w → IsAt w i seat number line left → IsNoRequest line → IsFree seat.progress → Asking seat line (Asks asked)
+    → IsJudged asked j.desc j.element
     → j.desc ≡ descriptor_of w.session w.journal (suc i) j.element → j.element.point ≡ length w.journal
     → IsAccess w.cells cells (suc i) j
     → ((seen : List Judged) → IsPlaced seat.registers line seen seat.progress → IsPlaced seat.registers line (seen ++ j ∷ []) progress)
     → IsRunning (stepped w i w.journal cells (moved seat (Core (Seen j.element)) progress))
-look_law w i seat number line left asked j cells progress r a other asks judged desc point access placed =
+look_law w i seat number line left asked j cells progress r a other free asks judged desc point access placed =
     let p : ℕ = suc i in
-    let now = attempting w.session r.setup p seat number line left (r.views p) other
+    let now = attempting w.session r.setup p seat number line left (r.views p) other free
     (at_line w.session r.setup p seat (left_of w.session p seat) number line left (r.views p) a.at (r.each i seat a.seated)) in
     let t = referred_to w r i seat number line left asked j cells a.seated now (asks now.seen now.placed) judged desc point access in
     let next_seat : Seat = moved seat (Core (Seen j.element)) progress in
@@ -528,9 +697,12 @@ look_law w i seat number line left asked j cells progress r a other asks judged 
 pub not_told : (w : World) (i : ℕ) (seat : Seat) (number : ℕ) (line : Line) (left : List (ℕ × Line)) → IsRunning w
     → IsAt w i seat number line left → IsNoRequest line → seat.progress ≡ Waiting → ⊥
 not_told w i seat number line left r a other told =
-    let now = attempting w.session r.setup (suc i) seat number line left (r.views (suc i)) other
+    let now = attempting w.session r.setup (suc i) seat number line left (r.views (suc i)) other (λ fill e. not_both fill (sym told ∙ e))
     (at_line w.session r.setup (suc i) seat (left_of w.session (suc i) seat) number line left (r.views (suc i)) a.at (r.each i seat a.seated)) in
     (subst (IsPlaced seat.registers line now.seen) told now.placed).0
+  where
+    not_both : (fill : Fill) → Waiting ≡ Filling fill → ⊥
+    not_both fill e = cc
 
 -- who was told to wait is at a `block`
 pub told_blocks : (w : World) (i : ℕ) (seat : Seat) (number : ℕ) (line : Line) (left : List (ℕ × Line)) → IsRunning w
@@ -542,21 +714,33 @@ told_blocks w i seat number line left r a told = by_course now.course now.come
 
     by_course : (course : Course) → IsCome seat.registers line course seat.progress → line ≡ lines.Ask Block
     by_course (Attempt seen) come = absurd (subst (IsPlaced seat.registers line seen) told come).0
-    by_course (Answer entry) come = come.3
+    by_course (Answer entry filled) come = (subst (IsAnswered seat.registers line entry filled) told come).2
 
 -- an indirect word leaves nobody waiting
 pub look_awake : (w : World) (i : ℕ) (seat : Seat) (number : ℕ) (line : Line) (left : List (ℕ × Line)) (j : Judged) (progress : Progress)
-    → IsRunning w → IsAt w i seat number line left → IsNoRequest line
+    → IsRunning w → IsAt w i seat number line left → IsNoRequest line → IsFree seat.progress
     → ((seen : List Judged) → IsPlaced seat.registers line seen seat.progress → IsPlaced seat.registers line (seen ++ j ∷ []) progress)
     → progress ≡ Waiting → ⊥
-look_awake w i seat number line left j progress r a other placed told =
-    let now = attempting w.session r.setup (suc i) seat number line left (r.views (suc i)) other
+look_awake w i seat number line left j progress r a other free placed told =
+    let now = attempting w.session r.setup (suc i) seat number line left (r.views (suc i)) other free
     (at_line w.session r.setup (suc i) seat (left_of w.session (suc i) seat) number line left (r.views (suc i)) a.at (r.each i seat a.seated)) in
     (subst (IsPlaced seat.registers line (now.seen ++ j ∷ [])) told (placed now.seen now.placed)).0
 
+-- nor is a write due after it
+pub look_free : (w : World) (i : ℕ) (seat : Seat) (number : ℕ) (line : Line) (left : List (ℕ × Line)) (j : Judged) (progress : Progress)
+    → IsRunning w → IsAt w i seat number line left → IsNoRequest line → IsFree seat.progress
+    → ((seen : List Judged) → IsPlaced seat.registers line seen seat.progress → IsPlaced seat.registers line (seen ++ j ∷ []) progress)
+    → IsFree progress
+look_free w i seat number line left j progress r a other free placed it at =
+    let now = attempting w.session r.setup (suc i) seat number line left (r.views (suc i)) other free
+    (at_line w.session r.setup (suc i) seat (left_of w.session (suc i) seat) number line left (r.views (suc i)) a.at (r.each i seat a.seated)) in
+    (subst (IsPlaced seat.registers line (now.seen ++ j ∷ [])) at (placed now.seen now.placed)).0
+
 -- what a line asks for whose process was told to wait
-pub waits_next : (g : Registers) (line : Line) (entry : journaled.Entry) (progress : Progress) → IsCome g line (Answer entry) progress
-    → next g line (Answer entry) ≡ Calls g.ring Resume
-waits_next g line entry progress come =
-    ap (λ (l : Line). next g l (Answer entry)) come.3 ∙ ap (λ (given : Reply). replied g entry.request given) come.1
-    ∙ ap (awaits g) come.2
+pub waits_next : (g : Registers) (line : Line) (entry : journaled.Entry) (filled : List Judged)
+    → IsAnswered g line entry filled Waiting → next g line (Answer entry filled) ≡ Calls g.ring Resume
+waits_next g line entry filled come =
+    ap (λ (d : Option Reference). first_due d (answered g line entry.request entry.reply))
+    (ap (λ (given : Reply). slice_get (section_words (section_in given) (links_of filled) ++ snapped entry.request entry.ring given) (length filled)) come.0)
+    ∙ ap (λ (l : Line). answered g l entry.request entry.reply) come.2 ∙ ap (λ (given : Reply). replied g entry.request given) come.0
+    ∙ ap (awaits g) come.1

@@ -1,9 +1,10 @@
 -- Helpers: what a line of a process asks for, on the bench.
 use Rattle.std.specs.Prelude.{◌≡◌, ◌⊎◌, ℕ, ◌<◌, true, false, List, length, [], ◌∷◌, ◌++◌}
 use Rattle.mx_call.specs.Registers.{Registers, ArePackable}
-use Rattle.mx_legal.specs.Asking.{next, answered, result_of}
+use Rattle.mx_legal.specs.Asking.{next, answered, attempts, result_of}
 use Rattle.mx_legal.specs.Courses.{Course, Attempt, Judged}
-use Rattle.mx_legal.specs.Next.{Asks, Calls, Ends, storing}
+use Rattle.mx_legal.specs.Filling.{snapped}
+use Rattle.mx_legal.specs.Next.{Reference, Asks, Calls, Ends, storing}
 use Rattle.mx_legal.specs.Targets.{at_target, after_target}
 use Rattle.mx_legal.specs.declared.transcripts.Result2.{Result2}
 use Rattle.mx_ptr.specs.Pointers.{PointerParts}
@@ -15,12 +16,15 @@ use Rattle.mx_script.specs.Sessions.{limit_of}
 use Rattle.mx_script.specs.declared.lines.Line.{Line}
 use Rattle.mx_script.specs.declared.lines.Line.TheVariants as line
 use Rattle.mx_script.specs.declared.lines.Operand.{Operand}
+-- passed on: a line that is no request, at which no process waits
+pub use Rattle.mx_proc.specs.Fills.{IsNoRequest}
 use Rattle.mx_proc.specs.Operands.{IsPlaced, AsksFor, IsGoodAsked, IsTarget}
 use Rattle.mx_proc.specs.Stepping.{IsSeat, IsWaiting, state_in}
 use Rattle.mx_proc.specs.Running.{IsCome}
 use Rattle.mx_proc.specs.Worlds.{Seat, World}
+use Rattle.mx_proc.specs.declared.fills.Fill.{Fill}
 use Rattle.mx_proc.specs.declared.operands.Asked.{Asked}
-use Rattle.mx_proc.specs.declared.operands.Progress.TheVariants.{Waiting}
+use Rattle.mx_proc.specs.declared.operands.Progress.TheVariants.{Waiting, Filling}
 use Rattle.mx_state.specs.History.{IsRightEntry}
 use Rattle.mx_state.specs.Messages.{is_ready}
 
@@ -33,10 +37,6 @@ pub record HasSeatWith (w : World) (p : ℕ) (g : Registers) : Type 0 where
   pub seated : IsSeat w p seat
   pub registers : g ≡ seat.registers
   pub packable : ArePackable g
-
--- a line that is no request, at which no process waits
-abbrev pub IsNoRequest : Line → Type 0
-IsNoRequest l = (request : Request) → l ≡ line.Ask request → ⊥
 
 -- its operand asks for this
 pub record IsAsking (w : World) (p : ℕ) (o : Operand) (asked : Asked) : Type 0 where
@@ -64,6 +64,15 @@ pub record IsTold (w : World) (p : ℕ) : Type 0 where
 abbrev pub IsUntold : World → ℕ → Type 0
 IsUntold w p = (seat : Seat) → IsSeat w p seat → seat.progress ≡ Waiting → ⊥
 
+-- it is to store this next; or it is to store nothing
+pub record IsToFill (w : World) (p : ℕ) (fill : Fill) : Type 0 where
+  pub seat : Seat
+  pub seated : IsSeat w p seat
+  pub is : seat.progress ≡ Filling fill
+
+abbrev pub IsUnfilled : World → ℕ → Type 0
+IsUnfilled w p = (seat : Seat) (fill : Fill) → IsSeat w p seat → seat.progress ≡ Filling fill → ⊥
+
 -- it is ready, or the journal is full; or neither
 abbrev pub IsReadyBelow : World → ℕ → Type 0
 IsReadyBelow w p = length w.journal < limit_of w.session → is_ready (state_in w) p ≡ true
@@ -81,16 +90,20 @@ pub record IsEnding (w : World) (p : ℕ) (l : Line) (ends : Result2) (after : R
       → next seat.registers l (Attempt seen) ≡ Ends ends after
   pub packable : ArePackable after
 
--- a line ends with a reply; or it is a `block`, and its process is told to wait
-abbrev pub EndsWith : Registers → Line → Request → Reply → Type 0
-EndsWith g l request reply = answered g l request reply ≡ Ends (result_of reply) g
+-- After the reply to a call a line ends, but begins anew where its link was snapped; or it is a `block`, and its process
+-- is told to wait.
+pub record IsAnsweredBy (g : Registers) (l : Line) (ring : ℕ) (request : Request) (reply : Reply) : Type 0 where
+  pub ends : snapped request ring reply ≡ [] → answered g l request reply ≡ Ends (result_of reply) g
+  pub anew : (write : Reference) → snapped request ring reply ≡ write ∷ []
+      → IsNoRequest l × (answered g l request reply ≡ attempts g l [])
 
 pub record IsToldToWait (l : Line) (request : Request) (reply : Reply) : Type 0 where
   pub waits : reply ≡ replies.Waiting
   pub blocks : request ≡ Block
   pub line_is : l ≡ line.Ask Block
 
--- its line asks for this call, whatever it has done, and ends with the plain supervisor's reply to it, or goes on to wait
+-- its line asks for this call, whatever it has done, and after the plain supervisor's reply to it ends, begins anew, or goes
+-- on to wait
 pub record IsCalling (w : World) (p : ℕ) (l : Line) (ring : ℕ) (request : Request) : Type 0 where
   pub awake : IsWaiting w p → ⊥
   pub seat : Seat
@@ -99,9 +112,7 @@ pub record IsCalling (w : World) (p : ℕ) (l : Line) (ring : ℕ) (request : Re
       → next seat.registers l course ≡ Calls ring request
   pub answers : (reply : Reply) → length w.journal < limit_of w.session
       → IsRightEntry (state_in w) (record { process = p; ring = ring; request = request; reply = reply })
-      → EndsWith seat.registers l request reply ⊎ IsToldToWait l request reply
-  -- who is told to wait was not told so before
-  pub first : request ≡ Block → seat.progress ≡ Waiting → ⊥
+      → IsAnsweredBy seat.registers l ring request reply ⊎ IsToldToWait l request reply
   -- a request of its own is the line's
   pub logs_out : l ≡ line.Ask Logout → request ≡ Logout
 

@@ -1,3 +1,4 @@
+pub mod Fills
 pub mod Operands
 pub mod Worlds
 pub mod Running

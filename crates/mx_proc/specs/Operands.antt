@@ -16,13 +16,14 @@ use Rattle.mx_request.specs.declared.requests.Request.TheVariants.{Link}
 use Rattle.mx_script.specs.declared.lines.Line.{Line}
 use Rattle.mx_script.specs.declared.lines.Line.TheVariants as line
 use Rattle.mx_script.specs.declared.lines.Operand.{Operand}
+use Rattle.mx_proc.specs.Fills.{IsShort, steps_to_fill}
 use Rattle.mx_proc.specs.declared.operands.Asked.{Asked}
 use Rattle.mx_proc.specs.declared.operands.Asked.TheVariants.{Target, First}
 use Rattle.mx_proc.specs.declared.operands.Onward.{Onward}
 use Rattle.mx_proc.specs.declared.operands.Onward.TheVariants.{More, End}
 use Rattle.mx_proc.specs.declared.operands.Place.{Place}
 use Rattle.mx_proc.specs.declared.operands.Progress.{Progress}
-use Rattle.mx_proc.specs.declared.operands.Progress.TheVariants.{Before, Walking, AtLink, Waiting}
+use Rattle.mx_proc.specs.declared.operands.Progress.TheVariants.{Before, Walking, AtLink, Waiting, Filling}
 use Rattle.mx_proc.specs.declared.operands.Way.TheVariants as way
 
 -- the operand of a memory line
@@ -43,6 +44,7 @@ walk_at g o Before = operand_walk g o
 walk_at g o (Walking walk) = Some walk
 walk_at g o (AtLink place) = None
 walk_at g o Waiting = None
+walk_at g o (Filling fill) = None
 
 -- after all this was seen, the operand has come so far
 abbrev pub HasWalked : Registers → Line → List Judged → Progress → Type 0
@@ -50,6 +52,7 @@ HasWalked g l seen Before = seen ≡ []
 HasWalked g l seen (Walking walk) = IsWalked g l seen walk
 HasWalked g l seen (AtLink place) = attempt g l seen ≡ Calls place.ring (Link place.segno place.word)
 HasWalked g l seen Waiting = ⊥
+HasWalked g l seen (Filling fill) = ⊥
 
 -- and a line without an operand has seen nothing
 abbrev pub IsPlaced : Registers → Line → List Judged → Progress → Type 0
@@ -69,6 +72,7 @@ IsGoodProgress g Before = Unit {0}
 IsGoodProgress g (Walking walk) = IsGoodWalk g walk
 IsGoodProgress g (AtLink place) = Unit {0}
 IsGoodProgress g Waiting = Unit {0}
+IsGoodProgress g (Filling fill) = IsShort fill
 
 -- an effective pointer: it has a word, a ring not below the current one, and no further bit
 pub record IsTarget (g : Registers) (target : PointerParts) : Type 0 where
@@ -90,6 +94,7 @@ asked_at None (AtLink place) asked = asked ≡ First (way.Link place)
 asked_at None Before asked = ⊥
 asked_at None (Walking walk) asked = ⊥
 asked_at None Waiting asked = ⊥
+asked_at None (Filling fill) asked = ⊥
 
 -- what the operand asks for
 abbrev pub AsksFor : Registers → Operand → Progress → Asked → Type 0
@@ -120,13 +125,14 @@ pub record IsRegisterWord (g : Registers) (n value : ℕ) : Type 0 where
   pub at : slice_get g.pr n ≡ Some pointer
   pub is : value ≡ pointer_word (record pointer { further = false })
 
--- how many events a line can still have before its last step, at most: eight indirect words, and its own reference or a
--- link; none where its process was told to wait
+-- how many events a line can still have before its last step, at most, unless it makes a call: eight indirect words, and
+-- its own reference or a link; none where its process was told to wait
 abbrev pub steps_in : Progress → ℕ
 steps_in Before = 10
 steps_in (Walking walk) = 9 - length walk.chain
 steps_in (AtLink place) = 1
 steps_in Waiting = 0
+steps_in (Filling fill) = steps_to_fill fill
 
 abbrev pub IsCloser : ℕ → Onward → Type 0
 IsCloser steps (More progress) = steps_in progress < steps

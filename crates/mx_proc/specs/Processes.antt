@@ -17,12 +17,13 @@ use Rattle.mx_proc.specs.Operands.{walk_at, IsGoodProgress, AsksFor, IsGoodAsked
 use Rattle.mx_proc.specs.Worlds.{Seat}
 use Rattle.mx_proc.specs.declared.benches.Stepped.{Stepped}
 use Rattle.mx_proc.specs.declared.benches.Stepped.TheVariants as went
+use Rattle.mx_proc.specs.declared.fills.Fill.{Fill}
 use Rattle.mx_proc.specs.declared.operands.Asked.{Asked}
 use Rattle.mx_proc.specs.declared.operands.Onward.{Onward}
 use Rattle.mx_proc.specs.declared.operands.Onward.TheVariants.{More, End}
 use Rattle.mx_proc.specs.declared.operands.Place.{Place}
 use Rattle.mx_proc.specs.declared.operands.Progress.{Progress}
-use Rattle.mx_proc.specs.declared.operands.Progress.TheVariants.{Before, Waiting}
+use Rattle.mx_proc.specs.declared.operands.Progress.TheVariants.{Before, Walking, AtLink, Waiting, Filling}
 use Rattle.mx_proc.specs.declared.processes.Process.{Process}
 
 -- a process as contracts see it
@@ -95,6 +96,24 @@ pub record HasProgress (processes : List Process) (i : ℕ) (waits : Bool) : Typ
 -- process i was not told to wait
 abbrev pub ReadsOperand : List Process → ℕ → Type 0
 ReadsOperand processes i = (process : Process) → slice_get processes i ≡ Some process → process.progress ≡ Waiting → ⊥
+
+-- what a process is to store next
+abbrev pub fill_of : Progress → Option Fill
+fill_of (Filling fill) = Some fill
+fill_of Before = None
+fill_of (Walking walk) = None
+fill_of (AtLink place) = None
+fill_of Waiting = None
+
+pub record HasFill (processes : List Process) (i : ℕ) (found : Option Fill) : Type 0 where
+  pub process : Process
+  pub at : slice_get processes i ≡ Some process
+  pub fill : found ≡ fill_of process.progress
+
+-- process i is to store nothing
+abbrev pub StoresNothing : List Process → ℕ → Type 0
+StoresNothing processes i = (process : Process) (fill : Fill) → slice_get processes i ≡ Some process
+    → process.progress ≡ Filling fill → ⊥
 
 -- what is read of process i
 pub record HasRegisters (processes : List Process) (i : ℕ) (g : Registers) : Type 0 where

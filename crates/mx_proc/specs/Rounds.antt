@@ -1,12 +1,13 @@
 -- Helpers: how many steps are left on a bench, at most, and what a round of steps does.
-use Rattle.std.specs.Prelude.{◌≡◌, ◌⊎◌, ℕ, suc, ◌+◌, ◌*◌, ◌<◌, List, [], ◌∷◌, length, Some, slice_get}
-use Rattle.mx_script.specs.Sessions.{Outline}
+use Rattle.std.specs.Prelude.{◌≡◌, ◌⊎◌, ℕ, suc, ◌+◌, ◌-◌, ◌*◌, ◌<◌, List, [], ◌∷◌, length, Some, slice_get}
+use Rattle.mx_script.specs.Sessions.{Outline, limit_of}
 use Rattle.mx_proc.specs.Operands.{steps_in}
 use Rattle.mx_proc.specs.Running.{left_of}
 use Rattle.mx_proc.specs.Stepping.{IsWaiting}
 use Rattle.mx_proc.specs.Worlds.{Seat, World}
 
--- the steps that are left to a process, at most: eleven a line, but for those made of the line at work
+-- the steps that are left to a process before its next entry, at most: eleven a line, but for those made of the line at
+-- work
 abbrev pub steps_of : Outline → ℕ → Seat → ℕ
 steps_of x p seat = 11 * length (left_of x p seat) + steps_in seat.progress
 
@@ -15,8 +16,9 @@ abbrev pub steps_left : Outline → ℕ → List Seat → ℕ
 steps_left x p [] = 0
 steps_left x p (seat ∷ seats) = steps_of x p seat + steps_left x (suc p) seats
 
+-- an entry makes the line at work at most so many steps longer
 abbrev pub all_left : World → ℕ
-all_left w = steps_left w.session 1 w.seats
+all_left w = 1200 * (limit_of w.session - length w.journal) + steps_left w.session 1 w.seats
 
 -- a process, counted from 0, has no line left
 abbrev pub HasNone : World → ℕ → Type 0

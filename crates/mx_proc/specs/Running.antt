@@ -1,7 +1,7 @@
 -- What is true of a bench, whatever has been stepped: all that a legal run asks, so far.
 use Rattle.std.specs.Prelude.{◌≡◌, ℕ, suc, List, [], ◌∷◌, drop, length, Some, slice_get}
 use Rattle.mx_call.specs.Registers.{Registers}
-use Rattle.mx_legal.specs.Courses.{Course, Attempt, Answer}
+use Rattle.mx_legal.specs.Courses.{Course, Attempt, Answer, Judged}
 use Rattle.mx_legal.specs.Scripts.{lines_of}
 use Rattle.mx_script.specs.Sessions.{Outline}
 use Rattle.mx_request.specs.declared.replies.Reply.TheVariants as reply
@@ -14,17 +14,26 @@ use Rattle.mx_ties.specs.BenchGoing.{IsBenched}
 use Rattle.mx_ties.specs.Closed.{followed}
 use Rattle.mx_ties.specs.Ran.{HasRun, IsSetUp}
 use Rattle.mx_ties.specs.Views.{Marked, View}
+use Rattle.mx_proc.specs.Fills.{IsFilling, IsAnew}
 use Rattle.mx_proc.specs.Operands.{IsPlaced}
 use Rattle.mx_proc.specs.Worlds.{Seat, World, held_in, always}
 use Rattle.mx_proc.specs.declared.operands.Progress.{Progress}
-use Rattle.mx_proc.specs.declared.operands.Progress.TheVariants.{Waiting}
+use Rattle.mx_proc.specs.declared.operands.Progress.TheVariants.{Before, Walking, AtLink, Waiting, Filling}
 
--- A line has done this, and has come so far: its attempt has seen what its operand asked for; or the line is a `block`,
--- and its process was told to wait.
+-- since its last call a line has come so far: it is a `block`, and its process was told to wait; or a write is next that
+-- the reply asks for; or the line begins anew
+abbrev pub IsAnswered : Registers → Line → journaled.Entry → List Judged → Progress → Type 0
+IsAnswered g l entry filled Waiting =
+    (entry.reply ≡ reply.Waiting) × (entry.request ≡ Block) × (l ≡ Ask Block)
+IsAnswered g l entry filled (Filling fill) = IsFilling g l entry filled fill
+IsAnswered g l entry filled Before = IsAnew g l entry filled
+IsAnswered g l entry filled (Walking walk) = ⊥
+IsAnswered g l entry filled (AtLink place) = ⊥
+
+-- A line has done this, and has come so far: its attempt has seen what its operand asked for, or it has made a call.
 abbrev pub IsCome : Registers → Line → Course → Progress → Type 0
 IsCome g l (Attempt seen) progress = IsPlaced g l seen progress
-IsCome g l (Answer entry) progress =
-    (progress ≡ Waiting) × (entry.reply ≡ reply.Waiting) × (entry.request ≡ Block) × (l ≡ Ask Block)
+IsCome g l (Answer entry filled) progress = IsAnswered g l entry filled progress
 
 -- a line is at work: it has done this, and has come so far
 pub record IsAtWork (x : Outline) (setup : List journaled.Entry) (p : ℕ) (seat : Seat) (number : ℕ) (line : Line)

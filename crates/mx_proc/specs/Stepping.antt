@@ -1,5 +1,5 @@
 -- What a bench does: it opens after the setup, and steps one process at a time.
-use Rattle.std.specs.Prelude.{◌≡◌, ℕ, suc, ◌-◌, ◌<◌, ◌≤◌, false, List, [], ◌∷◌, ◌++◌, length, Some, slice_get, slice_set}
+use Rattle.std.specs.Prelude.{◌≡◌, ◌⊎◌, ℕ, suc, ◌-◌, ◌<◌, ◌≤◌, false, List, [], ◌∷◌, ◌++◌, length, Some, slice_get, slice_set}
 use Rattle.mx_legal.specs.Legal.{setup_entries}
 use Rattle.mx_legal.specs.Openings.{opening_registers}
 use Rattle.mx_legal.specs.Transcripts.{Step}
@@ -69,8 +69,15 @@ pub record IsWaiting (w : World) (p : ℕ) : Type 0 where
   pub unready : is_ready (state_in w) p ≡ false
   pub below : length w.journal < limit_of w.session
 
--- Process p, which did not wait, has gone on with its next line: the line has one event more, and is closer to its end. It
--- made at most one entry, at the journal's end, and no other process did anything.
+-- a step within a line brings its end closer, unless it is an entry, below the journal's limit, after whose reply at most
+-- so many events come before the next entry
+abbrev pub IsOnward : World → Seat → Seat → List journaled.Entry → Type 0
+IsOnward old before after entries =
+    ((entries ≡ []) × (steps_in after.progress < steps_in before.progress))
+    ⊎ ((length entries ≡ 1) × (length old.journal < limit_of old.session) × (steps_in after.progress ≤ 1100))
+
+-- Process p, which did not wait, has gone on with its next line: the line has one event more. It made at most one entry, at
+-- the journal's end, and no other process did anything.
 pub record HasMoved (old : World) (p : ℕ) (new : World) : Type 0 where
   pub awake : IsWaiting old p → ⊥
   pub session : new.session ≡ old.session
@@ -82,11 +89,10 @@ pub record HasMoved (old : World) (p : ℕ) (new : World) : Type 0 where
   pub registers : after.registers ≡ before.registers
   pub steps : after.steps ≡ before.steps
   pub more : after.events ≡ before.events ++ event ∷ []
-  pub closer : steps_in after.progress < steps_in before.progress
   pub seats : new.seats ≡ slice_set old.seats (p - 1) after
   pub entries : List journaled.Entry
   pub grown : new.journal ≡ old.journal ++ entries
-  pub one : length entries ≤ 1
+  pub onward : IsOnward old before after entries
 
 -- Process p, which did not wait, has done one line more: its next one. It made at most one entry, at the journal's end; no
 -- other process did anything.

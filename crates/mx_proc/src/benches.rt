@@ -2,29 +2,30 @@
 
 ghost use Rattle.std.specs.Prelude.{◌≡◌, ◌⊎◌, true, ◌<◌, ◌≤◌, ◌↔◌, Ok, IfOk, IfSome, IsSome, IsNone, OnOk, OnErr, IsTrue, IsFalse, MatchOption, Some, ◌+◌, ◌++◌, map, slice_get, vec_len, vec_capacity, length};
 ghost use Rattle.mx_legal.specs.Legal.{IsLegal, HasGatedFalls, HasSoundRegisters};
-ghost use Rattle.mx_proc.specs.Asking.{HasSeat, HasSeatWith, IsAsking, IsTold, IsUntold, IsReadyBelow, IsUnreadyBelow, IsAiming, IsEnding, IsCalling, IsReferring, IsStoring};
+ghost use Rattle.mx_proc.specs.Asking.{HasSeat, HasSeatWith, IsToFill, IsUnfilled, IsAsking, IsTold, IsUntold, IsReadyBelow, IsUnreadyBelow, IsAiming, IsEnding, IsCalling, IsReferring, IsStoring};
 ghost use Rattle.mx_proc.specs.Operands.{operand_of};
 ghost use Rattle.mx_proc.specs.Stepping.{IsOpening, IsAtLine, IsNumbered, IsWaiting, HasMoved, HasStepped, HasGone, HasEnded, HaveEnded};
 ghost use Rattle.std.specs.Option.{option_map};
 ghost use Rattle.mx_proc.specs.Processes.{recorded_steps};
 ghost use Rattle.mx_proc.specs.Rounds.{HasNone, all_left};
 ghost use Rattle.mx_proc.specs.Running.{IsRunning};
-ghost use Rattle.mx_request.specs.declared.replies.Reply.TheVariants as replies;
 ghost use Rattle.mx_script.specs.Sessions.{is_script_line};
 ghost use Rattle.mx_script.specs.declared.lines.Line.TheVariants as lines;
 ghost use Rattle.mx_proc.specs.declared.benches.Stepped.TheVariants.{More, Ended, LineDone, Waits};
 ghost use Rattle.mx_proc.specs.declared.operands.Asked.TheVariants.{Target, First};
 ghost use Rattle.mx_proc.specs.declared.operands.Way.TheVariants as ways;
 
+use crate::fills::{Fill, Filled};
 use crate::memory::Memory;
-use crate::operands::{Asked, Place, Way, here, loaded, register_word};
+use crate::operands::{Asked, Place, Progress, Way, here, loaded, register_word};
 use crate::processes::{Process, Processes};
 use crate::references::{look, refer, store};
+use crate::replied::{Replied, after_entry};
 use mx_call::Regs;
 use mx_legal::{Event, Event2, Result2, Transcript, Transcripts};
 use mx_list::Sequence;
 use mx_ptr::Pointer;
-use mx_request::{Reply, Request};
+use mx_request::Request;
 use mx_script::{Line, Operand, Script, Session};
 use mx_sdw::{Ring, Word};
 use mx_state::Journal;
@@ -90,7 +91,8 @@ impl<'a> Bench<'a> {
     }
 
     /// Makes one step of process `p`: one element with its access to a cell, or one entry, or a call that finds the
-    /// journal at its limit, or the whole of a line that needs neither. A step after which its line asks for nothing more
+    /// journal at its limit, or the whole of a line that needs neither. The writes that a reply asks for are elements: the
+    /// link words of a linkage section that was made, and the pointer in the word of a snapped link. A step after which its line asks for nothing more
     /// ends the line. It costs no more for the last line of a script than for the first. `Ended` comes exactly where the
     /// process has no line left, and `Waits`, where memory suffices, exactly where it was told to wait, is not ready to
     /// resume, and the journal is below its limit. These and want of memory change nothing.
@@ -128,6 +130,28 @@ impl<'a> Bench<'a> {
         ensures gone { IfOk result (λ stepped. HasGone self.old p stepped self.new) }
         ensures err { OnErr result (self.new ≡ self.old) }
     {
+        match self.filling(p) {
+            Some(fill) => self.fill(p, line, &fill),
+            None => self.do_next(alloc, p, line),
+        }
+    }
+
+    // What a process is to store next, if anything.
+    fn filling(&self, p: u8) -> Option<Fill>
+        requires some { 1 ≤ p }
+        requires seat { HasSeat self.now p }
+        ensures { MatchOption result (IsUnfilled self.now p) (IsToFill self.now p) }
+    {
+        self.processes.filling(usize::from(p) - 1)
+    }
+
+    // The process, which is to store nothing, goes on with its next line.
+    fn do_next(&mut self, alloc: Global, p: u8, line: &Line) -> Result<Stepped, AllocError>
+        requires at { IsAtLine self.old p line.now }
+        requires idle { IsUnfilled self.old p }
+        ensures gone { IfOk result (λ stepped. HasGone self.old p stepped self.new) }
+        ensures err { OnErr result (self.new ≡ self.old) }
+    {
         match line {
             Line::Ask(boxed) => self.ask(alloc, p, line, boxed.request()),
             Line::Set { word } => self.set(p, line, *word),
@@ -150,6 +174,7 @@ impl<'a> Bench<'a> {
         request: &Request,
     ) -> Result<Stepped, AllocError>
         requires at { IsAtLine self.old p line.now }
+        requires idle { IsUnfilled self.old p }
         requires line { line.now ≡ lines.Ask request.now }
         ensures gone { IfOk result (λ stepped. HasGone self.old p stepped self.new) }
         ensures err { OnErr result (self.new ≡ self.old) }
@@ -166,6 +191,7 @@ impl<'a> Bench<'a> {
     // Who was told to wait resumes once it is ready, or finds the journal full.
     fn resume(&mut self, alloc: Global, p: u8, line: &Line) -> Result<Stepped, AllocError>
         requires at { IsAtLine self.old p line.now }
+        requires idle { IsUnfilled self.old p }
         requires told { IsTold self.old p }
         ensures gone { IfOk result (λ stepped. HasGone self.old p stepped self.new) }
         ensures err { OnErr result (self.new ≡ self.old) }
@@ -200,6 +226,7 @@ impl<'a> Bench<'a> {
     // `set`: A becomes the word.
     fn set(&mut self, p: u8, line: &Line, word: Word) -> Result<Stepped, AllocError>
         requires at { IsAtLine self.old p line.now }
+        requires idle { IsUnfilled self.old p }
         requires line { line.now ≡ lines.Set word }
         ensures gone { IfOk result (λ stepped. HasGone self.old p stepped self.new) }
         ensures err { OnErr result (self.new ≡ self.old) }
@@ -222,6 +249,7 @@ impl<'a> Bench<'a> {
         operand: &Operand,
     ) -> Result<Stepped, AllocError>
         requires at { IsAtLine self.old p line.now }
+        requires idle { IsUnfilled self.old p }
         requires line { line.now ≡ lines.Epp n operand.now }
         ensures gone { IfOk result (λ stepped. HasGone self.old p stepped self.new) }
         ensures err { OnErr result (self.new ≡ self.old) }
@@ -246,6 +274,7 @@ impl<'a> Bench<'a> {
         operand: &Operand,
     ) -> Result<Stepped, AllocError>
         requires at { IsAtLine self.old p line.now }
+        requires idle { IsUnfilled self.old p }
         requires operand { operand_of line.now ≡ Some operand.now }
         requires refers { IsReferring line.now }
         ensures gone { IfOk result (λ stepped. HasGone self.old p stepped self.new) }
@@ -269,6 +298,7 @@ impl<'a> Bench<'a> {
         operand: &Operand,
     ) -> Result<Stepped, AllocError>
         requires at { IsAtLine self.old p line.now }
+        requires idle { IsUnfilled self.old p }
         requires line { line.now ≡ lines.Sta operand.now }
         ensures gone { IfOk result (λ stepped. HasGone self.old p stepped self.new) }
         ensures err { OnErr result (self.new ≡ self.old) }
@@ -293,6 +323,7 @@ impl<'a> Bench<'a> {
         operand: &Operand,
     ) -> Result<Stepped, AllocError>
         requires at { IsAtLine self.old p line.now }
+        requires idle { IsUnfilled self.old p }
         requires line { line.now ≡ lines.Spri n operand.now }
         ensures gone { IfOk result (λ stepped. HasGone self.old p stepped self.new) }
         ensures err { OnErr result (self.new ≡ self.old) }
@@ -310,6 +341,7 @@ impl<'a> Bench<'a> {
     // `fetch`: the word at the procedure pointer is read, in the current ring.
     fn fetch(&mut self, p: u8, line: &Line) -> Result<Stepped, AllocError>
         requires at { IsAtLine self.old p line.now }
+        requires idle { IsUnfilled self.old p }
         requires line { line.now ≡ lines.Fetch }
         ensures gone { IfOk result (λ stepped. HasGone self.old p stepped self.new) }
         ensures err { OnErr result (self.new ≡ self.old) }
@@ -329,6 +361,7 @@ impl<'a> Bench<'a> {
         way: Way,
     ) -> Result<Stepped, AllocError>
         requires at { IsAtLine self.old p line.now }
+        requires idle { IsUnfilled self.old p }
         requires operand { operand_of line.now ≡ Some operand.now }
         requires asked { IsAsking self.old p operand.now (First way) }
         ensures gone { IfOk result (λ stepped. HasGone self.old p stepped self.new) }
@@ -349,6 +382,7 @@ impl<'a> Bench<'a> {
     // What the operand of the line asks for.
     fn asks(&self, p: u8, line: &Line, operand: &Operand) -> Asked
         requires at { IsAtLine self.now p line.now }
+        requires idle { IsUnfilled self.now p }
         requires operand { operand_of line.now ≡ Some operand.now }
         ensures asks { IsAsking self.now p operand.now result }
         ensures line { is_script_line line.now ≡ true }
@@ -368,6 +402,7 @@ impl<'a> Bench<'a> {
     // A line that needs no event ends.
     fn end(&mut self, p: u8, line: &Line, ends: Result2, after: &Regs) -> Result<(), AllocError>
         requires at { IsAtLine self.old p line.now }
+        requires idle { IsUnfilled self.old p }
         requires ends { IsEnding self.old p line.now ends after.now }
         ensures done { OnOk result (HasStepped self.old p self.new) }
         ensures err { OnErr result (self.new ≡ self.old) }
@@ -378,8 +413,8 @@ impl<'a> Bench<'a> {
         Ok(())
     }
 
-    // A call: where the journal is at its limit it is not entered, and the line says so. Who is told to wait goes on with
-    // its line later.
+    // A call: where the journal is at its limit it is not entered, and the line says so. Who is told to wait, or has
+    // something to store, goes on with its line later.
     fn enter(
         &mut self,
         alloc: Global,
@@ -389,6 +424,7 @@ impl<'a> Bench<'a> {
         request: &Request,
     ) -> Result<Stepped, AllocError>
         requires at { IsAtLine self.old p line.now }
+        requires idle { IsUnfilled self.old p }
         requires calls { IsCalling self.old p line.now ring request.now }
         ensures gone { IfOk result (λ stepped. HasGone self.old p stepped self.new) }
         ensures err { OnErr result (self.new ≡ self.old) }
@@ -398,15 +434,22 @@ impl<'a> Bench<'a> {
         self.processes.reserve(i)?;
         match self.supervisor.enter(alloc, p, ring, request) {
             Ok(number) => {
-                let reply = self.supervisor.reply(number);
-                if is_waiting(reply) {
-                    self.processes.wait(i, Event2::Entry(number));
-                    Ok(Stepped::More)
-                } else {
-                    let ends = Result2::of(reply);
-                    self.processes
-                        .end_line(i, Some(Event2::Entry(number)), ends, &registers);
-                    Ok(Stepped::LineDone)
+                match after_entry(&self.supervisor, p, ring, request, number) {
+                    Replied::Wait => {
+                        self.processes
+                            .go_on(i, Event2::Entry(number), Progress::Waiting);
+                        Ok(Stepped::More)
+                    }
+                    Replied::Store(fill) => {
+                        self.processes
+                            .go_on(i, Event2::Entry(number), Progress::Filling(fill));
+                        Ok(Stepped::More)
+                    }
+                    Replied::End(ends) => {
+                        self.processes
+                            .end_line(i, Some(Event2::Entry(number)), ends, &registers);
+                        Ok(Stepped::LineDone)
+                    }
                 }
             }
             Err(EnterError::HistoryFull) => {
@@ -427,6 +470,7 @@ impl<'a> Bench<'a> {
         place: Place,
     ) -> Result<Stepped, AllocError>
         requires at { IsAtLine self.old p line.now }
+        requires idle { IsUnfilled self.old p }
         requires operand { operand_of line.now ≡ Some operand.now }
         requires asked { IsAsking self.old p operand.now (First (ways.Word place)) }
         ensures gone { IfOk result (λ stepped. HasGone self.old p stepped self.new) }
@@ -455,9 +499,42 @@ impl<'a> Bench<'a> {
         }
     }
 
+    // A write that the reply to the process's last call asks for is made, in ring 0.
+    fn fill(&mut self, p: u8, line: &Line, fill: &Fill) -> Result<Stepped, AllocError>
+        requires at { IsAtLine self.old p line.now }
+        requires fill { IsToFill self.old p fill.now }
+        ensures gone { IfOk result (λ stepped. HasGone self.old p stepped self.new) }
+        ensures err { OnErr result (self.new ≡ self.old) }
+    {
+        let i = usize::from(p) - 1;
+        let registers = self.processes.registers(i);
+        self.processes.reserve(i)?;
+        let (target, value) = fill.write();
+        let desc = self.supervisor.descriptor(p, target.segno);
+        let point = self.supervisor.length();
+        let made = store(&mut self.cells, &desc, &target, value, &registers, p, point);
+        let event = Event2::Core(Event::Seen(made.element));
+        match fill.after() {
+            Filled::More(next) => {
+                self.processes.go_on(i, event, Progress::Filling(next));
+                Ok(Stepped::More)
+            }
+            Filled::Anew => {
+                self.processes.go_on(i, event, Progress::Before);
+                Ok(Stepped::More)
+            }
+            Filled::Done => {
+                self.processes
+                    .end_line(i, Some(event), Result2::Done, &registers);
+                Ok(Stepped::LineDone)
+            }
+        }
+    }
+
     // A reference that stores nothing is made at the target on the present access.
     fn refer(&mut self, p: u8, line: &Line, target: &Pointer) -> Result<(), AllocError>
         requires at { IsAtLine self.old p line.now }
+        requires idle { IsUnfilled self.old p }
         requires target { IsAiming self.old p line.now target.now }
         requires refers { IsReferring line.now }
         ensures done { OnOk result (HasStepped self.old p self.new) }
@@ -478,6 +555,7 @@ impl<'a> Bench<'a> {
     // A word is stored at the target on the present access.
     fn store(&mut self, p: u8, line: &Line, target: &Pointer, value: Word) -> Result<(), AllocError>
         requires at { IsAtLine self.old p line.now }
+        requires idle { IsUnfilled self.old p }
         requires target { IsAiming self.old p line.now target.now }
         requires stores { IsStoring self.old p line.now target.now value }
         ensures done { OnOk result (HasStepped self.old p self.new) }
@@ -607,13 +685,6 @@ impl<'a> Bench<'a> {
         let whole = gather(whole, processes.into_items());
         (supervisor.into_journal(), Sequence::of(whole))
     }
-}
-
-fn is_waiting(reply: &Reply) -> bool
-    ensures yes { IsTrue result → reply.now ≡ replies.Waiting }
-    ensures no { IsFalse result → reply.now ≡ replies.Waiting → ⊥ }
-{
-    matches!(reply, Reply::Waiting)
 }
 
 // The script of a process, counted from 0.

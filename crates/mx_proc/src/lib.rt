@@ -9,6 +9,7 @@
 
 mod benches;
 mod ends;
+mod fills;
 mod gates;
 mod halls;
 mod memory;
@@ -16,6 +17,7 @@ mod naming;
 mod operands;
 mod processes;
 mod references;
+mod replied;
 mod running;
 mod turns;
 

@@ -13,9 +13,11 @@ ghost use Rattle.mx_legal.specs.declared.transcripts.Result2.TheVariants as resu
 ghost use Rattle.mx_ptr.specs.Pointers.{IsPackable};
 ghost use Rattle.mx_script.specs.Sessions.{is_address, is_script_line};
 ghost use Rattle.mx_proc.specs.Operands.{HasBegun, IsGoodWalk, IsGoodProgress, IsTarget, asked_by, AsksFor, IsGoodAsked, IsOnward, IsGoodOnward, IsCloser, IsRegisterWord};
+ghost use Rattle.mx_proc.specs.declared.fills.Fill.{Fill as PlainFill};
 ghost use Rattle.mx_proc.specs.declared.operands.Onward.TheVariants.{End};
-ghost use Rattle.mx_proc.specs.declared.operands.Progress.TheVariants.{Waiting};
+ghost use Rattle.mx_proc.specs.declared.operands.Progress.TheVariants.{Waiting, Filling};
 
+use crate::fills::Fill;
 use mx_call::Regs;
 use mx_effring::{Stuck, Walk, Want};
 use mx_legal::Result2;
@@ -42,6 +44,8 @@ pub(crate) enum Progress {
     AtLink(Place),
     /// It is a `block`, and its process was told to wait.
     Waiting,
+    /// The reply to its call asks for writes, of which this is the next.
+    Filling(Fill),
 }
 
 /// What an operand asks for.
@@ -116,6 +120,7 @@ pub(crate) fn asks(registers: &Regs, operand: &Operand, progress: &Progress) -> 
     requires packable { ArePackable registers.now }
     requires good { IsGoodProgress registers.now progress.now }
     requires reads { progress.now ≡ Waiting → ⊥ }
+    requires unfilled { (fill : PlainFill) → progress.now ≡ Filling fill → ⊥ }
     ensures asks { AsksFor registers.now operand.now progress.now result }
     ensures good { IsGoodAsked registers.now result }
 {
@@ -123,7 +128,7 @@ pub(crate) fn asks(registers: &Regs, operand: &Operand, progress: &Progress) -> 
         Progress::Before => asked_by(registers, &start(registers, operand)),
         Progress::Walking(walk) => asked_by(registers, walk),
         Progress::AtLink(place) => Asked::First(Way::Link(*place)),
-        Progress::Waiting => unreachable!(),
+        Progress::Waiting | Progress::Filling(_) => unreachable!(),
     }
 }
 

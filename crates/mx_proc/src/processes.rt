@@ -5,10 +5,11 @@ ghost use Rattle.mx_call.specs.Registers.{ArePackable};
 ghost use Rattle.mx_legal.specs.Openings.{opening_registers};
 ghost use Rattle.mx_script.specs.Sessions.{IsSession, is_address, is_script_line};
 ghost use Rattle.mx_proc.specs.Operands.{IsGoodProgress, IsGoodWalk, IsLed, walk_at};
-ghost use Rattle.mx_proc.specs.Processes.{AreFresh, IsStill, HasRoom, IsCountable, IsGoodAt, HasEnded, HasGoneOn, HasFed, IsFed, HasProgress, ReadsOperand, HasRegisters, HasLines, HasNumber, HasAsked, IsLedAt, events_in};
+ghost use Rattle.mx_proc.specs.Processes.{AreFresh, IsStill, HasRoom, IsCountable, IsGoodAt, HasEnded, HasGoneOn, HasFed, IsFed, HasProgress, ReadsOperand, StoresNothing, HasRegisters, HasLines, HasNumber, HasAsked, HasFill, IsLedAt, fill_of, events_in};
 ghost use Rattle.mx_proc.specs.declared.operands.Progress.TheVariants.{Before, Waiting};
 
 use crate::benches::Stepped;
+use crate::fills::Fill;
 use crate::operands::{Asked, Onward, Place, Progress, asks, feed, start};
 use mx_call::Regs;
 use mx_effring::Walk;
@@ -105,13 +106,21 @@ impl Processes {
         end_line(self.items.as_mut_slice(), i, event, ends, after);
     }
 
-    /// The line at work of a process, a `block`, has this event, and goes on once the process is ready.
-    pub(crate) fn wait(&mut self, i: usize, event: Event2)
+    /// The line at work of a process has this event, and has come so far.
+    pub(crate) fn go_on(&mut self, i: usize, event: Event2, progress: Progress)
         requires within { i < length self.old }
         requires room { HasRoom self.old i }
-        ensures { HasGoneOn self.old i (event ∷ []) Waiting self.new }
+        ensures { HasGoneOn self.old i (event ∷ []) progress self.new }
     {
-        wait(self.items.as_mut_slice(), i, event);
+        go_on(self.items.as_mut_slice(), i, event, progress);
+    }
+
+    /// What a process is to store next, if anything.
+    pub(crate) fn filling(&self, i: usize) -> Option<Fill>
+        requires { i < length self.now }
+        ensures { HasFill self.now i result }
+    {
+        filling(&self.items, i)
     }
 
     /// Whether a process was told to wait.
@@ -127,6 +136,7 @@ impl Processes {
         requires within { i < length self.now }
         requires good { IsGoodAt self.now i }
         requires reads { ReadsOperand self.now i }
+        requires unfilled { StoresNothing self.now i }
         requires address { is_address operand.now ≡ true }
         ensures { HasAsked self.now i operand.now result }
     {
@@ -228,18 +238,35 @@ fn waits(progress: &Progress) -> bool
     matches!(progress, Progress::Waiting)
 }
 
-fn wait(processes: &mut [Process], i: usize, event: Event2)
+fn go_on(processes: &mut [Process], i: usize, event: Event2, progress: Progress)
     requires within { i < length processes.old }
     requires room { HasRoom processes.old i }
-    ensures { HasGoneOn processes.old i (event ∷ []) Waiting processes.new }
+    ensures { HasGoneOn processes.old i (event ∷ []) progress processes.new }
 {
-    processes[i].wait(event);
+    processes[i].go_on(event, progress);
+}
+
+fn filling(processes: &[Process], i: usize) -> Option<Fill>
+    requires { i < length processes.now }
+    ensures { HasFill processes.now i result }
+{
+    fill_of(&processes[i].progress)
+}
+
+fn fill_of(progress: &Progress) -> Option<Fill>
+    ensures { result ≡ fill_of progress.now }
+{
+    match progress {
+        Progress::Filling(fill) => Some(*fill),
+        Progress::Before | Progress::Walking(_) | Progress::AtLink(_) | Progress::Waiting => None,
+    }
 }
 
 fn asks_at(processes: &[Process], i: usize, operand: &Operand) -> Asked
     requires within { i < length processes.now }
     requires good { IsGoodAt processes.now i }
     requires reads { ReadsOperand processes.now i }
+    requires unfilled { StoresNothing processes.now i }
     requires address { is_address operand.now ≡ true }
     ensures { HasAsked processes.now i operand.now result }
 {
@@ -321,17 +348,17 @@ impl Process {
         self.progress = Progress::Before;
     }
 
-    // Its line at work has this event, and it was told to wait.
-    fn wait(&mut self, event: Event2)
+    // Its line at work has this event, and has come so far.
+    fn go_on(&mut self, event: Event2, progress: Progress)
         requires event { IsTrue self.old.recording.event_room }
         ensures first { self.new.first ≡ self.old.first }
         ensures registers { self.new.registers ≡ self.old.registers }
         ensures steps { self.new.recording.steps ≡ self.old.recording.steps }
         ensures more { self.new.recording.events ≡ self.old.recording.events ++ event ∷ [] }
-        ensures progress { self.new.progress ≡ Waiting }
+        ensures progress { self.new.progress ≡ progress }
     {
         self.recording.push(event);
-        self.progress = Progress::Waiting;
+        self.progress = progress;
     }
 
     // The indirect word for which its operand asks was read.
@@ -384,7 +411,7 @@ impl Process {
         match mem::replace(&mut self.progress, Progress::Before) {
             Progress::Before => start(&self.registers, operand),
             Progress::Walking(walk) => walk,
-            Progress::AtLink(_) | Progress::Waiting => unreachable!(),
+            Progress::AtLink(_) | Progress::Waiting | Progress::Filling(_) => unreachable!(),
         }
     }
 }

@@ -1,4 +1,4 @@
-use Rattle.std.proofs.Common.{◌≡◌, length, ℕ, ◌+◌, sym, ◌∙◌, ap, refl}
+use Rattle.std.proofs.Common.{length, ◌+◌, sym, ◌∙◌, ap, refl}
 use Rattle.std.proofs.Math.ListN.{take}
 use Rattle.std.proofs.lemmas.List.{take_all}
 use Rattle.std.proofs.lemmas.List.Sums.{sum_by_more}

@@ -1,5 +1,5 @@
 use Rattle.std.proofs.Common.{◌≡◌, ◌-◌, ap}
-use Rattle.mx_proc.proofs.AskingLaws.{seen_good, seen_reads, seen_asking, seen_script_line}
+use Rattle.mx_proc.proofs.AskingLaws.{seen_good, seen_reads, seen_stores_nothing, seen_asking, seen_script_line}
 use Rattle.mx_proc.proofs.MadeLaws.{own_address}
 use Rattle.mx_proc.proofs.benches.Bench.asks.Goals as goal
 
@@ -28,3 +28,8 @@ pub returns-clause-line : goal.returns-clause-line
 returns-clause-line c =
     let place : c.from.result - 1 ≡ c.args.p - 1 = ap (λ n. n - 1) c.from.ensures in
     seen_script_line _ _ _ _ _ _ c.args.p _ _ _ c.self.invariant c.self.view_is place c.requires.at
+
+pub asks-requires-clause-unfilled : goal.asks-requires-clause-unfilled
+asks-requires-clause-unfilled c =
+    let place : c.from.result - 1 ≡ c.args.p - 1 = ap (λ n. n - 1) c.from.ensures in
+    seen_stores_nothing c.self.inside.session.now c.self.inside.supervisor c.self.inside.whole.items c.self.inside.cells c.self.inside.processes c.args.self.now c.args.p _ c.self.view_is place c.requires.idle

@@ -29,11 +29,11 @@ end_line-requires-clause-number c =
 pub invariant_of-self-2 : goal.invariant_of-self-2
 invariant_of-self-2 c =
     let place : c.from-i.result - 1 ≡ c.args.p - 1 = ap (λ n. n - 1) c.from-i.ensures in
-    (end_done _ _ _ _ _ _ _ _ c.args.p _ _ _ _ _ c.self.invariant c.self.view_is place c.requires.at c.requires.ends c.in_ok-reserve.ensures.still
+    (end_done _ _ _ _ _ _ _ _ c.args.p _ _ _ _ _ c.self.invariant c.self.view_is place c.requires.at c.requires.idle c.requires.ends c.in_ok-reserve.ensures.still
     c.end_line.ensures).0
 
 pub returns-clause-done : goal.returns-clause-done
 returns-clause-done c =
     let place : c.from-i.result - 1 ≡ c.args.p - 1 = ap (λ n. n - 1) c.from-i.ensures in
-    (end_done _ _ _ _ _ _ _ _ c.args.p _ _ _ _ _ c.self.invariant c.self.view_is place c.requires.at c.requires.ends c.in_ok-reserve.ensures.still
+    (end_done _ _ _ _ _ _ _ _ c.args.p _ _ _ _ _ c.self.invariant c.self.view_is place c.requires.at c.requires.idle c.requires.ends c.in_ok-reserve.ensures.still
     c.end_line.ensures).1

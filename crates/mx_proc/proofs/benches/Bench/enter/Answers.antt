@@ -1,6 +1,6 @@
 use Rattle.std.proofs.Common.{◌≡◌, ◌-◌, Err, ap, refl}
 use Rattle.mx_proc.proofs.BenchLaws.{still_kept}
-use Rattle.mx_proc.proofs.SeenLaws.{full_done, call_done, wait_done, seen_within, seen_principal, seen_countable, seen_still_within, still_seen, on_err}
+use Rattle.mx_proc.proofs.SeenLaws.{full_done, call_done, wait_done, store_call_done, entered_linked, seen_within, seen_principal, seen_countable, seen_still_within, still_seen, on_err}
 use Rattle.mx_proc.proofs.benches.Bench.enter.Goals as goal
 
 pub registers-registers-requires : goal.registers-registers-requires
@@ -46,34 +46,6 @@ enter-requires-clause-process c =
     let place : c.from-i.result - 1 ≡ c.args.p - 1 = ap (λ n. n - 1) c.from-i.ensures in
     seen_principal _ _ _ _ _ _ c.args.p _ _ _ c.self.invariant c.self.view_is place c.requires.at
 
-pub invariant_of-self-then-is_waiting : goal.invariant_of-self-then-is_waiting
-invariant_of-self-then-is_waiting c =
-    let place : c.from-i.result - 1 ≡ c.args.p - 1 = ap (λ n. n - 1) c.from-i.ensures in
-    (wait_done _ _ _ _ _ _ _ _ _ c.args.p _ _ _ _ _ _ _ _ c.self.invariant c.self.view_is place c.requires.at c.requires.calls
-    c.registers-registers.ensures.at c.in-Ok.ensures.entered c.reply-reply.ensures (c.is_waiting.ensures.yes c.if-is_waiting.true)
-    c.in_ok-reserve.ensures.still c.wait.ensures).0
-
-pub returns-then-is_waiting-clause-gone : goal.returns-then-is_waiting-clause-gone
-returns-then-is_waiting-clause-gone c =
-    let place : c.from-i.result - 1 ≡ c.args.p - 1 = ap (λ n. n - 1) c.from-i.ensures in
-    (wait_done _ _ _ _ _ _ _ _ _ c.args.p _ _ _ _ _ _ _ _ c.self.invariant c.self.view_is place c.requires.at c.requires.calls
-    c.registers-registers.ensures.at c.in-Ok.ensures.entered c.reply-reply.ensures (c.is_waiting.ensures.yes c.if-is_waiting.true)
-    c.in_ok-reserve.ensures.still c.wait.ensures).1
-
-pub invariant_of-self-else-is_waiting : goal.invariant_of-self-else-is_waiting
-invariant_of-self-else-is_waiting c =
-    let place : c.from-i.result - 1 ≡ c.args.p - 1 = ap (λ n. n - 1) c.from-i.ensures in
-    (call_done _ _ _ _ _ _ _ _ _ c.args.p _ _ _ _ _ _ _ _ _ _ c.self.invariant c.self.view_is place c.requires.at c.requires.calls
-    c.registers-registers.ensures.at c.registers-registers.ensures.registers c.in-Ok.ensures.entered c.reply-reply.ensures
-    (c.is_waiting.ensures.no c.if-is_waiting.false) c.of-ends.ensures c.in_ok-reserve.ensures.still c.end_line.ensures).0
-
-pub returns-else-is_waiting-clause-gone : goal.returns-else-is_waiting-clause-gone
-returns-else-is_waiting-clause-gone c =
-    let place : c.from-i.result - 1 ≡ c.args.p - 1 = ap (λ n. n - 1) c.from-i.ensures in
-    (call_done _ _ _ _ _ _ _ _ _ c.args.p _ _ _ _ _ _ _ _ _ _ c.self.invariant c.self.view_is place c.requires.at c.requires.calls
-    c.registers-registers.ensures.at c.registers-registers.ensures.registers c.in-Ok.ensures.entered c.reply-reply.ensures
-    (c.is_waiting.ensures.no c.if-is_waiting.false) c.of-ends.ensures c.in_ok-reserve.ensures.still c.end_line.ensures).1
-
 pub invariant_of-self-in-Err-HistoryFull : goal.invariant_of-self-in-Err-HistoryFull
 invariant_of-self-in-Err-HistoryFull c =
     let place : c.from-i.result - 1 ≡ c.args.p - 1 = ap (λ n. n - 1) c.from-i.ensures in
@@ -94,3 +66,59 @@ invariant_of-self-in-Err-Memory c =
 
 pub returns-in-Err-Memory-clause-err : goal.returns-in-Err-Memory-clause-err
 returns-in-Err-Memory-clause-err c = still_seen _ c.self.inside.supervisor _ c.self.inside.whole.items _ c.self.inside.processes _ _ _ c.self.view_is c.in-Err-Memory.ensures.err c.in_ok-reserve.ensures.still
+
+pub after_entry-requires-clause-linked : goal.after_entry-requires-clause-linked
+after_entry-requires-clause-linked c =
+    entered_linked _ c.enter.new.self c.args.p c.args.ring c.args.request.now c.in-Ok.number c.in-Ok.ensures.entered
+
+pub go_on-requires-clause-within : goal.go_on-requires-clause-within
+go_on-requires-clause-within c =
+    let place : c.from-i.result - 1 ≡ c.args.p - 1 = ap (λ n. n - 1) c.from-i.ensures in
+    seen_still_within c.self.inside.session.now c.self.inside.supervisor c.self.inside.whole.items c.self.inside.cells c.self.inside.processes _ c.args.p _ _ _ c.self.view_is place c.requires.at c.in_ok-reserve.ensures.still
+
+pub invariant_of-self-in-Wait : goal.invariant_of-self-in-Wait
+invariant_of-self-in-Wait c =
+    let place : c.from-i.result - 1 ≡ c.args.p - 1 = ap (λ n. n - 1) c.from-i.ensures in
+    (wait_done _ _ _ _ _ _ _ _ _ c.args.p _ _ _ _ _ _ _ c.self.invariant c.self.view_is place c.requires.at c.requires.calls
+    c.registers-registers.ensures.at c.in-Ok.ensures.entered c.in-Wait.ensures
+    c.in_ok-reserve.ensures.still c.go_on.ensures).0
+
+pub returns-in-Wait-clause-gone : goal.returns-in-Wait-clause-gone
+returns-in-Wait-clause-gone c =
+    let place : c.from-i.result - 1 ≡ c.args.p - 1 = ap (λ n. n - 1) c.from-i.ensures in
+    (wait_done _ _ _ _ _ _ _ _ _ c.args.p _ _ _ _ _ _ _ c.self.invariant c.self.view_is place c.requires.at c.requires.calls
+    c.registers-registers.ensures.at c.in-Ok.ensures.entered c.in-Wait.ensures
+    c.in_ok-reserve.ensures.still c.go_on.ensures).1
+
+pub go_on-requires-in-Store-clause-within : goal.go_on-requires-in-Store-clause-within
+go_on-requires-in-Store-clause-within c =
+    let place : c.from-i.result - 1 ≡ c.args.p - 1 = ap (λ n. n - 1) c.from-i.ensures in
+    seen_still_within c.self.inside.session.now c.self.inside.supervisor c.self.inside.whole.items c.self.inside.cells c.self.inside.processes _ c.args.p _ _ _ c.self.view_is place c.requires.at c.in_ok-reserve.ensures.still
+
+pub invariant_of-self-in-Store : goal.invariant_of-self-in-Store
+invariant_of-self-in-Store c =
+    let place : c.from-i.result - 1 ≡ c.args.p - 1 = ap (λ n. n - 1) c.from-i.ensures in
+    (store_call_done _ _ _ _ _ _ _ _ _ c.args.p _ _ _ _ _ _ _ _ c.self.invariant c.self.view_is place c.requires.at c.requires.calls
+    c.registers-registers.ensures.at c.in-Ok.ensures.entered c.in-Store.ensures
+    c.in_ok-reserve.ensures.still c.go_on-in-Store.ensures).0
+
+pub returns-in-Store-clause-gone : goal.returns-in-Store-clause-gone
+returns-in-Store-clause-gone c =
+    let place : c.from-i.result - 1 ≡ c.args.p - 1 = ap (λ n. n - 1) c.from-i.ensures in
+    (store_call_done _ _ _ _ _ _ _ _ _ c.args.p _ _ _ _ _ _ _ _ c.self.invariant c.self.view_is place c.requires.at c.requires.calls
+    c.registers-registers.ensures.at c.in-Ok.ensures.entered c.in-Store.ensures
+    c.in_ok-reserve.ensures.still c.go_on-in-Store.ensures).1
+
+pub invariant_of-self-in-End : goal.invariant_of-self-in-End
+invariant_of-self-in-End c =
+    let place : c.from-i.result - 1 ≡ c.args.p - 1 = ap (λ n. n - 1) c.from-i.ensures in
+    (call_done _ _ _ _ _ _ _ _ _ c.args.p _ _ _ _ _ _ _ _ _ c.self.invariant c.self.view_is place c.requires.at c.requires.calls
+    c.registers-registers.ensures.at c.registers-registers.ensures.registers c.in-Ok.ensures.entered
+    c.in-End.ensures c.in_ok-reserve.ensures.still c.end_line.ensures).0
+
+pub returns-in-End-clause-gone : goal.returns-in-End-clause-gone
+returns-in-End-clause-gone c =
+    let place : c.from-i.result - 1 ≡ c.args.p - 1 = ap (λ n. n - 1) c.from-i.ensures in
+    (call_done _ _ _ _ _ _ _ _ _ c.args.p _ _ _ _ _ _ _ _ _ c.self.invariant c.self.view_is place c.requires.at c.requires.calls
+    c.registers-registers.ensures.at c.registers-registers.ensures.registers c.in-Ok.ensures.entered
+    c.in-End.ensures c.in_ok-reserve.ensures.still c.end_line.ensures).1

@@ -73,27 +73,27 @@ feed-requires-clause-led c =
 pub invariant_of-self-in-Ok : goal.invariant_of-self-in-Ok
 invariant_of-self-in-Ok c =
     let place : c.from-i.result - 1 ≡ c.args.p - 1 = ap (λ n. n - 1) c.from-i.ensures in
-    (fed_done _ _ _ _ _ _ _ _ c.args.p _ _ _ _ _ _ _ _ _ _ _ _ c.self.invariant c.self.view_is place c.requires.at c.requires.operand c.requires.asked
+    (fed_done _ _ _ _ _ _ _ _ c.args.p _ _ _ _ _ _ _ _ _ _ _ _ c.self.invariant c.self.view_is place c.requires.at c.requires.idle c.requires.operand c.requires.asked
     c.registers-registers.ensures.at c.descriptor-desc.ensures.value c.length-point.ensures.value (c.look-looked.ensures c.args.p) c.in-Ok.is (c.r1-r1.ensures ∙ ap (λ (b : Bracketing). b.r1) c.brackets.ensures)
     c.in_ok-reserve.ensures.still c.feed.ensures).0
 
 pub returns-in-Ok-clause-gone : goal.returns-in-Ok-clause-gone
 returns-in-Ok-clause-gone c =
     let place : c.from-i.result - 1 ≡ c.args.p - 1 = ap (λ n. n - 1) c.from-i.ensures in
-    (fed_done _ _ _ _ _ _ _ _ c.args.p _ _ _ _ _ _ _ _ _ _ _ _ c.self.invariant c.self.view_is place c.requires.at c.requires.operand c.requires.asked
+    (fed_done _ _ _ _ _ _ _ _ c.args.p _ _ _ _ _ _ _ _ _ _ _ _ c.self.invariant c.self.view_is place c.requires.at c.requires.idle c.requires.operand c.requires.asked
     c.registers-registers.ensures.at c.descriptor-desc.ensures.value c.length-point.ensures.value (c.look-looked.ensures c.args.p) c.in-Ok.is (c.r1-r1.ensures ∙ ap (λ (b : Bracketing). b.r1) c.brackets.ensures)
     c.in_ok-reserve.ensures.still c.feed.ensures).1
 
 pub invariant_of-self-in-Err : goal.invariant_of-self-in-Err
 invariant_of-self-in-Err c =
     let place : c.from-i.result - 1 ≡ c.args.p - 1 = ap (λ n. n - 1) c.from-i.ensures in
-    (denied_done _ _ _ _ _ _ _ _ c.args.p _ _ _ _ _ _ _ _ _ _ _ c.self.invariant c.self.view_is place c.requires.at c.requires.operand c.requires.asked
+    (denied_done _ _ _ _ _ _ _ _ c.args.p _ _ _ _ _ _ _ _ _ _ _ c.self.invariant c.self.view_is place c.requires.at c.requires.idle c.requires.operand c.requires.asked
     c.registers-registers.ensures.at c.registers-registers.ensures.registers c.descriptor-desc.ensures.value c.length-point.ensures.value (c.look-looked.ensures c.args.p)
     c.in-Err.is c.in_ok-reserve.ensures.still c.end_line.ensures).0
 
 pub returns-in-Err-clause-gone : goal.returns-in-Err-clause-gone
 returns-in-Err-clause-gone c =
     let place : c.from-i.result - 1 ≡ c.args.p - 1 = ap (λ n. n - 1) c.from-i.ensures in
-    (denied_done _ _ _ _ _ _ _ _ c.args.p _ _ _ _ _ _ _ _ _ _ _ c.self.invariant c.self.view_is place c.requires.at c.requires.operand c.requires.asked
+    (denied_done _ _ _ _ _ _ _ _ c.args.p _ _ _ _ _ _ _ _ _ _ _ c.self.invariant c.self.view_is place c.requires.at c.requires.idle c.requires.operand c.requires.asked
     c.registers-registers.ensures.at c.registers-registers.ensures.registers c.descriptor-desc.ensures.value c.length-point.ensures.value (c.look-looked.ensures c.args.p)
     c.in-Err.is c.in_ok-reserve.ensures.still c.end_line.ensures).1

@@ -42,7 +42,7 @@ descriptor-desc-requires-clause-process c =
 pub invariant_of-self-2 : goal.invariant_of-self-2
 invariant_of-self-2 c =
     let place : c.from-i.result - 1 ≡ c.args.p - 1 = ap (λ n. n - 1) c.from-i.ensures in
-    (refer_done _ _ _ _ _ _ _ _ _ c.args.p _ _ _ _ _ _ _ _ _ c.self.invariant c.self.view_is place c.requires.at c.requires.target c.requires.refers
+    (refer_done _ _ _ _ _ _ _ _ _ c.args.p _ _ _ _ _ _ _ _ _ c.self.invariant c.self.view_is place c.requires.at c.requires.idle c.requires.target c.requires.refers
     c.registers-registers.ensures.at c.registers-registers.ensures.registers
     (c.descriptor-desc.ensures.value ∙ ap (λ (t : PointerParts). descriptor (state_of c.self.inside.supervisor) c.args.p t.segno) c.target.view_is)
     c.length-point.ensures.value c.self.invariant.wide (λ asked e. c.refer-made.ensures asked c.args.p e) c.in_ok-reserve.ensures.still c.end_line.ensures).0
@@ -50,7 +50,7 @@ invariant_of-self-2 c =
 pub returns-clause-done : goal.returns-clause-done
 returns-clause-done c =
     let place : c.from-i.result - 1 ≡ c.args.p - 1 = ap (λ n. n - 1) c.from-i.ensures in
-    (refer_done _ _ _ _ _ _ _ _ _ c.args.p _ _ _ _ _ _ _ _ _ c.self.invariant c.self.view_is place c.requires.at c.requires.target c.requires.refers
+    (refer_done _ _ _ _ _ _ _ _ _ c.args.p _ _ _ _ _ _ _ _ _ c.self.invariant c.self.view_is place c.requires.at c.requires.idle c.requires.target c.requires.refers
     c.registers-registers.ensures.at c.registers-registers.ensures.registers
     (c.descriptor-desc.ensures.value ∙ ap (λ (t : PointerParts). descriptor (state_of c.self.inside.supervisor) c.args.p t.segno) c.target.view_is)
     c.length-point.ensures.value c.self.invariant.wide (λ asked e. c.refer-made.ensures asked c.args.p e) c.in_ok-reserve.ensures.still c.end_line.ensures).1

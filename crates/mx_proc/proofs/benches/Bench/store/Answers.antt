@@ -43,7 +43,7 @@ descriptor-desc-requires-clause-process c =
 pub invariant_of-self-2 : goal.invariant_of-self-2
 invariant_of-self-2 c =
     let place : c.from-i.result - 1 ≡ c.args.p - 1 = ap (λ n. n - 1) c.from-i.ensures in
-    (store_done _ _ _ _ _ _ _ _ _ c.args.p _ _ _ _ _ _ _ _ _ _ c.self.invariant c.self.view_is place c.requires.at c.requires.target
+    (store_done _ _ _ _ _ _ _ _ _ c.args.p _ _ _ _ _ _ _ _ _ _ c.self.invariant c.self.view_is place c.requires.at c.requires.idle c.requires.target
     c.requires.stores c.registers-registers.ensures.at c.registers-registers.ensures.registers
     (c.descriptor-desc.ensures.value ∙ ap (λ (t : PointerParts). descriptor (state_of c.self.inside.supervisor) c.args.p t.segno) c.target.view_is)
     c.length-point.ensures.value (wide_still _ _ c.self.invariant.wide c.store-made.ensures.wide) c.store-made.ensures.sta c.store-made.ensures.spri
@@ -52,7 +52,7 @@ invariant_of-self-2 c =
 pub returns-clause-done : goal.returns-clause-done
 returns-clause-done c =
     let place : c.from-i.result - 1 ≡ c.args.p - 1 = ap (λ n. n - 1) c.from-i.ensures in
-    (store_done _ _ _ _ _ _ _ _ _ c.args.p _ _ _ _ _ _ _ _ _ _ c.self.invariant c.self.view_is place c.requires.at c.requires.target
+    (store_done _ _ _ _ _ _ _ _ _ c.args.p _ _ _ _ _ _ _ _ _ _ c.self.invariant c.self.view_is place c.requires.at c.requires.idle c.requires.target
     c.requires.stores c.registers-registers.ensures.at c.registers-registers.ensures.registers
     (c.descriptor-desc.ensures.value ∙ ap (λ (t : PointerParts). descriptor (state_of c.self.inside.supervisor) c.args.p t.segno) c.target.view_is)
     c.length-point.ensures.value (wide_still _ _ c.self.invariant.wide c.store-made.ensures.wide) c.store-made.ensures.sta c.store-made.ensures.spri
