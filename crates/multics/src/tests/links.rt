@@ -60,6 +60,7 @@ const SET_UP: &[&[u8]] = &[
 
 // The object with its link, the rules, and what comes of it: the entries from the object's on, and the transcript after entry 13.
 struct Linking {
+    count: &'static [u8],
     object: &'static [u8],
     rules: &'static [u8],
     entries: [&'static [u8]; 7],
@@ -68,6 +69,7 @@ struct Linking {
 
 // The project's `math` is found first; the second line goes through the link without a fault.
 const PROJECT_FIRST: Linking = Linking {
+    count: b"journal 14",
     object: b"create_object >udd>main 64 4 4 4 1 l:math$sqrt",
     rules: b"set_rules working_dir >lib",
     entries: [
@@ -93,6 +95,7 @@ const PROJECT_FIRST: Linking = Linking {
 
 // The library's is, where the rules are exchanged.
 const LIBRARY_FIRST: Linking = Linking {
+    count: b"journal 14",
     object: b"create_object >udd>main 64 4 4 4 1 l:math$sqrt",
     rules: b"set_rules >lib working_dir",
     entries: [
@@ -118,6 +121,7 @@ const LIBRARY_FIRST: Linking = Linking {
 
 // No `math` has the cosine: each line that meets the link is refused.
 const NO_DEFINITION: Linking = Linking {
+    count: b"journal 15",
     object: b"create_object >udd>main 64 4 4 4 1 l:math$cos",
     rules: b"set_rules working_dir >lib",
     entries: [
@@ -142,6 +146,7 @@ const NO_DEFINITION: Linking = Linking {
 
 // Nothing has the other name.
 const NO_SEGMENT: Linking = Linking {
+    count: b"journal 15",
     object: b"create_object >udd>main 64 4 4 4 1 l:none$x",
     rules: b"set_rules working_dir >lib",
     entries: [
@@ -183,33 +188,33 @@ fn text(alloc: Global, linking: &Linking) -> Result<Vec<u8>, AllocError> {
     Ok(text)
 }
 
-fn run(alloc: Global, count: &[u8], linking: &Linking) -> Result<Vec<u8>, AllocError> {
-    let mut run = text_of(alloc, &[count])?;
-    for lines in [
-        LIBRARY_ENTRIES,
-        &linking.entries,
-        SET_UP,
-        linking.transcript,
-    ] {
-        run.append(&mut text_of(alloc, lines)?)?;
-    }
+fn run(alloc: Global, linking: &Linking) -> Result<Vec<u8>, AllocError> {
+    let first: [&[u8]; 1] = [linking.count];
+    let mut run = text_of(alloc, &first)?;
+    run.append(&mut text_of(alloc, LIBRARY_ENTRIES)?)?;
+    run.append(&mut text_of(alloc, &linking.entries)?)?;
+    run.append(&mut text_of(alloc, SET_UP)?)?;
+    run.append(&mut text_of(alloc, linking.transcript)?)?;
     Ok(run)
+}
+
+// Whether the session has just this run.
+fn is_run<R: Threads + Wait + Sync>(
+    rt: &R,
+    alloc: Global,
+    linking: &Linking,
+) -> Result<bool, Fail> {
+    let text = text(alloc, linking)?;
+    let answer = call(rt, alloc, &["run"], &text, &GOOD)?;
+    Ok(answer.status == 0 && answer.written == run(alloc, linking)?)
 }
 
 #[test]
 fn a_link_leads_where_the_rules_say(rt: HostRuntime) -> Result<(), Fail> {
-    let alloc = rt.alloc();
-    for (count, linking) in [
-        (b"journal 14".as_slice(), &PROJECT_FIRST),
-        (b"journal 14", &LIBRARY_FIRST),
-        (b"journal 15", &NO_DEFINITION),
-        (b"journal 15", &NO_SEGMENT),
-    ] {
-        let text = text(alloc, linking)?;
-        let answer = call(&rt, alloc, &["run"], &text, &GOOD)?;
-        assert_eq!(rt; answer.status, 0);
-        assert!(rt; answer.written == run(alloc, count, linking)?);
-    }
+    assert!(rt; is_run(&rt, rt.alloc(), &PROJECT_FIRST)?);
+    assert!(rt; is_run(&rt, rt.alloc(), &LIBRARY_FIRST)?);
+    assert!(rt; is_run(&rt, rt.alloc(), &NO_DEFINITION)?);
+    assert!(rt; is_run(&rt, rt.alloc(), &NO_SEGMENT)?);
     Ok(())
 }
 
