@@ -37,15 +37,15 @@ pub(crate) const BOX_WIDTH: u32 = 124;
 pub(crate) const BOX_HEIGHT: u32 = 54;
 
 /// The line of the journal.
-pub(crate) const JOURNAL: u32 = 250;
+pub(crate) const JOURNAL: u32 = 310;
 
 /// The top of the first lane.
-pub(crate) const LANES: u32 = 290;
+pub(crate) const LANES: u32 = 350;
 
 /// The height of a lane, and from one lane's top to the next.
-pub(crate) const LANE_HEIGHT: u32 = 154;
+pub(crate) const LANE_HEIGHT: u32 = 170;
 
-pub(crate) const LANE_STEP: u32 = 168;
+pub(crate) const LANE_STEP: u32 = 184;
 
 /// Where boxes begin in a lane.
 pub(crate) const BOXES: u32 = 54;

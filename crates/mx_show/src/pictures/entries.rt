@@ -11,8 +11,8 @@ use mx_state::{Entry, Journal};
 use std::alloc::{AllocError, Global};
 use std::fmt::Write;
 
-/// The most characters of a request that are shown.
-const MOST_REQUEST: usize = 34;
+/// The most characters that stand at an entry.
+const MOST_LABEL: usize = 40;
 
 /// The height of what is written in a lane of a change.
 const TAG_HEIGHT: u32 = 16;
@@ -75,25 +75,34 @@ fn add_entry(
 fn label(alloc: Global, entry: &Entry) -> Result<String, AllocError> {
     let mut request = String::new(alloc);
     add_request(alloc, &mut request, &entry.request)?;
+    let answer = answer(alloc, entry)?;
+    let most = MOST_LABEL.saturating_sub(answer.len());
     let mut label = String::new(alloc);
-    for c in request.chars().take(MOST_REQUEST) {
+    for c in request.chars().take(most) {
         label.push(c)?;
     }
-    if request.len() > MOST_REQUEST {
+    if request.len() > most {
         label.push_str("..")?;
     }
+    label.push_str(&answer)?;
+    Ok(label)
+}
+
+// What a request was answered; nothing where that is `ok`.
+fn answer(alloc: Global, entry: &Entry) -> Result<String, AllocError> {
+    let mut answer = String::new(alloc);
     match &entry.reply {
-        Reply::Refused(refusal) => write!(label, ": {}", refusal.text())?,
-        Reply::Segno(known) => write!(label, " = {:o}", known.segno)?,
-        Reply::Linked { segno, word, .. } => write!(label, " = {segno:o}|{word:o}")?,
+        Reply::Refused(refusal) => write!(answer, ": {}", refusal.text())?,
+        Reply::Segno(known) => write!(answer, " = {:o}", known.segno)?,
+        Reply::Linked { segno, word, .. } => write!(answer, " = {segno:o}|{word:o}")?,
         Reply::Message { sender, word } => {
-            write!(label, " = {:o} from {sender}", word.value())?;
+            write!(answer, " = {:o} from {sender}", word.value())?;
         }
-        Reply::Waiting => label.push_str(" = waiting")?,
-        Reply::Nobody => label.push_str(" = nobody")?,
+        Reply::Waiting => answer.push_str(" = waiting")?,
+        Reply::Nobody => answer.push_str(" = nobody")?,
         _ => {}
     }
-    Ok(label)
+    Ok(answer)
 }
 
 /// Adds the entries that changed access: a broken line from the journal to the lane of the process whose access changed, and there

@@ -12,6 +12,9 @@ use std::fmt::Write;
 /// The ring in which a process begins.
 const FIRST_RING: u8 = 4;
 
+/// Longer arrows are no deeper.
+const MOST_LENGTH: u32 = 10_000;
+
 /// Adds each reference: what it is, and what came of it.
 pub(super) fn add_boxes(
     alloc: Global,
@@ -156,7 +159,8 @@ fn add_arrow(out: &mut String, read: &Placed, store: &Placed) -> Result<(), Allo
         lane_top(store.judged.process),
     );
     if from_lane == to_lane {
-        let (y, deep) = (bottom(from_lane), bottom(from_lane).saturating_add(30));
+        let y = bottom(from_lane);
+        let deep = y.saturating_add(depth(from, to));
         add_curve(
             out,
             (from.saturating_sub(12), y),
@@ -183,6 +187,12 @@ fn add_arrow(out: &mut String, read: &Placed, store: &Placed) -> Result<(), Allo
             (to, below),
         )
     }
+}
+
+// How deep an arrow within a lane hangs: the longer, the deeper, so that one lies within another; at most 60.
+fn depth(from: u32, to: u32) -> u32 {
+    let length = from.abs_diff(to).min(MOST_LENGTH);
+    20 + 40 * length / (length + 500)
 }
 
 // The middle of a box.
