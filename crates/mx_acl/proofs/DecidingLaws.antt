@@ -4,7 +4,7 @@ use Rattle.std.specs.Prelude.{T}
 use Rattle.std.specs.Ordering.{nat_cmp, is_lt, is_eq, ordering_then, ordering_reverse, eq_by_cmp}
 use Rattle.std.specs.declared.cmp.Ordering.{Ordering}
 use Rattle.std.specs.declared.cmp.Ordering.TheVariants.{Less, Equal, Greater}
-use Rattle.std.specs.Option.{option_map, unwrap_or}
+use Rattle.std.specs.Option.{option_map, unwrap_or, IfSome, IfNone}
 use Rattle.std.specs.FinMap.Entries.{find, is_sorted, below_all}
 use Rattle.std.proofs.lemmas.Bool.Decides.{nat_tests}
 use Rattle.std.proofs.lemmas.Cmp.{tied_itself}
@@ -152,3 +152,32 @@ undecided acl who sorted none = by_case (deciding who acl.entries) refl
     by_case : (o : Option (PlainAclId × Modes)) → deciding who acl.entries ≡ o → unwrap_or (option_map (λ (pair : PlainAclId × Modes). pair.1) o) Null ≡ Null
     by_case None e = refl
     by_case (Some f) e = let stands = member who acl.entries sorted f e in absurd (none f.0 f.1 (record { at = stands.0; matching = stands.1 }))
+
+-- the pair that is found is the one that decides, and where none is found no pair matches
+pub found_decides : (acl : Access) (who : PlainPrincipal) → T (is_sorted id_cmp acl.entries) → (f : PlainAclId × Modes) → deciding who acl.entries ≡ Some f
+    → IsDeciding acl who f.0 f.1
+found_decides acl who sorted f e =
+    let stands = member who acl.entries sorted f e in
+    record {
+      match = record { at = stands.0; matching = stands.1 };
+      least = λ other others is.
+          let low = least who acl.entries sorted other others is.at is.matching in
+          let same : low.0 ≡ f = (let given = low.1.0 in cc) in
+          subst (λ (g : PlainAclId × Modes). id_rank g.0 ≤ id_rank other) same low.1.1;
+    }
+
+pub none_matches : (acl : Access) (who : PlainPrincipal) → T (is_sorted id_cmp acl.entries) → deciding who acl.entries ≡ None
+    → (id : PlainAclId) (m : Modes) → IsMatch acl who id m → ⊥
+none_matches acl who sorted e id m is =
+    let low = least who acl.entries sorted id m is.at is.matching in
+    let given = low.1.0 in
+    cc
+
+-- what is seen of an answer
+pub seen_some : {B A : Type 0} (view : B → A) (r : Option B) (o : Option A) (P : A → Type 0) → option_map view r ≡ o → ((f : A) → o ≡ Some f → P f) → IfSome r (λ b. P (view b))
+seen_some view None o P e all = tt
+seen_some view (Some b) o P e all = all (view b) (sym e)
+
+pub seen_none : {B A : Type 0} (view : B → A) (r : Option B) (o : Option A) (Q : Type 0) → option_map view r ≡ o → (o ≡ None → Q) → IfNone r Q
+seen_none view None o Q e all = all (sym e)
+seen_none view (Some b) o Q e all = tt

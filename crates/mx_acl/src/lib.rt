@@ -36,6 +36,35 @@ mod tests {
     }
 
     #[test]
+    fn the_entry_that_decides_is_told(rt: HostRuntime) -> Result<(), Fail> {
+        let alloc = rt.alloc();
+        let mut acl = Acl::new(alloc, AclKind::Segment);
+        acl.set(AclId::read(b"*.Faculty.*")?, Modes::R)?;
+        acl.set(AclId::read(b"Jones.*.*")?, Modes::Null)?;
+        for (text, want) in [
+            (
+                b"Jones.Faculty.a".as_slice(),
+                Some((b"Jones.*.*".as_slice(), Modes::Null)),
+            ),
+            (b"Smith.Faculty.a", Some((b"*.Faculty.*", Modes::R))),
+            (b"Smith.Ops.a", None),
+        ] {
+            let told = acl.deciding(&Principal::read(text)?);
+            match want {
+                None => assert!(rt; told.is_none(), "{text:?}"),
+                Some((id, modes)) => {
+                    let id = AclId::read(id)?;
+                    assert!(rt;
+                        told.is_some_and(|(other, own)| *other == id && own == modes),
+                        "{text:?}"
+                    );
+                }
+            }
+        }
+        Ok(())
+    }
+
+    #[test]
     fn sixty_four_identifiers_fill_a_list(rt: HostRuntime) -> Result<(), Fail> {
         let alloc = rt.alloc();
         let mut acl = Acl::new(alloc, AclKind::Directory);

@@ -1,5 +1,5 @@
 //! Access lists.
-ghost use Rattle.std.specs.Prelude.{◌≡◌, ◌↔◌, ◌+◌, ◌≤◌, length, [], Some, None, true, false, not, IsOk, IsSome, IfOk, OnOk, OnErr, T, is_some, if◌then◌else◌};
+ghost use Rattle.std.specs.Prelude.{◌≡◌, ◌↔◌, ◌+◌, ◌≤◌, length, [], Some, None, true, false, not, IsOk, IsSome, IfSome, IfNone, IfOk, OnOk, OnErr, T, is_some, if◌then◌else◌};
 ghost use Rattle.std.specs.FinMap.Entries.{put, find, where_key, is_sorted};
 ghost use Rattle.std.specs.Ordering.{eq_by_cmp};
 ghost use Rattle.std.specs.Option.{option_map};
@@ -167,7 +167,27 @@ impl Acl {
         ensures value { result ≡ modes_for self.now who.now }
         ensures sorted { T (is_sorted id_cmp self.now.entries) }
     {
-        first_match(&self.entries, who).unwrap_or(Modes::Null)
+        match self.first(who) {
+            Some((_, modes)) => modes,
+            None => Modes::Null,
+        }
+    }
+
+    /// The entry that decides for a principal, with its modes: the one of least rank among those that match. None where
+    /// none matches. Takes no memory.
+    pub fn deciding(&self, who: &Principal) -> Option<(&AclId, Modes)>
+        ensures value { option_map (λ pair. (pair.0.now, pair.1)) result ≡ deciding who.now self.now.entries }
+        ensures least { IfSome result (λ pair. IsDeciding self.now who.now pair.0.now pair.1) }
+        ensures none { IfNone result ((id : PlainAclId) (modes : Modes) → IsMatch self.now who.now id modes → ⊥) }
+    {
+        self.first(who)
+    }
+
+    fn first(&self, who: &Principal) -> Option<(&AclId, Modes)>
+        ensures value { option_map (λ pair. (pair.0.now, pair.1)) result ≡ deciding who.now self.now.entries }
+        ensures sorted { T (is_sorted id_cmp self.now.entries) }
+    {
+        first_match(&self.entries, who)
     }
 
     fn fault_within(&self, limit: usize, id: &AclId, modes: Modes) -> Option<AclError>
@@ -224,15 +244,18 @@ fn take_entry(entries: &mut IndexMap<AclId, Modes>, id: &AclId) -> bool
     entries.shift_remove(id).is_some()
 }
 
-/// The modes of the first entry that matches.
+/// The first entry that matches.
 #[tactic(auto, using(crate::proofs::DecidingLaws::first_decides))]
-fn first_match(entries: &IndexMap<AclId, Modes>, who: &Principal) -> Option<Modes>
+fn first_match<'a>(
+    entries: &'a IndexMap<AclId, Modes>,
+    who: &Principal,
+) -> Option<(&'a AclId, Modes)>
     requires { T (is_sorted id_cmp entries.now.entries) }
-    ensures { result ≡ option_map (λ pair. pair.1) (deciding who.now entries.now.entries) }
+    ensures { option_map (λ pair. (pair.0.now, pair.1)) result ≡ deciding who.now entries.now.entries }
 {
     for (id, modes) in entries {
         if id.matches(who) {
-            return Some(*modes);
+            return Some((id, *modes));
         }
     }
     None
