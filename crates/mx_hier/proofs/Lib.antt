@@ -12,5 +12,6 @@ pub mod MakingLaws
 pub mod ChangeLaws
 pub mod SortLaws
 pub mod DescriptorLaws
+pub mod EntryLaws
 pub mod NameTextLaws
 pub mod FindLaws

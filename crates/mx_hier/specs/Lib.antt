@@ -25,6 +25,7 @@ pub mod ChangeWorkingDirectory
 pub mod Initiate
 pub mod Find
 pub mod Connected
+pub mod DecidingEntry
 pub mod Sound
 pub mod Strangers
 pub mod Who

@@ -2,10 +2,11 @@
 
 ghost use Rattle.std.specs.Prelude.{◌≡◌, ◌<◌, ◌≤◌, Some, IfOk, IfNone};
 ghost use Rattle.mx_sdw.specs.Admissible.{IsAdmissible};
-ghost use Rattle.std.specs.Option.{option_copied};
+ghost use Rattle.std.specs.Option.{option_copied, option_map};
 ghost use Rattle.mx_hier.specs.Branches.{object_at};
 ghost use Rattle.mx_hier.specs.ChangeWorkingDirectory.{directory_refusals, directory};
 ghost use Rattle.mx_hier.specs.Connected.{desc_of, desc_for};
+ghost use Rattle.mx_hier.specs.DecidingEntry.{deciding_entry, AreFlagsOf};
 ghost use Rattle.mx_hier.specs.Initiate.{segment_refusals, segment};
 ghost use Rattle.mx_hier.specs.List.{list_at, list};
 ghost use Rattle.mx_hier.specs.Objects.{gate_of};
@@ -22,7 +23,7 @@ use crate::names::Names;
 use crate::refusals::{HierError, Refusal};
 use crate::walks::resolved;
 use mx_acl::Modes;
-use mx_name::{Path, Pathname, Principal};
+use mx_name::{AclId, Path, Pathname, Principal};
 use mx_object::ObjectMap;
 use mx_sdw::{Brackets, Desc, Ring};
 use std::alloc::{AllocError, Global};
@@ -182,6 +183,17 @@ impl Hier {
             None => Desc::gone(),
             Some(segment) => segment_desc(segment, self.gate_at(uid), who),
         }
+    }
+
+    /// The entry of the access list of the segment of a uid that decides for a principal, with its modes: it explains
+    /// the flags of the descriptor. None where no entry matches, where the segment was deleted, and where the uid is of
+    /// no segment. Takes no memory.
+    #[tactic(auto, using(crate::proofs::EntryLaws::flags_of_entry))]
+    pub fn deciding_entry(&self, uid: u32, who: &Principal) -> Option<(&AclId, Modes)>
+        ensures value { option_map (λ pair. (pair.0.now, pair.1)) result ≡ deciding_entry self.now uid who.now }
+        ensures flags { AreFlagsOf (deciding_entry self.now uid who.now) (desc_of self.now uid who.now) }
+    {
+        self.segment_at(uid)?.acl.deciding(who)
     }
 }
 

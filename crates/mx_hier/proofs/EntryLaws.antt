@@ -1,0 +1,30 @@
+-- The entry that decides explains the flags of the descriptor.
+use Rattle.std.proofs.Common.{◌≡◌, ℕ, Bool, false, Option, None, Some, refl}
+use Rattle.std.specs.Option.{option_map, unwrap_or}
+use Rattle.mx_name.specs.Identifiers.{PlainAclId}
+use Rattle.mx_name.specs.Principals.{PlainPrincipal}
+use Rattle.mx_acl.specs.Access.{deciding}
+use Rattle.mx_acl.specs.Modes.{has_r, has_e, has_w}
+use Rattle.mx_acl.specs.declared.modes.Modes.{Modes}
+use Rattle.mx_acl.specs.declared.modes.Modes.TheVariants.{Null}
+use Rattle.mx_hier.specs.declared.branches.Segment.{Segment}
+use Rattle.mx_hier.specs.Branches.{Hierarchy, segment_at, object_at}
+use Rattle.mx_hier.specs.Connected.{desc_of, desc_for}
+use Rattle.mx_hier.specs.DecidingEntry.{deciding_entry, entry_for, gives, AreFlagsOf}
+use Rattle.mx_hier.specs.Objects.{gate_of}
+
+letter : (has : Modes → Bool) (entry : Option (PlainAclId × Modes)) → has Null ≡ false
+    → has (unwrap_or (option_map (λ (pair : PlainAclId × Modes). pair.1) entry) Null) ≡ gives has entry
+letter has None null = null
+letter has (Some pair) null = refl
+
+flags_for : (who : PlainPrincipal) (gate : ℕ) (found : Option Segment) → AreFlagsOf (entry_for who found) (desc_for who gate found)
+flags_for who gate None = record { read = refl; execute = refl; write = refl }
+flags_for who gate (Some segment) = record {
+  read = letter has_r (deciding who segment.acl.entries) refl;
+  execute = letter has_e (deciding who segment.acl.entries) refl;
+  write = letter has_w (deciding who segment.acl.entries) refl;
+}
+
+pub flags_of_entry : (h : Hierarchy) (uid : ℕ) (who : PlainPrincipal) → AreFlagsOf (deciding_entry h uid who) (desc_of h uid who)
+flags_of_entry h uid who = flags_for who (gate_of (object_at h uid)) (segment_at h uid)
