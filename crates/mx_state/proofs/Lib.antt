@@ -4,6 +4,7 @@ pub mod SectionLaws
 pub mod OpeningLaws
 pub mod SegmentLaws
 pub mod Descriptors
+pub mod EntryLaws
 pub mod AnswerLaws
 pub mod ProcessLaws
 pub mod RenewingLaws

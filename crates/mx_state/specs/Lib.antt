@@ -9,6 +9,7 @@ pub mod OwnState
 pub mod Messages
 pub mod Requests
 pub mod Table
+pub mod DecidingEntry
 pub mod Told
 pub mod Changes
 pub mod History

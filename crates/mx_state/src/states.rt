@@ -2,8 +2,10 @@
 
 ghost use Rattle.std.specs.Prelude.{◌≡◌, ◌≤◌, ◌↔◌, ℕ, length, IfOk, IsTrue, OnErr};
 ghost use Rattle.std.specs.List.{All};
+ghost use Rattle.std.specs.Option.{option_map};
 ghost use Rattle.mx_sdw.specs.Admissible.{IsAdmissible};
 ghost use Rattle.mx_state.specs.Changes.{AreChanges, IsBounded};
+ghost use Rattle.mx_state.specs.DecidingEntry.{entry_behind, Explains};
 ghost use Rattle.mx_state.specs.History.{opening, MayAsk};
 ghost use Rattle.mx_request.specs.declared.replies.Reply.TheVariants as reply;
 ghost use Rattle.mx_request.specs.declared.requests.Request.TheVariants as ask;
@@ -16,11 +18,12 @@ ghost use Rattle.mx_state.specs.Told.{IsLinkedWithin};
 
 use crate::applied::Applied;
 use crate::openings::{fresh_processes, make_initializer};
-use crate::tables::descriptor;
+use crate::tables::{descriptor, entry_behind};
+use mx_acl::Modes;
 use mx_hier::Hier;
 use mx_kst::Kst;
 use mx_mail::Mail;
-use mx_name::{Path, Principal};
+use mx_name::{AclId, Path, Principal};
 use mx_request::Request;
 use mx_sdw::{Desc, Ring};
 use mx_search::Rules;
@@ -177,5 +180,16 @@ impl State {
         ensures admissible { IsAdmissible result }
     {
         descriptor(&self.hier, self.processes.as_slice(), p, segno)
+    }
+
+    /// The entry of an access list that decides the modes of what a segment number stands for in process `p`: it
+    /// explains the flags of the descriptor. None of a segment that was deleted or that no entry matches, of a stack or
+    /// a linkage section, of a number that stands for nothing, and where there is no process. Takes no memory.
+    #[tactic(auto, using(crate::proofs::EntryLaws::explained))]
+    pub fn deciding_entry(&self, p: u8, segno: u16) -> Option<(&AclId, Modes)>
+        ensures value { option_map (λ pair. (pair.0.now, pair.1)) result ≡ entry_behind self.now p segno }
+        ensures flags { Explains self.now p segno }
+    {
+        entry_behind(&self.hier, self.processes.as_slice(), p, segno)
     }
 }

@@ -4,12 +4,16 @@ ghost use Rattle.std.specs.Prelude.{◌≡◌, ◌≤◌, ◌<◌, true, false, 
 ghost use Rattle.mx_kst.specs.Sections.{IsWithinPage};
 ghost use Rattle.mx_sdw.specs.Admissible.{IsAdmissible};
 ghost use Rattle.mx_sdw.specs.Descriptors.{segment_desc};
+ghost use Rattle.std.specs.Option.{option_map};
+ghost use Rattle.mx_state.specs.DecidingEntry.{entry_in};
 ghost use Rattle.mx_state.specs.Table.{stack_desc, descriptor_in};
 
 use crate::callers::process_at;
 use crate::states::ProcessState;
+use mx_acl::Modes;
 use mx_hier::Hier;
 use mx_kst::{LAST_NUMBER, Lot};
+use mx_name::AclId;
 use mx_sdw::{Brackets, Desc, Ring};
 
 /// The descriptor that process `p` has of a segment number.
@@ -34,6 +38,32 @@ pub(crate) fn descriptor(hier: &Hier, processes: &[ProcessState], p: u8, segno: 
             brackets,
             words,
         } => linkage_desc(page, brackets, words),
+    }
+}
+
+/// The entry of an access list that decides the modes of what a number stands for in process `p`.
+pub(crate) fn entry_behind<'a>(
+    hier: &'a Hier,
+    processes: &[ProcessState],
+    p: u8,
+    segno: u16,
+) -> Option<(&'a AclId, Modes)>
+    ensures { option_map (λ pair. (pair.0.now, pair.1)) result ≡ entry_in hier.now processes.now p segno }
+{
+    let process = process_at(processes, p)?;
+    if segno > LAST_NUMBER {
+        return None;
+    }
+    match process.known.lot(segno) {
+        Lot::Branch { uid } => hier.deciding_entry(uid, &process.principal),
+        Lot::Free => None,
+        Lot::Stack(_) => None,
+        Lot::Linkage {
+            of: _,
+            page: _,
+            brackets: _,
+            words: _,
+        } => None,
     }
 }
 
