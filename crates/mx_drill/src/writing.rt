@@ -1,9 +1,7 @@
 //! The writer of session texts: from the session to its text.
 
-ghost use Rattle.std.specs.Prelude.{◌≡◌, ◌++◌, ◌∷◌, [], map, length, codes, IfOk, OnOk};
-ghost use Rattle.mx_sdw.specs.Octal.{octal};
+ghost use Rattle.std.specs.Prelude.{◌≡◌, ◌++◌, ◌∷◌, [], map, length, IfOk, OnOk};
 ghost use Rattle.mx_script.specs.SessionTexts.{asked, history_rows, process_rows, session_text};
-ghost use Rattle.mx_script.specs.SessionTexts.{base_text, operand_text, line_text};
 ghost use Rattle.mx_drill.specs.Writing.{rows_text};
 ghost use Rattle.mx_script.specs.declared.rows.Row.TheVariants.{Line as LineRow, Process as ProcessRow};
 
@@ -11,8 +9,7 @@ use itoa::Buffer;
 use mx_list::Bytes;
 use mx_name::Principal;
 use mx_request::Request;
-use mx_script::{Base, Line, Operand, Script, Session};
-use mx_sdw::write_octal;
+use mx_script::{Line, Script, Session};
 use std::alloc::{AllocError, Global};
 
 /// The text of a session, line by line. Takes time linear in the text, and memory for it alone. The only error is want of memory.
@@ -81,77 +78,8 @@ fn add_script(out: &mut Vec<u8>, script: &[Line]) -> Result<(), AllocError>
     ensures { OnOk result (out.new.items ≡ out.old.items ++ rows_text (map LineRow script.now)) }
 {
     for line in script {
-        add_line(out, line)?;
+        line.append_to(out)?;
         out.extend_from_slice(b"\n")?;
     }
     Ok(())
-}
-
-fn add_line(out: &mut Vec<u8>, line: &Line) -> Result<(), AllocError>
-    ensures { OnOk result (out.new.items ≡ out.old.items ++ line_text line.now) }
-{
-    match line {
-        Line::Ask(request) => request.request().append_to(out),
-        Line::Set { word } => {
-            out.extend_from_slice(b"set ")?;
-            write_octal(out, word.value())
-        }
-        Line::Epp { n, operand } => add_register_operand(out, b"epp ", *n, operand),
-        Line::Lda { operand } => add_labelled_operand(out, b"lda ", operand),
-        Line::Sta { operand } => add_labelled_operand(out, b"sta ", operand),
-        Line::Spri { n, operand } => add_register_operand(out, b"spri ", *n, operand),
-        Line::Fetch => out.extend_from_slice(b"fetch"),
-        Line::Call { operand } => add_labelled_operand(out, b"call ", operand),
-        Line::Return { operand } => add_labelled_operand(out, b"return ", operand),
-    }
-}
-
-fn add_register_operand(
-    out: &mut Vec<u8>,
-    label: &[u8],
-    n: u8,
-    operand: &Operand,
-) -> Result<(), AllocError>
-    ensures { OnOk result (out.new.items ≡ out.old.items ++ (label.now ++ octal n ++ codes " " ++ operand_text operand.now)) }
-{
-    out.extend_from_slice(label)?;
-    write_octal(out, u64::from(n))?;
-    out.extend_from_slice(b" ")?;
-    add_operand(out, operand)
-}
-
-fn add_labelled_operand(
-    out: &mut Vec<u8>,
-    label: &[u8],
-    operand: &Operand,
-) -> Result<(), AllocError>
-    ensures { OnOk result (out.new.items ≡ out.old.items ++ (label.now ++ operand_text operand.now)) }
-{
-    out.extend_from_slice(label)?;
-    add_operand(out, operand)
-}
-
-// `S|W` or `prN|W`, with `,*` or without.
-fn add_operand(out: &mut Vec<u8>, operand: &Operand) -> Result<(), AllocError>
-    ensures { OnOk result (out.new.items ≡ out.old.items ++ operand_text operand.now) }
-{
-    add_base(out, operand.base)?;
-    out.extend_from_slice(b"|")?;
-    write_octal(out, u64::from(operand.word))?;
-    if operand.indirect {
-        out.extend_from_slice(b",*")?;
-    }
-    Ok(())
-}
-
-fn add_base(out: &mut Vec<u8>, base: Base) -> Result<(), AllocError>
-    ensures { OnOk result (out.new.items ≡ out.old.items ++ base_text base) }
-{
-    match base {
-        Base::Segment(segno) => write_octal(out, u64::from(segno)),
-        Base::Register(n) => {
-            out.extend_from_slice(b"pr")?;
-            write_octal(out, u64::from(n))
-        }
-    }
 }

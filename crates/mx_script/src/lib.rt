@@ -14,6 +14,7 @@ mod outlines;
 mod reading;
 mod rows;
 mod sessions;
+mod writing;
 
 pub use laws::each_text_is_of_one_session;
 pub use lines::{Base, BoxedRequest, Line, Operand, Script, Scripts};
