@@ -3,6 +3,7 @@ use Rattle.std.proofs.Common.{◌≡◌, ℕ, zero, suc, ◌+◌, ◌<◌, min, 
 use Rattle.std.proofs.lemmas.List.{take_min}
 use Rattle.std.specs.List.{slice_get}
 use Rattle.mx_request.specs.declared.replies.Reply.{Reply}
+use Rattle.mx_state.specs.DecidingEntry.{entry_behind}
 use Rattle.mx_state.specs.History.{opening, replay, MayAsk, IsRight, IsRightEntry}
 use Rattle.mx_state.specs.Plain.{Plain, answer}
 use Rattle.mx_state.specs.Requests.{plain}
@@ -64,4 +65,11 @@ pub access_there : (r : Replayed) (state : Plain) (point p n : ℕ) → IsReplay
     → descriptor state p n ≡ descriptor (replay (opening r.principals) (take point r.journal)) p n
 access_there r state point p n is at =
     ap (λ (s : Plain). descriptor s p n)
+    (is.state_is ∙ ap (replay (opening r.principals)) (ap (λ (a : ℕ). take a r.journal) at ∙ take_min point r.journal))
+
+-- and so is the entry
+pub entry_there : (r : Replayed) (state : Plain) (point p n : ℕ) → IsReplay r state → r.at ≡ min point (length r.journal)
+    → entry_behind state p n ≡ entry_behind (replay (opening r.principals) (take point r.journal)) p n
+entry_there r state point p n is at =
+    ap (λ (s : Plain). entry_behind s p n)
     (is.state_is ∙ ap (replay (opening r.principals)) (ap (λ (a : ℕ). take a r.journal) at ∙ take_min point r.journal))

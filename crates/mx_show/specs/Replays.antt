@@ -1,8 +1,11 @@
 -- The access of a process at a point, as it is found by running the plain supervisor again over the journal.
-use Rattle.std.specs.Prelude.{◌≡◌, ℕ, ◌≤◌, List, length, take}
+use Rattle.std.specs.Prelude.{◌≡◌, ℕ, ◌≤◌, List, length, take, Option}
 use Rattle.mx_core.specs.declared.elements.Element.{Element}
+use Rattle.mx_acl.specs.declared.modes.Modes.{Modes}
+use Rattle.mx_name.specs.Identifiers.{PlainAclId}
 use Rattle.mx_name.specs.Principals.{PlainPrincipal}
 use Rattle.mx_sdw.specs.Descriptors.{Descriptor}
+use Rattle.mx_state.specs.DecidingEntry.{entry_behind}
 use Rattle.mx_state.specs.History.{opening, replay, IsRight}
 use Rattle.mx_state.specs.Plain.{Plain}
 use Rattle.mx_state.specs.Table.{descriptor}
@@ -34,3 +37,7 @@ pub record IsSameJournal (old new : Replayed) : Type 0 where
 -- the descriptor of an element, at its point
 abbrev pub access_of : List PlainPrincipal → List journaled.Entry → ℕ → Element → Descriptor
 access_of principals journal p e = descriptor (replay (opening principals) (take e.point journal)) p e.segno
+
+-- the entry of an access list that gave this descriptor its modes, none where there is none
+abbrev pub entry_of : List PlainPrincipal → List journaled.Entry → ℕ → Element → Option (PlainAclId × Modes)
+entry_of principals journal p e = entry_behind (replay (opening principals) (take e.point journal)) p e.segno

@@ -1,9 +1,11 @@
 //! The plain supervisor run again over a journal, entry by entry: what access each process has at each point.
 
-ghost use Rattle.std.specs.Prelude.{◌≤◌, length};
+ghost use Rattle.std.specs.Prelude.{◌≡◌, ◌≤◌, length};
+ghost use Rattle.std.specs.Option.{option_map};
 
+use mx_acl::Modes;
 use mx_legal::Element;
-use mx_name::Principal;
+use mx_name::{AclId, Principal};
 use mx_sdw::Desc;
 use mx_state::{Changes, Entry, State};
 use std::alloc::{AllocError, Global};
@@ -23,12 +25,14 @@ pub struct Changed {
 }
 
 /// A reference of a process, with the descriptor that it was judged on: the one that the first `point` entries of the
-/// journal leave. The last of these entries that changed it is `since`, 0 where none did.
+/// journal leave. The last of these entries that changed it is `since`, 0 where none did. `entry` is the entry of the
+/// access list that decided its modes: none of a stack, of a linkage section, and where no entry matches.
 #[derive(Clone, Copy, Debug)]
 pub struct Judged {
     pub process: u8,
     pub element: Element,
     pub desc: Desc,
+    pub entry: Option<(AclId, Modes)>,
     pub since: u32,
 }
 
@@ -61,7 +65,7 @@ impl<'a> Model for Replay<'a> {
 }
 
 impl<'a> Replay<'a> {
-    ghost use Rattle.mx_show.specs.Replays.{Replayed, replayed, access_of, IsSameJournal};
+    ghost use Rattle.mx_show.specs.Replays.{Replayed, replayed, access_of, entry_of, IsSameJournal};
     ghost use Rattle.std.specs.Prelude.{◌≡◌, ◌≤◌, ◌<◌, ◌+◌, length, min, IfOk, IsTrue, OnOk};
     ghost use Rattle.mx_state.specs.History.{opening, IsRight};
 
@@ -113,13 +117,16 @@ impl<'a> Replay<'a> {
         ensures process { IfOk result (λ judged. judged.process ≡ process) }
         ensures element { IfOk result (λ judged. judged.element ≡ element) }
         ensures desc { IfOk result (λ judged. judged.desc ≡ access_of self.old.principals self.old.journal process element) }
+        ensures entry { IfOk result (λ judged. judged.entry ≡ entry_of self.old.principals self.old.journal process element) }
     {
         self.go_to(alloc, element.point)?;
         let desc = self.state.descriptor(process, element.segno);
+        let entry = copied(self.state.deciding_entry(process, element.segno));
         Ok(Judged {
             process,
             element,
             desc,
+            entry,
             since: self.since(process, element.segno),
         })
     }
@@ -166,6 +173,16 @@ impl<'a> Replay<'a> {
             Some(held) => held.since,
             None => 0,
         }
+    }
+}
+
+// The entry itself in place of a reference to it.
+fn copied(found: Option<(&AclId, Modes)>) -> Option<(AclId, Modes)>
+    ensures { result ≡ option_map (λ pair. (pair.0.now, pair.1)) found.entry }
+{
+    match found {
+        Some((id, modes)) => Some((*id, modes)),
+        None => None,
     }
 }
 

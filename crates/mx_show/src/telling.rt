@@ -1,10 +1,10 @@
 //! What the lines of one process came to, line by line.
 
 use crate::judging::Accesses;
-use crate::reasons::explain;
+use crate::reasons::{Reason, explain};
 use crate::replays::{Changed, Judged};
 use crate::sources::source_of;
-use crate::words::{Access, add_reply, kind_word, modes, walk_words};
+use crate::words::{Access, add_access, add_lack, add_reply, kind_word, modes, walk_words};
 use mx_legal::{Event, Event2, Kind, Outcome, Result2, entry_at};
 use mx_ptr::{Pointer, is_link};
 use mx_sdw::{Denial, DescKind, Ring, Word};
@@ -70,7 +70,7 @@ impl<'a> Teller<'a> {
             }
             Event2::Core(Event::Seen(element)) => match self.next_judged() {
                 Some(judged) => {
-                    add_reference(out, &judged, self.ring)?;
+                    add_reference(alloc, out, &judged, self.ring)?;
                     Ok(matches!(element.outcome, Outcome::Denied(_)))
                 }
                 None => Ok(false),
@@ -181,7 +181,12 @@ fn add_register(out: &mut String, n: u8, pointer: &Pointer) -> Result<(), AllocE
 }
 
 // Adds a reference, what came of it, and the access that it was judged on.
-fn add_reference(out: &mut String, judged: &Judged, current: u8) -> Result<(), AllocError> {
+fn add_reference(
+    alloc: Global,
+    out: &mut String,
+    judged: &Judged,
+    current: u8,
+) -> Result<(), AllocError> {
     let element = &judged.element;
     write!(
         out,
@@ -192,25 +197,22 @@ fn add_reference(out: &mut String, judged: &Judged, current: u8) -> Result<(), A
     )?;
     write!(out, " in ring {}", element.ring.number())?;
     match element.outcome {
-        Outcome::Denied(denial) => add_denial(out, judged, denial, current)?,
+        Outcome::Denied(denial) => add_denial(alloc, out, judged, denial, current)?,
         Outcome::Written { value } => write!(out, ": stores {:o}\n", value.value())?,
         Outcome::Entered { ring } => write!(out, ": enters ring {}\n", ring.number())?,
         Outcome::Read { value, .. } => add_read(out, element.kind, value, element.outcome)?,
     }
-    write!(
-        out,
-        "        at point {}: {}",
-        element.point,
-        Access(&judged.desc)
-    )?;
+    write!(out, "        at point {}: ", element.point)?;
+    add_access(alloc, out, judged)?;
     match judged.since {
         0 => out.push_str(", from the start\n"),
         since => write!(out, ", since entry {since}\n"),
     }
 }
 
-// Adds a denial with the numbers that its rule compares.
+// Adds a denial with the numbers that its rule compares, and for a flag that is off the entry that lacks it.
 fn add_denial(
+    alloc: Global,
     out: &mut String,
     judged: &Judged,
     denial: Denial,
@@ -219,9 +221,15 @@ fn add_denial(
     let element = &judged.element;
     write!(out, " denied {}: ", denial.text())?;
     match explain(&judged.desc, denial, element.ring, element.word, current) {
-        Some(reason) => write!(out, "{reason}\n"),
-        None => write!(out, "{}\n", walk_words(denial)),
+        Some(reason) => {
+            write!(out, "{reason}")?;
+            if matches!(reason, Reason::NoRead | Reason::NoWrite | Reason::NoExecute) {
+                add_lack(alloc, out, judged)?;
+            }
+        }
+        None => out.push_str(walk_words(denial))?,
     }
+    out.push_str("\n")
 }
 
 // Adds the word read, whose store it is, and where it leads.

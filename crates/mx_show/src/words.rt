@@ -1,8 +1,9 @@
 //! Accesses, replies and script lines in words.
 
+use crate::replays::Judged;
 use mx_hier::Refusal;
 use mx_legal::Kind;
-use mx_name::Principal;
+use mx_name::{AclId, Principal};
 use mx_request::{Known, Reply, Request};
 use mx_script::{Base, Line, Operand};
 use mx_sdw::{Denial, Desc, DescKind};
@@ -19,21 +20,73 @@ impl<'a> Display for Access<'a> {
         match self.0.kind() {
             DescKind::Unknown => f.write_str("no segment"),
             DescKind::Gone => f.write_str("a deleted segment"),
-            DescKind::Segment => {
-                let brackets = self.0.brackets();
-                write!(f, "{}, brackets {}", modes(self.0), brackets.r1().number())?;
-                write!(f, ",{},{}", brackets.r2().number(), brackets.r3().number())?;
-                let bound = self.0.bound();
-                let words = if bound == 1 { "word" } else { "words" };
-                write!(f, ", {bound} {words}")?;
-                match self.0.gate() {
-                    0 => Ok(()),
-                    1 => f.write_str(", gate 0"),
-                    gate => write!(f, ", gates 0 to {:o}", gate - 1),
-                }
-            }
+            DescKind::Segment => write!(f, "{}{}", modes(self.0), Extent(self.0)),
         }
     }
+}
+
+// The brackets of a segment, its size and its gates.
+#[derive(Clone, Copy, Debug)]
+struct Extent<'a>(&'a Desc);
+
+impl<'a> Display for Extent<'a> {
+    fn fmt<W: Write>(&self, f: &mut Formatter<W>) -> fmt::Result {
+        let brackets = self.0.brackets();
+        write!(f, ", brackets {}", brackets.r1().number())?;
+        write!(f, ",{},{}", brackets.r2().number(), brackets.r3().number())?;
+        let bound = self.0.bound();
+        let words = if bound == 1 { "word" } else { "words" };
+        write!(f, ", {bound} {words}")?;
+        match self.0.gate() {
+            0 => Ok(()),
+            1 => f.write_str(", gate 0"),
+            gate => write!(f, ", gates 0 to {:o}", gate - 1),
+        }
+    }
+}
+
+/// Adds the access that a reference was judged on, and which entry of the access list gave the modes.
+pub(crate) fn add_access(
+    alloc: Global,
+    out: &mut String,
+    judged: &Judged,
+) -> Result<(), AllocError> {
+    let desc = &judged.desc;
+    match &judged.entry {
+        Some((id, _)) => {
+            write!(out, "{} by ", modes(desc))?;
+            add_id(alloc, out, id)?;
+            write!(out, "{}", Extent(desc))
+        }
+        None if is_unmatched(judged) => { write!(out, "null: no entry matches{}", Extent(desc)) }
+        None => write!(out, "{}", Access(desc)),
+    }
+}
+
+/// Adds which entry of the access list lacks a flag, where the modes come of an access list.
+pub(crate) fn add_lack(alloc: Global, out: &mut String, judged: &Judged) -> Result<(), AllocError> {
+    match &judged.entry {
+        Some((id, modes)) => {
+            out.push_str(", as the entry ")?;
+            add_id(alloc, out, id)?;
+            write!(out, " gives {}", modes.text())
+        }
+        None if is_unmatched(judged) => out.push_str(", as no entry matches"),
+        None => Ok(()),
+    }
+}
+
+// Whether it is a segment of which no entry of the access list matches: a stack and a linkage section have r and w.
+fn is_unmatched(judged: &Judged) -> bool {
+    let desc = &judged.desc;
+    judged.entry.is_none() && desc.kind() == DescKind::Segment && !desc.r() && !desc.w()
+}
+
+// Adds the identifier of an entry.
+fn add_id(alloc: Global, out: &mut String, id: &AclId) -> Result<(), AllocError> {
+    let mut bytes = Vec::new(alloc);
+    id.append_to(&mut bytes)?;
+    add_bytes(out, &bytes)
 }
 
 /// What the access list gives: `null`, or letters of `rew`.

@@ -45,9 +45,9 @@ const SMALLEST_LINES: &str = "processes: 1; journal entries: 4\n\n\
     \x20       process 1, segment 10: was no segment; is rw, brackets 1,4,4, 64 words\n\
     line 6: set 52\n    A is 52\n\
     line 7: sta 10|5\n    write 10|5 in ring 4 denied write_bracket: ring 4 is above R1 = 1\n\
-    \x20       at point 3: rw, brackets 1,4,4, 64 words, since entry 3\n\
+    \x20       at point 3: rw by Jones.Faculty.a, brackets 1,4,4, 64 words, since entry 3\n\
     line 8: lda 10|5\n    read 10|5 in ring 4: 0, nobody has stored there\n\
-    \x20       at point 3: rw, brackets 1,4,4, 64 words, since entry 3\n\
+    \x20       at point 3: rw by Jones.Faculty.a, brackets 1,4,4, 64 words, since entry 3\n\
     line 9: logout\n    entry 4 in ring 4: done\n";
 
 #[test]
