@@ -23,3 +23,4 @@ mod WaitingLineLaws
 mod LinkLineLaws
 mod WrongRuleLaws
 pub mod RecordedLaws
+pub mod DenialLaws

@@ -1,5 +1,6 @@
 -- the types of a run, and its lines
 pub mod Transcripts
+pub mod Denials
 pub mod Recorded
 pub mod Next
 pub mod Elements

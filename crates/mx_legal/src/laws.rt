@@ -1,11 +1,14 @@
 //! Laws over the definitions.
 
+ghost use Rattle.std.specs.Prelude.{◌≡◌, ◌≤◌, List, [], ◌∷◌, ◌++◌, length};
+ghost use Rattle.mx_legal.specs.Denials.{denial_of, denials, last_denial};
 ghost use Rattle.mx_legal.specs.Dues.{SectionWordLaw, SnappedLaw, NoMoreLaw};
 ghost use Rattle.mx_legal.specs.Printed.{EachReferenceLaw};
 ghost use Rattle.mx_legal.specs.Rings.{LineRingsLaw, RingsLaw, LegalRingsLaw};
 ghost use Rattle.mx_legal.specs.SetupLines.{SetupLinesLaw};
 ghost use Rattle.mx_legal.specs.SoFar.{ReferenceLaw, FillLaw, MissLaw, CallLaw, LineLaw, ExtendsLaw, GrownLaw, OneOutcomeLaw};
 ghost use Rattle.mx_legal.specs.Standing.{WalkBegunLaw, WalkLaw, TraceLaw, FillTraceLaw, PromiseLaw, FullLaw};
+ghost use Rattle.mx_legal.specs.Transcripts.{Step};
 ghost use Rattle.mx_legal.specs.CallLines.{RightTransfers, WrongTransfers, WrongRegisters};
 ghost use Rattle.mx_legal.specs.LinkLines.{RightLinks, WrongLinks};
 ghost use Rattle.mx_legal.specs.PointerLines.{RightPointers, WrongPointers};
@@ -112,4 +115,12 @@ pub fn wrong_runs_are_refused()
     ensures points { WrongPoints }
     ensures reads { WrongReads }
     ensures falls { WrongFalls }
+{}
+
+/// The denials of lines are those of the earlier ones and then those of the later, at most one a line; the last denial is
+/// that of the line that came last.
+pub fn denial_law()
+    ensures in_order { (steps others : List Step) → denials (steps ++ others) ≡ denials steps ++ denials others }
+    ensures few { (steps : List Step) → length (denials steps) ≤ length steps }
+    ensures last { (steps : List Step) (step : Step) → last_denial (steps ++ step ∷ []) ≡ denial_of step }
 {}

@@ -2,14 +2,14 @@
 //!
 //! The definitions in `specs/` are the rules, one idea a file: what a line asks for next (`Asking`), the writes that a
 //! reply asks for (`Filling`), how a line's events answer that (`Events`, `Lines`), references (`Elements`), misses
-//! (`Misses`), points (`Points`), words read (`Reads`), the full journal (`FullJournal`), gated falls (`Falls`), and all
-//! of them together (`Legal`, one field a rule). The laws say how lines go on for whoever runs them (`SoFar`), which
-//! writes are due (`Dues`), what a process knows of its own lines (`Standing`), what the rules make of rings (`Rings`),
-//! of each printed reference (`Printed`) and of the setup (`SetupLines`), and that wrong runs are refused (`WrongLines`,
-//! `PointerLines`, `CallLines`, `WaitingLines`, `LinkLines`, `WrongPoints`, `WrongReads`, `WrongFalls`). The crate has
-//! the types of transcripts, and small readers that machines and printers share. Stands on `mx_core` (references),
-//! `mx_effring` (the walk of an operand), `mx_call` (registers), `mx_state` (journal, history, descriptors), `mx_script`
-//! (sessions) and `mx_request`; takes no memory.
+//! (`Misses`), points (`Points`), words read (`Reads`), the full journal (`FullJournal`), gated falls (`Falls`), and
+//! all of them together (`Legal`, one field a rule). The laws say how lines go on for whoever runs them (`SoFar`),
+//! which writes are due (`Dues`), what a process knows of its own lines (`Standing`), which lines were denied
+//! (`Denials`), what the rules make of rings (`Rings`), of each printed reference (`Printed`) and of the setup
+//! (`SetupLines`), and that wrong runs are refused (`WrongLines`, `PointerLines`, `CallLines`, `WaitingLines`,
+//! `LinkLines`, `WrongPoints`, `WrongReads`, `WrongFalls`). The crate has the types of transcripts, and small readers
+//! that machines and printers share. Stands on `mx_core` (references), `mx_effring` (the walk of an operand), `mx_call`
+//! (registers), `mx_state` (journal, history, descriptors), `mx_script` (sessions) and `mx_request`; takes no memory.
 #![tactic(auto)]
 
 mod entries;
@@ -19,9 +19,9 @@ mod transcripts;
 
 pub use entries::entry_at;
 pub use laws::{
-    a_snapped_link_begins_anew, a_wait_is_two_entries, due_law, each_reference_is_judged,
-    event_law, extends_law, full_law, line_law, one_outcome_law, rings_law, setup_lines_law,
-    trace_law, walk_law, wrong_runs_are_refused,
+    a_snapped_link_begins_anew, a_wait_is_two_entries, denial_law, due_law,
+    each_reference_is_judged, event_law, extends_law, full_law, line_law, one_outcome_law,
+    rings_law, setup_lines_law, trace_law, walk_law, wrong_runs_are_refused,
 };
 pub use mx_core::{Element, Event, Kind, Outcome};
 pub use numbering::{first_line, setup_entries};

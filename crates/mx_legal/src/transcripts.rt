@@ -3,6 +3,7 @@
 ghost use Rattle.std.specs.Prelude.{◌≡◌, [], ◌∷◌, ◌++◌, IsTrue, length, OnOk, IfOk};
 ghost use Rattle.std.specs.Iterator.{YieldsFirstBy, item_count};
 ghost use Rattle.mx_legal.specs.Asking.{result_of};
+ghost use Rattle.mx_legal.specs.Denials.{last_denial};
 ghost use Rattle.mx_legal.specs.Recorded.{IsStill};
 
 use mx_core::Event;
@@ -173,6 +174,18 @@ impl Recording {
         ensures { result ≡ length self.now.steps }
     {
         self.lines.len()
+    }
+
+    /// The denial with which the last line ended that has ended, and the line's number in the session text. `None` exactly
+    /// where that line was not denied, and where no line has ended.
+    pub fn last_denial(&self) -> Option<(u32, Denial)>
+        ensures { result ≡ last_denial self.now.steps }
+    {
+        let line = self.lines.last()?;
+        let Result2::Denied(denial) = line.result else {
+            return None;
+        };
+        Some((line.number, denial))
     }
 
     /// Makes room for one more event and for the end of one more line. Want of memory changes nothing that was recorded;
