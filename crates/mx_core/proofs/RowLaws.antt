@@ -19,6 +19,7 @@ use Rattle.mx_core.specs.declared.steps.Cause.TheVariants as cause
 use Rattle.mx_core.specs.declared.steps.Step.TheVariants.{Append, Strike, Connect, Acknowledge, Answer}
 use Rattle.mx_core.specs.Opening.{CanOpen}
 use Rattle.mx_core.specs.Put.{pick, put}
+use Rattle.mx_core.proofs.Descriptors.{unknown_admissible}
 use Rattle.mx_core.proofs.Puts.{put_else, pick_all}
 
 unlike_kind : Segment ≡ Unknown → ⊥
@@ -66,13 +67,6 @@ data_admissible writable page low = record {
 
 admissible : IsAdmissible (data_desc false 20)
 admissible = data_admissible false 20 (omega arith)
-
-unknown_admissible : IsAdmissible unknown_desc
-unknown_admissible =
-    record { unknown = λ e. refl; gone = λ e. absurd (other e); segment = λ e. absurd (unlike_kind (sym e)) }
-  where
-    other : Unknown ≡ Gone → ⊥
-    other e = cc
 
 opens : CanOpen 2 128 3 row_table
 opens = record {

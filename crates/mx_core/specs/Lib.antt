@@ -1,4 +1,5 @@
 pub mod Put
+pub mod Lists
 pub mod Words
 pub mod World
 pub mod Notions
@@ -30,9 +31,3 @@ pub mod Invariant
 pub mod Sentences
 pub mod Laws
 pub mod Row
-pub mod Listing
-pub mod Shows
-pub mod Seating
-pub mod Marking
-pub mod Tables
-pub mod Running

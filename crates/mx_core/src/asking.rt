@@ -10,7 +10,7 @@ use mx_sdw::{Desc, Op, judge, new_ring};
 
 impl Asked {
     /// What needs no cell step: a denial, a granted call and a granted return.
-    pub(crate) fn at_once(&self, desc: &Desc) -> Option<Outcome>
+    pub fn at_once(&self, desc: &Desc) -> Option<Outcome>
         ensures { result ≡ at_once desc.now self.now }
     {
         match judge(desc, self.op, self.ring, u32::from(self.word)) {
@@ -28,7 +28,7 @@ impl Asked {
     }
 
     /// The kind of its element.
-    pub(crate) fn kind(&self) -> Kind
+    pub fn kind(&self) -> Kind
         ensures { result ≡ kind_of self.now.op }
     {
         match self.op {
@@ -42,7 +42,7 @@ impl Asked {
     }
 
     /// Whether it reads the cell.
-    pub(crate) fn loads(&self) -> bool
+    pub fn loads(&self) -> bool
         ensures { result ≡ loads self.now.op }
     {
         match self.op {
@@ -52,7 +52,7 @@ impl Asked {
     }
 
     /// Whether it writes the cell.
-    pub(crate) fn writes(&self) -> bool
+    pub fn writes(&self) -> bool
         ensures { result ≡ writes self.now.op }
     {
         match self.op {

@@ -5,9 +5,10 @@ mod memories;
 mod pages;
 mod revocation;
 
-use mx_core::{Cause, Change, DescList, Kept, Outcome, Run, Step, StepError, World};
+use mx_core::{Cause, Change, Kept, Outcome, Run, Step, StepError};
 use mx_list::Sequence;
 use mx_sdw::{Brackets, Desc, Op, Ring, Word};
+use mx_worlds::{DescList, World};
 use std::alloc::Global;
 use std::test::Fail;
 

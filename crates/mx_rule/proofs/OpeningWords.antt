@@ -9,11 +9,11 @@ use Rattle.mx_sdw.specs.Descriptors.{Descriptor, unknown_desc}
 use Rattle.mx_core.specs.Append.{with_changes}
 use Rattle.mx_core.specs.Opening.{CanOpen}
 use Rattle.mx_core.specs.Put.{pick, put}
-use Rattle.mx_core.specs.Shows.{Lists}
+use Rattle.mx_core.specs.Lists.{Lists}
 use Rattle.mx_core.specs.declared.changes.Change.{Change}
 use Rattle.mx_core.specs.declared.words.DescriptorWord.TheVariants.{Valid}
 use Rattle.mx_core.proofs.Puts.{put_all, put_here, pick_true, pick_false}
-use Rattle.mx_core.proofs.TableLaws.{unknown_admissible}
+use Rattle.mx_core.proofs.Descriptors.{unknown_admissible}
 use Rattle.mx_rule.specs.Codes.{word_code}
 use Rattle.mx_rule.specs.Layout.{Layout, ShowsWords}
 use Rattle.mx_rule.specs.Openings.{IsPlaced, MayOpen, opening_content, blank_number}

@@ -2,7 +2,7 @@
 
 ghost use Rattle.std.specs.Prelude.{◌≡◌, ◌≤◌, ℕ, List, Some, slice_get, vec_len, IfOk};
 ghost use Rattle.mx_core.specs.Append.{with_changes};
-ghost use Rattle.mx_core.specs.Shows.{Lists};
+ghost use Rattle.mx_core.specs.Lists.{Lists};
 ghost use Rattle.mx_rule.specs.Dealing.{opening_view};
 ghost use Rattle.mx_rule.specs.Layout.{ShowsWords};
 ghost use Rattle.mx_rule.specs.Openings.{ArePlaced, IsPlaced, MayOpen, opening_content, blank_number};

@@ -4,8 +4,9 @@ use super::{
     are_made, are_refused, data, entry, event, load, open, opened, recall, refusal, ring, set,
     take_access, word,
 };
-use mx_core::{Cause, DescList, Step};
+use mx_core::{Cause, Step};
 use mx_sdw::{Desc, Op};
+use mx_worlds::DescList;
 use std::test::Fail;
 
 // At rest, with both processes outside: page 20 is covered.

@@ -1,8 +1,9 @@
 //! A page is given out, cleared, and given out again: what was stored in its first use is not read in its second.
 
 use super::{are_made, data, entry, event, load, opened, refusal, ring, word};
-use mx_core::{Cause, Outcome, Step, World};
+use mx_core::{Cause, Outcome, Step};
 use mx_sdw::{Desc, Op, Word};
+use mx_worlds::World;
 use std::test::Fail;
 
 // The pending entry is told to a process that is outside, by its number 10, and settled.

@@ -1,6 +1,6 @@
 use Rattle.std.proofs.Common.{◌≡◌, ℕ, ◌+◌, List, length, ap, sym, ◌∙◌, subst, rules}
-use Rattle.mx_core.specs.Shows.{Lists}
-use Rattle.mx_core.proofs.TableLaws.{value_added}
+use Rattle.mx_core.specs.Lists.{Lists}
+use Rattle.mx_core.proofs.Lists.{value_added}
 use Rattle.mx_rule.specs.Openings.{blank_number}
 use Rattle.mx_rule.proofs.opening.blanks.Goals as goal
 

@@ -1,6 +1,6 @@
 use Rattle.std.proofs.Common.{◌≡◌}
 use Rattle.std.specs.Vec.{vec_len}
-use Rattle.mx_core.specs.Shows.{Lists}
+use Rattle.mx_core.specs.Lists.{Lists}
 use Rattle.mx_rule.specs.Openings.{blank_number}
 use Rattle.mx_rule.proofs.opening.blanks.Given as goal
 

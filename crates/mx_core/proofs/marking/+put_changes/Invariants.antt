@@ -1,5 +1,0 @@
-use Rattle.std.proofs.Common.{length}
-use Rattle.mx_core.proofs.marking.+put_changes.Given as goal
-
-abbrev pub decreases-put_changes : goal.decreases-put_changes
-decreases-put_changes l = length l.changes.now

@@ -1,6 +1,0 @@
-use Rattle.std.proofs.Common.{◌≡◌, ℕ, ◌<◌}
-use Rattle.mx_core.specs.Shows.{Columns, ShowsSeat}
-use Rattle.mx_core.proofs.seats.Seat.first_change.Given as goal
-
-abbrev pub invariant-loop-segno : goal.invariant-loop-segno
-invariant-loop-segno l = (n : ℕ) (c : Columns) → ShowsSeat n l.self c → (j : ℕ) → j < l.segno → c.present j ≡ c.before j

@@ -1,8 +1,0 @@
-use Rattle.std.proofs.Common.{ℕ, ◌<◌}
-use Rattle.mx_core.specs.Append.{IsClearAt}
-use Rattle.mx_core.specs.Shows.{Shows}
-use Rattle.mx_core.specs.World.{World}
-use Rattle.mx_core.proofs.worlds.World.first_unclear.Given as goal
-
-abbrev pub invariant-loop-page : goal.invariant-loop-page
-invariant-loop-page l = (w : World) → Shows l.self w → (j : ℕ) → j < l.page → IsClearAt w l.given j

@@ -1,0 +1,9 @@
+mod Seating
+mod ColumnLaws
+mod Searching
+mod Pending
+mod Listings
+mod Marks
+mod TableLaws
+mod Runs
+mod Recalling

@@ -1,0 +1,6 @@
+use Rattle.std.proofs.Common.{ℕ, ◌<◌}
+use Rattle.mx_worlds.specs.Tables.{row_in, HasCover}
+use Rattle.mx_worlds.proofs.tables.DescList.covers.Given as goal
+
+abbrev pub invariant-loop-row : goal.invariant-loop-row
+invariant-loop-row l = (i : ℕ) → i < l.row-index → HasCover (row_in l.self.rows.items i) l.page → ⊥

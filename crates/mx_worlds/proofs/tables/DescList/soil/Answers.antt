@@ -1,0 +1,40 @@
+use Rattle.std.proofs.Common.{◌+◌, sym, ◌∙◌, rules}
+use Rattle.std.specs.Prelude.{nat_lt, ◌==◌, ◌&&◌, not}
+use Rattle.mx_core.specs.Opening.{is_covered}
+use Rattle.mx_core.specs.Pages.{page_of}
+use Rattle.mx_worlds.specs.Tables.{table_of}
+use Rattle.mx_worlds.proofs.Marks.{lists_as, soil_put, soil_keep, soil_done}
+use Rattle.mx_worlds.proofs.tables.DescList.soil.Goals.{then-covers, else-covers}
+use Rattle.mx_worlds.proofs.tables.DescList.soil.Goals as goal
+
+pub loop-page-preserved : goal.loop-page-preserved
+loop-page-preserved c = elim c.if-covers.branch [
+  | then-covers w ↦ rw w.clean-is (
+    λ f has.
+        let k = c.loop-page.page in
+        let P = is_covered c.args.self.now.processes c.args.self.now.numbers (table_of c.args.self.now) in
+        lists_as w.soil_page.new.clean.items
+        (λ n. (f n && not (nat_lt (page_of n) k && P (page_of n))) && not (page_of n == k))
+        (λ n. f n && not (nat_lt (page_of n) (k + 1) && P (page_of n)))
+        (w.soil_page.ensures.shown (λ n. f n && not (nat_lt (page_of n) k && P (page_of n)))
+        (c.loop-page.invariant.0 f has))
+        (λ n under. soil_put P (f n) (page_of n) k (sym c.covers.ensures ∙ w.if-covers.true)),
+    w.soil_page.ensures.len ∙ c.loop-page.invariant.1,
+  )
+  | else-covers w ↦ rw w.clean-is (
+    λ f has.
+        let k = c.loop-page.page in
+        let P = is_covered c.args.self.now.processes c.args.self.now.numbers (table_of c.args.self.now) in
+        lists_as c.loop-page.clean.items (λ n. f n && not (nat_lt (page_of n) k && P (page_of n)))
+        (λ n. f n && not (nat_lt (page_of n) (k + 1) && P (page_of n))) (c.loop-page.invariant.0 f has)
+        (λ n under. soil_keep P (f n) (page_of n) k (sym c.covers.ensures ∙ w.if-covers.false)),
+    c.loop-page.invariant.1,
+  )
+]
+
+pub returns-clause-shown : goal.returns-clause-shown
+returns-clause-shown c f has =
+    let P = is_covered c.args.self.now.processes c.args.self.now.numbers (table_of c.args.self.now) in
+    lists_as c.loop-page.clean.items (λ n. f n && not (nat_lt (page_of n) c.loop-page.page && P (page_of n)))
+    (λ n. f n && not (P (page_of n))) (c.loop-page.invariant.0 f has)
+    (λ n under. soil_done P (f n) (page_of n) c.loop-page.page (search rules))

@@ -1,0 +1,26 @@
+use Rattle.std.proofs.Common.{◌∙◌, ap, sym, rules}
+use Rattle.mx_core.specs.Entering.{CanEnter, entered, next_turn}
+use Rattle.mx_worlds.specs.Shows.{columns}
+use Rattle.mx_core.specs.World.{Process}
+use Rattle.mx_core.proofs.ProcessLaws.{enter_law}
+use Rattle.mx_worlds.proofs.Seating.{seat_shown, process_parts, process_is}
+use Rattle.mx_worlds.proofs.worlds.World.enter.Goals as goal
+
+pub returns : goal.returns
+returns c w shows =
+    let p = c.args.process in
+    let m = c.args.self.now in
+    let s = seat_shown m.seats.items w c.from-place.result p c.index.result.now (search rules) (search rules)
+    c.index.ensures shows.parts.shows in
+    let can : CanEnter w p = record {
+      range = process_is _ w p shows.parts.same (search rules) (search rules);
+      outside = sym (ap (λ (o : Process). o.stage) s.process) ∙ (search rules);
+    } in (
+      can,
+      record {
+        parts = process_parts _ _ _ _ _ _ w c.from-place.result p c.index_mut.result.now c.enter.new.self (search rules)
+            (search rules) c.index_mut.ensures.value shows.parts
+            (entered (w.process p) (next_turn (w.process p).turn)) (c.enter.ensures w.numbers (columns w p));
+        good = enter_law w p shows.good can;
+      },
+    )
