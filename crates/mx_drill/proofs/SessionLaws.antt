@@ -1,7 +1,8 @@
 -- The drill is a session, and its text is the text of it alone.
 use Rattle.std.proofs.Common.{◌≡◌, ℕ, zero, suc, ◌+◌, ◌-◌, ◌*◌, ◌%◌, ◌^◌, ◌<◌, ◌≤◌, Bool, true, false, not, List, [], ◌∷◌, ◌++◌, map, length, Some, None, refl, ap, sym, ◌∙◌, arith, length-append, nat_eq}
 use Rattle.std.specs.Prelude.{◌&&◌, is_none, if◌then◌else◌}
-use Rattle.std.specs.List.{flat_map, range_with_len, list_all, sum_by}
+use Rattle.std.specs.List.{All, flat_map, range_with_len, list_all, sum_by}
+use Rattle.std.proofs.lemmas.List.Elements.{All-nil, All-cons}
 use Rattle.std.proofs.lemmas.List.Folds.{list_all-append, list_all-map}
 use Rattle.mx_name.specs.Principals.{PlainPrincipal, components_fault}
 use Rattle.mx_request.specs.declared.requests.Request.{Request}
@@ -78,6 +79,15 @@ script_length number p =
     let e : length (rounds number p 256 ++ Ask Logout ∷ []) ≡ length (rounds number p 256) + 1 = length-append (rounds number p 256) (Ask Logout ∷ []) in
     let h : length (rounds number p 256) ≤ 512 = rounds_length number p in
     omega (arith, e, h)
+
+few_of : (number : ℕ) (processes : List ℕ) → All (λ lines. lines ≤ 600) (map length (map (drill_script number) processes))
+few_of number [] = All-nil (λ lines. lines ≤ 600)
+few_of number (p ∷ processes) =
+    All-cons (λ lines. lines ≤ 600) (length (drill_script number p)) (map length (map (drill_script number) processes))
+    (omega (arith, script_length number p)) (few_of number processes)
+
+pub few_lines : (number : ℕ) → All (λ lines. lines ≤ 600) (map length (drill_session number).scripts)
+few_lines number = few_of number one_to_four
 
 scripts_are : (number : ℕ) → number ≤ 999999 → list_all is_script (map (drill_script number) one_to_four) ≡ true
 scripts_are number known =

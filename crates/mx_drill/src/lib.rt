@@ -14,7 +14,7 @@ mod sessions;
 mod summaries;
 mod writing;
 
-pub use laws::each_drill_has_its_text;
+pub use laws::{each_drill_has_its_text, each_drill_is_short};
 pub use sessions::session_of;
 pub use summaries::summary;
 pub use writing::session_text;

@@ -5,3 +5,4 @@ pub mod RowLaws
 pub mod DraftLaws
 pub mod ReadingLaws
 pub mod TextLaws
+pub mod LengthLaws
