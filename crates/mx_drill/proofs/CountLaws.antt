@@ -11,7 +11,7 @@ use Rattle.mx_legal.specs.declared.transcripts.Event2.{Event2}
 use Rattle.mx_legal.specs.declared.transcripts.Event2.TheVariants.{Core, Entry}
 use Rattle.mx_legal.specs.Transcripts.{Step, events_of}
 use Rattle.mx_drill.specs.Counting.{Counted, HasCounted}
-use Rattle.mx_drill.specs.Summaries.{is_granted, is_denied, value_written, references_among, references_of}
+use Rattle.mx_drill.specs.Summaries.{is_granted, is_denied, value_written, references_among}
 use Rattle.mx_drill.specs.declared.summaries.Counts.{Counts}
 
 pub counted_none : (a : Counts) → Counted a [] a

@@ -1,7 +1,7 @@
 -- The drill is a session, and its text is the text of it alone.
-use Rattle.std.proofs.Common.{◌≡◌, ℕ, zero, suc, ◌+◌, ◌-◌, ◌*◌, ◌%◌, ◌^◌, ◌<◌, ◌≤◌, Bool, true, false, not, List, [], ◌∷◌, ◌++◌, map, length, Some, None, refl, ap, sym, ◌∙◌, arith, length-append, nat_eq}
+use Rattle.std.proofs.Common.{◌≡◌, ℕ, ◌+◌, ◌-◌, ◌%◌, ◌^◌, ◌<◌, ◌≤◌, Bool, true, false, not, List, [], ◌∷◌, ◌++◌, map, length, Some, None, refl, ap, ◌∙◌, arith, length-append, nat_eq}
 use Rattle.std.specs.Prelude.{◌&&◌, is_none, if◌then◌else◌}
-use Rattle.std.specs.List.{All, flat_map, range_with_len, list_all, sum_by}
+use Rattle.std.specs.List.{All, list_all}
 use Rattle.std.proofs.lemmas.List.Elements.{All-nil, All-cons}
 use Rattle.std.proofs.lemmas.List.Folds.{list_all-append, list_all-map}
 use Rattle.mx_name.specs.Principals.{PlainPrincipal, components_fault}
@@ -12,9 +12,9 @@ use Rattle.mx_script.specs.SessionTexts.{rows_of, fits, fits_line, process_rows,
 use Rattle.mx_script.specs.declared.lines.Line.{Line}
 use Rattle.mx_script.specs.declared.lines.Line.TheVariants.{Ask}
 use Rattle.mx_script.specs.declared.rows.Row.TheVariants as row
-use Rattle.mx_drill.specs.Drills.{driller, one_to_four, drill_setup, round, rounds, initiation, drill_script, drill_session, round_of_kind, store, load, change, overrun}
+use Rattle.mx_drill.specs.Drills.{driller, one_to_four, drill_setup, round, rounds, initiation, drill_script, drill_session, store, load, change, overrun}
 use Rattle.mx_drill.proofs.ListLaws.{all_pieces, pieces_length, pieces_more}
-use Rattle.mx_drill.proofs.DrillLaws.{IsGoodTest, both, one_of_four, round_good, script_lines, no_logouts, text_lines}
+use Rattle.mx_drill.proofs.DrillLaws.{IsGoodTest, both, round_good, script_lines, no_logouts, text_lines}
 
 -- what a process does before its logout
 abbrev pub work : ℕ → ℕ → List Line
