@@ -13,6 +13,7 @@ use Rattle.mx_hier.specs.declared.refusals.Refusal.{Refusal}
 use Rattle.mx_legal.specs.Asking.{next, answered, attempts, first_due, result_of}
 use Rattle.mx_legal.specs.Attempts.{wants, after_seen, along, attempt}
 use Rattle.mx_legal.specs.Courses.{Course, Attempt, Answer, Judged}
+use Rattle.mx_legal.specs.Denials.{last_denial}
 use Rattle.mx_legal.proofs.AwaitLaws.{IsLinked, replied_so}
 use Rattle.mx_legal.specs.Filling.{snapped}
 use Rattle.mx_legal.specs.Next.{Reference, Asks, Calls, Ends, storing}
@@ -30,6 +31,7 @@ use Rattle.mx_script.specs.Sessions.{Outline, limit_of, is_register, is_address,
 use Rattle.mx_script.specs.declared.lines.Line.{Line}
 use Rattle.mx_script.specs.declared.lines.Line.TheVariants as line
 use Rattle.mx_script.specs.declared.lines.Operand.{Operand}
+use Rattle.mx_sdw.specs.declared.denials.Denial.{Denial}
 use Rattle.mx_state.proofs.ToldLaws.{link_replies_law}
 use Rattle.std.specs.Prelude.{MatchOption}
 use Rattle.mx_state.specs.History.{opening, replay, IsRightEntry}
@@ -47,9 +49,10 @@ use Rattle.mx_proc.proofs.OperandLaws.{no_request, target_asks, target_goes, lin
 use Rattle.mx_proc.proofs.SeatLaws.{set_here}
 use Rattle.mx_proc.specs.Asking.{HasSeat, HasSeatWith, IsAnsweredBy, IsAsking, IsTold, IsToFill, IsUnfilled, IsUntold, IsReadyBelow, IsUnreadyBelow, IsAiming, IsEnding, IsToldToWait, IsCalling, IsStore, IsStoring}
 use Rattle.mx_proc.proofs.WorldLaws.{IsAt, IsFree, not_told, told_blocks, waits_next}
+use Rattle.mx_proc.specs.Auditing.{IsLastDenial}
 use Rattle.mx_proc.specs.Benches.{world_in, IsKept}
 use Rattle.mx_proc.specs.Operands.{operand_of, AsksFor, IsPlaced, IsTarget, IsRegisterWord, IsLed, IsGoodProgress}
-use Rattle.mx_proc.specs.Processes.{seat_in, IsGoodAt, IsLedAt, IsStill, HasProgress, ReadsOperand, StoresNothing, HasAsked, HasFill, HasRegisters, fill_of}
+use Rattle.mx_proc.specs.Processes.{seat_in, IsGoodAt, IsLedAt, IsStill, HasProgress, ReadsOperand, StoresNothing, HasAsked, HasFill, HasLastDenial, HasRegisters, fill_of}
 use Rattle.mx_proc.specs.Running.{IsAnswered, IsCome, IsRunning, left_of}
 use Rattle.mx_proc.specs.Stepping.{IsAtLine, IsWaiting, state_in}
 use Rattle.mx_proc.specs.Worlds.{Seat, World}
@@ -570,3 +573,12 @@ link_calling w p l o place a own c = record {
         by_progress (AtLink other) asked is = absurd is
         by_progress Waiting asked is = absurd asked
         by_progress (Filling it) asked is = absurd asked
+
+-- the last line that it has done
+pub seen_last : (x : Outline) (s : Supervised) (whole : List (List Step)) (cells : List Contents) (processes : List Process) (w : World) (p i : ℕ)
+    (found : Option (ℕ × Denial)) → world_in x s whole cells processes ≡ w → i ≡ p - 1 → HasLastDenial processes i found → IsLastDenial w p found
+seen_last x s whole cells processes w p i found view place h seat seated =
+    h.last ∙ ap (λ (it : Seat). last_denial it.steps) (same_seats w p (seat_in h.process) seat there seated)
+  where
+    there : slice_get w.seats (p - 1) ≡ Some (seat_in h.process)
+    there = ap (λ (v : World). slice_get v.seats (p - 1)) (sym view) ∙ ap (slice_get _) (sym place) ∙ seat_of processes i h.process h.at

@@ -25,12 +25,12 @@ use Rattle.mx_proc.specs.declared.operands.Progress.{Progress}
 use Rattle.mx_proc.specs.declared.operands.Progress.TheVariants.{Before}
 use Rattle.mx_proc.specs.declared.processes.Process.{Process}
 
-map_set : {A B : Type 0} (f : A → B) (xs : List A) (i : ℕ) (x : A) → map f (slice_set xs i x) ≡ slice_set (map f xs) i (f x)
+pub map_set : {A B : Type 0} (f : A → B) (xs : List A) (i : ℕ) (x : A) → map f (slice_set xs i x) ≡ slice_set (map f xs) i (f x)
 map_set f [] i x = refl
 map_set f (y ∷ xs) zero x = refl
 map_set f (y ∷ xs) (suc i) x = ap (λ ys. f y ∷ ys) (map_set f xs i x)
 
-map_get : {A B : Type 0} (f : A → B) (xs : List A) (i : ℕ) (x : A) → slice_get xs i ≡ Some x → slice_get (map f xs) i ≡ Some (f x)
+pub map_get : {A B : Type 0} (f : A → B) (xs : List A) (i : ℕ) (x : A) → slice_get xs i ≡ Some x → slice_get (map f xs) i ≡ Some (f x)
 map_get f [] i x e = absurd (cc)
 map_get f (y ∷ xs) zero x e = cc
 map_get f (y ∷ xs) (suc i) x e = map_get f xs i x e

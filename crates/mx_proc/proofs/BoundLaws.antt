@@ -56,7 +56,7 @@ scripts_fit (script ∷ scripts) (suc i) =
     let all : sum_by length (script ∷ scripts) ≡ length script + sum_by length scripts = sum_by-cons length script scripts in
     omega (arith, h, before, all)
 
-fewer_done : (first k : ℕ) (lines : List Line) (next : ℕ × Line) (left : List (ℕ × Line)) → drop k (numbered first lines) ≡ next ∷ left → k < length lines
+pub fewer_done : (first k : ℕ) (lines : List Line) (next : ℕ × Line) (left : List (ℕ × Line)) → drop k (numbered first lines) ≡ next ∷ left → k < length lines
 fewer_done first zero [] next left e = absurd (cc)
 fewer_done first (suc k) [] next left e = absurd (cc)
 fewer_done first zero (l ∷ lines) next left e = omega arith

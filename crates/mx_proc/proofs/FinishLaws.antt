@@ -16,16 +16,9 @@ use Rattle.mx_proc.specs.Benches.{world_in, first_of, IsKept}
 use Rattle.mx_proc.specs.Processes.{seat_in, recorded_steps}
 use Rattle.mx_proc.specs.Running.{IsBefore, left_of, IsRunning}
 use Rattle.mx_proc.specs.Stepping.{HaveEnded}
-use Rattle.mx_proc.specs.Worlds.{Seat, World}
+use Rattle.mx_proc.specs.Worlds.{Seat, World, steps_in, transcripts_of}
 use Rattle.mx_proc.specs.declared.memory.Contents.{Contents}
 use Rattle.mx_proc.specs.declared.processes.Process.{Process}
-
--- the transcripts: the initializer's, and those of the processes
-abbrev pub steps_in : Seat → List Step
-steps_in seat = seat.steps
-
-abbrev pub transcripts_of : World → List (List Step)
-transcripts_of w = w.set_up ∷ map steps_in w.seats
 
 pub record IsSeated (seats : List Seat) (i : ℕ) : Type 0 where
   pub seat : Seat
@@ -81,3 +74,9 @@ pub bench_finished : (x : Outline) (s : Supervised) (whole : List (List Step)) (
 bench_finished x s whole room cells processes w journal transcripts k view all j t =
     subst (λ (v : World). IsLegal v.session journal transcripts) view
     (rw (j, t ∙ whole_is whole processes k.one) (finished (world_in x s whole cells processes) k.running (subst HaveEnded (sym view) all)))
+
+-- and these are its transcripts
+pub bench_recorded : (x : Outline) (s : Supervised) (whole : List (List Step)) (room : ℕ) (cells : List Contents) (processes : List Process) (w : World)
+    (transcripts : List (List Step)) → IsKept x s whole room cells processes → world_in x s whole cells processes ≡ w
+    → transcripts ≡ whole ++ map recorded_steps processes → transcripts ≡ transcripts_of w
+bench_recorded x s whole room cells processes w transcripts k view t = t ∙ whole_is whole processes k.one ∙ ap transcripts_of view

@@ -21,3 +21,4 @@ pub mod StepLaws
 pub mod SeenLaws
 pub mod NumberLaws
 pub mod EndLaws
+mod AuditLaws

@@ -2,6 +2,7 @@
 use Rattle.std.proofs.Common.{◌≡◌, ◌⊎◌, inl, inr, ℕ, zero, suc, ◌<◌, ◌+◌, ◌^◌, Bool, IsTrue, IsFalse, List, [], ◌∷◌, ◌++◌, length, Option, Some, refl, sym, ◌∙◌, ap, subst, arith, length-append}
 use Rattle.std.specs.List.{slice_get, slice_set, slice_index_or}
 use Rattle.mx_call.specs.Registers.{Registers, ArePackable}
+use Rattle.mx_legal.specs.Denials.{last_denial}
 use Rattle.mx_legal.specs.Openings.{opening_registers}
 use Rattle.mx_legal.specs.Recorded.{Recorded, IsStill as IsStillRecorded}
 use Rattle.mx_legal.specs.Scripts.{first_line}
@@ -10,9 +11,10 @@ use Rattle.mx_legal.specs.declared.transcripts.Result2.{Result2}
 use Rattle.mx_script.specs.Sessions.{Outline}
 use Rattle.mx_script.specs.declared.lines.Line.{Line}
 use Rattle.mx_script.specs.declared.lines.Operand.{Operand}
+use Rattle.mx_sdw.specs.declared.denials.Denial.{Denial}
 use Rattle.mx_proc.proofs.SeatLaws.{set_here}
 use Rattle.mx_proc.specs.Operands.{IsGoodProgress, AsksFor, IsGoodAsked, IsLed}
-use Rattle.mx_proc.specs.Processes.{IsFresh, AreFreshUpTo, IsStill, HasRoom, IsCountable, IsGoodAt, IsLedAt, IsFed, HasAsked, HasFed, HasEnded, HasGoneOn, HasProgress, ReadsOperand, StoresNothing, HasFill, HasRegisters, HasLines, HasNumber, fill_of}
+use Rattle.mx_proc.specs.Processes.{IsFresh, AreFreshUpTo, IsStill, HasRoom, IsCountable, IsGoodAt, IsLedAt, IsFed, HasAsked, HasFed, HasEnded, HasGoneOn, HasProgress, ReadsOperand, StoresNothing, HasFill, HasRegisters, HasLines, HasNumber, HasLastDenial, fill_of}
 use Rattle.mx_proc.specs.declared.benches.Stepped.{Stepped}
 use Rattle.mx_proc.specs.declared.fills.Fill.{Fill}
 use Rattle.mx_proc.specs.declared.operands.Asked.{Asked}
@@ -114,6 +116,10 @@ progress_of processes i q waits h waited awake =
 pub fill_of_one : (processes : List Process) (i : ℕ) (q : Process) (found : Option Fill) → i < length processes
     → found ≡ fill_of (slice_index_or processes i q).progress → HasFill processes i found
 fill_of_one processes i q found h e = record { process = slice_index_or processes i q; at = get_at processes i q h; fill = e }
+
+pub last_of_one : (processes : List Process) (i : ℕ) (q : Process) (found : Option (ℕ × Denial)) → i < length processes
+    → found ≡ last_denial (slice_index_or processes i q).recording.steps → HasLastDenial processes i found
+last_of_one processes i q found h e = record { process = slice_index_or processes i q; at = get_at processes i q h; last = e }
 
 pub stores_nothing_of : (processes : List Process) (i : ℕ) (q : Process) (it : Fill) → i < length processes → StoresNothing processes i
     → (slice_index_or processes i q).progress ≡ Filling it → ⊥

@@ -11,3 +11,4 @@ pub mod Standing
 pub mod Asking
 pub mod Rounds
 pub mod Ending
+pub mod Auditing

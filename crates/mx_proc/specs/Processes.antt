@@ -4,6 +4,7 @@ use Rattle.mx_call.specs.Registers.{Registers, ArePackable}
 use Rattle.mx_core.specs.declared.elements.Outcome.TheVariants.{Read}
 use Rattle.mx_effring.specs.Chains as chains
 use Rattle.mx_legal.specs.Courses.{Judged}
+use Rattle.mx_legal.specs.Denials.{last_denial}
 use Rattle.mx_legal.specs.Openings.{opening_registers}
 use Rattle.mx_legal.specs.Scripts.{first_line}
 use Rattle.mx_legal.specs.Standing.{IsWalked}
@@ -13,6 +14,7 @@ use Rattle.mx_legal.specs.declared.transcripts.Result2.{Result2}
 use Rattle.mx_script.specs.Sessions.{Outline}
 use Rattle.mx_script.specs.declared.lines.Line.{Line}
 use Rattle.mx_script.specs.declared.lines.Operand.{Operand}
+use Rattle.mx_sdw.specs.declared.denials.Denial.{Denial}
 use Rattle.mx_proc.specs.Operands.{walk_at, IsGoodProgress, AsksFor, IsGoodAsked, IsLed, IsOnward, IsGoodOnward, IsCloser}
 use Rattle.mx_proc.specs.Worlds.{Seat}
 use Rattle.mx_proc.specs.declared.benches.Stepped.{Stepped}
@@ -131,6 +133,12 @@ pub record HasNumber (processes : List Process) (i n : ℕ) : Type 0 where
   pub process : Process
   pub at : slice_get processes i ≡ Some process
   pub number : n ≡ process.first + length process.recording.steps
+
+-- the denial of the last line that it has done, with the line's number, if that line was denied
+pub record HasLastDenial (processes : List Process) (i : ℕ) (told : Option (ℕ × Denial)) : Type 0 where
+  pub process : Process
+  pub at : slice_get processes i ≡ Some process
+  pub last : told ≡ last_denial process.recording.steps
 
 abbrev pub events_in : Option Event2 → List Event2
 events_in None = []

@@ -1,5 +1,5 @@
 -- Processes on one bench: the world that they share, and what each of them has.
-use Rattle.std.specs.Prelude.{ℕ, ◌==◌, Bool, true, false, List, slice_index_or}
+use Rattle.std.specs.Prelude.{ℕ, ◌==◌, Bool, true, false, List, ◌∷◌, map, slice_index_or}
 use Rattle.mx_call.specs.Registers.{Registers}
 use Rattle.mx_legal.specs.Transcripts.{Step}
 use Rattle.mx_legal.specs.declared.transcripts.Event2.{Event2}
@@ -25,6 +25,13 @@ pub record World : Type 0 where
   pub set_up : List Step
   pub cells : List Contents
   pub seats : List Seat
+
+-- the transcripts so far: the initializer's, and those of the processes
+abbrev pub steps_in : Seat → List Step
+steps_in seat = seat.steps
+
+abbrev pub transcripts_of : World → List (List Step)
+transcripts_of w = w.set_up ∷ map steps_in w.seats
 
 abbrev pub empty_contents : Contents
 empty_contents = record { value = 0; writer = 0; stamp = 0 }

@@ -2,13 +2,16 @@
 
 ghost use Rattle.std.specs.Prelude.{◌≡◌, ◌⊎◌, true, ◌<◌, ◌≤◌, ◌↔◌, Ok, IfOk, IfSome, IsSome, IsNone, OnOk, OnErr, IsTrue, IsFalse, MatchOption, Some, ◌+◌, ◌++◌, map, slice_get, vec_len, vec_capacity, length};
 ghost use Rattle.mx_legal.specs.Legal.{IsLegal, HasGatedFalls, HasSoundRegisters};
+ghost use Rattle.mx_proc.specs.Auditing.{IsLastDenial};
 ghost use Rattle.mx_proc.specs.Asking.{HasSeat, HasSeatWith, IsToFill, IsUnfilled, IsAsking, IsTold, IsUntold, IsReadyBelow, IsUnreadyBelow, IsAiming, IsEnding, IsCalling, IsReferring, IsStoring};
 ghost use Rattle.mx_proc.specs.Operands.{operand_of};
 ghost use Rattle.mx_proc.specs.Stepping.{IsOpening, IsAtLine, IsNumbered, IsWaiting, HasMoved, HasStepped, HasGone, HasEnded, HaveEnded};
 ghost use Rattle.std.specs.Option.{option_map};
 ghost use Rattle.mx_proc.specs.Processes.{recorded_steps};
-ghost use Rattle.mx_proc.specs.Rounds.{HasNone, all_left};
+ghost use Rattle.mx_proc.specs.Rounds.{HasNone};
 ghost use Rattle.mx_proc.specs.Running.{IsRunning};
+ghost use Rattle.mx_proc.specs.Standing.{AreStanding};
+ghost use Rattle.mx_proc.specs.Worlds.{transcripts_of};
 ghost use Rattle.mx_script.specs.Sessions.{is_script_line};
 ghost use Rattle.mx_script.specs.declared.lines.Line.TheVariants as lines;
 ghost use Rattle.mx_proc.specs.declared.benches.Stepped.TheVariants.{More, Ended, LineDone, Waits};
@@ -27,7 +30,7 @@ use mx_list::Sequence;
 use mx_ptr::Pointer;
 use mx_request::Request;
 use mx_script::{Line, Operand, Script, Session};
-use mx_sdw::{Ring, Word};
+use mx_sdw::{Denial, Ring, Word};
 use mx_state::Journal;
 use mx_sup::{EnterError, Supervisor};
 use std::alloc::{AllocError, Global};
@@ -594,31 +597,6 @@ impl<'a> Bench<'a> {
         self.processes.lines(i) < script_of(self.session, i).len()
     }
 
-    /// Steps the processes over and over, in the order of their numbers, until all have ended. One that waits does not stop
-    /// the others: where one waits, there is another that has a line left and does not wait. The only error is want of
-    /// memory; the steps made before it stand.
-    pub fn complete(&mut self, alloc: Global) -> Result<(), AllocError>
-        ensures ended { OnOk result (HaveEnded self.new) }
-        ensures session { self.new.session ≡ self.old.session }
-    {
-        while !self.has_ended() {
-            self.round(alloc)?;
-        }
-        Ok(())
-    }
-
-    // One step of each process in turn.
-    fn round(&mut self, alloc: Global) -> Result<(), AllocError>
-        ensures session { self.new.session ≡ self.old.session }
-        ensures less { OnOk result ((HaveEnded self.old → ⊥) → all_left self.new < all_left self.old) }
-    {
-        let _ = &self.session;
-        for i in 0..self.count() {
-            self.step(alloc, i + 1)?;
-        }
-        Ok(())
-    }
-
     /// The number in the session text of the next line of a process; none where no line is left, and where the process waits in
     /// a line that it has begun.
     pub(crate) fn beginning(&self, p: u8) -> Option<u32>
@@ -645,9 +623,20 @@ impl<'a> Bench<'a> {
         self.processes.number(usize::from(p) - 1)
     }
 
+    /// Of the last line that a process has done, its number and its denial; none where it did not end denied, or none was done.
+    pub(crate) fn last_denial(&self, p: u8) -> Option<(u32, Denial)>
+        requires some { 1 ≤ p }
+        requires process { p ≤ length self.now.session.principals }
+        ensures { IsLastDenial self.now p result }
+    {
+        let _ = &self.session;
+        self.processes.last_denial(usize::from(p) - 1)
+    }
+
     /// The run so far keeps the rules. Does nothing.
     pub(crate) fn keeps_the_rules(&self)
-        ensures { IsRunning self.now }
+        ensures running { IsRunning self.now }
+        ensures standing { AreStanding self.now }
     {
         let _ = &self.session;
     }
@@ -675,6 +664,7 @@ impl<'a> Bench<'a> {
         ensures legal { IsLegal self.entry.session result.0 result.1 }
         ensures gated { HasGatedFalls self.entry.session result.0 result.1 }
         ensures sound { HasSoundRegisters self.entry.session result.0 result.1 }
+        ensures recorded { result.1 ≡ transcripts_of self.entry }
     {
         let Bench {
             supervisor,

@@ -1,40 +1,37 @@
-//! The hall: one bench behind a lock, at which each process works on a thread of its own.
+//! The hall: one bench with its auditors behind a lock, at which each process works on a thread of its own.
 
-ghost use Rattle.std.specs.Prelude.{◌≡◌, ◌≤◌, true, Ok, IfOk, IfSome, IsNone, OnErr, IsErr, ℕ, Option, length};
+ghost use Rattle.std.specs.Prelude.{◌≡◌, ◌≤◌, true, Ok, IfOk, IfSome, IsNone, OnErr, IsErr, ℕ, Option, map, length};
+ghost use Rattle.mx_audit.specs.Accounts.{HaveGrown};
 ghost use Rattle.mx_proc.specs.Ending.{Span};
 ghost use Rattle.mx_proc.specs.Stepping.{IsNumbered, IsWaiting, HasMoved, HasStepped, HasEnded};
 ghost use Rattle.mx_proc.specs.declared.turns.Turn.TheVariants as turns;
 ghost use Rattle.mx_proc.specs.declared.turns.Came.TheVariants as came;
 
-use crate::benches::{Bench, Stepped};
+use crate::audited::AuditedBench;
+use crate::benches::Stepped;
 use crate::ends::{AllEnds, Ends};
 use crate::gates::Gate;
 use crate::naming::Naming;
 use crate::turns::{Came, Turn};
+use mx_audit::Auditor;
 use std::alloc::{AllocError, Global};
-use std::marker::PhantomData;
 use std::sync::{Condvar, Mutex, Wait};
 
-/// What lies behind the lock: the session's bench, whether memory was wanting in a step, and how often those who sleep were
-/// woken.
+/// What lies behind the lock: the session's bench with its auditors, whether memory was wanting in a step, and how often those
+/// who sleep were woken.
 #[derive(Drop)]
-struct Guarded<'a, B: Naming> {
-    bench: Bench<'a>,
+struct Guarded<'a, B: Naming, A: Auditor> {
+    audited: AuditedBench<'a, B, A>,
     failed: bool,
     wakes: u64,
-    run: PhantomData<B>,
-    ghost session: { bench.session ≡ B.session },
 }
 
-impl<'a, B: Naming> Guarded<'a, B> {
-    fn new(bench: Bench<'a>) -> Guarded<'a, B>
-        requires { bench.session ≡ B.session }
-    {
+impl<'a, B: Naming, A: Auditor> Guarded<'a, B, A> {
+    fn new(audited: AuditedBench<'a, B, A>) -> Guarded<'a, B, A> {
         Guarded {
-            bench,
+            audited,
             failed: false,
             wakes: 0,
-            run: PhantomData,
         }
     }
 
@@ -43,57 +40,55 @@ impl<'a, B: Naming> Guarded<'a, B> {
     fn step(&mut self, alloc: Global, p: u8) -> Result<Turn<B>, AllocError>
         requires some { 1 ≤ p }
         requires process { p ≤ length B.session.principals }
-        ensures more { result ≡ Ok turns.More → HasMoved self.old.bench p self.new.bench }
-        ensures done { (next : Option ℕ) → result ≡ Ok (turns.LineDone next) → HasStepped self.old.bench p self.new.bench }
-        ensures number { (next : Option ℕ) → result ≡ Ok (turns.LineDone next) → IfSome next (IsNumbered self.new.bench p) }
-        ensures none { (next : Option ℕ) → result ≡ Ok (turns.LineDone next) → IsNone next → HasEnded self.new.bench p }
-        ensures waits { (wakes : ℕ) → result ≡ Ok (turns.Waits wakes) → IsWaiting self.new.bench p × (wakes ≡ self.new.wakes) }
-        ensures ended { (ends : Span) → result ≡ Ok (turns.Ended ends) → HasEnded self.new.bench p }
+        ensures more { result ≡ Ok turns.More → HasMoved self.old.audited.world p self.new.audited.world }
+        ensures done { (next : Option ℕ) → result ≡ Ok (turns.LineDone next) → HasStepped self.old.audited.world p self.new.audited.world }
+        ensures number { (next : Option ℕ) → result ≡ Ok (turns.LineDone next) → IfSome next (IsNumbered self.new.audited.world p) }
+        ensures none { (next : Option ℕ) → result ≡ Ok (turns.LineDone next) → IsNone next → HasEnded self.new.audited.world p }
+        ensures waits { (wakes : ℕ) → result ≡ Ok (turns.Waits wakes) → IsWaiting self.new.audited.world p × (wakes ≡ self.new.wakes) }
+        ensures ended { (ends : Span) → result ≡ Ok (turns.Ended ends) → HasEnded self.new.audited.world p }
         ensures own { (ends : Span) → result ≡ Ok (turns.Ended ends) → (ends.first ≡ p) × (ends.last ≡ p) }
-        ensures still { OnErr result (self.new.bench ≡ self.old.bench) }
+        ensures still { OnErr result (self.new.audited.world ≡ self.old.audited.world) }
         ensures failed { OnErr result (self.new.failed ≡ true) }
         ensures over { self.old.failed ≡ true → IsErr result }
     {
         if self.failed {
             return Err(AllocError);
         }
-        let before = self.bench.entries();
-        let stepped = self.bench.step(alloc, p);
-        if stepped.is_err() || self.bench.entries() != before {
+        let before = self.audited.bench().entries();
+        let stepped = self.audited.step(alloc, p);
+        if stepped.is_err() || self.audited.bench().entries() != before {
             self.wakes = self.wakes.wrapping_add(1);
         }
         self.failed = stepped.is_err();
         match stepped? {
             Stepped::More => Ok(Turn::More),
-            Stepped::LineDone => Ok(Turn::LineDone(self.bench.beginning(p))),
+            Stepped::LineDone => Ok(Turn::LineDone(self.audited.bench().beginning(p))),
             Stepped::Waits => Ok(Turn::Waits(self.wakes)),
-            Stepped::Ended => Ok(Turn::Ended(Ends::of(&self.bench, p))),
+            Stepped::Ended => Ok(Turn::Ended(Ends::of(self.audited.bench(), p))),
         }
     }
 
-    fn into_bench(self) -> Bench<'a>
-        ensures same { result ≡ self.entry.bench }
-        ensures session { result.session ≡ B.session }
+    fn into_audited(self) -> AuditedBench<'a, B, A>
+        ensures { result ≡ self.entry.audited }
     {
-        let Guarded { bench, .. } = self;
-        bench
+        let Guarded { audited, .. } = self;
+        audited
     }
 }
 
-/// A bench that threads share: each makes its steps one at a time, under the lock.
+/// A bench with its auditors that threads share: each makes its steps one at a time, under the lock. Where a line ends denied
+/// with a step, the auditor of its process is told before the lock is given back.
 #[derive(Drop)]
-pub struct Hall<'a, B: Naming> {
-    guarded: Mutex<Guarded<'a, B>>,
+pub struct Hall<'a, B: Naming, A: Auditor> {
+    guarded: Mutex<Guarded<'a, B, A>>,
     woken: Condvar,
 }
 
-impl<'a, B: Naming> Hall<'a, B> {
+impl<'a, B: Naming, A: Auditor> Hall<'a, B, A> {
     /// The hall of a bench. Takes no memory.
-    pub fn new(bench: Bench<'a>) -> Hall<'a, B>
-        requires { bench.session ≡ B.session }
-    {
+    pub fn new(audited: AuditedBench<'a, B, A>) -> Hall<'a, B, A> {
         Hall {
-            guarded: Mutex::new(Guarded::new(bench)),
+            guarded: Mutex::new(Guarded::new(audited)),
             woken: Condvar::new(),
         }
     }
@@ -205,7 +200,7 @@ impl<'a, B: Naming> Hall<'a, B> {
         requires some { 1 ≤ p }
         requires process { p ≤ length B.session.principals }
     {
-        self.guarded.lock(rt).bench.beginning(p)
+        self.guarded.lock(rt).audited.bench().beginning(p)
     }
 
     // One step of a process, under the lock.
@@ -231,13 +226,18 @@ impl<'a, B: Naming> Hall<'a, B> {
             .wait_while(rt, guarded, |guarded| guarded.wakes == wakes);
     }
 
-    /// The bench, which is one of the session that the hall was made for; it is taken out only where each process was seen at its
-    /// end. Takes no memory.
-    pub fn finish(self, _all: &AllEnds<B>) -> Bench<'a>
-        ensures { result.session ≡ B.session }
+    /// The bench with its auditors; it is taken out only where each process was seen at its end. Takes no memory.
+    pub fn finish(self, _all: &AllEnds<B>) -> AuditedBench<'a, B, A> {
+        let Hall { guarded, .. } = self;
+        guarded.into_inner().into_audited()
+    }
+
+    /// The auditors, where the run is given up. Takes no memory.
+    pub fn dismiss(self) -> Vec<A>
+        ensures { HaveGrown B.accounts (map A.account result.items) }
     {
         let Hall { guarded, .. } = self;
-        guarded.into_inner().into_bench()
+        guarded.into_inner().into_audited().dismiss()
     }
 }
 

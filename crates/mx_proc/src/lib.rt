@@ -7,6 +7,7 @@
 //! `mx_script` (sessions), `mx_legal` (the rules of a run) and `mx_ties` (what keeps them step by step).
 #![tactic(auto)]
 
+mod audited;
 mod benches;
 mod ends;
 mod fills;
@@ -21,6 +22,7 @@ mod replied;
 mod running;
 mod turns;
 
+pub use audited::AuditedBench;
 pub use benches::{Bench, Stepped};
 pub use ends::{AllEnds, Ends};
 pub use gates::{Gate, NoGate};

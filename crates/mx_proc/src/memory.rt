@@ -53,10 +53,7 @@ impl Memory {
         ensures wide { IfOk result (λ memory. length memory ≡ 65536) }
         ensures empty { IfOk result (λ memory. (cell : ℕ) → contents_at memory cell ≡ empty_contents) }
     {
-        let mut cells = Vec::with_capacity(alloc, CELLS)?;
-        for _cell in 0..CELLS {
-            cells.push(Contents::empty())?;
-        }
+        let cells = vec![in alloc; Contents::empty(); CELLS]?;
         Ok(Memory { cells })
     }
 

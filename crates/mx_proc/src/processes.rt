@@ -5,7 +5,7 @@ ghost use Rattle.mx_call.specs.Registers.{ArePackable};
 ghost use Rattle.mx_legal.specs.Openings.{opening_registers};
 ghost use Rattle.mx_script.specs.Sessions.{IsSession, is_address, is_script_line};
 ghost use Rattle.mx_proc.specs.Operands.{IsGoodProgress, IsGoodWalk, IsLed, walk_at};
-ghost use Rattle.mx_proc.specs.Processes.{AreFresh, IsStill, HasRoom, IsCountable, IsGoodAt, HasEnded, HasGoneOn, HasFed, IsFed, HasProgress, ReadsOperand, StoresNothing, HasRegisters, HasLines, HasNumber, HasAsked, HasFill, IsLedAt, fill_of, events_in};
+ghost use Rattle.mx_proc.specs.Processes.{AreFresh, IsStill, HasRoom, IsCountable, IsGoodAt, HasEnded, HasGoneOn, HasFed, IsFed, HasProgress, ReadsOperand, StoresNothing, HasRegisters, HasLines, HasNumber, HasLastDenial, HasAsked, HasFill, IsLedAt, fill_of, events_in};
 ghost use Rattle.mx_proc.specs.declared.operands.Progress.TheVariants.{Before, Waiting};
 
 use crate::benches::Stepped;
@@ -15,7 +15,7 @@ use mx_call::Regs;
 use mx_effring::Walk;
 use mx_legal::{Event2, Recording, Result2, Transcript, first_line};
 use mx_script::{Line, Operand, Session};
-use mx_sdw::{Ring, Word};
+use mx_sdw::{Denial, Ring, Word};
 use std::alloc::{AllocError, Global};
 use std::marker::Model;
 use std::mem;
@@ -85,6 +85,14 @@ impl Processes {
         ensures { HasNumber self.now i result }
     {
         number_at(&self.items, i)
+    }
+
+    /// Of the last line that a process has done, its number and its denial, if it ended denied.
+    pub(crate) fn last_denial(&self, i: usize) -> Option<(u32, Denial)>
+        requires { i < length self.now }
+        ensures { HasLastDenial self.now i result }
+    {
+        last_denial_at(&self.items, i)
     }
 
     /// Makes room for the next line of a process; nothing else changes.
@@ -222,6 +230,13 @@ fn number_at(processes: &[Process], i: usize) -> u32
     ensures { HasNumber processes.now i result }
 {
     processes[i].number()
+}
+
+fn last_denial_at(processes: &[Process], i: usize) -> Option<(u32, Denial)>
+    requires { i < length processes.now }
+    ensures { HasLastDenial processes.now i result }
+{
+    processes[i].recording.last_denial()
 }
 
 fn is_waiting(processes: &[Process], i: usize) -> bool

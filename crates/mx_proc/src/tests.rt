@@ -1,7 +1,8 @@
 //! Sessions of several processes, stepped in a chosen order: what each line comes to was worked out by hand.
 
-ghost use Rattle.std.specs.Prelude.{◌≡◌, IfSome, length};
+ghost use Rattle.std.specs.Prelude.{◌≡◌, IfSome, OnOk, length};
 ghost use Rattle.std.specs.List.{sum_by};
+ghost use Rattle.mx_proc.specs.Stepping.{HaveEnded};
 
 use crate::{Bench, Stepped};
 use mx_legal::{Event, Event2, Outcome, Result2, Transcript};
@@ -130,11 +131,26 @@ fn brief(event: &Event2) -> (u8, u32, u64, u32) {
     }
 }
 
+// Steps the processes in turn until all have ended; each of these sessions ends within a hundred turns.
+fn complete(bench: &mut Bench, alloc: Global) -> Result<(), Fail>
+    ensures { OnOk result (HaveEnded bench.new) }
+{
+    for _turn in 0..100 {
+        if bench.has_ended() {
+            return Ok(());
+        }
+        for p in 0..bench.count() {
+            bench.step(alloc, p + 1)?;
+        }
+    }
+    Err("all have ended".into())
+}
+
 // The transcripts of processes 1, 2, .. after these steps, and then the rest in turn.
 fn run_in(alloc: Global, session: &Session, order: &[u8]) -> Result<Vec<Vec<Told>>, Fail> {
     let mut bench = Bench::new(alloc, session)?;
     step_all(&mut bench, alloc, order)?;
-    bench.complete(alloc)?;
+    complete(&mut bench, alloc)?;
     let (_, transcripts) = bench.finish();
     let mut all = Vec::new(alloc);
     for transcript in transcripts.items() {

@@ -1,13 +1,15 @@
 -- Status 0, the headline. Under `run` the source held the text of a session, and the sink gained the run text of a legal
--- run of it. Under `drill N` the sink gained the summary of a legal run of the drill of that number. A source's bytes and
--- a sink's are spoken of where they are told.
+-- run of it. Under `drill N` the sink gained the summary of a legal run of the drill of that number. Each auditor was told
+-- what the run's transcripts say of its process. A source's bytes and a sink's are spoken of where they are told.
 use Rattle.std.specs.Prelude.{ℕ, ◌≤◌, ◌⊎◌, List, length, Option}
 use Rattle.mx_io.specs.Bytes.{TakesAll, Appends}
+use Rattle.mx_audit.specs.Accounts.{Account}
 use Rattle.mx_script.specs.SessionTexts.{IsText}
 use Rattle.mx_script.specs.Sessions.{Outline}
 use Rattle.mx_state.specs.declared.journal.Entry.{Entry}
 use Rattle.mx_legal.specs.Legal.{IsLegal, HasGatedFalls, HasSoundRegisters}
 use Rattle.mx_legal.specs.Transcripts.{Step}
+use Rattle.mx_proc.specs.Auditing.{WereTold}
 use Rattle.mx_drill.specs.Drills.{drill_session}
 use Rattle.mx_drill.specs.Summaries.{summary_text}
 use Rattle.mx_text.specs.RunText.{run_text}
@@ -35,21 +37,24 @@ pub record IsRunFrom (source source' : Option (List ℕ)) (journal : List Entry)
   pub run : IsRunOf session journal transcripts
 
 -- under `run`
-pub record IsDone (source source' sink sink' : Option (List ℕ)) : Type 0 where
+pub record IsDone (source source' sink sink' : Option (List ℕ)) (accounts accounts' : List Account) : Type 0 where
   pub journal : List Entry
   pub transcripts : List (List Step)
   pub run : IsRunFrom source source' journal transcripts
+  pub told : WereTold accounts transcripts accounts'
   pub printed : Appends sink sink' (run_text journal transcripts)
 
 -- under `drill N`
-pub record IsDrilled (words : List (List ℕ)) (sink sink' : Option (List ℕ)) : Type 0 where
+pub record IsDrilled (words : List (List ℕ)) (sink sink' : Option (List ℕ)) (accounts accounts' : List Account) : Type 0 where
   pub number : ℕ
   pub words_are : IsDrill words number
   pub journal : List Entry
   pub transcripts : List (List Step)
   pub run : IsRunOf (drill_session number) journal transcripts
+  pub told : WereTold accounts transcripts accounts'
   pub printed : Appends sink sink' (summary_text number journal transcripts)
 
 -- what the words ask for was done
-abbrev pub IsDoneBy : List (List ℕ) → Option (List ℕ) → Option (List ℕ) → Option (List ℕ) → Option (List ℕ) → Type 0
-IsDoneBy words source source' sink sink' = (IsRun words × IsDone source source' sink sink') ⊎ IsDrilled words sink sink'
+abbrev pub IsDoneBy : List (List ℕ) → Option (List ℕ) → Option (List ℕ) → Option (List ℕ) → Option (List ℕ) → List Account → List Account → Type 0
+IsDoneBy words source source' sink sink' accounts accounts' =
+    (IsRun words × IsDone source source' sink sink' accounts accounts') ⊎ IsDrilled words sink sink' accounts accounts'

@@ -1,5 +1,6 @@
 -- What the other statuses of the top call mean. A source's bytes and a sink's are spoken of where they are told.
 use Rattle.std.specs.Prelude.{◌≡◌, ◌⊎◌, ℕ, ◌≤◌, ◌<◌, List, length, Option}
+use Rattle.mx_audit.specs.Accounts.{Account}
 use Rattle.mx_io.specs.Bytes.{Appends, AppendsPart}
 use Rattle.mx_script.specs.SessionTexts.{IsSomeSession}
 use Rattle.mx_run.specs.Done.{most_bytes}
@@ -8,16 +9,18 @@ use Rattle.mx_run.specs.Verdicts.{IsVerdict, verdict_text, verdict_status}
 use Rattle.mx_run.specs.declared.verdicts.Verdict.{Verdict}
 
 -- Statuses 0, 2, 5 and 6: the sink gained the whole text of a right verdict that has this status.
-pub record GainsVerdict (words : List (List ℕ)) (source source' sink sink' : Option (List ℕ)) (status : ℕ) : Type 0 where
+pub record GainsVerdict (words : List (List ℕ)) (source source' sink sink' : Option (List ℕ)) (accounts accounts' : List Account)
+    (status : ℕ) : Type 0 where
   pub verdict : Verdict
-  pub right : IsVerdict words source source' verdict
+  pub right : IsVerdict words source source' accounts accounts' verdict
   pub status_is : status ≡ verdict_status verdict
   pub printed : Appends sink sink' (verdict_text verdict)
 
 -- Status 4, and status 1 where anything was written: it gained the front of such a text, and not all of it.
-pub record GainsFront (words : List (List ℕ)) (source source' sink sink' : Option (List ℕ)) (status : ℕ) : Type 0 where
+pub record GainsFront (words : List (List ℕ)) (source source' sink sink' : Option (List ℕ)) (accounts accounts' : List Account)
+    (status : ℕ) : Type 0 where
   pub verdict : Verdict
-  pub right : IsVerdict words source source' verdict
+  pub right : IsVerdict words source source' accounts accounts' verdict
   pub status_is : status ≡ verdict_status verdict
   pub printed : AppendsPart sink sink' (verdict_text verdict)
 

@@ -1,8 +1,10 @@
--- The verdict on a command: what comes of its words and of the bytes of its source, with the text that is written and the status.
--- A source's bytes are spoken of where they are told.
+-- The verdict on a command: what comes of its words and of the bytes of its source, what its auditors were told, the text that is
+-- written, and the status. A source's bytes are spoken of where they are told.
 use Rattle.std.specs.Prelude.{◌≡◌, ℕ, ◌≤◌, List, ◌++◌, length, Option, codes}
 use Rattle.std.specs.Fmt.{decimal}
+use Rattle.mx_audit.specs.Accounts.{Account}
 use Rattle.mx_io.specs.Bytes.{TakesAll, TakesTooMany}
+use Rattle.mx_proc.specs.Auditing.{WereTold}
 use Rattle.mx_script.specs.FirstBadLine.{IsFirstBad}
 use Rattle.mx_text.specs.RunText.{run_text}
 use Rattle.mx_drill.specs.Drills.{drill_session}
@@ -19,14 +21,16 @@ pub record IsBadLineOf (source source' : Option (List ℕ)) (number : ℕ) : Typ
   pub within : length spelled ≤ most_bytes
   pub first : IsFirstBad spelled number
 
--- the verdict is right for the words of a command, what its source held, and what it holds afterwards
-abbrev pub IsVerdict : List (List ℕ) → Option (List ℕ) → Option (List ℕ) → Verdict → Type 0
-IsVerdict words source source' (Ran journal transcripts) = IsRun words × IsRunFrom source source' journal transcripts
-IsVerdict words source source' (Drilled number journal transcripts) =
-    IsDrill words number × IsRunOf (drill_session number) journal transcripts × (source' ≡ source)
-IsVerdict words source source' BadWords = (IsAccepted words → ⊥) × (source' ≡ source)
-IsVerdict words source source' (BadLine number) = IsRun words × IsBadLineOf source source' number
-IsVerdict words source source' TooLong = IsRun words × TakesTooMany most_bytes source source'
+-- The verdict is right for the words of a command, what its source held, and what it holds afterwards. Each auditor was told what its
+-- process was denied in the run, and nothing where none was made.
+abbrev pub IsVerdict : List (List ℕ) → Option (List ℕ) → Option (List ℕ) → List Account → List Account → Verdict → Type 0
+IsVerdict words source source' accounts accounts' (Ran journal transcripts) =
+    IsRun words × IsRunFrom source source' journal transcripts × WereTold accounts transcripts accounts'
+IsVerdict words source source' accounts accounts' (Drilled number journal transcripts) =
+    IsDrill words number × IsRunOf (drill_session number) journal transcripts × (source' ≡ source) × WereTold accounts transcripts accounts'
+IsVerdict words source source' accounts accounts' BadWords = (IsAccepted words → ⊥) × (source' ≡ source) × (accounts' ≡ accounts)
+IsVerdict words source source' accounts accounts' (BadLine number) = IsRun words × IsBadLineOf source source' number × (accounts' ≡ accounts)
+IsVerdict words source source' accounts accounts' TooLong = IsRun words × TakesTooMany most_bytes source source' × (accounts' ≡ accounts)
 
 -- what is written
 abbrev pub verdict_text : Verdict → List ℕ

@@ -2,12 +2,14 @@
 
 ghost use Rattle.std.specs.Prelude.{◌≡◌, ◌⊎◌, ℕ, List, map, Some};
 ghost use Rattle.std.specs.String.{string_bytes};
+ghost use Rattle.mx_audit.specs.Accounts.{HaveGrown, HaveRoom};
 ghost use Rattle.mx_io.specs.Faults.{Rose};
 ghost use Rattle.mx_run.specs.Commands.{IsRun, IsDrill, IsAccepted};
 ghost use Rattle.mx_run.specs.Done.{IsDoneBy};
 ghost use Rattle.mx_run.specs.Statuses.{GainsVerdict, GainsFront, IsStopped, IsDueStatus};
 
 use crate::verdicts::{Unreached, Verdict};
+use mx_audit::Auditor;
 use mx_io::{Sink, Source};
 use mx_proc::Gate;
 use mx_text::TextError;
@@ -27,18 +29,20 @@ const SINK_FAULT: u8 = 4;
 /// Does what the words of the command line ask for, and answers the status with which the program is to end. Under `run` the source is
 /// read to its end as the text of a session, the session is run, each process on a thread of its own where one can be had, and the run text
 /// is written to the sink. Under `drill` and one word of 1 to 6 decimal digits the drill of that number is run in the same way, and its
-/// summary is written; the source is not read. No other words are accepted. The gate is told of each script line before it begins. The call
-/// may wait; what it promises holds when it returns.
+/// summary is written; the source is not read. No other words are accepted. The gate is told of each script line before it begins. Auditor `i`,
+/// counted from 0, belongs to process `i + 1` and is told of each line of it that ends denied, in the step that ends it; processes
+/// beyond the auditors have none, and auditors beyond the processes are not called. Each needs room for 700,000 denials. At the return the
+/// vector holds the same auditors in the same order. The call may wait; what it promises holds when it returns.
 ///
-/// | Status | Comes | Written |
-/// |---|---|---|
-/// | 0 | the session, or the drill, was run | the run text, or the summary |
-/// | 1 | memory ran out | the front of the run text, or nothing |
-/// | 2 | the words are not accepted; the source is not read, and no memory is taken | `bad words` |
-/// | 3 | the source failed | nothing |
-/// | 4 | the sink failed | the front of what the status otherwise due writes |
-/// | 5 | the bytes are no session | `bad line N`, N the first bad line |
-/// | 6 | the source gave more than 4,194,304 bytes | `too long` |
+/// | Status | Comes | Written | Auditors were told of |
+/// |---|---|---|---|
+/// | 0 | the session, or the drill, was run | the run text, or the summary | the denials of the run |
+/// | 1 | memory ran out | the front of the run text, or nothing | some denials, or none; of those of the run where anything was written |
+/// | 2 | the words are not accepted; the source is not read, and no memory is taken | `bad words` | nothing |
+/// | 3 | the source failed | nothing | nothing |
+/// | 4 | the sink failed | the front of what the status otherwise due writes | what they are told of at that status |
+/// | 5 | the bytes are no session | `bad line N`, N the first bad line | nothing |
+/// | 6 | the source gave more than 4,194,304 bytes | `too long` | nothing |
 pub fn multics<R: Threads + Wait + Sync, S: Source, K: Sink, G: Gate>(
     rt: &R,
     alloc: Global,
@@ -46,14 +50,20 @@ pub fn multics<R: Threads + Wait + Sync, S: Source, K: Sink, G: Gate>(
     source: &mut S,
     sink: &mut K,
     gate: &G,
+    auditors: &mut Vec<Box<dyn Auditor + Send>>,
 ) -> u8
+    // Each auditor has room for a denial of each line that a session can have.
+    requires room { HaveRoom 700000 (map account auditors.old.items) }
+
     // Status 0 is the headline.
     ensures done { result ≡ 0
-        → IsDoneBy (map string_bytes words.now) (S.left source.old) (S.left source.new) (K.out sink.old) (K.out sink.new) }
+        → IsDoneBy (map string_bytes words.now) (S.left source.old) (S.left source.new) (K.out sink.old) (K.out sink.new)
+            (map account auditors.old.items) (map account auditors.new.items) }
 
     // Statuses 0, 2, 5 and 6 are those of a right verdict, told whole. There are no others but 1, 3 and 4.
     ensures verdict { IsStopped result
-        ⊎ GainsVerdict (map string_bytes words.now) (S.left source.old) (S.left source.new) (K.out sink.old) (K.out sink.new) result }
+        ⊎ GainsVerdict (map string_bytes words.now) (S.left source.old) (S.left source.new) (K.out sink.old) (K.out sink.new)
+            (map account auditors.old.items) (map account auditors.new.items) result }
 
     // Which one it is follows from the words and from the bytes of a source that tells them: no session is refused.
     ensures due { (spelled : List ℕ) → S.left source.old ≡ Some spelled
@@ -68,18 +78,24 @@ pub fn multics<R: Threads + Wait + Sync, S: Source, K: Sink, G: Gate>(
     // At status 1 no end had failed; nothing was written, or the front of a run text.
     ensures unfailed { result ≡ 1 → (S.faults source.new ≡ S.faults source.old) × (K.faults sink.new ≡ K.faults sink.old) }
     ensures out_of_memory { result ≡ 1 → (sink.new ≡ sink.old)
-        ⊎ GainsFront (map string_bytes words.now) (S.left source.old) (S.left source.new) (K.out sink.old) (K.out sink.new) 0 }
+        ⊎ GainsFront (map string_bytes words.now) (S.left source.old) (S.left source.new) (K.out sink.old) (K.out sink.new)
+            (map account auditors.old.items) (map account auditors.new.items) 0 }
 
     // At status 3 the source failed, and nothing was written.
     ensures source_fault { result ≡ 3 → Rose (S.faults source.old) (S.faults source.new) }
     ensures unwritten { result ≡ 3 → sink.new ≡ sink.old }
+    ensures untold { result ≡ 3 → map account auditors.new.items ≡ map account auditors.old.items }
+
+    // Whatever comes, no auditor is lost, and none is told of anything but denials behind those that it was told before.
+    ensures grown { HaveGrown (map account auditors.old.items) (map account auditors.new.items) }
 
     // At status 4 the sink failed, and the front of what was due was written.
     ensures sink_fault { result ≡ 4 → Rose (K.faults sink.old) (K.faults sink.new) }
     ensures cut_short { result ≡ 4 → (status : ℕ)
-        × GainsFront (map string_bytes words.now) (S.left source.old) (S.left source.new) (K.out sink.old) (K.out sink.new) status }
+        × GainsFront (map string_bytes words.now) (S.left source.old) (S.left source.new) (K.out sink.old) (K.out sink.new)
+            (map account auditors.old.items) (map account auditors.new.items) status }
 {
-    match Verdict::reach(rt, alloc, words, source, gate) {
+    match Verdict::reach(rt, alloc, words, source, gate, auditors) {
         Ok(verdict) => match verdict.tell(alloc, sink) {
             Ok(()) => verdict.status(),
             Err(TextError::Fault) => SINK_FAULT,

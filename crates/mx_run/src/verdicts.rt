@@ -3,9 +3,11 @@
 ghost use Rattle.std.specs.Prelude.{◌≡◌, ◌⊎◌, ℕ, ◌≤◌, [], ◌∷◌, ◌++◌, map, length, Some, Ok, IfOk, OnOk, OnErr, IsErrOf, codes};
 ghost use Rattle.std.specs.Fmt.{decimal};
 ghost use Rattle.std.specs.String.{string_bytes};
+ghost use Rattle.mx_audit.specs.Accounts.{HaveGrown, HaveRoom};
 ghost use Rattle.mx_io.specs.Bytes.{Appends, AppendsPart};
 ghost use Rattle.mx_io.specs.Faults.{Rose};
 ghost use Rattle.mx_drill.specs.Drills.{drill_session};
+ghost use Rattle.mx_proc.specs.Auditing.{WereTold};
 ghost use Rattle.mx_run.specs.Commands.{IsRun, IsDrill, IsAccepted};
 ghost use Rattle.mx_run.specs.Done.{IsRunOf};
 ghost use Rattle.mx_run.specs.Verdicts.{IsVerdict, verdict_status, verdict_text};
@@ -13,6 +15,7 @@ ghost use Rattle.mx_run.specs.declared.verdicts.Unreached.TheVariants.{Fault, Me
 
 use crate::words::Command;
 use itoa::Buffer;
+use mx_audit::Auditor;
 use mx_drill::{session_of, summary};
 use mx_io::{ReadError, Sink, Source, read_all, write_all};
 use mx_legal::Transcripts;
@@ -66,15 +69,20 @@ impl From<AllocError> for Unreached {
 
 impl Verdict {
     /// The verdict on a command. Under `run` the source is read to its end, and its session is run. Under `drill` the drill is run, and the
-    /// source is left as it is. Otherwise the source is left as it is and no memory is taken.
+    /// source is left as it is. Otherwise the source is left as it is and no memory is taken. The auditors are told of the run's denials.
     pub(crate) fn reach<R: Threads + Wait + Sync, S: Source, G: Gate>(
         rt: &R,
         alloc: Global,
         words: &[String],
         source: &mut S,
         gate: &G,
+        auditors: &mut Vec<Box<dyn Auditor + Send>>,
     ) -> Result<Verdict, Unreached>
-        ensures right { IfOk result (IsVerdict (map string_bytes words.now) (S.left source.old) (S.left source.new)) }
+        requires room { HaveRoom 700000 (map account auditors.old.items) }
+        ensures right { IfOk result (IsVerdict (map string_bytes words.now) (S.left source.old) (S.left source.new)
+            (map account auditors.old.items) (map account auditors.new.items)) }
+        ensures grown { HaveGrown (map account auditors.old.items) (map account auditors.new.items) }
+        ensures untold { IsErrOf result Unreached.Fault → map account auditors.new.items ≡ map account auditors.old.items }
         ensures refused { (IsAccepted (map string_bytes words.now) → ⊥) → result ≡ Ok Verdict.BadWords }
         ensures drilled { (n : ℕ) → IsDrill (map string_bytes words.now) n → IfOk result (λ verdict. verdict_status verdict ≡ 0) }
         ensures faultless { (IsRun (map string_bytes words.now) → ⊥) → IsErrOf result Unreached.Fault → ⊥ }
@@ -83,9 +91,9 @@ impl Verdict {
         ensures only { (IsErrOf result Unreached.Fault → ⊥) → S.faults source.new ≡ S.faults source.old }
     {
         match Command::read(words) {
-            Command::Run => Verdict::of_source(rt, alloc, source, gate),
+            Command::Run => Verdict::of_source(rt, alloc, source, gate, auditors),
             Command::Drill(number) => {
-                let (journal, transcripts) = drilled(rt, alloc, number, gate)?;
+                let (journal, transcripts) = drilled(rt, alloc, number, gate, auditors)?;
                 Ok(Verdict::Drilled {
                     number,
                     journal,
@@ -102,13 +110,18 @@ impl Verdict {
         alloc: Global,
         source: &mut S,
         gate: &G,
+        auditors: &mut Vec<Box<dyn Auditor + Send>>,
     ) -> Result<Verdict, Unreached>
-        ensures right { IfOk result (IsVerdict (codes "run" ∷ []) (S.left source.old) (S.left source.new)) }
+        requires room { HaveRoom 700000 (map account auditors.old.items) }
+        ensures right { IfOk result (IsVerdict (codes "run" ∷ []) (S.left source.old) (S.left source.new)
+            (map account auditors.old.items) (map account auditors.new.items)) }
+        ensures grown { HaveGrown (map account auditors.old.items) (map account auditors.new.items) }
+        ensures untold { IsErrOf result Unreached.Fault → map account auditors.new.items ≡ map account auditors.old.items }
         ensures cause { IsErrOf result Unreached.Fault → Rose (S.faults source.old) (S.faults source.new) }
         ensures only { (IsErrOf result Unreached.Fault → ⊥) → S.faults source.new ≡ S.faults source.old }
     {
         match read_all(alloc, source, MOST_BYTES) {
-            Ok(bytes) => Verdict::of_bytes(rt, alloc, &bytes, gate),
+            Ok(bytes) => Verdict::of_bytes(rt, alloc, &bytes, gate, auditors),
             Err(ReadError::TooLong) => Ok(Verdict::TooLong),
             Err(ReadError::Fault) => Err(Unreached::Fault),
             Err(ReadError::Memory) => Err(Unreached::Memory),
@@ -121,14 +134,18 @@ impl Verdict {
         alloc: Global,
         bytes: &[u8],
         gate: &G,
+        auditors: &mut Vec<Box<dyn Auditor + Send>>,
     ) -> Result<Verdict, Unreached>
-        requires { length bytes.now ≤ 4194304 }
-        ensures right { IfOk result (IsVerdict (codes "run" ∷ []) (Some bytes.now) (Some [])) }
+        requires within { length bytes.now ≤ 4194304 }
+        requires room { HaveRoom 700000 (map account auditors.old.items) }
+        ensures right { IfOk result (IsVerdict (codes "run" ∷ []) (Some bytes.now) (Some [])
+            (map account auditors.old.items) (map account auditors.new.items)) }
+        ensures grown { HaveGrown (map account auditors.old.items) (map account auditors.new.items) }
         ensures cause { OnErr result (IsErrOf result Unreached.Memory) }
     {
         match read_session(alloc, bytes) {
             Ok(session) => {
-                let (journal, transcripts) = run(rt, alloc, &session, gate)?;
+                let (journal, transcripts) = run(rt, alloc, &session, gate, auditors)?;
                 Ok(Verdict::Ran {
                     journal,
                     transcripts,
@@ -191,12 +208,16 @@ fn drilled<R: Threads + Wait + Sync, G: Gate>(
     alloc: Global,
     number: u32,
     gate: &G,
+    auditors: &mut Vec<Box<dyn Auditor + Send>>,
 ) -> Result<(Journal, Transcripts), AllocError>
-    requires { number ≤ 999999 }
-    ensures { IfOk result (λ ran. IsRunOf (drill_session number) ran.0 ran.1) }
+    requires number { number ≤ 999999 }
+    requires room { HaveRoom 700000 (map account auditors.old.items) }
+    ensures run { IfOk result (λ ran. IsRunOf (drill_session number) ran.0 ran.1) }
+    ensures told { IfOk result (λ ran. WereTold (map account auditors.old.items) ran.1 (map account auditors.new.items)) }
+    ensures grown { HaveGrown (map account auditors.old.items) (map account auditors.new.items) }
 {
     let session = session_of(alloc, number)?;
-    run(rt, alloc, &session, gate)
+    run(rt, alloc, &session, gate, auditors)
 }
 
 // Writes a text. The only error is `Fault`.

@@ -1,5 +1,5 @@
 use Rattle.std.proofs.Common.{◌≡◌, ◌++◌, ◌∙◌, List, map, ap}
-use Rattle.mx_proc.proofs.FinishLaws.{bench_finished, finished_rings}
+use Rattle.mx_proc.proofs.FinishLaws.{bench_finished, bench_recorded, finished_rings}
 use Rattle.mx_proc.specs.Processes.{recorded_steps}
 use Rattle.mx_proc.specs.declared.processes.Process.{Process}
 use Rattle.mx_proc.proofs.benches.Bench.finish.Goals as goal
@@ -24,3 +24,10 @@ returns-clause-sound c =
     = c.of.ensures ∙ c.gather-whole.ensures
     ∙ ap (λ (processes : List Process). c.self.inside.whole.items ++ map recorded_steps processes) c.into_items.ensures in
     (finished_rings _ _ _ (bench_finished _ c.self.inside.supervisor c.self.inside.whole.items _ _ _ _ _ _ c.self.invariant c.self.view_is c.requires c.into_journal.ensures.value told)).1
+
+pub returns-clause-recorded : goal.returns-clause-recorded
+returns-clause-recorded c =
+    let told : c.of.result ≡ c.self.inside.whole.items ++ map recorded_steps c.self.inside.processes
+    = c.of.ensures ∙ c.gather-whole.ensures
+    ∙ ap (λ (processes : List Process). c.self.inside.whole.items ++ map recorded_steps processes) c.into_items.ensures in
+    bench_recorded _ c.self.inside.supervisor c.self.inside.whole.items _ _ _ _ _ c.self.invariant c.self.view_is told

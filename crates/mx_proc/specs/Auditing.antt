@@ -1,0 +1,50 @@
+-- What auditors are told. Auditor i, counted from 0, belongs to process i + 1 and is told of each of its denials, in order.
+-- Processes beyond the auditors have none, and auditors beyond the processes are told nothing.
+use Rattle.std.specs.Prelude.{◌≡◌, ℕ, zero, suc, ◌-◌, ◌≤◌, List, [], ◌∷◌, Option, Some, drop, map, length, slice_get}
+use Rattle.mx_audit.specs.Accounts.{Account, with_denials, with_all, HaveRoomFor}
+use Rattle.mx_legal.specs.Denials.{denials, last_denial}
+use Rattle.mx_legal.specs.Transcripts.{Step}
+use Rattle.mx_script.specs.Sessions.{Outline}
+use Rattle.mx_sdw.specs.declared.denials.Denial.{Denial}
+use Rattle.mx_proc.specs.Stepping.{IsSeat}
+use Rattle.mx_proc.specs.Worlds.{Seat, World, steps_in}
+
+-- After a run each auditor was told what its process was denied. Transcript 0 is the initializer's, which has no auditor.
+abbrev pub WereTold : List Account → List (List Step) → List Account → Type 0
+WereTold before transcripts after = after ≡ with_all before (map denials (drop 1 transcripts))
+
+-- Each auditor has room for a denial of each line of its process.
+abbrev pub HaveRoomForLines : Outline → List Account → Type 0
+HaveRoomForLines x accounts = HaveRoomFor (map length x.scripts) accounts
+
+-- on a bench, so far: what each process was denied, and that its auditor was told of it
+abbrev pub denied_in : List Seat → List (List (ℕ × Denial))
+denied_in seats = map denials (map steps_in seats)
+
+abbrev pub AreTold : List Account → List Seat → List Account → Type 0
+AreTold before seats now = now ≡ with_all before (denied_in seats)
+
+-- A bench and the accounts of its auditors. It is one of this session, the auditors had these accounts before the run and
+-- room for a denial of each line, and each was told what its process was denied so far.
+pub record Audited : Type 0 where
+  pub world : World
+  pub accounts : List Account
+
+pub record IsAudited (x : Outline) (before : List Account) (w : World) (accounts : List Account) : Type 0 where
+  pub session : w.session ≡ x
+  pub told : AreTold before w.seats accounts
+  pub room : HaveRoomForLines x before
+
+-- the denial of the last line that process p has done, with the line's number, if that line was denied
+abbrev pub IsLastDenial : World → ℕ → Option (ℕ × Denial) → Type 0
+IsLastDenial w p told = (seat : Seat) → IsSeat w p seat → told ≡ last_denial seat.steps
+
+-- one auditor, where it is there, is told of these denials more
+abbrev pub with_more : List Account → ℕ → List (ℕ × Denial) → List Account
+with_more [] i more = []
+with_more (account ∷ accounts) zero more = with_denials account more ∷ accounts
+with_more (account ∷ accounts) (suc i) more = account ∷ with_more accounts i more
+
+-- one auditor, where it is there, has room for a denial
+abbrev pub HasRoomAt : List Account → ℕ → Type 0
+HasRoomAt accounts i = (account : Account) → slice_get accounts i ≡ Some account → 1 ≤ account.room
