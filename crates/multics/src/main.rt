@@ -14,7 +14,16 @@ fn main(rt: HostRuntime) -> ExitCode {
         Ok(words) => {
             let mut source = StdSource::new(rt.stdin());
             let mut sink = StdSink::new(rt.stdout());
-            ExitCode::from(multics(&rt, rt.alloc(), &words, &mut source, &mut sink, &NoGate))
+            let mut auditors = Vec::new(rt.alloc());
+            ExitCode::from(multics(
+                &rt,
+                rt.alloc(),
+                &words,
+                &mut source,
+                &mut sink,
+                &NoGate,
+                &mut auditors,
+            ))
         }
         Err(AllocError) => ExitCode::from(OUT_OF_MEMORY),
     }

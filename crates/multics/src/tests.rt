@@ -12,6 +12,7 @@ use std::test::Fail;
 use std::thread::Threads;
 
 mod access;
+mod auditors;
 mod calls;
 mod drills;
 mod knowing;
@@ -191,7 +192,8 @@ fn a_text_past_the_limit_is_too_long(rt: HostRuntime) -> Result<(), Fail> {
             words.as_slice(),
             &mut source,
             &mut sink,
-            &NoGate
+            &NoGate,
+            &mut Vec::new(alloc)
         ),
         6
     );

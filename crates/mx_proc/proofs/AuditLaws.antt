@@ -3,7 +3,7 @@ use Rattle.std.proofs.Common.{◌≡◌, ℕ, zero, suc, ◌<◌, ◌≤◌, ◌
 use Rattle.std.specs.List.{slice_get, slice_set, filter_map}
 use Rattle.mx_audit.proofs.AccountLaws.{with_both, with_none}
 use Rattle.mx_audit.specs.Accounts.{Account, with_denials, with_all, HaveGrown, HaveRoomFor}
-use Rattle.mx_legal.proofs.DenialLaws.{last_of}
+use Rattle.mx_legal.proofs.DenialLaws.{last_of, denials_append, few_denials}
 use Rattle.mx_legal.specs.Denials.{denial_of, denials, last_denial}
 use Rattle.mx_legal.specs.Scripts.{first_line, script_at}
 use Rattle.mx_legal.specs.Transcripts.{Step}
@@ -33,22 +33,7 @@ one_line step = by_denial (denial_of step) refl
     by_denial (Some told) e = rw e refl
 
 line_more : (steps : List Step) (step : Step) → denials (steps ++ step ∷ []) ≡ denials steps ++ list_of (denial_of step)
-line_more [] step = one_line step
-line_more (first ∷ steps) step = by_denial (denial_of first) refl (line_more steps step)
-  where
-    by_denial : (told : Option (ℕ × Denial)) → denial_of first ≡ told → denials (steps ++ step ∷ []) ≡ denials steps ++ list_of (denial_of step)
-        → denials ((first ∷ steps) ++ step ∷ []) ≡ denials (first ∷ steps) ++ list_of (denial_of step)
-    by_denial None e rest = rw e rest
-    by_denial (Some told) e rest = rw e (ap (λ (l : List (ℕ × Denial)). told ∷ l) rest)
-
-few_denials : (steps : List Step) → length (denials steps) ≤ length steps
-few_denials [] = omega arith
-few_denials (step ∷ steps) = by_denial (denial_of step) refl (few_denials steps)
-  where
-    by_denial : (told : Option (ℕ × Denial)) → denial_of step ≡ told → length (denials steps) ≤ length steps
-        → length (denials (step ∷ steps)) ≤ length (step ∷ steps)
-    by_denial None e rest = rw e (omega (arith, rest))
-    by_denial (Some told) e rest = rw e (omega (arith, rest))
+line_more steps step = denials_append steps (step ∷ []) ∙ ap (λ (l : List (ℕ × Denial)). denials steps ++ l) (one_line step)
 
 -- the one that is told
 pub tell_room : {A : Type 0} (f : A → Account) (xs : List A) (i : ℕ) (x : A) → i < length xs → HasRoomAt (map f xs) i

@@ -5,9 +5,9 @@ use Rattle.mx_run.specs.Statuses.{IsStopped, IsDueStatus}
 use Rattle.session_files.specs.declared.runs.Ended.{Ended}
 use Rattle.session_files.specs.declared.runs.Ended.TheVariants.{Ran, Status}
 
--- The first bytes are the text of a session, and the others the run text of a legal run of it, whose falls are gated.
+-- The first bytes are the text of a session, and the others the run text of a legal run of it, whose falls are gated. It had no auditors.
 abbrev pub IsRunOf : List ℕ → List ℕ → Type 0
-IsRunOf session printed = (left : Option (List ℕ)) × IsDone (Some session) left (Some []) (Some printed)
+IsRunOf session printed = (left : Option (List ℕ)) × IsDone (Some session) left (Some []) (Some printed) [] []
 
 -- The status of a command to run these bytes that is not 0: that of one which memory or an end stopped, or else the one that is due.
 pub record IsOtherStatus (session : List ℕ) (status : ℕ) : Type 0 where

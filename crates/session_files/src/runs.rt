@@ -36,7 +36,8 @@ pub fn run_once<R: Threads + Wait + Sync>(
     let mut source = MemorySource::new(text, Vec::new(alloc), PIECE);
     let made = MemorySink::new(alloc, room, Vec::new(alloc), PIECE);
     let mut sink = made.map_err(|_| AllocError)?;
-    match multics(rt, alloc, &words, &mut source, &mut sink, &NoGate) {
+    let mut auditors = Vec::new(alloc);
+    match multics(rt, alloc, &words, &mut source, &mut sink, &NoGate, &mut auditors) {
         0 => Ok(Ended::Ran(Vec::from_slice(alloc, sink.bytes())?)),
         status => Ok(Ended::Status(status)),
     }

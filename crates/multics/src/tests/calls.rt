@@ -1,5 +1,9 @@
 //! The top call over ends in memory.
 
+ghost use Rattle.std.specs.Prelude.{map};
+ghost use Rattle.mx_audit.specs.Accounts.{HaveGrown, HaveRoom};
+
+use mx_audit::Auditor;
 use mx_io::{MemorySink, MemorySource};
 use mx_run::{Gate, NoGate, multics};
 use std::alloc::Global;
@@ -49,6 +53,22 @@ pub(super) fn call_gated<R: Threads + Wait + Sync, G: Gate>(
     ends: &Ends<'_>,
     gate: &G,
 ) -> Result<Answer, Fail> {
+    call_audited(rt, alloc, words, text, ends, gate, &mut Vec::new(alloc))
+}
+
+/// The same with these auditors.
+pub(super) fn call_audited<R: Threads + Wait + Sync, G: Gate>(
+    rt: &R,
+    alloc: Global,
+    words: &[&str],
+    text: &[u8],
+    ends: &Ends<'_>,
+    gate: &G,
+    auditors: &mut Vec<Box<dyn Auditor + Send>>,
+) -> Result<Answer, Fail>
+    requires { HaveRoom 700000 (map account auditors.old.items) }
+    ensures { HaveGrown (map account auditors.old.items) (map account auditors.new.items) }
+{
     let mut own = Vec::new(alloc);
     for word in words {
         own.push(String::from_str(alloc, word)?)?;
@@ -64,7 +84,7 @@ pub(super) fn call_gated<R: Threads + Wait + Sync, G: Gate>(
         Vec::from_slice(alloc, ends.sink_fails)?,
         3,
     )?;
-    let status = multics(rt, alloc, own.as_slice(), &mut source, &mut sink, gate);
+    let status = multics(rt, alloc, own.as_slice(), &mut source, &mut sink, gate, auditors);
     let written = Vec::from_slice(alloc, sink.bytes())?;
     Ok(Answer { status, written })
 }

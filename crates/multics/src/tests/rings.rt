@@ -3,7 +3,7 @@
 use super::*;
 
 // A procedure of ring 4 calls gates of a segment with brackets 1,3,5 and two gates, and returns.
-const GATE: &[u8] = b"multics 1\n\
+pub(super) const GATE: &[u8] = b"multics 1\n\
     create_object >main 64 4 4 4 1\n\
     set_acl >main *.*.* re\n\
     create_object >gate 64 1 3 5 2\n\

@@ -8,8 +8,8 @@ use Rattle.mx_run.proofs.commands.multics.Goals as goal
 pub returns-in-Ok-tell-clause-due : goal.returns-in-Ok-tell-clause-due
 returns-in-Ok-tell-clause-due g c = λ spelled told.
     let words : List (List ℕ) = map string_bytes c.args.words.now in
-    inr (subst (λ (n : ℕ). IsDueStatus words spelled n) (sym c.status.ensures) (due_status words spelled _ c.in-Ok.verdict
-    (subst (λ (l : Option (List ℕ)). IsVerdict words l (g.S.Source.left c.reach.new.source) c.in-Ok.verdict) told c.in-Ok.ensures.right)))
+    inr (subst (λ (n : ℕ). IsDueStatus words spelled n) (sym c.status.ensures) (due_status words spelled _ _ _ c.in-Ok.verdict
+    (subst (λ (l : Option (List ℕ)). IsVerdict words l (g.S.Source.left c.reach.new.source) _ _ c.in-Ok.verdict) told c.in-Ok.ensures.right)))
 
 pub returns-in-Err-Fault-tell-clause-cut_short : goal.returns-in-Err-Fault-tell-clause-cut_short
 returns-in-Err-Fault-tell-clause-cut_short g c = λ e. (

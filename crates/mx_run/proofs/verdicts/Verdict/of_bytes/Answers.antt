@@ -12,4 +12,5 @@ returns-in-Err-BadLine-clause-right g c = (
     first = subst (IsFirstBad c.args.bytes.now) (sym c.in-Err-BadLine.number-is)
         (c.read_session.ensures.bad_line c.in-Err-BadLine.number (c.in-Err-BadLine.is ∙ ap Err c.in-Err-BadLine.field-0-is));
   },
+  refl,
 )
