@@ -171,11 +171,23 @@ impl View {
                 Ok(())
             }
             View::Lines => {
-                let (journal, transcripts) = run(rt, alloc, session, &NoGate, &mut Vec::new(alloc))?;
+                let (journal, transcripts) = run(
+                    rt,
+                    alloc,
+                    session,
+                    &NoGate,
+                    &mut Vec::new(alloc),
+                )?;
                 show_lines(alloc, session, &journal, &transcripts, sink)
             }
             View::Picture => {
-                let (journal, transcripts) = run(rt, alloc, session, &NoGate, &mut Vec::new(alloc))?;
+                let (journal, transcripts) = run(
+                    rt,
+                    alloc,
+                    session,
+                    &NoGate,
+                    &mut Vec::new(alloc),
+                )?;
                 show_picture(alloc, session, &journal, &transcripts, sink)
             }
         }

@@ -13,7 +13,8 @@ use Rattle.mx_sdw.specs.declared.denials.Denial.{Denial}
 use Rattle.mx_proc.proofs.BenchLaws.{map_get, map_set, set_same}
 use Rattle.mx_proc.proofs.BoundLaws.{fewer_done}
 use Rattle.mx_proc.proofs.SeatLaws.{set_here}
-use Rattle.mx_proc.specs.Auditing.{WereTold, HaveRoomForLines, AreTold, IsAudited, IsLastDenial, HasRoomAt, denied_in, with_more}
+use Rattle.mx_proc.specs.Auditors.{WereTold, HaveRoomForLines}
+use Rattle.mx_proc.specs.Auditing.{AreTold, IsAudited, IsLastDenial, HasRoomAt, denied_in, with_more}
 use Rattle.mx_proc.specs.Running.{left_of}
 use Rattle.mx_proc.specs.Stepping.{IsOpening, IsSeat, HasMoved, HasStepped}
 use Rattle.mx_proc.specs.Worlds.{Seat, World, steps_in, transcripts_of}

@@ -1,11 +1,17 @@
 -- What the cells hold after a store.
-use Rattle.std.proofs.Common.{◌≡◌, ◌≢◌, ℕ, zero, suc, ◌<◌, ◌==◌, Bool, true, false, List, [], ◌∷◌, length, refl, ◌∙◌, ap, arith}
+use Rattle.std.proofs.Common.{◌≡◌, ◌≢◌, ℕ, zero, suc, ◌<◌, ◌==◌, Bool, true, false, List, [], ◌∷◌, length, replicate, refl, ◌∙◌, ap, arith}
 use Rattle.std.proofs.lemmas.Bool.{eqb-true}
 use Rattle.std.specs.List.{slice_set, slice_index_or}
 use Rattle.mx_reads.specs.Deeds.{CellUse}
 use Rattle.mx_ties.specs.Uses.{use_of}
 use Rattle.mx_proc.specs.Worlds.{contents_at, empty_contents, held, held_when, held_in}
 use Rattle.mx_proc.specs.declared.memory.Contents.{Contents}
+
+-- cells that all hold the same
+pub same_at : {A : Type 0} (n cell : ℕ) (c : A) → slice_index_or (replicate n c) cell c ≡ c
+same_at zero cell c = refl
+same_at (suc n) zero c = refl
+same_at (suc n) (suc cell) c = same_at n cell c
 
 set_at : (cells : List Contents) (cell : ℕ) (c d : Contents) → cell < length cells → slice_index_or (slice_set cells cell c) cell d ≡ c
 set_at [] cell c d h = absurd (omega arith)

@@ -1,23 +1,14 @@
--- What auditors are told. Auditor i, counted from 0, belongs to process i + 1 and is told of each of its denials, in order.
--- Processes beyond the auditors have none, and auditors beyond the processes are told nothing.
-use Rattle.std.specs.Prelude.{◌≡◌, ℕ, zero, suc, ◌-◌, ◌≤◌, List, [], ◌∷◌, Option, Some, drop, map, length, slice_get}
-use Rattle.mx_audit.specs.Accounts.{Account, with_denials, with_all, HaveRoomFor}
+-- Helpers: what the auditors of a bench were told so far, and the one that is told next.
+use Rattle.std.specs.Prelude.{◌≡◌, ℕ, zero, suc, ◌≤◌, List, [], ◌∷◌, Option, Some, map, slice_get}
+use Rattle.mx_audit.specs.Accounts.{Account, with_denials, with_all}
 use Rattle.mx_legal.specs.Denials.{denials, last_denial}
-use Rattle.mx_legal.specs.Transcripts.{Step}
 use Rattle.mx_script.specs.Sessions.{Outline}
 use Rattle.mx_sdw.specs.declared.denials.Denial.{Denial}
+use Rattle.mx_proc.specs.Auditors.{HaveRoomForLines}
 use Rattle.mx_proc.specs.Stepping.{IsSeat}
 use Rattle.mx_proc.specs.Worlds.{Seat, World, steps_in}
 
--- After a run each auditor was told what its process was denied. Transcript 0 is the initializer's, which has no auditor.
-abbrev pub WereTold : List Account → List (List Step) → List Account → Type 0
-WereTold before transcripts after = after ≡ with_all before (map denials (drop 1 transcripts))
-
--- Each auditor has room for a denial of each line of its process.
-abbrev pub HaveRoomForLines : Outline → List Account → Type 0
-HaveRoomForLines x accounts = HaveRoomFor (map length x.scripts) accounts
-
--- on a bench, so far: what each process was denied, and that its auditor was told of it
+-- what each process was denied so far, and that its auditor was told of it
 abbrev pub denied_in : List Seat → List (List (ℕ × Denial))
 denied_in seats = map denials (map steps_in seats)
 

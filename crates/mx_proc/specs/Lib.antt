@@ -1,3 +1,6 @@
+-- what auditors are told
+pub mod Auditors
+-- the processes on a bench, and helpers
 pub mod Fills
 pub mod Operands
 pub mod Worlds

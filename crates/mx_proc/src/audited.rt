@@ -3,7 +3,8 @@
 ghost use Rattle.std.specs.Prelude.{◌≡◌, ◌<◌, ◌≤◌, ◌↔◌, ◌∷◌, [], Ok, IfOk, OnOk, OnErr, map, length};
 ghost use Rattle.mx_audit.specs.Accounts.{HaveGrown};
 ghost use Rattle.mx_legal.specs.Legal.{IsLegal, HasGatedFalls, HasSoundRegisters};
-ghost use Rattle.mx_proc.specs.Auditing.{WereTold, HaveRoomForLines, HasRoomAt, with_more};
+ghost use Rattle.mx_proc.specs.Auditing.{HasRoomAt, with_more};
+ghost use Rattle.mx_proc.specs.Auditors.{WereTold, HaveRoomForLines};
 ghost use Rattle.mx_proc.specs.Rounds.{all_left};
 ghost use Rattle.mx_proc.specs.Stepping.{IsOpening, IsWaiting, HasMoved, HasStepped, HasEnded, HaveEnded};
 ghost use Rattle.mx_proc.specs.declared.benches.Stepped.TheVariants.{More, Ended, LineDone, Waits};
@@ -68,7 +69,8 @@ impl<'a, B: Naming, A: Auditor> AuditedBench<'a, B, A> {
         let stepped = self.bench.step(alloc, p)?;
         if let Stepped::LineDone = stepped {
             if let Some((line, denial)) = self.bench.last_denial(p) {
-                tell(self.auditors.as_mut_slice(), usize::from(p) - 1, line, denial);
+                let own = usize::from(p) - 1;
+                tell(self.auditors.as_mut_slice(), own, line, denial);
             }
         }
         Ok(stepped)
@@ -114,7 +116,11 @@ impl<'a, B: Naming, A: Auditor> AuditedBench<'a, B, A> {
         ensures sound { HasSoundRegisters B.session result.0 result.1 }
         ensures told { WereTold B.accounts result.1 (map A.account result.2.items) }
     {
-        let AuditedBench { bench, auditors, .. } = self;
+        let AuditedBench {
+            bench,
+            auditors,
+            ..
+        } = self;
         let (journal, transcripts) = bench.finish();
         (journal, transcripts, auditors)
     }

@@ -3,7 +3,7 @@
 ghost use Rattle.std.specs.Prelude.{◌≡◌, ◌≤◌, IfOk, map, length};
 ghost use Rattle.mx_audit.specs.Accounts.{HaveGrown};
 ghost use Rattle.mx_legal.specs.Legal.{IsLegal, HasGatedFalls, HasSoundRegisters};
-ghost use Rattle.mx_proc.specs.Auditing.{WereTold, HaveRoomForLines};
+ghost use Rattle.mx_proc.specs.Auditors.{WereTold, HaveRoomForLines};
 
 use crate::audited::AuditedBench;
 use crate::benches::Bench;
@@ -17,10 +17,9 @@ use mx_script::Session;
 use mx_state::Journal;
 use std::alloc::{AllocError, Global};
 use std::marker::Brand;
-use std::mem;
 use std::sync::Wait;
-use std::thread;
 use std::thread::{Promise, Scope, Threads};
+use std::{mem, thread};
 
 /// Runs a session: the setup by the initializer, and then the processes' scripts, each process on a thread of its own where
 /// one can be had. The gate is told of each script line before it begins. Auditor `i`, counted from 0, belongs to process
@@ -153,7 +152,15 @@ fn work_on_threads<R: Threads + Wait + Sync, G: Gate, B: Naming + Send, A: Audit
 
 // The processes from `p` to the last, each on a thread of this scope, but the last on this one; where no thread can be had for a
 // process, it and those after it work in turn on this one.
-fn work_from<'s, 'a: 's, E, R: Threads + Wait + Sync, G: Gate, B: Naming + Send + 's, A: Auditor + Send + 's>(
+fn work_from<
+    's,
+    'a: 's,
+    E,
+    R: Threads + Wait + Sync,
+    G: Gate,
+    B: Naming + Send + 's,
+    A: Auditor + Send + 's,
+>(
     scope: &Scope<'s, E>,
     rt: &'s R,
     alloc: Global,

@@ -6,7 +6,7 @@ use Rattle.mx_audit.proofs.AccountLaws.{room_for_each}
 use Rattle.mx_audit.specs.Accounts.{Account, HaveRoom}
 use Rattle.mx_drill.proofs.SessionLaws.{few_lines as few_drill_lines}
 use Rattle.mx_drill.specs.Drills.{drill_session}
-use Rattle.mx_proc.specs.Auditing.{HaveRoomForLines}
+use Rattle.mx_proc.specs.Auditors.{HaveRoomForLines}
 use Rattle.mx_script.proofs.LengthLaws.{few_lines}
 use Rattle.mx_script.specs.Sessions.{Outline}
 use Rattle.mx_script.specs.SessionTexts.{IsText}

@@ -9,7 +9,7 @@ use Rattle.mx_script.specs.Sessions.{Outline}
 use Rattle.mx_state.specs.declared.journal.Entry.{Entry}
 use Rattle.mx_legal.specs.Legal.{IsLegal, HasGatedFalls, HasSoundRegisters}
 use Rattle.mx_legal.specs.Transcripts.{Step}
-use Rattle.mx_proc.specs.Auditing.{WereTold}
+use Rattle.mx_proc.specs.Auditors.{WereTold}
 use Rattle.mx_drill.specs.Drills.{drill_session}
 use Rattle.mx_drill.specs.Summaries.{summary_text}
 use Rattle.mx_text.specs.RunText.{run_text}

@@ -4,7 +4,7 @@ use Rattle.std.specs.Prelude.{◌≡◌, ℕ, ◌≤◌, List, ◌++◌, length,
 use Rattle.std.specs.Fmt.{decimal}
 use Rattle.mx_audit.specs.Accounts.{Account}
 use Rattle.mx_io.specs.Bytes.{TakesAll, TakesTooMany}
-use Rattle.mx_proc.specs.Auditing.{WereTold}
+use Rattle.mx_proc.specs.Auditors.{WereTold}
 use Rattle.mx_script.specs.FirstBadLine.{IsFirstBad}
 use Rattle.mx_text.specs.RunText.{run_text}
 use Rattle.mx_drill.specs.Drills.{drill_session}

@@ -58,12 +58,12 @@ pub fn multics<R: Threads + Wait + Sync, S: Source, K: Sink, G: Gate>(
     // Status 0 is the headline.
     ensures done { result ≡ 0
         → IsDoneBy (map string_bytes words.now) (S.left source.old) (S.left source.new) (K.out sink.old) (K.out sink.new)
-            (map account auditors.old.items) (map account auditors.new.items) }
+        (map account auditors.old.items) (map account auditors.new.items) }
 
     // Statuses 0, 2, 5 and 6 are those of a right verdict, told whole. There are no others but 1, 3 and 4.
     ensures verdict { IsStopped result
         ⊎ GainsVerdict (map string_bytes words.now) (S.left source.old) (S.left source.new) (K.out sink.old) (K.out sink.new)
-            (map account auditors.old.items) (map account auditors.new.items) result }
+        (map account auditors.old.items) (map account auditors.new.items) result }
 
     // Which one it is follows from the words and from the bytes of a source that tells them: no session is refused.
     ensures due { (spelled : List ℕ) → S.left source.old ≡ Some spelled
@@ -79,7 +79,7 @@ pub fn multics<R: Threads + Wait + Sync, S: Source, K: Sink, G: Gate>(
     ensures unfailed { result ≡ 1 → (S.faults source.new ≡ S.faults source.old) × (K.faults sink.new ≡ K.faults sink.old) }
     ensures out_of_memory { result ≡ 1 → (sink.new ≡ sink.old)
         ⊎ GainsFront (map string_bytes words.now) (S.left source.old) (S.left source.new) (K.out sink.old) (K.out sink.new)
-            (map account auditors.old.items) (map account auditors.new.items) 0 }
+        (map account auditors.old.items) (map account auditors.new.items) 0 }
 
     // At status 3 the source failed, and nothing was written.
     ensures source_fault { result ≡ 3 → Rose (S.faults source.old) (S.faults source.new) }
@@ -93,7 +93,7 @@ pub fn multics<R: Threads + Wait + Sync, S: Source, K: Sink, G: Gate>(
     ensures sink_fault { result ≡ 4 → Rose (K.faults sink.old) (K.faults sink.new) }
     ensures cut_short { result ≡ 4 → (status : ℕ)
         × GainsFront (map string_bytes words.now) (S.left source.old) (S.left source.new) (K.out sink.old) (K.out sink.new)
-            (map account auditors.old.items) (map account auditors.new.items) status }
+        (map account auditors.old.items) (map account auditors.new.items) status }
 {
     match Verdict::reach(rt, alloc, words, source, gate, auditors) {
         Ok(verdict) => match verdict.tell(alloc, sink) {

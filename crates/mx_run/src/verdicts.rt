@@ -7,7 +7,7 @@ ghost use Rattle.mx_audit.specs.Accounts.{HaveGrown, HaveRoom};
 ghost use Rattle.mx_io.specs.Bytes.{Appends, AppendsPart};
 ghost use Rattle.mx_io.specs.Faults.{Rose};
 ghost use Rattle.mx_drill.specs.Drills.{drill_session};
-ghost use Rattle.mx_proc.specs.Auditing.{WereTold};
+ghost use Rattle.mx_proc.specs.Auditors.{WereTold};
 ghost use Rattle.mx_run.specs.Commands.{IsRun, IsDrill, IsAccepted};
 ghost use Rattle.mx_run.specs.Done.{IsRunOf};
 ghost use Rattle.mx_run.specs.Verdicts.{IsVerdict, verdict_status, verdict_text};

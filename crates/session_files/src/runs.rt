@@ -37,7 +37,15 @@ pub fn run_once<R: Threads + Wait + Sync>(
     let made = MemorySink::new(alloc, room, Vec::new(alloc), PIECE);
     let mut sink = made.map_err(|_| AllocError)?;
     let mut auditors = Vec::new(alloc);
-    match multics(rt, alloc, &words, &mut source, &mut sink, &NoGate, &mut auditors) {
+    match multics(
+        rt,
+        alloc,
+        &words,
+        &mut source,
+        &mut sink,
+        &NoGate,
+        &mut auditors,
+    ) {
         0 => Ok(Ended::Ran(Vec::from_slice(alloc, sink.bytes())?)),
         status => Ok(Ended::Status(status)),
     }

@@ -84,7 +84,15 @@ pub(super) fn call_audited<R: Threads + Wait + Sync, G: Gate>(
         Vec::from_slice(alloc, ends.sink_fails)?,
         3,
     )?;
-    let status = multics(rt, alloc, own.as_slice(), &mut source, &mut sink, gate, auditors);
+    let status = multics(
+        rt,
+        alloc,
+        own.as_slice(),
+        &mut source,
+        &mut sink,
+        gate,
+        auditors,
+    );
     let written = Vec::from_slice(alloc, sink.bytes())?;
     Ok(Answer { status, written })
 }

@@ -9,7 +9,7 @@ tell-requires g c =
     let done = c.in_ok-stepped.ensures.done (ap Ok c.in-LineDone.is) in
     let room : HasRoomAt (map g.A.Auditor.account c.self.inside.auditors.items) (c.args.p - 1)
     = audited_room g.B.Naming.session g.B.Naming.accounts _ c.self.inside.bench c.args.p c.step.new.self c.requires.some done c.self.invariant in
-    subst (λ n. HasRoomAt (map g.A.Auditor.account c.as_mut_slice.result.now) (n - 1)) (sym c.from.ensures)
+    subst (λ n. HasRoomAt (map g.A.Auditor.account c.as_mut_slice.result.now) (n - 1)) (sym c.from-own.ensures)
     (subst (λ (l : List g.row.A.Denot). HasRoomAt (map g.A.Auditor.account l) (c.args.p - 1)) (sym c.as_mut_slice.ensures.value) room)
 
 pub invariant_of-self-in-Some : goal.invariant_of-self-in-Some
@@ -21,7 +21,7 @@ invariant_of-self-in-Some g c =
     c.step.new.self (Some (c.in-Some.line, c.in-Some.denial)) done last
     (ap (map g.A.Auditor.account) (take_front _ c.tell.new.auditors _ (c.tell.auto.auditors ∙ c.as_mut_slice.ensures.len))
     ∙ c.tell.ensures
-    ∙ ap (λ n. with_more (map g.A.Auditor.account c.as_mut_slice.result.now) (n - 1) (list_of (Some (c.in-Some.line, c.in-Some.denial)))) c.from.ensures
+    ∙ ap (λ n. with_more (map g.A.Auditor.account c.as_mut_slice.result.now) (n - 1) (list_of (Some (c.in-Some.line, c.in-Some.denial)))) c.from-own.ensures
     ∙ ap (λ (l : List g.row.A.Denot). with_more (map g.A.Auditor.account l) (c.args.p - 1) (list_of (Some (c.in-Some.line, c.in-Some.denial))))
     c.as_mut_slice.ensures.value) c.self.invariant
 
