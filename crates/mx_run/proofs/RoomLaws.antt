@@ -1,5 +1,5 @@
 -- An auditor that has room for 700,000 denials has room for one of each line that its process can have.
-use Rattle.std.proofs.Common.{ℕ, ◌+◌, ◌*◌, ◌<◌, ◌≤◌, List, [], ◌∷◌, map, length, arith}
+use Rattle.std.proofs.Common.{◌≡◌, ℕ, ◌+◌, ◌*◌, ◌<◌, ◌≤◌, List, [], ◌∷◌, map, length, sym, subst, arith}
 use Rattle.std.specs.List.{All}
 use Rattle.std.proofs.lemmas.List.Elements.{All-nil, All-cons, All-head, All-tail}
 use Rattle.mx_audit.proofs.AccountLaws.{room_for_each}
@@ -24,6 +24,9 @@ at_most (number ∷ numbers) few =
     let here : number ≤ 600 = All-head (λ n. n ≤ 600) number numbers few in
     All-cons (λ n. n ≤ 700000) number numbers (omega (arith, here)) (at_most numbers (All-tail (λ n. n ≤ 600) number numbers few))
 
-pub room_for_drill : (number : ℕ) (accounts : List Account) → HaveRoom 700000 accounts → HaveRoomForLines (drill_session number) accounts
-room_for_drill number accounts room =
-    room_for_each 700000 (map length (drill_session number).scripts) accounts room (at_most _ (few_drill_lines number))
+pub room_for_drill : (number : ℕ) (x : Outline) (accounts : List Account) → x ≡ drill_session number → HaveRoom 700000 accounts
+    → HaveRoomForLines x accounts
+room_for_drill number x accounts is room =
+    subst (λ (y : Outline). HaveRoomForLines y accounts) (sym is)
+    (room_for_each 700000 (map length (drill_session number).scripts) accounts room
+    (at_most (map length (drill_session number).scripts) (few_drill_lines number)))

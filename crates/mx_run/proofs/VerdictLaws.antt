@@ -1,12 +1,13 @@
 -- What a right verdict means for a source that tells its bytes.
-use Rattle.std.proofs.Common.{ℕ, ◌<◌, ◌≤◌, List, length, refl, sym, subst, Option, Some, inl, inr, arith}
-use Rattle.mx_audit.specs.Accounts.{Account}
+use Rattle.std.proofs.Common.{◌≡◌, ℕ, ◌<◌, ◌≤◌, List, length, refl, sym, subst, Option, Some, inl, inr, arith}
+use Rattle.mx_audit.specs.Accounts.{Account, HaveGrown}
+use Rattle.mx_io.specs.Bytes.{Appends, AppendsPart}
 use Rattle.mx_run.proofs.CommandLaws.{run_is_no_drill}
 use Rattle.mx_script.specs.SessionTexts.{IsText}
 use Rattle.mx_run.specs.Commands.{IsRun}
 use Rattle.mx_run.specs.Done.{most_bytes, IsDone, IsDoneBy}
-use Rattle.mx_run.specs.Statuses.{IsDueStatus}
-use Rattle.mx_run.specs.Verdicts.{IsVerdict, verdict_status}
+use Rattle.mx_run.specs.Statuses.{GainsFront, IsDueStatus}
+use Rattle.mx_run.specs.Verdicts.{IsVerdict, verdict_status, verdict_text}
 use Rattle.mx_run.specs.declared.verdicts.Verdict.{Verdict}
 use Rattle.mx_run.specs.declared.verdicts.Verdict.TheVariants.{Ran, Drilled, BadWords, BadLine, TooLong}
 
@@ -58,3 +59,41 @@ pub run_done : (words : List (List ℕ)) (source source' sink sink' : Option (Li
     → IsDoneBy words source source' sink sink' accounts accounts' → IsDone source source' sink sink' accounts accounts'
 run_done words source source' sink sink' accounts accounts' run (inl done) = done.1
 run_done words source source' sink sink' accounts accounts' run (inr drilled) = absurd (run_is_no_drill words drilled.number run drilled.words_are)
+
+-- What a verdict leaves. That the accounts have grown names them.
+pub due_of : (words : List (List ℕ)) (spelled : List ℕ) (source source' : Option (List ℕ)) (accounts accounts' : List Account) (verdict : Verdict)
+    → HaveGrown accounts accounts' → source ≡ Some spelled → IsVerdict words source source' accounts accounts' verdict
+    → IsDueStatus words spelled (verdict_status verdict)
+due_of words spelled source source' accounts accounts' verdict grown told right =
+    due_status words spelled source' accounts accounts' verdict
+    (subst (λ (l : Option (List ℕ)). IsVerdict words l source' accounts accounts' verdict) told right)
+
+pub done_of : (words : List (List ℕ)) (source source' sink sink' : Option (List ℕ)) (accounts accounts' : List Account) (verdict : Verdict)
+    → HaveGrown accounts accounts' → IsVerdict words source source' accounts accounts' verdict → Appends sink sink' (verdict_text verdict)
+    → verdict_status verdict ≡ 0 → IsDoneBy words source source' sink sink' accounts accounts'
+done_of words source source' sink sink' accounts accounts' (Ran journal transcripts) grown right printed done =
+    inl (right.0, record { journal = journal; transcripts = transcripts; run = right.1; told = right.2; printed = printed })
+done_of words source source' sink sink' accounts accounts' (Drilled number journal transcripts) grown right printed done =
+    inr (record {
+      number = number;
+      words_are = right.0;
+      journal = journal;
+      transcripts = transcripts;
+      run = right.1;
+      told = right.3;
+      printed = printed;
+    })
+done_of words source source' sink sink' accounts accounts' BadWords grown right printed done = absurd (omega (arith, done))
+done_of words source source' sink sink' accounts accounts' (BadLine number) grown right printed done = absurd (omega (arith, done))
+done_of words source source' sink sink' accounts accounts' TooLong grown right printed done = absurd (omega (arith, done))
+
+pub front_of : (words : List (List ℕ)) (source source' sink sink' : Option (List ℕ)) (accounts accounts' : List Account) (verdict : Verdict)
+    → HaveGrown accounts accounts' → IsVerdict words source source' accounts accounts' verdict
+    → (verdict_status verdict ≡ 0) × AppendsPart sink sink' (verdict_text verdict)
+    → GainsFront words source source' sink sink' accounts accounts' 0
+front_of words source source' sink sink' accounts accounts' verdict grown right front = record {
+  verdict = verdict;
+  right = right;
+  status_is = sym front.0;
+  printed = front.1;
+}

@@ -1,0 +1,5 @@
+use Rattle.mx_audit.proofs.AccountLaws.{grown_none}
+use Rattle.mx_run.proofs.verdicts.Verdict.reach.Goals as goal
+
+pub returns-in-Other-clause-grown : goal.returns-in-Other-clause-grown
+returns-in-Other-clause-grown g c = grown_none _
