@@ -1,7 +1,10 @@
 -- A journal that is right is right at each of its entries, and its replay goes on entry by entry.
-use Rattle.std.proofs.Common.{◌≡◌, ℕ, zero, suc, ◌+◌, ◌<◌, min, List, [], ◌∷◌, take, length, Some, refl, sym, ◌∙◌, ap, subst, arith}
+use Rattle.std.proofs.Common.{◌≡◌, ℕ, zero, suc, ◌+◌, ◌<◌, min, List, [], ◌∷◌, ◌++◌, take, length, Some, sym, ◌∙◌, ap, subst, arith}
 use Rattle.std.proofs.lemmas.List.{take_min}
+use Rattle.std.proofs.lemmas.List.Elements.{All-append, All-cons, All-nil}
 use Rattle.std.specs.List.{slice_get}
+use Rattle.std.specs.Prelude.{Result, Ok, Err, OnOk, is_ok, if◌then◌else◌}
+use Rattle.mx_name.specs.Principals.{PlainPrincipal}
 use Rattle.mx_request.specs.declared.replies.Reply.{Reply}
 use Rattle.mx_state.specs.DecidingEntry.{entry_behind}
 use Rattle.mx_state.specs.History.{opening, replay, MayAsk, IsRight, IsRightEntry}
@@ -9,7 +12,9 @@ use Rattle.mx_state.specs.Plain.{Plain, answer}
 use Rattle.mx_state.specs.Requests.{plain}
 use Rattle.mx_state.specs.Table.{descriptor}
 use Rattle.mx_state.specs.declared.journal.Entry as journaled
+use Rattle.mx_show.specs.Judging.{IsAccess, AreJudged}
 use Rattle.mx_show.specs.Replays.{Replayed, replayed, IsReplay}
+use Rattle.mx_show.specs.declared.replays.Judged.{Judged}
 
 right_at : (s : Plain) (journal : List journaled.Entry) (n : ℕ) (entry : journaled.Entry) → IsRight s journal
     → slice_get journal n ≡ Some entry → IsRightEntry (replay s (take n journal)) entry
@@ -73,3 +78,12 @@ pub entry_there : (r : Replayed) (state : Plain) (point p n : ℕ) → IsReplay 
 entry_there r state point p n is at =
     ap (λ (s : Plain). entry_behind s p n)
     (is.state_is ∙ ap (replay (opening r.principals)) (ap (λ (a : ℕ). take a r.journal) at ∙ take_min point r.journal))
+
+-- one reference more
+pub judged_more : {T E : Type 0} (r : Result T E) (principals : List PlainPrincipal) (journal : List journaled.Entry) (old new : List Judged) (j : Judged)
+    → AreJudged principals journal old → IsAccess principals journal j → new ≡ (if is_ok r then old ++ j ∷ [] else old)
+    → OnOk r (AreJudged principals journal new)
+judged_more (Ok x) principals journal old new j all one e =
+    subst (AreJudged principals journal) (sym e)
+    (All-append (IsAccess principals journal) old (j ∷ []) all (All-cons (IsAccess principals journal) j [] one (All-nil (IsAccess principals journal))))
+judged_more (Err x) principals journal old new j all one e = tt

@@ -2,7 +2,6 @@
 -- access list that decided its modes.
 use Rattle.std.specs.Prelude.{◌≡◌, List}
 use Rattle.std.specs.List.{All}
-use Rattle.mx_legal.specs.Access.{descriptor_of}
 use Rattle.mx_name.specs.Principals.{PlainPrincipal}
 use Rattle.mx_script.specs.Sessions.{Outline}
 use Rattle.mx_state.specs.declared.journal.Entry as journaled
@@ -10,17 +9,12 @@ use Rattle.mx_show.specs.Replays.{access_of, entry_of}
 use Rattle.mx_show.specs.declared.replays.Judged.{Judged}
 
 -- the access shown is the one that the reference was judged on, and the entry shown the one that decided its modes
-pub record IsAccess (x : Outline) (journal : List journaled.Entry) (j : Judged) : Type 0 where
-  pub desc : j.desc ≡ descriptor_of x journal j.process j.element
-  pub entry : j.entry ≡ entry_of x.principals journal j.process j.element
-
-abbrev pub AreAccesses : Outline → List journaled.Entry → List Judged → Type 0
-AreAccesses x journal judged = All (IsAccess x journal) judged
-
--- Helper: the same, by the principals alone.
-pub record IsJudged (principals : List PlainPrincipal) (journal : List journaled.Entry) (j : Judged) : Type 0 where
+pub record IsAccess (principals : List PlainPrincipal) (journal : List journaled.Entry) (j : Judged) : Type 0 where
   pub desc : j.desc ≡ access_of principals journal j.process j.element
   pub entry : j.entry ≡ entry_of principals journal j.process j.element
 
 abbrev pub AreJudged : List PlainPrincipal → List journaled.Entry → List Judged → Type 0
-AreJudged principals journal judged = All (IsJudged principals journal) judged
+AreJudged principals journal judged = All (IsAccess principals journal) judged
+
+abbrev pub AreAccesses : Outline → List journaled.Entry → List Judged → Type 0
+AreAccesses x journal judged = AreJudged x.principals journal judged

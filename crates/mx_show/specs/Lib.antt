@@ -3,3 +3,6 @@ pub mod Judging
 pub mod Reasons
 pub mod Sources
 pub mod Arrows
+pub mod Lines
+pub mod Printing
+pub mod Drawings

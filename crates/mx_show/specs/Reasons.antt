@@ -1,5 +1,5 @@
 -- What a denial is explained by: the comparison of its rule, with the numbers of this access and this reference.
-use Rattle.std.specs.Prelude.{◌≡◌, ◌⊎◌, ℕ, ◌≤◌, ◌<◌, min, Bool, true, false}
+use Rattle.std.specs.Prelude.{◌≡◌, ℕ, ◌≤◌, ◌<◌, min, true, false}
 use Rattle.mx_sdw.specs.Descriptors.{Descriptor, is_unknown, is_gone}
 use Rattle.mx_sdw.specs.declared.denials.Denial.{Denial}
 use Rattle.mx_sdw.specs.declared.denials.Denial.TheVariants as denial

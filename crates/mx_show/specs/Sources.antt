@@ -1,5 +1,5 @@
 -- Whose store a read word is: nobody's, where the writer is 0, and else that of the writer at the stamp.
-use Rattle.std.specs.Prelude.{◌≡◌, ℕ, ◌==◌, Option, Some, None, if◌then◌else◌}
+use Rattle.std.specs.Prelude.{ℕ, ◌==◌, Option, Some, None, if◌then◌else◌}
 use Rattle.mx_core.specs.declared.elements.Outcome.{Outcome}
 use Rattle.mx_core.specs.declared.elements.Outcome.TheVariants as outcome
 use Rattle.mx_show.specs.declared.sources.StoredBy.{StoredBy}

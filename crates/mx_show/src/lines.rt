@@ -1,28 +1,34 @@
 //! A run, line by line in words.
 
-ghost use Rattle.std.specs.Prelude.{◌≡◌, ◌≤◌, OnOk, OnErr, IsErrOf};
+ghost use Rattle.std.specs.Prelude.{◌≡◌, ◌≤◌, ◌+◌, map, length, drop, OnOk, OnErr, IsErrOf};
 ghost use Rattle.mx_io.specs.Faults.{Rose};
 ghost use Rattle.mx_legal.specs.Legal.{IsLegal};
+ghost use Rattle.mx_script.specs.declared.lines.Line.TheVariants.{Ask};
+ghost use Rattle.mx_show.specs.Lines.{GainsLines};
+ghost use Rattle.mx_show.specs.Printing.{AreAsLong, PrintsLines, PrintsProcesses};
+ghost use Rattle.mx_text.specs.Printing.{IsSent};
+
+mod adding;
 
 use crate::errors::ShowError;
-use crate::judging::judge_all;
+use crate::judging::{Accesses, judge_all};
 use crate::telling::Teller;
-use crate::words::{add_line, add_request, principal_text};
+use adding::{add_heading, add_opening, add_request_line, add_script_line};
 use mx_io::{Sink, WriteFault, write_all};
 use mx_legal::{Transcript, Transcripts};
 use mx_name::Principal;
+use mx_request::Request;
 use mx_script::{Line, Script, Session};
-use mx_sdw::Word;
 use mx_state::Journal;
-use std::alloc::{AllocError, Global};
-use std::fmt::Write;
+use std::alloc::Global;
 
 /// More bytes than these are sent before more are added.
 const PIECE: usize = 32_768;
 
 /// Shows a legal run of a session: the setup and each process, line by line in words, with each reference and the access that it
-/// was judged on. On an error a part was sent: `Fault` where the sink failed, `Memory` where memory was wanting. About 32 KiB are
-/// held between two lines, and for each reference its access.
+/// was judged on. Each line stands under its number, as the session spells it, and what is told of it behind it (`Lines`). On an
+/// error a part was sent: `Fault` where the sink failed, `Memory` where memory was wanting. About 32 KiB are held between two
+/// lines, and for each reference its access.
 pub fn show_lines<K: Sink>(
     alloc: Global,
     session: &Session,
@@ -31,125 +37,125 @@ pub fn show_lines<K: Sink>(
     sink: &mut K,
 ) -> Result<(), ShowError>
     requires legal { IsLegal session.now journal.now transcripts.now }
+    ensures shown { OnOk result (GainsLines (K.out sink.old) (K.out sink.new) session.now journal.now transcripts.now) }
     ensures cause { IsErrOf result ShowError.Fault → Rose (K.faults sink.old) (K.faults sink.new) }
     ensures only { (IsErrOf result ShowError.Fault → ⊥) → K.faults sink.new ≡ K.faults sink.old }
     ensures later { K.faults sink.old ≤ K.faults sink.new }
 {
     let accesses = judge_all(alloc, session, journal, transcripts)?;
-    let mut out = String::new(alloc);
-    add_summary(&mut out, session, journal)?;
-    let mut process = 0;
-    for transcript in transcripts.items() {
-        let mut teller = Teller::new(journal, &accesses, process);
-        if process == 0 {
-            print_setup(alloc, session, transcript, &mut teller, &mut out, sink)?;
-        } else {
-            let place = usize::from(process) - 1;
-            add_heading(
-                alloc,
-                &mut out,
-                process,
-                session.principals().items().get(place),
-            )?;
-            let script = session.scripts().items().get(place);
-            print_script(alloc, script, transcript, &mut teller, &mut out, sink)?;
-        }
-        process = process.saturating_add(1);
-    }
-    write_all(sink, out.as_bytes())?;
+    let (principals, scripts) = (session.principals().items(), session.scripts().items());
+    let parts = transcripts.items();
+    let mut out = Vec::new(alloc);
+    add_opening(&mut out, principals.len(), journal.items().len())?;
+    let mut teller = Teller::new(journal, &accesses, 0);
+    let setup = session.setup().items();
+    print_setup(alloc, setup, &parts[0], &mut teller, &mut out, sink)?;
+    let told = Told {
+        journal,
+        accesses: &accesses,
+    };
+    print_processes(alloc, principals, scripts, parts, told, &mut out, sink)?;
+    write_all(sink, &out)?;
     Ok(())
 }
 
-// How many processes and journal entries there are.
-fn add_summary(out: &mut String, session: &Session, journal: &Journal) -> Result<(), AllocError> {
-    let processes = session.principals().items().len();
-    let entries = journal.items().len();
-    write!(
-        out,
-        "processes: {processes}; journal entries: {entries}\n\n"
-    )?;
-    out.push_str("setup: Initializer.SysDaemon.z in ring 0\n")
+// What is told of.
+#[derive(Clone, Copy, Debug)]
+struct Told<'a> {
+    journal: &'a Journal,
+    accesses: &'a Accesses,
 }
 
-// Whose lines come.
-fn add_heading(
-    alloc: Global,
-    out: &mut String,
-    process: u8,
-    principal: Option<&Principal>,
-) -> Result<(), AllocError> {
-    write!(out, "\nprocess {process}: ")?;
-    if let Some(principal) = principal {
-        out.push_str(&principal_text(alloc, principal)?)?;
-    }
-    out.push_str(", from ring 4\n")
-}
-
+// The lines of the setup.
 fn print_setup<K: Sink>(
     alloc: Global,
-    session: &Session,
+    setup: &[Request],
     transcript: &Transcript,
     teller: &mut Teller,
-    out: &mut String,
+    out: &mut Vec<u8>,
     sink: &mut K,
 ) -> Result<(), ShowError>
+    requires { length setup.now ≡ length transcript.now }
+    ensures printed { OnOk result (PrintsLines (map Ask setup.now) transcript.now (K.out sink.old) (K.out sink.new) out.old.items out.new.items) }
     ensures cause { IsErrOf result ShowError.Fault → Rose (K.faults sink.old) (K.faults sink.new) }
     ensures only { (IsErrOf result ShowError.Fault → ⊥) → K.faults sink.new ≡ K.faults sink.old }
     ensures later { K.faults sink.old ≤ K.faults sink.new }
 {
-    for (request, step) in session.setup().items().iter().zip(transcript.steps()) {
-        let (number, events, ends) = step;
-        write!(out, "line {number}: ")?;
-        add_request(alloc, out, request)?;
-        out.push_str("\n")?;
-        teller.add_step(alloc, out, None, events, ends)?;
+    let mut steps = transcript.steps();
+    for request in setup {
+        let Some((number, events, ends)) = steps.next() else {
+            return Ok(());
+        };
+        add_request_line(alloc, out, number, request, teller, events, ends)?;
         send_when_long(out, sink)?;
     }
     Ok(())
 }
 
+// The processes from the first on, whose transcripts come behind that of the setup: each heading, and the lines of the script.
+fn print_processes<K: Sink>(
+    alloc: Global,
+    principals: &[Principal],
+    scripts: &[Script],
+    transcripts: &[Transcript],
+    told: Told,
+    out: &mut Vec<u8>,
+    sink: &mut K,
+) -> Result<(), ShowError>
+    requires few { length principals.now ≤ 15 }
+    requires scripts { length scripts.now ≡ length principals.now }
+    requires transcripts { length transcripts.now ≡ 1 + length principals.now }
+    requires each { AreAsLong scripts.now (drop 1 transcripts.now) }
+    ensures printed { OnOk result (PrintsProcesses 1 principals.now scripts.now (drop 1 transcripts.now) (K.out sink.old) (K.out sink.new) out.old.items out.new.items) }
+    ensures cause { IsErrOf result ShowError.Fault → Rose (K.faults sink.old) (K.faults sink.new) }
+    ensures only { (IsErrOf result ShowError.Fault → ⊥) → K.faults sink.new ≡ K.faults sink.old }
+    ensures later { K.faults sink.old ≤ K.faults sink.new }
+{
+    for (i, principal) in principals.iter().enumerate() {
+        let process = i as u8 + 1;
+        add_heading(out, process, principal)?;
+        let mut teller = Teller::new(told.journal, told.accesses, process);
+        let script = scripts[i].items();
+        print_script(alloc, script, &transcripts[i + 1], &mut teller, out, sink)?;
+    }
+    Ok(())
+}
+
+// The lines of a script.
 fn print_script<K: Sink>(
     alloc: Global,
-    script: Option<&Script>,
+    script: &[Line],
     transcript: &Transcript,
     teller: &mut Teller,
-    out: &mut String,
+    out: &mut Vec<u8>,
     sink: &mut K,
 ) -> Result<(), ShowError>
+    requires { length script.now ≡ length transcript.now }
+    ensures printed { OnOk result (PrintsLines script.now transcript.now (K.out sink.old) (K.out sink.new) out.old.items out.new.items) }
     ensures cause { IsErrOf result ShowError.Fault → Rose (K.faults sink.old) (K.faults sink.new) }
     ensures only { (IsErrOf result ShowError.Fault → ⊥) → K.faults sink.new ≡ K.faults sink.old }
     ensures later { K.faults sink.old ≤ K.faults sink.new }
 {
-    let Some(script) = script else {
-        return Ok(());
-    };
-    for (line, step) in script.items().iter().zip(transcript.steps()) {
-        let (number, events, ends) = step;
-        write!(out, "line {number}: ")?;
-        add_line(alloc, out, line)?;
-        out.push_str("\n")?;
-        teller.add_step(alloc, out, word_set(line), events, ends)?;
+    let mut steps = transcript.steps();
+    for line in script {
+        let Some((number, events, ends)) = steps.next() else {
+            return Ok(());
+        };
+        add_script_line(alloc, out, number, line, teller, events, ends)?;
         send_when_long(out, sink)?;
     }
     Ok(())
-}
-
-// The word of a line that sets A.
-fn word_set(line: &Line) -> Option<Word> {
-    match line {
-        Line::Set { word } => Some(*word),
-        _ => None,
-    }
 }
 
 // Sends what is written where it is long.
-fn send_when_long<K: Sink>(out: &mut String, sink: &mut K) -> Result<(), WriteFault>
+fn send_when_long<K: Sink>(out: &mut Vec<u8>, sink: &mut K) -> Result<(), WriteFault>
+    ensures sent { OnOk result (IsSent (K.out sink.old) (K.out sink.new) out.new.items out.old.items) }
     ensures cause { OnErr result (Rose (K.faults sink.old) (K.faults sink.new)) }
     ensures only { OnOk result (K.faults sink.new ≡ K.faults sink.old) }
     ensures later { K.faults sink.old ≤ K.faults sink.new }
 {
     if out.len() > PIECE {
-        write_all(sink, out.as_bytes())?;
+        write_all(sink, out)?;
         out.clear();
     }
     Ok(())

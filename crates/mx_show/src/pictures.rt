@@ -1,8 +1,9 @@
 //! A run as a drawing.
 
-ghost use Rattle.std.specs.Prelude.{◌≡◌, ◌≤◌, IsErrOf};
+ghost use Rattle.std.specs.Prelude.{◌≡◌, ◌≤◌, OnOk, IsErrOf};
 ghost use Rattle.mx_io.specs.Faults.{Rose};
 ghost use Rattle.mx_legal.specs.Legal.{IsLegal};
+ghost use Rattle.mx_show.specs.Drawings.{GainsDrawing};
 
 mod entries;
 mod legends;
@@ -34,6 +35,7 @@ pub fn show_picture<K: Sink>(
     sink: &mut K,
 ) -> Result<(), ShowError>
     requires legal { IsLegal session.now journal.now transcripts.now }
+    ensures drawn { OnOk result (GainsDrawing (K.out sink.old) (K.out sink.new)) }
     ensures cause { IsErrOf result ShowError.Fault → Rose (K.faults sink.old) (K.faults sink.new) }
     ensures only { (IsErrOf result ShowError.Fault → ⊥) → K.faults sink.new ≡ K.faults sink.old }
     ensures later { K.faults sink.old ≤ K.faults sink.new }

@@ -65,7 +65,8 @@ impl<'a> Model for Replay<'a> {
 }
 
 impl<'a> Replay<'a> {
-    ghost use Rattle.mx_show.specs.Replays.{Replayed, replayed, access_of, entry_of, IsSameJournal};
+    ghost use Rattle.mx_show.specs.Judging.{IsAccess};
+    ghost use Rattle.mx_show.specs.Replays.{Replayed, replayed, IsSameJournal};
     ghost use Rattle.std.specs.Prelude.{◌≡◌, ◌≤◌, ◌<◌, ◌+◌, length, min, IfOk, IsTrue, OnOk};
     ghost use Rattle.mx_state.specs.History.{opening, IsRight};
 
@@ -116,8 +117,7 @@ impl<'a> Replay<'a> {
         ensures same { OnOk result (IsSameJournal self.old self.new) }
         ensures process { IfOk result (λ judged. judged.process ≡ process) }
         ensures element { IfOk result (λ judged. judged.element ≡ element) }
-        ensures desc { IfOk result (λ judged. judged.desc ≡ access_of self.old.principals self.old.journal process element) }
-        ensures entry { IfOk result (λ judged. judged.entry ≡ entry_of self.old.principals self.old.journal process element) }
+        ensures access { IfOk result (IsAccess self.old.principals self.old.journal) }
     {
         self.go_to(alloc, element.point)?;
         let desc = self.state.descriptor(process, element.segno);

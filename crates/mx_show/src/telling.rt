@@ -65,7 +65,7 @@ impl<'a> Teller<'a> {
                 Ok(false)
             }
             Event2::Core(Event::Missing { segno, by }) => {
-                write!(out, "    missed {segno:o}: entry {by} changed the access\n")?;
+                write!(out, "missed {segno:o}: entry {by} changed the access\n")?;
                 Ok(false)
             }
             Event2::Core(Event::Seen(element)) => match self.next_judged() {
@@ -100,7 +100,7 @@ impl<'a> Teller<'a> {
         let Some(entry) = entry_at(self.journal, number) else {
             return Ok(());
         };
-        write!(out, "    entry {number} in ring {}: ", entry.ring.number())?;
+        write!(out, "entry {number} in ring {}: ", entry.ring.number())?;
         add_reply(alloc, out, entry)?;
         out.push_str("\n")?;
         let Some(rest) = self.accesses.changed.get(self.changed..) else {
@@ -128,7 +128,7 @@ impl<'a> Teller<'a> {
     ) -> Result<(), AllocError> {
         match ends {
             Result2::Done => match set {
-                Some(word) => write!(out, "    A is {:o}\n", word.value()),
+                Some(word) => write!(out, "A is {:o}\n", word.value()),
                 None => Ok(()),
             },
             Result2::A(_) | Result2::Refused => Ok(()),
@@ -136,14 +136,9 @@ impl<'a> Teller<'a> {
             Result2::Moved { ring, procedure } => self.add_move(out, ring, procedure),
             Result2::Denied(_) if denied => Ok(()),
             Result2::Denied(denial) => {
-                write!(
-                    out,
-                    "    denied {}: {}\n",
-                    denial.text(),
-                    walk_words(*denial)
-                )
+                write!(out, "denied {}: {}\n", denial.text(), walk_words(*denial))
             }
-            Result2::HistoryFull => out.push_str("    the journal is full: nothing is entered\n"),
+            Result2::HistoryFull => out.push_str("the journal is full: nothing is entered\n"),
         }
     }
 
@@ -156,11 +151,7 @@ impl<'a> Teller<'a> {
     ) -> Result<(), AllocError> {
         let (from, to) = (self.ring, ring.number());
         self.ring = to;
-        write!(
-            out,
-            "    goes on at {:o}|{:o}",
-            procedure.segno, procedure.word
-        )?;
+        write!(out, "goes on at {:o}|{:o}", procedure.segno, procedure.word)?;
         if to < from {
             write!(
                 out,
@@ -176,7 +167,7 @@ impl<'a> Teller<'a> {
 
 // Adds what a pointer register holds now.
 fn add_register(out: &mut String, n: u8, pointer: &Pointer) -> Result<(), AllocError> {
-    write!(out, "    PR{n} is {:o}|{:o}", pointer.segno, pointer.word)?;
+    write!(out, "PR{n} is {:o}|{:o}", pointer.segno, pointer.word)?;
     write!(out, " in ring {}\n", pointer.ring.number())
 }
 
@@ -190,7 +181,7 @@ fn add_reference(
     let element = &judged.element;
     write!(
         out,
-        "    {} {:o}|{:o}",
+        "{} {:o}|{:o}",
         kind_word(element.kind),
         element.segno,
         element.word
@@ -202,7 +193,7 @@ fn add_reference(
         Outcome::Entered { ring } => write!(out, ": enters ring {}\n", ring.number())?,
         Outcome::Read { value, .. } => add_read(out, element.kind, value, element.outcome)?,
     }
-    write!(out, "        at point {}: ", element.point)?;
+    write!(out, "    at point {}: ", element.point)?;
     add_access(alloc, out, judged)?;
     match judged.since {
         0 => out.push_str(", from the start\n"),
@@ -259,7 +250,7 @@ fn add_read(out: &mut String, kind: Kind, value: Word, outcome: Outcome) -> Resu
 fn add_changed(out: &mut String, changed: &Changed) -> Result<(), AllocError> {
     write!(
         out,
-        "        process {}, segment {:o}: ",
+        "    process {}, segment {:o}: ",
         changed.process, changed.segno
     )?;
     let (before, after) = (&changed.before, &changed.after);

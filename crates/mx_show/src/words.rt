@@ -5,7 +5,6 @@ use mx_hier::Refusal;
 use mx_legal::Kind;
 use mx_name::{AclId, Principal};
 use mx_request::{Known, Reply, Request};
-use mx_script::{Base, Line, Operand};
 use mx_sdw::{Denial, Desc, DescKind};
 use mx_state::Entry;
 use std::alloc::{AllocError, Global};
@@ -186,38 +185,6 @@ pub(crate) fn add_request(
     let mut bytes = Vec::new(alloc);
     request.append_to(&mut bytes)?;
     add_bytes(out, &bytes)
-}
-
-/// Adds a line of a script, as it is written.
-pub(crate) fn add_line(alloc: Global, out: &mut String, line: &Line) -> Result<(), AllocError> {
-    match line {
-        Line::Ask(request) => add_request(alloc, out, request.request()),
-        Line::Set { word } => write!(out, "set {:o}", word.value()),
-        Line::Epp { n, operand } => write!(out, "epp {n} {}", Address(operand)),
-        Line::Lda { operand } => write!(out, "lda {}", Address(operand)),
-        Line::Sta { operand } => write!(out, "sta {}", Address(operand)),
-        Line::Spri { n, operand } => write!(out, "spri {n} {}", Address(operand)),
-        Line::Fetch => out.push_str("fetch"),
-        Line::Call { operand } => write!(out, "call {}", Address(operand)),
-        Line::Return { operand } => write!(out, "return {}", Address(operand)),
-    }
-}
-
-// An operand as it is written.
-#[derive(Clone, Copy, Debug)]
-struct Address<'a>(&'a Operand);
-
-impl<'a> Display for Address<'a> {
-    fn fmt<W: Write>(&self, f: &mut Formatter<W>) -> fmt::Result {
-        match self.0.base {
-            Base::Segment(segno) => write!(f, "{segno:o}|{:o}", self.0.word)?,
-            Base::Register(n) => write!(f, "pr{n}|{:o}", self.0.word)?,
-        }
-        if self.0.indirect {
-            f.write_str(",*")?;
-        }
-        Ok(())
-    }
 }
 
 /// Adds what an entry was answered.

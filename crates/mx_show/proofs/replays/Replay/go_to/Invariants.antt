@@ -1,4 +1,4 @@
-use Rattle.std.proofs.Common.{◌≡◌, ◌≤◌, ◌-◌, length}
+use Rattle.std.proofs.Common.{◌≤◌, ◌-◌, length}
 use Rattle.mx_show.specs.Replays.{IsSameJournal}
 use Rattle.mx_show.proofs.replays.Replay.go_to.Given as goal
 

@@ -1,0 +1,146 @@
+//! What a line of the text is made of, added to bytes.
+
+ghost use Rattle.std.specs.Prelude.{◌≡◌, ◌++◌, OnOk};
+ghost use Rattle.std.specs.Fmt.{decimal};
+ghost use Rattle.mx_script.specs.declared.lines.Line.TheVariants.{Ask};
+ghost use Rattle.mx_show.specs.Lines.{counts_text, heading_text, head_text, told_line};
+ghost use Rattle.mx_show.specs.Printing.{IsToldBehind, IsLineBehind};
+
+use crate::telling::Teller;
+use itoa::Buffer;
+use mx_legal::{Event2, Result2};
+use mx_name::{Principal, cut};
+use mx_request::Request;
+use mx_script::Line;
+use mx_sdw::Word;
+use std::alloc::{AllocError, Global};
+
+/// Adds how many processes and journal entries there are, and whose lines come first.
+pub(super) fn add_opening(
+    out: &mut Vec<u8>,
+    processes: usize,
+    entries: usize,
+) -> Result<(), AllocError>
+    ensures { OnOk result (out.new.items ≡ out.old.items ++ counts_text processes entries) }
+{
+    add_labelled(out, b"processes: ", processes as u64)?;
+    add_labelled(out, b"; journal entries: ", entries as u64)?;
+    out.extend_from_slice(b"\n\nsetup: Initializer.SysDaemon.z in ring 0\n")
+}
+
+/// Adds whose lines come.
+pub(super) fn add_heading(
+    out: &mut Vec<u8>,
+    process: u8,
+    principal: &Principal,
+) -> Result<(), AllocError>
+    ensures { OnOk result (out.new.items ≡ out.old.items ++ heading_text process principal.now) }
+{
+    add_labelled(out, b"\nprocess ", u64::from(process))?;
+    out.extend_from_slice(b": ")?;
+    principal.append_to(out)?;
+    out.extend_from_slice(b", from ring 4\n")
+}
+
+/// Adds a line of the setup, and what is told of it.
+pub(super) fn add_request_line(
+    alloc: Global,
+    out: &mut Vec<u8>,
+    number: u32,
+    request: &Request,
+    teller: &mut Teller,
+    events: &[Event2],
+    ends: Result2,
+) -> Result<(), AllocError>
+    ensures { OnOk result (IsLineBehind number (Ask request.now) out.old.items out.new.items) }
+{
+    add_request_head(out, number, request)?;
+    add_step(alloc, out, teller, None, events, ends)
+}
+
+/// Adds a line of a script, and what is told of it.
+pub(super) fn add_script_line(
+    alloc: Global,
+    out: &mut Vec<u8>,
+    number: u32,
+    line: &Line,
+    teller: &mut Teller,
+    events: &[Event2],
+    ends: Result2,
+) -> Result<(), AllocError>
+    ensures { OnOk result (IsLineBehind number line.now out.old.items out.new.items) }
+{
+    add_line_head(out, number, line)?;
+    add_step(alloc, out, teller, word_set(line), events, ends)
+}
+
+fn add_request_head(out: &mut Vec<u8>, number: u32, request: &Request) -> Result<(), AllocError>
+    ensures { OnOk result (out.new.items ≡ out.old.items ++ head_text number (Ask request.now)) }
+{
+    add_labelled(out, b"line ", u64::from(number))?;
+    out.extend_from_slice(b": ")?;
+    request.append_to(out)?;
+    out.extend_from_slice(b"\n")
+}
+
+fn add_line_head(out: &mut Vec<u8>, number: u32, line: &Line) -> Result<(), AllocError>
+    ensures { OnOk result (out.new.items ≡ out.old.items ++ head_text number line.now) }
+{
+    add_labelled(out, b"line ", u64::from(number))?;
+    out.extend_from_slice(b": ")?;
+    line.append_to(out)?;
+    out.extend_from_slice(b"\n")
+}
+
+// Adds what is told of a line: its events and how it ended. A line that sets A has its word.
+fn add_step(
+    alloc: Global,
+    out: &mut Vec<u8>,
+    teller: &mut Teller,
+    set: Option<Word>,
+    events: &[Event2],
+    ends: Result2,
+) -> Result<(), AllocError>
+    ensures { OnOk result (IsToldBehind out.old.items out.new.items) }
+{
+    let mut told = String::new(alloc);
+    teller.add_step(alloc, &mut told, set, events, ends)?;
+    add_told(out, told.as_bytes())
+}
+
+// The word of a line that sets A.
+fn word_set(line: &Line) -> Option<Word> {
+    match line {
+        Line::Set { word } => Some(*word),
+        _ => None,
+    }
+}
+
+// Adds words, which end with a newline: each line behind four spaces.
+fn add_told(out: &mut Vec<u8>, told: &[u8]) -> Result<(), AllocError>
+    ensures { OnOk result (IsToldBehind out.old.items out.new.items) }
+{
+    let mut rest = told;
+    while let Some((line, after)) = cut(b'\n', rest) {
+        add_told_line(out, line)?;
+        rest = after;
+    }
+    Ok(())
+}
+
+fn add_told_line(out: &mut Vec<u8>, line: &[u8]) -> Result<(), AllocError>
+    ensures { OnOk result (out.new.items ≡ out.old.items ++ told_line line.now) }
+{
+    out.extend_from_slice(b"    ")?;
+    out.extend_from_slice(line)?;
+    out.extend_from_slice(b"\n")
+}
+
+// Adds a label and then the number.
+fn add_labelled(out: &mut Vec<u8>, label: &[u8], n: u64) -> Result<(), AllocError>
+    ensures { OnOk result (out.new.items ≡ out.old.items ++ (label.now ++ decimal n)) }
+{
+    let mut buffer = Buffer::new();
+    out.extend_from_slice(label)?;
+    out.extend_from_slice(buffer.format(n).as_bytes())
+}
