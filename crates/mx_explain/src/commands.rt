@@ -1,10 +1,11 @@
 //! The top call: what the program does with the words of its command line.
 
-ghost use Rattle.std.specs.Prelude.{◌≡◌, ◌≢◌, ◌⊎◌, ◌≤◌, ◌∷◌, [], length, map, Some, Ok, IfOk, OnOk, OnErr, IsErrOf, codes};
+ghost use Rattle.std.specs.Prelude.{◌≡◌, ◌≢◌, ◌⊎◌, ◌≤◌, ◌∷◌, ℕ, List, [], length, map, Some, IfSome, IfNone, IfOk, OnOk, IsErrOf, codes};
 ghost use Rattle.std.specs.String.{string_bytes};
-ghost use Rattle.mx_io.specs.Bytes.{Appends, TakesAll, TakesTooMany};
+ghost use Rattle.mx_io.specs.Bytes.{Appends, AppendsPart, TakesTooMany};
 ghost use Rattle.mx_io.specs.Faults.{Rose};
-ghost use Rattle.mx_explain.specs.Statuses.{IsCommand, IsShown, IsRefused, IsToldOf, Tells};
+ghost use Rattle.mx_explain.specs.Statuses.{IsCommand, IsShown, IsRefused, IsToldOf, IsCutOffOf, GainsFront, IsStopped, IsDueStatus};
+ghost use Rattle.mx_explain.specs.Views.{word_of, ShowsOf, Tells, CutsOff, TellsFront};
 
 use mx_io::{ReadError, Sink, Source, read_all, write_all};
 use mx_lint::{Diagnosis, Finding, lint};
@@ -54,7 +55,7 @@ enum View {
 /// | 1 | memory ran out | a part of it, or nothing |
 /// | 2 | the words are not accepted; the source is not read | `bad words` |
 /// | 3 | the source failed | nothing |
-/// | 4 | the sink failed | a part of what was due |
+/// | 4 | the sink failed | a front of what was due |
 /// | 5 | the bytes are no session | the first bad line, explained |
 /// | 6 | the source gave more than 4,194,304 bytes | `too long` |
 pub fn show<R: Threads + Wait + Sync, S: Source, K: Sink>(
@@ -64,8 +65,9 @@ pub fn show<R: Threads + Wait + Sync, S: Source, K: Sink>(
     source: &mut S,
     sink: &mut K,
 ) -> u8
-    // Status 0: the source was read to its end, and its bytes are the text of a session.
-    ensures done { result ≡ 0 → IsShown (S.left source.old) (S.left source.new) }
+    // Status 0: the source was read to its end, its bytes are the text of a session, and what is due was shown of it: `good`, or a
+    // legal run line by line, or one drawn.
+    ensures done { result ≡ 0 → IsShown (map string_bytes words.now) (S.left source.old) (S.left source.new) (K.out sink.old) (K.out sink.new) }
 
     // Status 5: its bytes are the text of none, and the line that is named is the first bad one.
     ensures bad_line { result ≡ 5 → IsRefused (S.left source.old) (S.left source.new) (K.out sink.old) (K.out sink.new) }
@@ -83,7 +85,12 @@ pub fn show<R: Threads + Wait + Sync, S: Source, K: Sink>(
     ensures source_fault { result ≡ 3 → Rose (S.faults source.old) (S.faults source.new) }
     ensures unwritten { result ≡ 3 → sink.new ≡ sink.old }
     ensures sink_fault { result ≡ 4 → Rose (K.faults sink.old) (K.faults sink.new) }
+    ensures front { result ≡ 4 → GainsFront (map string_bytes words.now) (S.left source.old) (S.left source.new) (K.out sink.old) (K.out sink.new) }
     ensures statuses { result ≤ 6 }
+
+    // Which status it is follows from the words and from the bytes of a source that tells them.
+    ensures due { (spelled : List ℕ) → S.left source.old ≡ Some spelled
+        → IsStopped result ⊎ IsDueStatus (map string_bytes words.now) spelled result }
 {
     let Some(view) = View::read(words) else {
         return told(sink, b"bad words\n", BAD_WORDS);
@@ -105,6 +112,7 @@ fn told<K: Sink>(sink: &mut K, text: &[u8], status: u8) -> u8
     requires { status ≢ 4 }
     ensures told { (result ≡ status) ⊎ (result ≡ 4) }
     ensures text { result ≡ status → Appends (K.out sink.old) (K.out sink.new) text.now }
+    ensures part { result ≡ 4 → AppendsPart (K.out sink.old) (K.out sink.new) text.now }
     ensures cause { result ≡ 4 → Rose (K.faults sink.old) (K.faults sink.new) }
 {
     match write_all(sink, text) {
@@ -116,7 +124,8 @@ fn told<K: Sink>(sink: &mut K, text: &[u8], status: u8) -> u8
 impl View {
     // What these words ask for, none where they are not accepted.
     fn read(words: &[String]) -> Option<View>
-        ensures { (result ≡ None → IsCommand (map string_bytes words.now) → ⊥) × ((view : View) → result ≡ Some view → IsCommand (map string_bytes words.now)) }
+        ensures none { IfNone result (IsCommand (map string_bytes words.now) → ⊥) }
+        ensures view { IfSome result (λ view. map string_bytes words.now ≡ word_of view ∷ []) }
     {
         let [word] = words else {
             return None;
@@ -138,7 +147,8 @@ impl View {
         sink: &mut K,
     ) -> Result<u8, ShowError>
         requires { length bytes.now ≤ 4194304 }
-        ensures told { IfOk result (Tells bytes.now (K.out sink.old) (K.out sink.new)) }
+        ensures told { IfOk result (Tells self bytes.now (K.out sink.old) (K.out sink.new)) }
+        ensures front { IsErrOf result ShowError.Fault → TellsFront self bytes.now (K.out sink.old) (K.out sink.new) }
         ensures cause { IsErrOf result ShowError.Fault → Rose (K.faults sink.old) (K.faults sink.new) }
         ensures only { (IsErrOf result ShowError.Fault → ⊥) → K.faults sink.new ≡ K.faults sink.old }
     {
@@ -162,6 +172,8 @@ impl View {
         session: &Session,
         sink: &mut K,
     ) -> Result<(), ShowError>
+        ensures shown { OnOk result (ShowsOf self session.now (K.out sink.old) (K.out sink.new)) }
+        ensures front { IsErrOf result ShowError.Fault → CutsOff self (K.out sink.old) (K.out sink.new) }
         ensures cause { IsErrOf result ShowError.Fault → Rose (K.faults sink.old) (K.faults sink.new) }
         ensures only { (IsErrOf result ShowError.Fault → ⊥) → K.faults sink.new ≡ K.faults sink.old }
     {
@@ -201,6 +213,7 @@ fn tell_bad_line<K: Sink>(
     sink: &mut K,
 ) -> Result<(), ShowError>
     ensures told { OnOk result (IsToldOf (K.out sink.old) (K.out sink.new) diagnosis.now.number) }
+    ensures front { IsErrOf result ShowError.Fault → IsCutOffOf (K.out sink.old) (K.out sink.new) diagnosis.now.number }
     ensures cause { IsErrOf result ShowError.Fault → Rose (K.faults sink.old) (K.faults sink.new) }
     ensures only { (IsErrOf result ShowError.Fault → ⊥) → K.faults sink.new ≡ K.faults sink.old }
 {
