@@ -139,8 +139,10 @@ fn complete(bench: &mut Bench, alloc: Global) -> Result<(), Fail>
         if bench.has_ended() {
             return Ok(());
         }
-        for p in 0..bench.count() {
-            bench.step(alloc, p + 1)?;
+        for p in 0..15 {
+            if p < bench.count() {
+                bench.step(alloc, p + 1)?;
+            }
         }
     }
     Err("all have ended".into())

@@ -1,7 +1,7 @@
 //! The top call over ends in memory.
 
 ghost use Rattle.std.specs.Prelude.{map};
-ghost use Rattle.mx_audit.specs.Accounts.{HaveGrown, HaveRoom};
+ghost use Rattle.mx_audit.specs.Accounts.{HaveRoom};
 
 use mx_audit::Auditor;
 use mx_io::{MemorySink, MemorySource};
@@ -67,7 +67,6 @@ pub(super) fn call_audited<R: Threads + Wait + Sync, G: Gate>(
     auditors: &mut Vec<Box<dyn Auditor + Send>>,
 ) -> Result<Answer, Fail>
     requires { HaveRoom 700000 (map account auditors.old.items) }
-    ensures { HaveGrown (map account auditors.old.items) (map account auditors.new.items) }
 {
     let mut own = Vec::new(alloc);
     for word in words {
