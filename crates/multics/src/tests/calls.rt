@@ -6,7 +6,7 @@ ghost use Rattle.mx_audit.specs.Accounts.{HaveRoom};
 use mx_audit::Auditor;
 use mx_io::{MemorySink, MemorySource};
 use mx_run::{Gate, NoGate, multics};
-use std::alloc::Global;
+use std::alloc::{AllocError, Global};
 use std::sync::Wait;
 use std::test::Fail;
 use std::thread::Threads;
@@ -68,10 +68,7 @@ pub(super) fn call_audited<R: Threads + Wait + Sync, G: Gate>(
 ) -> Result<Answer, Fail>
     requires { HaveRoom 700000 (map account auditors.old.items) }
 {
-    let mut own = Vec::new(alloc);
-    for word in words {
-        own.push(String::from_str(alloc, word)?)?;
-    }
+    let own = own_words(alloc, words)?;
     let mut source = MemorySource::new(
         Vec::from_slice(alloc, text)?,
         Vec::from_slice(alloc, ends.source_fails)?,
@@ -94,4 +91,13 @@ pub(super) fn call_audited<R: Threads + Wait + Sync, G: Gate>(
     );
     let written = Vec::from_slice(alloc, sink.bytes())?;
     Ok(Answer { status, written })
+}
+
+// These words, as the program has them.
+fn own_words(alloc: Global, words: &[&str]) -> Result<Vec<String>, AllocError> {
+    let mut own = Vec::new(alloc);
+    for word in words {
+        own.push(String::from_str(alloc, word)?)?;
+    }
+    Ok(own)
 }
