@@ -85,7 +85,7 @@ impl Replay {
     }
 }
 
-// More than a thousand lines over one hierarchy, with every refusal that a session can meet.
+// Nearly a thousand requests over one hierarchy, which meet the first eighteen refusals.
 #[test]
 fn a_whole_hierarchy_is_replayed(rt: HostRuntime) -> Result<(), Fail> {
     let alloc = rt.alloc();
