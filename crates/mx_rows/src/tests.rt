@@ -1,6 +1,7 @@
 //! What the rows share: tables of data segments, and steps that must be made or refused.
 
 mod causes;
+mod lives;
 mod memories;
 mod pages;
 mod revocation;
