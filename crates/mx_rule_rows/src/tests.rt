@@ -10,6 +10,7 @@ ghost use Rattle.mx_rule_rows.specs.Changing.{IsAtRest, present, seen};
 ghost use Rattle.mx_sdw.specs.Admissible.{IsAdmissible};
 
 mod changing;
+mod greatest;
 mod memories;
 mod referring;
 mod revocation;
