@@ -45,7 +45,7 @@ impl Field {
     /// Its name in the shape of a line.
     pub(crate) fn name(self) -> &'static str {
         match self {
-            Field::Version => "1",
+            Field::Version => "the version",
             Field::Limit => "H",
             Field::Principal => "PRINCIPAL",
             Field::Path => "PATH",
@@ -76,12 +76,12 @@ impl Field {
     pub(crate) fn wanted(self) -> &'static str {
         match self {
             Field::Version => "1",
-            Field::Limit => "a decimal number from 1 to 262143",
+            Field::Limit => "a decimal number from 1 to 262143, with no leading zero",
             Field::Principal => {
                 "Person.Project.tag, of at most 22, 9 and 1 letters, digits or `_`"
             }
             Field::Path | Field::Target => {
-                "a pathname: names with `>` between, behind `>`, some `<` or neither"
+                "a pathname: names with `>` between them, after one `>`, some `<` or nothing; at most 168 characters, a name at most 32"
             }
             Field::Words => "a decimal number of at most 5 digits, with no leading zero",
             Field::R1 | Field::R2 | Field::R3 | Field::D1 | Field::D2 => {
@@ -93,17 +93,22 @@ impl Field {
             }
             Field::ObjectLink => "`l:`, the name of a segment, `$` and a name",
             Field::DefinitionOrLink => "d:SYMBOL:W or l:NAME$SYMBOL",
-            Field::Name => { "a name: 1 to 32 characters, none of > < * ? $ , | : =" }
+            Field::Name => {
+                "a name: 1 to 32 printable ASCII characters, none of > < * ? $ , | : ="
+            }
             Field::Id => "Person.Project.tag, with `*` in place of any of the three",
             Field::Modes => "`null`, or letters of `rew`, or letters of `sma`, in this order",
             Field::Rule => {
                 "`initiated_segments`, `referencing_dir`, `working_dir` or a path from `>`"
             }
             Field::Segno => "a segment number, octal from 0 to 7777, with no leading zero",
-            Field::Receiver => "the number of a process, decimal from 1 to 99",
+            Field::Receiver =>
+                "the number of a process, decimal from 1 to 99, with no leading zero",
             Field::Word => { "an octal word of at most 12 digits, with no leading zero" }
             Field::Register => "the number of a pointer register, one digit from 0 to 7",
-            Field::Operand => { "S|W or prN|W in octal, with `,*` behind it or not" }
+            Field::Operand => {
+                "S|W or prN|W in octal, S to 7777, N to 7 and W to 37777, with `,*` behind it or not"
+            }
         }
     }
 

@@ -50,14 +50,15 @@ impl Display for Order {
             Order::EndInScript => {
                 "`end` where the last process has not logged out: `logout` is missing"
             }
-            Order::SetupAfterProcess => "a setup line after the first process line",
+            Order::SetupAfterProcess =>
+                "a request behind a `logout`: it stands in the setup or in a script",
             Order::AfterLogout => {
                 "a script line behind its `logout`: a process line or `end` is to follow"
             }
             Order::Sixteenth => "a sixteenth process: a session has 1 to 15 of them",
             Order::AfterEnd => "nothing may follow `end`, not even an empty line",
             Order::OfSupervisor => {
-                "the supervisor enters this for a process in the journal; no session asks it"
+                "the supervisor enters this for a process in the journal; no session asks for it"
             }
         })
     }

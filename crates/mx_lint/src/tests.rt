@@ -92,7 +92,7 @@ const ORDERS: &[(&str, &str)] = &[
     ),
     (
         "multics 1\nprocess A.B.a\nlogout\ncreate_dir >d 7 7\n",
-        "line 4: a setup line after the first process line\n    create_dir >d 7 7\n",
+        "line 4: a request behind a `logout`: it stands in the setup or in a script\n    create_dir >d 7 7\n",
     ),
     (
         "multics 1\nprocess A.B.a\nlogout\nset 1\n",
@@ -108,11 +108,11 @@ const ORDERS: &[(&str, &str)] = &[
     ),
     (
         "multics 1\nprocess A.B.a\nlink 10|0\n",
-        "line 3: the supervisor enters this for a process in the journal; no session asks it\n    link 10|0\n",
+        "line 3: the supervisor enters this for a process in the journal; no session asks for it\n    link 10|0\n",
     ),
     (
         "multics 1\nresume\n",
-        "line 2: the supervisor enters this for a process in the journal; no session asks it\n    resume\n",
+        "line 2: the supervisor enters this for a process in the journal; no session asks for it\n    resume\n",
     ),
     (
         "multics 1\n\n",
@@ -199,12 +199,12 @@ const FIELDS: &[(&str, &str, &str)] = &[
     ),
     (
         "rename >a >b",
-        "rename wants PATH NAME; NAME is `>b`, and not a name: 1 to 32 characters, none of > < * ? $ , | : =",
+        "rename wants PATH NAME; NAME is `>b`, and not a name: 1 to 32 printable ASCII characters, none of > < * ? $ , | : =",
         "rename >udd>a b",
     ),
     (
         "delete >>a",
-        "delete wants PATH; PATH is `>>a`, and not a pathname: names with `>` between, behind `>`, some `<` or neither",
+        "delete wants PATH; PATH is `>>a`, and not a pathname: names with `>` between them, after one `>`, some `<` or nothing; at most 168 characters, a name at most 32",
         "delete >udd>a",
     ),
     (
@@ -239,7 +239,7 @@ const FIELDS: &[(&str, &str, &str)] = &[
     ),
     (
         "list a>",
-        "list wants PATH; PATH is `a>`, and not a pathname: names with `>` between, behind `>`, some `<` or neither",
+        "list wants PATH; PATH is `a>`, and not a pathname: names with `>` between them, after one `>`, some `<` or nothing; at most 168 characters, a name at most 32",
         "list >udd",
     ),
     (
@@ -275,7 +275,7 @@ const FIELDS: &[(&str, &str, &str)] = &[
     ),
     (
         "wakeup 100 1",
-        "wakeup wants P WORD; P is `100`, and not the number of a process, decimal from 1 to 99",
+        "wakeup wants P WORD; P is `100`, and not the number of a process, decimal from 1 to 99, with no leading zero",
         "wakeup 2 52",
     ),
     ("block 1", "block wants nothing; `1` is too much", "block"),
@@ -291,17 +291,17 @@ const FIELDS: &[(&str, &str, &str)] = &[
     ),
     (
         "lda 10",
-        "lda wants OPERAND; OPERAND is `10`, and not S|W or prN|W in octal, with `,*` behind it or not",
+        "lda wants OPERAND; OPERAND is `10`, and not S|W or prN|W in octal, S to 7777, N to 7 and W to 37777, with `,*` behind it or not",
         "lda 10|5",
     ),
     (
         "sta 10|40000",
-        "sta wants OPERAND; OPERAND is `10|40000`, and not S|W or prN|W in octal, with `,*` behind it or not",
+        "sta wants OPERAND; OPERAND is `10|40000`, and not S|W or prN|W in octal, S to 7777, N to 7 and W to 37777, with `,*` behind it or not",
         "sta pr2|0",
     ),
     (
         "spri 1 pr8|0",
-        "spri wants N OPERAND; OPERAND is `pr8|0`, and not S|W or prN|W in octal, with `,*` behind it or not",
+        "spri wants N OPERAND; OPERAND is `pr8|0`, and not S|W or prN|W in octal, S to 7777, N to 7 and W to 37777, with `,*` behind it or not",
         "spri 7 10|0",
     ),
     (
@@ -316,7 +316,7 @@ const FIELDS: &[(&str, &str, &str)] = &[
     ),
     (
         "return pr7|0,",
-        "return wants OPERAND; OPERAND is `pr7|0,`, and not S|W or prN|W in octal, with `,*` behind it or not",
+        "return wants OPERAND; OPERAND is `pr7|0,`, and not S|W or prN|W in octal, S to 7777, N to 7 and W to 37777, with `,*` behind it or not",
         "return pr7|0",
     ),
     (
@@ -330,11 +330,11 @@ const FIELDS: &[(&str, &str, &str)] = &[
 const FRONTS: &[(&str, &str)] = &[
     (
         "multics 2\n",
-        "line 1: multics wants 1; 1 is `2`, and not 1\n    multics 2\nsuch a line: multics 1\n",
+        "line 1: multics wants 1; the version is `2`, and not 1\n    multics 2\nsuch a line: multics 1\n",
     ),
     (
         "multics 1\nhistory 0\n",
-        "line 2: history wants H; H is `0`, and not a decimal number from 1 to 262143\n    history 0\nsuch a line: history 100\n",
+        "line 2: history wants H; H is `0`, and not a decimal number from 1 to 262143, with no leading zero\n    history 0\nsuch a line: history 100\n",
     ),
     (
         "multics 1\nprocess A.B.ab\n",
