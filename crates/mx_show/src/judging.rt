@@ -11,6 +11,9 @@ use mx_script::Session;
 use mx_state::Journal;
 use std::alloc::{AllocError, Global};
 
+/// The ring in which a process begins.
+pub(crate) const FIRST_RING: u8 = 4;
+
 /// The references of a run in the order of their points, those of one process in its own order, and the descriptors that
 /// the journal's entries changed.
 #[derive(Debug, Drop)]

@@ -28,19 +28,19 @@ pub(crate) const LEFT: u32 = 150;
 pub(crate) const ENTRY_WIDTH: u32 = 40;
 
 /// The width that a reference takes.
-pub(crate) const BOX_STEP: u32 = 134;
+pub(crate) const BOX_STEP: u32 = 142;
 
 /// The width of its box.
-pub(crate) const BOX_WIDTH: u32 = 124;
+pub(crate) const BOX_WIDTH: u32 = 132;
 
 /// The height of its box.
 pub(crate) const BOX_HEIGHT: u32 = 54;
 
 /// The line of the journal.
-pub(crate) const JOURNAL: u32 = 310;
+pub(crate) const JOURNAL: u32 = 326;
 
 /// The top of the first lane.
-pub(crate) const LANES: u32 = 350;
+pub(crate) const LANES: u32 = 366;
 
 /// The height of a lane, and from one lane's top to the next.
 pub(crate) const LANE_HEIGHT: u32 = 170;

@@ -14,8 +14,8 @@ use crate::errors::ShowError;
 use crate::judging::{Accesses, judge_all};
 use crate::layout::{LANE_STEP, LANES, Layout};
 use crate::svg::add_head;
-use entries::{add_changes, add_entries};
-use legends::{add_legend, add_title};
+use entries::{add_change_lines, add_entries, add_tags};
+use legends::{LEGEND_HEIGHT, add_legend, add_rings, add_title};
 use marks::{add_arrows, add_boxes};
 use mx_io::{Sink, write_all};
 use mx_legal::Transcripts;
@@ -57,11 +57,17 @@ fn draw(
     let layout = Layout::new(alloc, accesses, journal.items().len(), processes)?;
     let bottom = LANES.saturating_add((layout.lanes as u32).saturating_mul(LANE_STEP));
     let mut out = String::new(alloc);
-    add_head(&mut out, layout.width.max(980), bottom.saturating_add(80))?;
+    add_head(
+        &mut out,
+        layout.width.max(980),
+        bottom.saturating_add(LEGEND_HEIGHT),
+    )?;
     add_title(alloc, &mut out, session, journal, accesses, &layout)?;
+    add_rings(&mut out)?;
     add_lanes(alloc, &mut out, session, &layout)?;
+    add_change_lines(&mut out, accesses, &layout)?;
     add_entries(alloc, &mut out, journal, &layout)?;
-    add_changes(alloc, &mut out, accesses, &layout)?;
+    add_tags(alloc, &mut out, accesses, &layout)?;
     add_boxes(alloc, &mut out, &layout)?;
     add_arrows(&mut out, &layout)?;
     add_legend(&mut out, bottom)?;

@@ -17,7 +17,7 @@ pub(crate) fn add_head(out: &mut String, width: u32, height: u32) -> Result<(), 
         "<defs><marker id=\"head\" viewBox=\"0 0 8 8\" refX=\"7\" refY=\"4\" markerWidth=\"8\"",
     )?;
     out.push_str(
-        " markerHeight=\"8\" orient=\"auto\"><path d=\"M0 0L8 4L0 8z\" fill=\"#00695c\"/></marker></defs>\n",
+        " markerHeight=\"8\" orient=\"auto\"><path d=\"M0 0L8 4L0 8z\" fill=\"#00695c\" stroke=\"#ffffff\"/></marker></defs>\n",
     )?;
     out.push_str("<rect width=\"100%\" height=\"100%\" fill=\"#ffffff\"/>\n")
 }
@@ -92,6 +92,27 @@ pub(crate) fn add_disc(
         out,
         "<circle cx=\"{}\" cy=\"{}\" r=\"{radius}\" {style}/>\n",
         at.0, at.1
+    )
+}
+
+/// Adds a quarter of a disc, above and to the right of its middle.
+pub(crate) fn add_quarter(
+    out: &mut String,
+    middle: (u32, u32),
+    radius: u32,
+    style: &str,
+) -> Result<(), AllocError> {
+    let right = middle.0.saturating_add(radius);
+    let top = middle.1.saturating_sub(radius);
+    write!(
+        out,
+        "<path d=\"M{} {}L{right} {}",
+        middle.0, middle.1, middle.1
+    )?;
+    write!(
+        out,
+        "A{radius} {radius} 0 0 0 {} {top}z\" {style}/>\n",
+        middle.0
     )
 }
 

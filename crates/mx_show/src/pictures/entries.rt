@@ -6,13 +6,19 @@ use crate::replays::Changed;
 use crate::svg::{add_disc, add_line, add_rect, add_rising, add_text, ink_on, ring_colour};
 use crate::words::{add_request, modes};
 use mx_request::Reply;
-use mx_sdw::DescKind;
+use mx_sdw::{Desc, DescKind};
 use mx_state::{Entry, Journal};
 use std::alloc::{AllocError, Global};
 use std::fmt::Write;
 
 /// The most characters that stand at an entry.
 const MOST_LABEL: usize = 40;
+
+/// The line of an entry that took access away.
+pub(super) const LOSS_LINE: &str = "stroke=\"#c62828\" stroke-width=\"2\" stroke-dasharray=\"5 4\"";
+
+/// The line of an entry that gave access.
+pub(super) const GAIN_LINE: &str = "stroke=\"#2e7d32\" stroke-width=\"2\" stroke-dasharray=\"5 4\"";
 
 /// The height of what is written in a lane of a change.
 const TAG_HEIGHT: u32 = 16;
@@ -105,10 +111,8 @@ fn answer(alloc: Global, entry: &Entry) -> Result<String, AllocError> {
     Ok(answer)
 }
 
-/// Adds the entries that changed access: a broken line from the journal to the lane of the process whose access changed, and there
-/// what it was and is.
-pub(super) fn add_changes(
-    alloc: Global,
+/// Adds a broken line for each entry that changed access, from the journal to the end of the lane of the process whose it is.
+pub(super) fn add_change_lines(
     out: &mut String,
     accesses: &Accesses,
     layout: &Layout,
@@ -121,11 +125,11 @@ pub(super) fn add_changes(
             add_change_line(out, changed, x)?;
         }
     }
-    add_tags(alloc, out, accesses, layout)
+    Ok(())
 }
 
-// Adds what each access was and is, one below another where they stand close.
-fn add_tags(
+/// Adds what each access was and is where it changed, one below another where they stand close.
+pub(super) fn add_tags(
     alloc: Global,
     out: &mut String,
     accesses: &Accesses,
@@ -152,11 +156,13 @@ fn add_tags(
 fn add_change_line(out: &mut String, changed: &Changed, x: u32) -> Result<(), AllocError> {
     let bottom = lane_top(changed.process).saturating_add(LANE_HEIGHT);
     let style = if is_loss(changed) {
-        "stroke=\"#c62828\" stroke-width=\"2\" stroke-dasharray=\"5 4\""
+        LOSS_LINE
     } else {
-        "stroke=\"#2e7d32\" stroke-dasharray=\"5 4\""
+        GAIN_LINE
     };
-    add_line(out, (x, JOURNAL + 14), (x, bottom), style)
+    let (from, to) = ((x, JOURNAL + 14), (x, bottom));
+    add_line(out, from, to, "stroke=\"#ffffff\" stroke-width=\"4\"")?;
+    add_line(out, from, to, style)
 }
 
 fn add_tag(
@@ -188,13 +194,23 @@ fn add_tag(
     )
 }
 
-// Whether something was taken away: a flag, or the segment.
+// Whether something was taken away: a flag, a ring of a bracket, or the segment.
 fn is_loss(changed: &Changed) -> bool {
     let (before, after) = (&changed.before, &changed.after);
-    (before.r() && !after.r())
+    after.kind() != DescKind::Segment
+        || (before.r() && !after.r())
         || (before.e() && !after.e())
         || (before.w() && !after.w())
-        || (before.kind() == DescKind::Segment && after.kind() != DescKind::Segment)
+        || (before.kind() == DescKind::Segment && is_narrower(before, after))
+}
+
+// Whether a bracket leaves out a ring that it had. The bracket of execution begins with R1.
+fn is_narrower(before: &Desc, after: &Desc) -> bool {
+    let (old, new) = (before.brackets(), after.brackets());
+    new.r1().number() < old.r1().number()
+        || new.r2().number() < old.r2().number()
+        || new.r3().number() < old.r3().number()
+        || (after.e() && new.r1().number() > old.r1().number())
 }
 
 // The segment number, and what the access was and is.

@@ -1,5 +1,6 @@
 //! The references, and the arrows from reads to stores.
 
+use crate::judging::FIRST_RING;
 use crate::layout::{BOX_HEIGHT, BOX_WIDTH, BOXES, Layout, Placed, lane_top, store_of};
 use crate::reasons::{Reason, explain};
 use crate::sources::source_of;
@@ -8,9 +9,6 @@ use crate::words::kind_word;
 use mx_legal::Outcome;
 use std::alloc::{AllocError, Global};
 use std::fmt::Write;
-
-/// The ring in which a process begins.
-const FIRST_RING: u8 = 4;
 
 /// Longer arrows are no deeper.
 const MOST_LENGTH: u32 = 10_000;

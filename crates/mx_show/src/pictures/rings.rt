@@ -1,13 +1,11 @@
 //! The lanes of the processes, in the colours of their rings.
 
+use crate::judging::FIRST_RING;
 use crate::layout::{BOX_WIDTH, LANE_HEIGHT, LEFT, Layout, entered, lane_top};
 use crate::svg::{add_rect, add_text, ink_on, ring_colour};
 use crate::words::principal_text;
 use mx_script::Session;
 use std::alloc::{AllocError, Global};
-
-/// The ring in which a process begins.
-const FIRST_RING: u8 = 4;
 
 /// Adds the lane of each process, with its number and principal.
 pub(super) fn add_lanes(
