@@ -1,6 +1,6 @@
 //! What the lines of one process came to, line by line.
 
-use crate::judging::Accesses;
+use crate::judging::{Accesses, FIRST_RING};
 use crate::reasons::{Reason, explain};
 use crate::replays::{Changed, Judged};
 use crate::sources::source_of;
@@ -24,13 +24,13 @@ pub(crate) struct Teller<'a> {
 }
 
 impl<'a> Teller<'a> {
-    /// Before the first line of a process, which begins in ring 4.
+    /// Before the first line of a process.
     pub(crate) fn new(journal: &'a Journal, accesses: &'a Accesses, process: u8) -> Teller<'a> {
         Teller {
             journal,
             accesses,
             process,
-            ring: 4,
+            ring: FIRST_RING,
             judged: 0,
             changed: 0,
         }
@@ -65,7 +65,10 @@ impl<'a> Teller<'a> {
                 Ok(false)
             }
             Event2::Core(Event::Missing { segno, by }) => {
-                write!(out, "missed {segno:o}: entry {by} changed the access\n")?;
+                write!(
+                    out,
+                    "segment {segno:o} is missing: entry {by} changed its access; begun anew\n"
+                )?;
                 Ok(false)
             }
             Event2::Core(Event::Seen(element)) => match self.next_judged() {
@@ -191,7 +194,7 @@ fn add_reference(
         Outcome::Denied(denial) => add_denial(alloc, out, judged, denial, current)?,
         Outcome::Written { value } => write!(out, ": stores {:o}\n", value.value())?,
         Outcome::Entered { ring } => write!(out, ": enters ring {}\n", ring.number())?,
-        Outcome::Read { value, .. } => add_read(out, element.kind, value, element.outcome)?,
+        Outcome::Read { value, .. } => add_read(out, judged, value)?,
     }
     write!(out, "    at point {}: ", element.point)?;
     add_access(alloc, out, judged)?;
@@ -224,9 +227,10 @@ fn add_denial(
 }
 
 // Adds the word read, whose store it is, and where it leads.
-fn add_read(out: &mut String, kind: Kind, value: Word, outcome: Outcome) -> Result<(), AllocError> {
+fn add_read(out: &mut String, judged: &Judged, value: Word) -> Result<(), AllocError> {
+    let element = &judged.element;
     write!(out, ": {:o}", value.value())?;
-    match source_of(outcome) {
+    match source_of(element.outcome) {
         Some(store) => {
             write!(
                 out,
@@ -236,13 +240,32 @@ fn add_read(out: &mut String, kind: Kind, value: Word, outcome: Outcome) -> Resu
         }
         None => out.push_str(", nobody has stored there")?,
     }
-    match (kind, Pointer::read(value)) {
+    match (element.kind, Pointer::read(value)) {
         (Kind::Ind, Some(pointer)) => {
             write!(out, "; it points to {:o}|{:o}", pointer.segno, pointer.word)?;
-            write!(out, " in ring {}\n", pointer.ring.number())
+            write!(out, " in ring {}", pointer.ring.number())?;
+            add_raised(out, judged, &pointer)?;
+            out.push_str("\n")
         }
         (Kind::Ind, None) if is_link(value) => out.push_str("; it is a link\n"),
         _ => out.push_str("\n"),
+    }
+}
+
+// Adds how a pointer that was read raises the effective ring, and which number does so.
+fn add_raised(out: &mut String, judged: &Judged, pointer: &Pointer) -> Result<(), AllocError> {
+    let ring = judged.element.ring.number();
+    let (said, r1) = (pointer.ring.number(), judged.desc.brackets().r1().number());
+    if said > ring && said >= r1 {
+        write!(out, "; it raises the effective ring to {said}")
+    } else if r1 > ring {
+        write!(
+            out,
+            "; the effective ring rises to {r1}, R1 of segment {:o}",
+            judged.element.segno
+        )
+    } else {
+        Ok(())
     }
 }
 
