@@ -24,8 +24,6 @@ mod outsiders;
 mod refusals;
 mod slots;
 mod tables;
-#[cfg(test)]
-mod tests;
 mod walks;
 
 pub use asking::Status;

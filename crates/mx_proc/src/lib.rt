@@ -2,9 +2,10 @@
 //!
 //! A [`Bench`] has the supervisor, the cells of the memory, and each process's registers, its place in its script and in the
 //! walk of the line at work. [`Bench::step`] makes one element with its access to a cell, or one entry, or a call that finds
-//! the journal full, or a line that needs neither; the order of steps is whoever's who calls it. Its type says that the run so far keeps all that a legal run asks, so that
-//! [`Bench::finish`] hands out a legal run. [`run`] steps the processes in turn. Stands on `mx_sup` (the supervisor),
-//! `mx_script` (sessions), `mx_legal` (the rules of a run) and `mx_ties` (what keeps them step by step).
+//! the journal full, or a line that needs neither; the order of steps is whoever's who calls it. Its type says that the run
+//! so far keeps all that a legal run asks, so that [`Bench::finish`] hands out a legal run. [`run`] puts a bench with its
+//! auditors behind the lock of a [`Hall`], where each process works on a thread of its own. Stands on `mx_sup` (the
+//! supervisor), `mx_script` (sessions), `mx_legal` (the rules of a run) and `mx_ties` (what keeps them step by step).
 #![tactic(auto)]
 
 mod audited;
@@ -30,6 +31,3 @@ pub use halls::Hall;
 pub use memory::Contents;
 pub use naming::Naming;
 pub use running::run;
-
-#[cfg(test)]
-mod tests;

@@ -3,7 +3,7 @@ use Rattle.std.proofs.Math.ListN.{take}
 use Rattle.std.proofs.lemmas.List.{take_all}
 use Rattle.std.proofs.lemmas.List.Sums.{sum_by_more}
 use Rattle.std.specs.List.{sum_by}
-use Rattle.mx_proc.proofs.tests.line_count.Goals as goal
+use Rattle.mx_proc_rows.proofs.tests.line_count.Goals as goal
 
 pub loop-script-init : goal.loop-script-init
 loop-script-init c = refl

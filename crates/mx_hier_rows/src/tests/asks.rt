@@ -1,7 +1,7 @@
 //! Requests as they are written, and the numbers of their refusals.
 
-use crate::{Hier, HierError, Who};
 use mx_acl::Modes;
+use mx_hier::{Hier, HierError, Who};
 use mx_name::{AclId, EntryName, Path, Pathname, Principal};
 use mx_object::ObjectMap;
 use mx_sdw::Ring;

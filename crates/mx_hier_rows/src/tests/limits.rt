@@ -4,7 +4,7 @@ use super::asks::{
     Ask, Caller, INITIALIZER, JONES, Row, SMITH, create_link, create_seg, first_wrong,
     first_wrong_of, granted, set_acl, set_up,
 };
-use crate::Hier;
+use mx_hier::Hier;
 use std::alloc::Global;
 use std::test::Fail;
 

@@ -3,12 +3,12 @@
 mod asks;
 mod limits;
 
-use crate::{Hier, Names, Status};
 use asks::{
     Ask, Caller, INITIALIZER, JONES, SMITH, create_seg, delete, first_wrong_of, granted, ring,
     set_up, three,
 };
 use mx_acl::Modes;
+use mx_hier::{Hier, Names, Status};
 use mx_name::{EntryName, Path, Pathname};
 use mx_sdw::{Brackets, Desc};
 use std::alloc::Global;

@@ -1,7 +1,7 @@
 use Rattle.std.proofs.Common.{◌≡◌, length}
 use Rattle.std.proofs.Math.ListN.{take}
 use Rattle.std.specs.List.{sum_by}
-use Rattle.mx_proc.proofs.tests.line_count.Given as goal
+use Rattle.mx_proc_rows.proofs.tests.line_count.Given as goal
 
 -- the lines of the scripts so far
 abbrev pub invariant-loop-script : goal.invariant-loop-script

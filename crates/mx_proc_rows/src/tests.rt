@@ -4,10 +4,10 @@ ghost use Rattle.std.specs.Prelude.{◌≡◌, IfSome, OnOk, length};
 ghost use Rattle.std.specs.List.{sum_by};
 ghost use Rattle.mx_proc.specs.Stepping.{HaveEnded};
 
-use crate::{Bench, Stepped};
 use mx_legal::{Event, Event2, Outcome, Result2, Transcript};
 use mx_list::Sequence;
 use mx_name::Principal;
+use mx_proc::{Bench, Stepped};
 use mx_request::Request;
 use mx_script::{Base, BoxedRequest, Line, Operand, Script, Session};
 use mx_sdw::Word;
