@@ -1,12 +1,16 @@
 -- A refusal of every request that makes an entry is that of each.
-use Rattle.std.proofs.Common.{◌≡◌, ◌==◌, ◌≤◌, ◌<◌, leb, ◌||◌, ltb, ℕ, is_none, Option, None, refl, arith, Bool, true, false, cond, List, [], ◌∷◌, ◌++◌, Some, Result, Ok, Err, ap, sym, ◌∙◌}
+use Rattle.std.proofs.Common.{◌≡◌, ◌==◌, ◌≤◌, ◌<◌, leb, ◌||◌, ltb, ℕ, is_none, Option, None, refl, arith, Bool, true, false, cond, List, [], ◌∷◌, ◌++◌, Some, Result, Ok, Err, ap, sym, subst, ◌∙◌}
 use Rattle.std.proofs.lemmas.Bool.{or_parts}
 use Rattle.std.specs.List.{list_any}
 use Rattle.std.specs.Map.{lookup}
 use Rattle.mx_name.specs.Names.{same_name}
 use Rattle.mx_object.specs.Objects.{PlainObjectMap}
 use Rattle.mx_hier.specs.declared.branches.Directory.{Directory}
+use Rattle.mx_hier.specs.declared.branches.Node.TheVariants.{Directory as IsDirectory}
 use Rattle.mx_hier.specs.declared.making.Place.{Place}
+use Rattle.mx_hier.specs.declared.refusals.HierError.{HierError}
+use Rattle.mx_hier.specs.declared.refusals.HierError.TheVariants.{Refused, Memory}
+use Rattle.mx_sdw.specs.Rings.{Bracketing}
 use Rattle.mx_hier.specs.declared.refusals.Refusal.{Refusal}
 use Rattle.mx_hier.specs.declared.refusals.Refusal.TheVariants.{NotADir, BadLength, BadBrackets, NoPages}
 use Rattle.mx_pages.specs.Runs.{pages_for, run_given}
@@ -15,8 +19,9 @@ use Rattle.mx_hier.specs.Brackets.{settable}
 use Rattle.mx_hier.specs.Callers.{Subject, on}
 use Rattle.mx_hier.specs.Objects.{gate_of, defined_in}
 use Rattle.mx_hier.specs.MakeSegment.{Wanted, reaches_beyond, is_bad_length, make_segment_refusals, make_segment_at, new_segment, segment_added}
-use Rattle.mx_hier.specs.Making.{making_refusals, made}
-use Rattle.mx_hier.specs.Rules.{first_of, onward, required, unless}
+use Rattle.mx_hier.specs.CreateDirectory.{create_dir_refusals, new_directory, create_dir_at}
+use Rattle.mx_hier.specs.Making.{making_refusals, made, added}
+use Rattle.mx_hier.specs.Rules.{first_of, onward, required, unless, Answers, Tells, TellsFirst}
 
 first_again : (rules own : List (Bool × Refusal)) (why : Refusal) → first_of rules ≡ Some why → first_of (rules ++ own) ≡ Some why
 first_again [] own why is = absurd (cc)
@@ -27,9 +32,48 @@ first_again (rule ∷ rules) own why is = by rule.0 is (first_again rules own wh
     by true is rest = is
     by false is rest = rest is
 
+-- where they do not apply, those that follow decide
+first_past : (rules own : List (Bool × Refusal)) → first_of rules ≡ None → first_of (rules ++ own) ≡ first_of own
+first_past [] own is = refl
+first_past (rule ∷ rules) own is = by rule.0 is (first_past rules own)
+  where
+    by : (b : Bool) → cond b (Some rule.1) (first_of rules) ≡ None → (first_of rules ≡ None → first_of (rules ++ own) ≡ first_of own)
+        → cond b (Some rule.1) (first_of (rules ++ own)) ≡ first_of own
+    by true is rest = absurd (cc)
+    by false is rest = rest is
+
 made_refused : (h : Hierarchy) (at : Place) (rules : List (Bool × Refusal)) (make : Directory → Result Hierarchy Refusal) (why : Refusal)
     → first_of rules ≡ Some why → made h at rules make ≡ Err why
 made_refused h at rules make why is = ap (λ refusal. onward (unless refusal at) (λ (at : Place). onward (required NotADir (directory_at h at.dir)) make)) is
+
+made_all : (h : Hierarchy) (at : Place) (rules : List (Bool × Refusal)) (make : Directory → Result Hierarchy Refusal) (parent : Directory)
+    → first_of rules ≡ None → directory_at h at.dir ≡ Some parent → made h at rules make ≡ make parent
+made_all h at rules make parent none is =
+    ap (λ refusal. onward (unless refusal at) (λ (at : Place). onward (required NotADir (directory_at h at.dir)) make)) none
+    ∙ ap (λ directory. onward (required NotADir directory) make) is
+
+-- a directory: what refuses every making, then its brackets, else it is made
+pub dir_refused : (h : Hierarchy) (who : Subject) (at : Place) (d1 d2 : ℕ) (why : Refusal)
+    → first_of (making_refusals h who at) ≡ Some why → create_dir_at h who at d1 d2 ≡ Err why
+dir_refused h who at d1 d2 why is =
+    made_refused h at (create_dir_refusals h who at d1 d2) (λ parent. Ok (added h at (IsDirectory (new_directory parent who d1 d2)))) why
+    (first_again (making_refusals h who at) ((ltb d2 d1 || ltb d1 who.ring, BadBrackets) ∷ []) why is)
+
+pub dir_unbracketed : (h : Hierarchy) (who : Subject) (at : Place) (d1 d2 : ℕ)
+    → first_of (making_refusals h who at) ≡ None → (ltb d2 d1 || ltb d1 who.ring) ≡ true → create_dir_at h who at d1 d2 ≡ Err BadBrackets
+dir_unbracketed h who at d1 d2 none bad =
+    made_refused h at (create_dir_refusals h who at d1 d2) (λ parent. Ok (added h at (IsDirectory (new_directory parent who d1 d2)))) BadBrackets
+    (first_past (making_refusals h who at) ((ltb d2 d1 || ltb d1 who.ring, BadBrackets) ∷ []) none
+    ∙ ap (λ (b : Bool). cond b (Some BadBrackets) None) bad)
+
+pub dir_made : (h : Hierarchy) (who : Subject) (at : Place) (d1 d2 : ℕ) (parent : Directory)
+    → first_of (making_refusals h who at) ≡ None → (ltb d2 d1 || ltb d1 who.ring) ≡ false → directory_at h at.dir ≡ Some parent
+    → create_dir_at h who at d1 d2 ≡ Ok (added h at (IsDirectory (new_directory parent who d1 d2)))
+dir_made h who at d1 d2 parent none good is =
+    made_all h at (create_dir_refusals h who at d1 d2) (λ parent. Ok (added h at (IsDirectory (new_directory parent who d1 d2)))) parent
+    (first_past (making_refusals h who at) ((ltb d2 d1 || ltb d1 who.ring, BadBrackets) ∷ []) none
+    ∙ ap (λ (b : Bool). cond b (Some BadBrackets) None) good)
+    is
 
 pub segment_refused : (h : Hierarchy) (who : Subject) (at : Place) (wanted : Wanted) (why : Refusal)
     → first_of (making_refusals h who at) ≡ Some why → make_segment_at h who at wanted ≡ Err why
@@ -43,6 +87,104 @@ segment_refused h who at wanted why is =
     (first_again (making_refusals h who at)
     ((is_bad_length wanted.words wanted.object, BadLength) ∷ (is_none (settable who.ring wanted.rings), BadBrackets)
     ∷ (is_none (run_given h.pages (pages_for wanted.words)), NoPages) ∷ []) why is)
+
+own_refusals : Subject → Wanted → Option ℕ → List (Bool × Refusal)
+own_refusals who wanted page =
+    (is_bad_length wanted.words wanted.object, BadLength) ∷ (is_none (settable who.ring wanted.rings), BadBrackets) ∷ (is_none page, NoPages) ∷ []
+
+-- a segment with a bad length, with bad brackets, without pages, and one that is made
+module _ (h : Hierarchy) (who : Subject) (at : Place) (wanted : Wanted) (none : first_of (making_refusals h who at) ≡ None) where
+  page : Option ℕ
+  page = run_given h.pages (pages_for wanted.words)
+
+  make : Directory → Result Hierarchy Refusal
+  make parent =
+      onward (required BadBrackets (settable who.ring wanted.rings)) (λ brackets.
+      onward (required NoPages (run_given h.pages (pages_for wanted.words))) (λ page.
+      Ok (segment_added h at (new_segment parent who wanted brackets page) wanted.object)))
+
+  pub segment_unfit : is_bad_length wanted.words wanted.object ≡ true → make_segment_at h who at wanted ≡ Err BadLength
+  unfolding own_refusals page make
+  segment_unfit bad =
+      made_refused h at (make_segment_refusals h who at wanted) make BadLength
+      (first_past (making_refusals h who at) (own_refusals who wanted page) none
+      ∙ ap (λ (b : Bool). cond b (Some BadLength) (cond (is_none (settable who.ring wanted.rings)) (Some BadBrackets) (cond (is_none page) (Some NoPages) None))) bad)
+
+  pub segment_unbracketed : is_bad_length wanted.words wanted.object ≡ false → settable who.ring wanted.rings ≡ None
+      → make_segment_at h who at wanted ≡ Err BadBrackets
+  unfolding own_refusals page make
+  segment_unbracketed fit bad =
+      made_refused h at (make_segment_refusals h who at wanted) make BadBrackets
+      (first_past (making_refusals h who at) (own_refusals who wanted page) none
+      ∙ ap (λ (b : Bool). cond b (Some BadLength) (cond (is_none (settable who.ring wanted.rings)) (Some BadBrackets) (cond (is_none page) (Some NoPages) None))) fit
+      ∙ ap (λ (o : Option Bracketing). cond (is_none o) (Some BadBrackets) (cond (is_none page) (Some NoPages) None)) bad)
+
+  pub segment_unpaged : (brackets : Bracketing) → is_bad_length wanted.words wanted.object ≡ false → settable who.ring wanted.rings ≡ Some brackets
+      → run_given h.pages (pages_for wanted.words) ≡ None → make_segment_at h who at wanted ≡ Err NoPages
+  unfolding own_refusals page make
+  segment_unpaged brackets fit good lacking =
+      made_refused h at (make_segment_refusals h who at wanted) make NoPages
+      (first_past (making_refusals h who at) (own_refusals who wanted page) none
+      ∙ ap (λ (b : Bool). cond b (Some BadLength) (cond (is_none (settable who.ring wanted.rings)) (Some BadBrackets) (cond (is_none page) (Some NoPages) None))) fit
+      ∙ ap (λ (o : Option Bracketing). cond (is_none o) (Some BadBrackets) (cond (is_none page) (Some NoPages) None)) good
+      ∙ ap (λ (o : Option ℕ). cond (is_none o) (Some NoPages) None) lacking)
+
+  pub segment_made : (brackets : Bracketing) (first : ℕ) (parent : Directory) → is_bad_length wanted.words wanted.object ≡ false
+      → settable who.ring wanted.rings ≡ Some brackets → run_given h.pages (pages_for wanted.words) ≡ Some first → directory_at h at.dir ≡ Some parent
+      → make_segment_at h who at wanted ≡ Ok (segment_added h at (new_segment parent who wanted brackets first) wanted.object)
+  unfolding own_refusals page make
+  segment_made brackets first parent fit good some is =
+      made_all h at (make_segment_refusals h who at wanted) make parent
+      (first_past (making_refusals h who at) (own_refusals who wanted page) none
+      ∙ ap (λ (b : Bool). cond b (Some BadLength) (cond (is_none (settable who.ring wanted.rings)) (Some BadBrackets) (cond (is_none page) (Some NoPages) None))) fit
+      ∙ ap (λ (o : Option Bracketing). cond (is_none o) (Some BadBrackets) (cond (is_none page) (Some NoPages) None)) good
+      ∙ ap (λ (o : Option ℕ). cond (is_none o) (Some NoPages) None) some)
+      is
+      ∙ ap (λ (o : Option Bracketing).
+      onward (required BadBrackets o) (λ brackets.
+      onward (required NoPages (run_given h.pages (pages_for wanted.words))) (λ page.
+      Ok (segment_added h at (new_segment parent who wanted brackets page) wanted.object)))) good
+      ∙ ap (λ (o : Option ℕ).
+      onward (required NoPages o) (λ page. Ok (segment_added h at (new_segment parent who wanted brackets page) wanted.object))) some
+
+-- what a request comes to that goes on where a place was found
+onward_ok : {A B C : Type 0} (r : Result A Refusal) (f : A → Result B Refusal) (g : B → Result C Refusal) (b : B) → onward r f ≡ Ok b
+    → onward r (λ a. onward (f a) g) ≡ g b
+onward_ok (Ok a) f g b e = ap (λ r. onward r g) e
+onward_ok (Err why) f g b e = absurd (cc)
+
+onward_err : {A B C : Type 0} (r : Result A Refusal) (f : A → Result B Refusal) (g : B → Result C Refusal) (why : Refusal) → onward r f ≡ Err why
+    → onward r (λ a. onward (f a) g) ≡ Err why
+onward_err (Ok a) f g why e = ap (λ r. onward r g) e
+onward_err (Err w) f g why e = let same : w ≡ why = cc in ap (λ w. Err w) same
+
+pub placed_then : {A B : Type 0} (r : Result A Refusal) (f : A → Result B Refusal) (g : B → Result Hierarchy Refusal) (b : B) (h : Hierarchy)
+    (result : Result (Unit {0}) HierError) (new : Hierarchy) → onward r f ≡ Ok b → Answers (g b) h result new
+    → Answers (onward r (λ a. onward (f a) g)) h result new
+placed_then r f g b h result new e found =
+    subst (λ (meant : Result Hierarchy Refusal). Answers meant h result new) (sym (onward_ok r f g b e)) found
+
+pub resolved_then : {A : Type 0} (r : Result A Refusal) (a b : A) (g : A → Result Hierarchy Refusal) (h : Hierarchy) (result : Result (Unit {0}) HierError)
+    (new : Hierarchy) → r ≡ Ok a → b ≡ a → Answers (g b) h result new → Answers (onward r g) h result new
+resolved_then r a b g h result new e f found =
+    subst (λ (meant : Result Hierarchy Refusal). Answers meant h result new) (ap g f ∙ sym (ap (λ r. onward r g) e)) found
+
+pub not_placed : {A B : Type 0} (r : Result A Refusal) (f : A → Result B Refusal) (g : B → Result Hierarchy Refusal) (h : Hierarchy)
+    (error : HierError) → Tells (onward r f) (Err error) → Answers (onward r (λ a. onward (f a) g)) h (Err error) h
+not_placed r f g h (Refused why) e = (onward_err r f g why e, refl)
+not_placed r f g h Memory e = refl
+
+pub told_first : {A B C : Type 0} (r : Result A Refusal) (f : A → Result B Refusal) (b : B) (result : Result C HierError) → onward r f ≡ Ok b
+    → TellsFirst r result
+told_first r f b (Ok value) e = tt
+told_first r f b (Err (Refused why)) e = tt
+told_first (Ok a) f b (Err Memory) e = refl
+told_first (Err why) f b (Err Memory) e = absurd (cc)
+
+pub told_alike : {A : Type 0} (B C : Type 0) (r : Result A Refusal) (error : HierError) → TellsFirst {A = A} {B = B} r (Err error)
+    → TellsFirst {A = A} {B = C} r (Err error)
+told_alike B C r (Refused why) told = tt
+told_alike B C r Memory told = told
 
 -- a length that is not bad
 all_false : (a b c : Bool) → (a || b || c) ≡ false → (a ≡ false) × (b ≡ false) × (c ≡ false)

@@ -24,11 +24,22 @@ pub struct Segment {
 }
 
 /// What an entry is: a directory, a segment, or a link to a path.
-#[derive(Debug, Drop)]
+#[derive(Debug)]
 pub enum Node {
     Directory(Directory),
     Segment(Segment),
     Link(Path),
+}
+
+// By hand, so that what lets an entry go calls this, and need not let go of each of its parts.
+impl Drop for Node {
+    fn drop(self) {
+        match self {
+            Node::Directory(_directory) => {}
+            Node::Segment(_segment) => {}
+            Node::Link(_target) => {}
+        }
+    }
 }
 
 /// An entry of a directory. Its uid is never used again; `parent` is the uid of the directory that holds it, 0 for

@@ -7,7 +7,7 @@
 //! `NoInfo` instead. An error, the want of memory too, leaves the hierarchy as it was. A request at a place that is
 //! found takes memory only once it is not refused.
 
-ghost use Rattle.std.specs.Prelude.{◌≡◌, ◌+◌, ◌<◌, [], ◌∷◌, ◌++◌, Some, None, IfOk, IfErr, OnOk, OnErr, nat_le};
+ghost use Rattle.std.specs.Prelude.{◌≡◌, ◌+◌, ◌<◌, ◌≤◌, [], ◌∷◌, ◌++◌, Some, None, IfOk, IfErr, OnOk, OnErr, nat_le, nat_lt, ◌||◌};
 ghost use Rattle.std.specs.List.{list_any};
 ghost use Rattle.std.specs.Option.{option_map, option_copied};
 ghost use Rattle.mx_hier.specs.Branches.{uid_in, directory_at};
@@ -15,11 +15,12 @@ ghost use Rattle.mx_hier.specs.Brackets.{bracketing, settable};
 ghost use Rattle.mx_hier.specs.CreateDirectory.{create_dir_at, create_dir};
 ghost use Rattle.mx_hier.specs.CreateSegment.{create_seg};
 ghost use Rattle.mx_hier.specs.CreateObject.{create_object};
-ghost use Rattle.mx_hier.specs.MakeSegment.{is_bad_length, reaches_beyond, make_segment_at};
+ghost use Rattle.mx_hier.specs.MakeSegment.{is_bad_length, reaches_beyond, make_segment_at, make_segment};
 ghost use Rattle.mx_hier.specs.CreateLink.{create_link_at, create_link};
 ghost use Rattle.mx_hier.specs.Listed.{listed_added};
+ghost use Rattle.mx_hier.specs.Objects.{object_of, with_object};
 ghost use Rattle.mx_hier.specs.Making.{last_name, parent_path, place, making_refusals, first_acl};
-ghost use Rattle.mx_hier.specs.Rules.{first_of, Answers, TellsFirst};
+ghost use Rattle.mx_hier.specs.Rules.{first_of, onward, Answers, Tells, TellsFirst};
 ghost use Rattle.mx_hier.specs.Walks.{resolved};
 ghost use Rattle.mx_hier.specs.Who.{subject, caller};
 
@@ -30,6 +31,7 @@ use crate::objects::{add_object, copy_with_room};
 use crate::refusals::{HierError, Refusal};
 use crate::tables::Tables;
 use crate::walks::resolved;
+use indexmap::IndexMap;
 use mx_acl::{Acl, AclKind, Modes};
 use mx_name::{AclId, EntryName, Path, Pathname};
 use mx_object::ObjectMap;
@@ -38,7 +40,7 @@ use mx_sdw::{Brackets, Ring};
 use std::alloc::{AllocError, Global};
 
 /// Where an entry is to be made: a directory, and the name in it.
-#[derive(Debug, Drop)]
+#[derive(Drop)]
 pub struct Place {
     pub dir: u32,
     pub name: EntryName,
@@ -58,10 +60,10 @@ impl Hier {
         ensures answer { Answers (create_dir self.old (caller who.now) path.now d1 d2) self.old result self.new }
         ensures told { TellsFirst (resolved (caller who.now) path.now) result }
     {
-        let path = resolved(alloc, who, path)?;
-        let at = self.place(alloc, who, path.names())??;
-        self.create_dir_at(alloc, who, &at, d1, d2)?;
-        Ok(())
+        match self.placed(alloc, who, path) {
+            Ok(at) => self.create_dir_at(alloc, who, &at, d1, d2),
+            Err(error) => Err(error),
+        }
     }
 
     fn create_dir_at(
@@ -76,7 +78,7 @@ impl Hier {
         ensures told { TellsFirst (create_dir_at self.old (subject who.now) at.now d1 d2) result }
     {
         self.parent(who, at)?;
-        if d1.number() > d2.number() || d1.number() < who.ring.number() {
+        if is_bad_pair(who.ring, d1, d2) {
             return Err(HierError::Refused(Refusal::BadBrackets));
         }
         let acl = first_acl(alloc, AclKind::Directory, who, Modes::Sma)?;
@@ -104,10 +106,7 @@ impl Hier {
             self.old result self.new }
         ensures told { TellsFirst (resolved (caller who.now) path.now) result }
     {
-        let path = resolved(alloc, who, path)?;
-        let at = self.place(alloc, who, path.names())??;
-        self.make_segment_at(alloc, who, &at, words, &brackets, Modes::Rw, None)?;
-        Ok(())
+        self.make_segment(alloc, who, path, words, &brackets, Modes::Rw, None)
     }
 
     /// Makes an object segment: a segment as `create_seg` makes it, with an object map, to which its maker has re. The
@@ -126,10 +125,28 @@ impl Hier {
             self.old result self.new }
         ensures told { TellsFirst (resolved (caller who.now) path.now) result }
     {
-        let path = resolved(alloc, who, path)?;
-        let at = self.place(alloc, who, path.names())??;
-        self.make_segment_at(alloc, who, &at, words, &brackets, Modes::Re, Some(object))?;
-        Ok(())
+        self.make_segment(alloc, who, path, words, &brackets, Modes::Re, Some(object))
+    }
+
+    fn make_segment(
+        &mut self,
+        alloc: Global,
+        who: &Who,
+        path: &Pathname,
+        words: u32,
+        rings: &[Ring; 3],
+        modes: Modes,
+        object: Option<&ObjectMap>,
+    ) -> Result<(), HierError>
+        ensures answer { Answers (make_segment self.old (caller who.now) path.now
+            (record { words = words; rings = rings.now; modes = modes; object = option_copied object.entry }))
+            self.old result self.new }
+        ensures told { TellsFirst (resolved (caller who.now) path.now) result }
+    {
+        match self.placed(alloc, who, path) {
+            Ok(at) => self.make_segment_at(alloc, who, &at, words, rings, modes, object),
+            Err(error) => Err(error),
+        }
     }
 
     #[tactic(auto, using(crate::proofs::MakingLaws::segment_refused))]
@@ -160,16 +177,14 @@ impl Hier {
             return Err(HierError::Refused(Refusal::NoPages));
         };
         let acl = first_acl(alloc, AclKind::Segment, who, modes)?;
-        let object = copy_with_room(&mut self.objects, object)?;
         let segment = Segment {
             acl,
             brackets,
             words: words as u16,
             page: page as u16,
         };
-        let uid = self.tables.next();
-        add(&mut self.tables, alloc, at, Node::Segment(segment))?;
-        add_object(&mut self.objects, uid, object);
+        let node = Node::Segment(segment);
+        add_with_map(&mut self.tables, &mut self.objects, alloc, at, node, object)?;
         let _first = self.pages.allot(pages_for(words));
         Ok(())
     }
@@ -186,11 +201,30 @@ impl Hier {
         ensures answer { Answers (create_link self.old (caller who.now) path.now target.now) self.old result self.new }
         ensures told { TellsFirst (resolved (caller who.now) path.now) result }
     {
-        let path = resolved(alloc, who, path)?;
+        match resolved(alloc, who, path) {
+            Ok(path) => self.link_along(alloc, who, path.names(), target),
+            Err(error) => Err(error),
+        }
+    }
+
+    /// Makes a link at a path from the root.
+    fn link_along(
+        &mut self,
+        alloc: Global,
+        who: &Who,
+        path: &[EntryName],
+        target: &Pathname,
+    ) -> Result<(), HierError>
+        ensures { Answers (onward (resolved (caller who.now) target.now) (λ target.
+            onward (place self.old (subject who.now) path.now) (λ at.
+            create_link_at self.old (subject who.now) at target))) self.old result self.new }
+    {
         let target = resolved(alloc, who, target)?;
-        let at = self.place(alloc, who, path.names())??;
-        self.create_link_at(alloc, who, &at, target)?;
-        Ok(())
+        match self.place(alloc, who, path) {
+            Ok(Ok(at)) => self.create_link_at(alloc, who, &at, target),
+            Ok(Err(why)) => Err(HierError::Refused(why)),
+            Err(AllocError) => Err(HierError::Memory),
+        }
     }
 
     fn create_link_at(
@@ -206,6 +240,17 @@ impl Hier {
         self.parent(who, at)?;
         add(&mut self.tables, alloc, at, Node::Link(target))?;
         Ok(())
+    }
+
+    /// Where the entry of a pathname is to be made.
+    fn placed(&self, alloc: Global, who: &Who, pathname: &Pathname) -> Result<Place, HierError>
+        ensures answer { Tells (onward (resolved (caller who.now) pathname.now) (λ path.
+            place self.now (subject who.now) path)) result }
+        ensures told { TellsFirst (resolved (caller who.now) pathname.now) result }
+    {
+        let path = resolved(alloc, who, pathname)?;
+        let at = self.place(alloc, who, path.names())??;
+        Ok(at)
     }
 
     /// The directory and the name of a path.
@@ -266,6 +311,33 @@ fn add(tables: &mut Tables, alloc: Global, at: &Place, node: Node) -> Result<(),
     Ok(())
 }
 
+/// Adds a branch with the next uid, and a copy of a map by that uid, if there is one. Where memory is wanting, neither.
+fn add_with_map(
+    tables: &mut Tables,
+    objects: &mut IndexMap<u32, ObjectMap>,
+    alloc: Global,
+    at: &Place,
+    node: Node,
+    object: Option<&ObjectMap>,
+) -> Result<(), AllocError>
+    requires free { uid_in tables.old.branches at.now.dir at.now.name ≡ None }
+    requires below { at.now.dir < tables.old.next }
+    requires last { tables.old.next ≤ 4294967295 }
+    requires unmapped { object_of objects.old.entries tables.old.next ≡ None }
+    ensures ok { OnOk result (tables.new ≡ listed_added tables.old at.now.dir at.now.name node) }
+    ensures map { OnOk result
+        (objects.new.entries ≡ with_object objects.old.entries tables.old.next (option_copied object.entry)) }
+    ensures left { OnOk result (tables.old.next < 4294967295) }
+    ensures err { OnErr result (tables.new ≡ tables.old) }
+    ensures same { OnErr result (objects.new.entries ≡ objects.old.entries) }
+{
+    let object = copy_with_room(objects, object)?;
+    let uid = tables.next();
+    add(tables, alloc, at, node)?;
+    add_object(objects, uid, object);
+    Ok(())
+}
+
 /// The last of a path's names; the root's path has none.
 fn last_name(path: &[EntryName]) -> Option<&EntryName>
     ensures { option_map (λ name. name.now) result ≡ last_name path.now }
@@ -282,6 +354,13 @@ fn parent_path(path: &[EntryName]) -> &[EntryName]
     ensures { result.now ≡ parent_path path.now }
 {
     &path[..path.len().saturating_sub(1)]
+}
+
+/// Whether two brackets are out of order, or the first is below the caller's ring.
+fn is_bad_pair(ring: Ring, d1: Ring, d2: Ring) -> bool
+    ensures { result ≡ (nat_lt d2 d1 || nat_lt d1 ring) }
+{
+    d2.number() < d1.number() || d1.number() < ring.number()
 }
 
 /// Whether a segment of so many words is too short or too long, or too short for what its map names.

@@ -1,9 +1,10 @@
 //! The branches, found by uid and by name.
-ghost use Rattle.std.specs.Prelude.{◌≡◌, ℕ, ◌==◌, ◌+◌, ◌<◌, ◌≤◌, [], ◌∷◌, ◌++◌, Some, None, IfOk, IfSome, OnOk, OnErr, length, map, nat_le, not, is_ok, slice_set};
+ghost use Rattle.std.specs.Prelude.{◌≡◌, ℕ, ◌==◌, ◌+◌, ◌<◌, ◌≤◌, [], ◌∷◌, ◌++◌, Some, None, IfOk, IfSome, OnOk, OnErr, length, map, nat_le, not, is_ok, slice_set, vec_len};
 ghost use Rattle.std.specs.List.{IsDistinct};
 ghost use Rattle.std.specs.Map.{keys_of, lookup, remove_entry};
 ghost use Rattle.std.specs.Cmp.Lexicographic.{pointwise};
 ghost use Rattle.std.specs.Option.{is_none, option_map, option_and_then, unwrap_or};
+ghost use Rattle.std.specs.Vec.{vec_capacity};
 ghost use Rattle.mx_acl.specs.Access.{entry_of, with_entry, without_entry, set_fault};
 ghost use Rattle.mx_hier.specs.Callers.{on};
 ghost use Rattle.mx_hier.specs.declared.branches.Branch.{Branch as BranchValue};
@@ -233,11 +234,30 @@ fn add_branch(
     ensures ok { OnOk result (slots.new.items ≡ slots.old.items ++ Some branch ∷ []) }
     ensures err { OnErr result (slots.new.items ≡ slots.old.items) }
 {
-    let name = branch.name;
+    give_name(alloc, slots, names, &branch)?;
+    slots.push_reserved(Some(branch));
+    Ok(())
+}
+
+/// Makes room for a branch, and puts its name among those of its directory.
+fn give_name(
+    alloc: Global,
+    slots: &mut Vec<Option<Branch>>,
+    names: &mut Vec<Children>,
+    branch: &Branch,
+) -> Result<(), AllocError>
+    requires kept { AreKept slots.old.items names.old.items }
+    requires own { branch.now.uid ≡ 1 + length slots.old.items }
+    requires parent { branch.now.parent < 1 + length slots.old.items }
+    requires free { uid_in (present slots.old.items) branch.now.parent branch.now.name ≡ None }
+    ensures same { slots.new.items ≡ slots.old.items }
+    ensures room { OnOk result (vec_len slots.new < vec_capacity slots.new) }
+    ensures ok { OnOk result (AreKept (slots.old.items ++ Some branch.now ∷ []) names.new.items) }
+    ensures err { OnErr result (AreKept slots.new.items names.new.items) }
+{
     widen(alloc, names, slots.len() + 2)?;
     slots.reserve(1)?;
-    add_name(names, branch.parent, name, branch.uid)?;
-    slots.push_reserved(Some(branch));
+    add_name(names, branch.parent, branch.name, branch.uid)?;
     Ok(())
 }
 

@@ -15,7 +15,7 @@ use std::alloc::{AllocError, Global};
 
 /// Where names have led: to an entry's uid; to a link, met in a directory, with the names after it; or to a refusal
 /// that is to be said at a directory.
-#[derive(Debug, Drop)]
+#[derive(Drop)]
 pub(crate) enum Along<'a> {
     Reached(u32),
     Linked {
