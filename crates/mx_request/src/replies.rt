@@ -11,7 +11,7 @@ use std::alloc::AllocError;
 
 /// The reply to a request. `Done` is printed `ok`. A message tells its sender; where no message waits, `Nobody` says
 /// that no other process could send one, and `Waiting` that the process waits.
-#[derive(Debug, Drop, PartialEq, Eq)]
+#[derive(Debug, PartialEq, Eq)]
 pub enum Reply {
     Done,
     Refused(Refusal),
@@ -31,6 +31,32 @@ pub enum Reply {
     },
     Nobody,
     Waiting,
+}
+
+// By hand, so that what lets a reply go calls this, and need not let go of each of its parts.
+impl Drop for Reply {
+    fn drop(self) {
+        match self {
+            Reply::Done => {}
+            Reply::Refused(_why) => {}
+            Reply::Status(_status) => {}
+            Reply::Names(_names) => {}
+            Reply::Segno(_known) => {}
+            Reply::Linked {
+                segno: _segno,
+                word: _word,
+                fresh: _fresh,
+                linkage: _linkage,
+            } => {}
+            Reply::Sent => {}
+            Reply::Message {
+                sender: _sender,
+                word: _word,
+            } => {}
+            Reply::Nobody => {}
+            Reply::Waiting => {}
+        }
+    }
 }
 
 impl Reply {

@@ -15,7 +15,7 @@ use mx_search::Rules;
 use std::alloc::{AllocError, Global};
 
 /// A supervisor call. Brackets need not be in order, nor a length in its bounds: the supervisor refuses.
-#[derive(Debug, Drop)]
+#[derive(Debug)]
 pub enum Request {
     /// `create_dir PATH D1 D2`: make a directory.
     CreateDir {
@@ -118,6 +118,77 @@ pub enum Request {
     Resume,
     /// `logout`: end the process.
     Logout,
+}
+
+// By hand, so that what lets a request go calls this, and need not let go of each of its parts.
+impl Drop for Request {
+    fn drop(self) {
+        match self {
+            Request::CreateDir {
+                path: _path,
+                d1: _d1,
+                d2: _d2,
+            } => {}
+            Request::CreateSeg {
+                path: _path,
+                words: _words,
+                brackets: _brackets,
+            } => {}
+            Request::CreateObject {
+                path: _path,
+                words: _words,
+                brackets: _brackets,
+                map: _map,
+            } => {}
+            Request::CreateLink {
+                path: _path,
+                target: _target,
+            } => {}
+            Request::Rename {
+                path: _path,
+                name: _name,
+            } => {}
+            Request::Delete { path: _path } => {}
+            Request::SetAcl {
+                path: _path,
+                id: _id,
+                modes: _modes,
+            } => {}
+            Request::DelAcl {
+                path: _path,
+                id: _id,
+            } => {}
+            Request::SetBrackets {
+                path: _path,
+                brackets: _brackets,
+            } => {}
+            Request::SetDirBrackets {
+                path: _path,
+                d1: _d1,
+                d2: _d2,
+            } => {}
+            Request::Status { path: _path } => {}
+            Request::List { path: _path } => {}
+            Request::ChangeWdir { path: _path } => {}
+            Request::SetRules { rules: _rules } => {}
+            Request::Initiate {
+                path: _path,
+                name: _name,
+            } => {}
+            Request::Terminate { segno: _segno } => {}
+            Request::Wakeup {
+                to: _to,
+                word: _word,
+            } => {}
+            Request::Block => {}
+            Request::Link {
+                segno: _segno,
+                word: _word,
+            } => {}
+            Request::Resume => {}
+            Request::Logout => {}
+        }
+    }
 }
 
 /// Requests in order, as of a session's setup.
