@@ -1,12 +1,13 @@
 -- What a request on the hierarchy comes to.
-use Rattle.std.proofs.Common.{◌≡◌, ℕ, zero, suc, ◌∷◌, List, Result, Ok, Err, refl, sym, subst, ap, ◌∙◌, [], arith}
+use Rattle.std.proofs.Common.{◌≡◌, ℕ, zero, suc, ◌∷◌, List, Result, Ok, Err, IfOk, refl, sym, subst, ap, ◌∙◌, [], arith}
+use Rattle.std.specs.declared.alloc.AllocError.{AllocError}
 use Rattle.std.specs.List.{All}
 use Rattle.mx_core.specs.declared.changes.Change.{Change}
 use Rattle.mx_sdw.specs.Admissible.{IsAdmissible}
 use Rattle.mx_name.specs.Principals.{PlainPrincipal}
 use Rattle.mx_hier.specs.Branches.{Hierarchy}
 use Rattle.mx_hier.specs.Callers.{Caller}
-use Rattle.mx_hier.specs.Rules.{Answers, onward}
+use Rattle.mx_hier.specs.Rules.{Answers, Tells, onward}
 use Rattle.mx_hier.specs.declared.refusals.HierError.{HierError}
 use Rattle.mx_hier.specs.declared.refusals.HierError.TheVariants as fault
 use Rattle.mx_hier.specs.declared.refusals.Refusal.{Refusal}
@@ -20,11 +21,11 @@ use Rattle.mx_state.specs.Askers.{Asker, Initializer, Process, Nobody, asker, an
 use Rattle.mx_state.specs.Calling.{IsCallerOf}
 use Rattle.mx_state.specs.Changes.{AreChanges, IsBounded}
 use Rattle.mx_state.specs.Plain.{Plain, Answer, answer}
-use Rattle.mx_state.specs.Replies.{Says}
-use Rattle.mx_state.specs.Requests.{changed, plain}
+use Rattle.mx_state.specs.Replies.{Says, IsRefused}
+use Rattle.mx_state.specs.Requests.{changed, plain, told}
 use Rattle.mx_state.specs.Serving.{Serves}
 use Rattle.mx_state.specs.Sound.{IsSound, HoldsSound}
-use Rattle.mx_state.proofs.Descriptors.{quiet, grown_is_sound, changes_are_bounded}
+use Rattle.mx_state.proofs.Descriptors.{nothing_changes, quiet, grown_is_sound, changes_are_bounded}
 use Rattle.mx_state.proofs.SegmentLaws.{IsAsBefore, Nothing, Leaves, as_it_was}
 
 -- the state as its parts
@@ -67,14 +68,40 @@ changed_as h k mail processes meant (Err (fault.Refused why)) reply answers says
 changed_as h k mail processes meant (Err fault.Memory) reply answers says = cc
 
 -- the same of the state that the program's stands for
+pub of_old_by : (meant : Plain → Answer) (h : Hierarchy) (mail : List PlainProcess) (processes : List ProcessState) (old new : Plain) (applied : Applied)
+    → plain_state h mail processes ≡ old → Serves (plain_state h mail processes) new (meant (plain_state h mail processes)) applied
+    → Serves old new (meant old) applied
+of_old_by meant h mail processes old new applied e serves = subst (λ s. Serves s new (meant s) applied) e serves
+
 pub of_old : (h : Hierarchy) (mail : List PlainProcess) (processes : List ProcessState) (old new : Plain) (p ring : ℕ) (request : Request) (applied : Applied)
     → plain_state h mail processes ≡ old → Serves (plain_state h mail processes) new (plain (plain_state h mail processes) p ring request) applied
     → Serves old new (plain old p ring request) applied
-of_old h mail processes old new p ring request applied e serves = subst (λ s. Serves s new (plain s p ring request) applied) e serves
+of_old h mail processes old new p ring request applied e serves = of_old_by (λ s. plain s p ring request) h mail processes old new applied e serves
 
 -- no changes at all
 pub nothing_is_bounded : All IsBounded []
 nothing_is_bounded k d within = absurd (omega arith)
+
+-- a request that only asks of the hierarchy
+pub told_serves : {A : Type 0} (s : Plain) (p ring : ℕ) (who : Caller) (f : Caller → Result A Refusal) (as_reply : A → Reply) (reply : Reply) (applied : Applied)
+    → IsCallerOf (asker s.processes p) ring who → told s as_reply (f who) ≡ answer reply s → applied ≡ record { reply = reply; changes = [] }
+    → Serves s s (on_path s p ring (λ who. told s as_reply (f who))) applied
+told_serves s p ring who f as_reply reply applied is same e = rw e (record {
+  as_meant = to_caller s (asker s.processes p) ring who (λ who. told s as_reply (f who)) is ∙ same;
+  changes = nothing_changes s s (λ q n. refl);
+  bounded = nothing_is_bounded;
+  count = refl;
+})
+
+-- the same where it is refused, or memory is wanting
+pub told_refused : {A : Type 0} (s : Plain) (p ring : ℕ) (who : Caller) (f : Caller → Result A Refusal) (as_reply : A → Reply) (error : HierError) (result : Result Applied AllocError)
+    → IsCallerOf (asker s.processes p) ring who → Tells (f who) (Err error) → IsRefused error result
+    → IfOk result (Serves s s (on_path s p ring (λ who. told s as_reply (f who))))
+told_refused s p ring who f as_reply (fault.Refused why) result is tells says =
+    subst (λ r. IfOk r (Serves s s (on_path s p ring (λ who. told s as_reply (f who))))) (sym says)
+    (told_serves s p ring who f as_reply (Refused why) (record { reply = Refused why; changes = [] }) is (ap (told s as_reply) tells) refl)
+told_refused s p ring who f as_reply fault.Memory (Ok applied) is tells says = absurd (cc)
+told_refused s p ring who f as_reply fault.Memory (Err e) is tells says = tt
 
 -- a request that changes the hierarchy, and no segment that stood
 pub quiet_serves : (f : Caller → Result Hierarchy Refusal) (meant : Result Hierarchy Refusal) (h k : Hierarchy) (mail : List PlainProcess) (processes : List ProcessState)

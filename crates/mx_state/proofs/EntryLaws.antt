@@ -4,10 +4,9 @@ use Rattle.mx_hier.specs.Branches.{Hierarchy}
 use Rattle.mx_hier.specs.DecidingEntry.{AreFlagsOf}
 use Rattle.mx_hier.proofs.EntryLaws.{flags_of_entry}
 use Rattle.mx_kst.specs.declared.lots.Lot.{Lot}
-use Rattle.mx_kst.specs.declared.lots.Lot.TheVariants.{Free, Branch}
+use Rattle.mx_kst.specs.declared.lots.Lot.TheVariants.{Branch}
 use Rattle.mx_state.specs.declared.states.ProcessState.{ProcessState}
 use Rattle.mx_state.specs.DecidingEntry.{Explains, entry_for, process_entry, lot_for}
-use Rattle.mx_state.specs.Numbers.{stands_for}
 use Rattle.mx_state.specs.Plain.{Plain, process_at}
 use Rattle.mx_state.specs.Table.{process_desc, standing_desc}
 

@@ -5,6 +5,7 @@ pub mod OpeningLaws
 pub mod SegmentLaws
 pub mod Descriptors
 pub mod EntryLaws
+pub mod ChangingLaws
 pub mod AnswerLaws
 pub mod ProcessLaws
 pub mod RenewingLaws

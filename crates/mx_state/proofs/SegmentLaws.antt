@@ -61,7 +61,7 @@ as_it_was but h = record { same = λ uid below apart. refl; maps = λ uid below.
 abbrev pub Leaves : (ℕ → Type 0) → Hierarchy → Result Hierarchy Refusal → Type 0
 Leaves but h meant = (k : Hierarchy) → meant ≡ Ok k → IsAsBefore but h k
 
-leaves_ok : (but : ℕ → Type 0) (h k : Hierarchy) → IsAsBefore but h k → Leaves but h (Ok k)
+pub leaves_ok : (but : ℕ → Type 0) (h k : Hierarchy) → IsAsBefore but h k → Leaves but h (Ok k)
 leaves_ok but h k before = λ l e. let same : k ≡ l = cc in subst (IsAsBefore but h) same before
 
 leaves_onward : {A : Type 0} (but : ℕ → Type 0) (h : Hierarchy) (given : Result A Refusal) (rest : A → Result Hierarchy Refusal)

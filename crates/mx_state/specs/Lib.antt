@@ -20,4 +20,5 @@ pub mod Sound
 pub mod Calling
 pub mod Known
 pub mod Replies
+pub mod Changing
 pub mod Renewing

@@ -5,8 +5,9 @@
 //! become others.
 
 ghost use Rattle.std.specs.Prelude.{◌≡◌, ◌≤◌, length, IfOk, OnErr};
-ghost use Rattle.mx_request.specs.declared.requests.Request.TheVariants as ask;
-ghost use Rattle.mx_state.specs.Requests.{plain};
+ghost use Rattle.mx_hier.specs.Rules.{Answers};
+ghost use Rattle.mx_hier.specs.Who.{subject};
+ghost use Rattle.mx_state.specs.Changing.{alteration, altered_at};
 ghost use Rattle.mx_state.specs.Serving.{Serves};
 
 use crate::applied::Applied;
@@ -14,115 +15,52 @@ use crate::callers::caller;
 use crate::renewing::{held, renewed};
 use crate::replies::{done, refused};
 use crate::states::State;
-use mx_acl::Modes;
-use mx_name::{AclId, Pathname};
+use mx_hier::{Hier, HierError, Who};
+use mx_name::Pathname;
+use mx_request::Request;
 use mx_sdw::Ring;
 use std::alloc::{AllocError, Global};
 
 impl State {
-    pub(crate) fn set_acl(
+    /// Answers `delete`, `set_acl`, `del_acl` and `set_brackets`. The last link of the path is followed where `follow`
+    /// says so.
+    pub(crate) fn alter(
         &mut self,
         alloc: Global,
         p: u8,
         ring: Ring,
         path: &Pathname,
-        id: &AclId,
-        modes: Modes,
+        follow: bool,
+        request: &Request,
     ) -> Result<Applied, AllocError>
         requires asker { p ≤ length self.old.processes }
-        ensures served { IfOk result
-            (Serves self.old self.new (plain self.old p ring (ask.SetAcl path.now id.now modes))) }
+        ensures served { IfOk result (Serves self.old self.new (alteration self.old p ring path.now follow request.now)) }
         ensures err { OnErr result (self.new ≡ self.old) }
     {
         let processes = self.processes.as_slice();
         let who = caller(&self.initializer, &self.root, processes, p, ring);
-        let uid = match self.hier.entry(alloc, &who, path, true) {
+        let uid = match self.hier.entry(alloc, &who, path, follow) {
             Ok(uid) => uid,
             Err(error) => return refused(alloc, error),
         };
         let held = held(alloc, &self.hier, processes, uid)?;
         let room = Vec::with_capacity(alloc, held.len())?;
-        let given = self.hier.set_acl(&who, uid, id, modes);
+        let given = alter(&mut self.hier, &who, uid, request);
         let reply = done(given)?;
         let changes = renewed(&self.hier, processes, &held, room);
         Ok(Applied { reply, changes })
     }
+}
 
-    pub(crate) fn del_acl(
-        &mut self,
-        alloc: Global,
-        p: u8,
-        ring: Ring,
-        path: &Pathname,
-        id: &AclId,
-    ) -> Result<Applied, AllocError>
-        requires asker { p ≤ length self.old.processes }
-        ensures served { IfOk result (Serves self.old self.new (plain self.old p ring (ask.DelAcl path.now id.now))) }
-        ensures err { OnErr result (self.new ≡ self.old) }
-    {
-        let processes = self.processes.as_slice();
-        let who = caller(&self.initializer, &self.root, processes, p, ring);
-        let uid = match self.hier.entry(alloc, &who, path, true) {
-            Ok(uid) => uid,
-            Err(error) => return refused(alloc, error),
-        };
-        let held = held(alloc, &self.hier, processes, uid)?;
-        let room = Vec::with_capacity(alloc, held.len())?;
-        let given = self.hier.del_acl(&who, uid, id);
-        let reply = done(given)?;
-        let changes = renewed(&self.hier, processes, &held, room);
-        Ok(Applied { reply, changes })
-    }
-
-    pub(crate) fn set_brackets(
-        &mut self,
-        alloc: Global,
-        p: u8,
-        ring: Ring,
-        path: &Pathname,
-        brackets: &[Ring; 3],
-    ) -> Result<Applied, AllocError>
-        requires asker { p ≤ length self.old.processes }
-        ensures served { IfOk result
-            (Serves self.old self.new (plain self.old p ring (ask.SetBrackets path.now brackets.now))) }
-        ensures err { OnErr result (self.new ≡ self.old) }
-    {
-        let processes = self.processes.as_slice();
-        let who = caller(&self.initializer, &self.root, processes, p, ring);
-        let uid = match self.hier.entry(alloc, &who, path, true) {
-            Ok(uid) => uid,
-            Err(error) => return refused(alloc, error),
-        };
-        let held = held(alloc, &self.hier, processes, uid)?;
-        let room = Vec::with_capacity(alloc, held.len())?;
-        let given = self.hier.set_brackets(&who, uid, *brackets);
-        let reply = done(given)?;
-        let changes = renewed(&self.hier, processes, &held, room);
-        Ok(Applied { reply, changes })
-    }
-
-    pub(crate) fn delete(
-        &mut self,
-        alloc: Global,
-        p: u8,
-        ring: Ring,
-        path: &Pathname,
-    ) -> Result<Applied, AllocError>
-        requires asker { p ≤ length self.old.processes }
-        ensures served { IfOk result (Serves self.old self.new (plain self.old p ring (ask.Delete path.now))) }
-        ensures err { OnErr result (self.new ≡ self.old) }
-    {
-        let processes = self.processes.as_slice();
-        let who = caller(&self.initializer, &self.root, processes, p, ring);
-        let uid = match self.hier.entry(alloc, &who, path, false) {
-            Ok(uid) => uid,
-            Err(error) => return refused(alloc, error),
-        };
-        let held = held(alloc, &self.hier, processes, uid)?;
-        let room = Vec::with_capacity(alloc, held.len())?;
-        let given = self.hier.delete(&who, uid);
-        let reply = done(given)?;
-        let changes = renewed(&self.hier, processes, &held, room);
-        Ok(Applied { reply, changes })
+// Changes an entry as one of these requests asks.
+fn alter(hier: &mut Hier, who: &Who, uid: u32, request: &Request) -> Result<(), HierError>
+    ensures answer { Answers (altered_at hier.old (subject who.now) uid request.now) hier.old result hier.new }
+{
+    match request {
+        Request::Delete { .. } => hier.delete(who, uid),
+        Request::SetAcl { path: _, id, modes } => hier.set_acl(who, uid, id, *modes),
+        Request::DelAcl { path: _, id } => hier.del_acl(who, uid, id),
+        Request::SetBrackets { path: _, brackets } => hier.set_brackets(who, uid, *brackets),
+        _ => Ok(()),
     }
 }

@@ -32,7 +32,7 @@ use mx_sdw::Ring;
 use std::alloc::{AllocError, Global};
 
 /// How a segment is known now, and the descriptors that this changed.
-#[derive(Debug, Drop)]
+#[derive(Drop)]
 pub struct Connection {
     pub known: Known,
     pub changes: Changes,

@@ -20,7 +20,7 @@ use std::alloc::{AllocError, Global};
 
 /// A link of a linkage section: the uid of the object that has it, which may have been deleted, and the names of its
 /// segment and its symbol.
-#[derive(Clone, Copy, Debug)]
+#[derive(Clone, Copy)]
 pub struct Link {
     pub object: u32,
     pub segment: EntryName,
@@ -28,7 +28,7 @@ pub struct Link {
 }
 
 /// Where a link leads: the uid of a segment, and a word of it.
-#[derive(Clone, Copy, Debug)]
+#[derive(Clone, Copy)]
 pub struct Place {
     pub uid: u32,
     pub word: u16,

@@ -1,7 +1,10 @@
 //! Requests that change no descriptor.
 
 ghost use Rattle.std.specs.Prelude.{◌≡◌, ◌≤◌, length, IfOk, OnErr};
+ghost use Rattle.mx_hier.specs.Rules.{Answers};
+ghost use Rattle.mx_hier.specs.Who.{caller as caller_of, subject};
 ghost use Rattle.mx_request.specs.declared.requests.Request.TheVariants as ask;
+ghost use Rattle.mx_state.specs.Changing.{created, creation, amended_at, amendment};
 ghost use Rattle.mx_state.specs.Requests.{plain};
 ghost use Rattle.mx_state.specs.Serving.{Serves};
 
@@ -9,142 +12,53 @@ use crate::applied::Applied;
 use crate::callers::caller;
 use crate::replies::{done, refused};
 use crate::states::State;
-use mx_name::{EntryName, Pathname};
-use mx_object::ObjectMap;
-use mx_request::Reply;
+use mx_hier::{Hier, HierError, Who};
+use mx_name::Pathname;
+use mx_request::{Reply, Request};
 use mx_sdw::Ring;
 use std::alloc::{AllocError, Global};
 
 impl State {
-    pub(crate) fn create_dir(
+    /// Answers `create_dir`, `create_seg`, `create_object` and `create_link`.
+    pub(crate) fn create(
         &mut self,
         alloc: Global,
         p: u8,
         ring: Ring,
-        path: &Pathname,
-        d1: Ring,
-        d2: Ring,
+        request: &Request,
     ) -> Result<Applied, AllocError>
         requires asker { p ≤ length self.old.processes }
-        ensures served { IfOk result (Serves self.old self.new (plain self.old p ring (ask.CreateDir path.now d1 d2))) }
+        ensures served { IfOk result (Serves self.old self.new (creation self.old p ring request.now)) }
         ensures err { OnErr result (self.new ≡ self.old) }
     {
         let processes = self.processes.as_slice();
         let who = caller(&self.initializer, &self.root, processes, p, ring);
-        let given = self.hier.create_dir(alloc, &who, path, d1, d2);
+        let given = create(&mut self.hier, alloc, &who, request);
         let reply = done(given)?;
         Ok(Applied::unchanged(alloc, reply))
     }
 
-    pub(crate) fn create_seg(
+    /// Answers `rename` and `set_dir_brackets`. The last link of the path is followed where `follow` says so.
+    pub(crate) fn amend(
         &mut self,
         alloc: Global,
         p: u8,
         ring: Ring,
         path: &Pathname,
-        words: u32,
-        brackets: &[Ring; 3],
+        follow: bool,
+        request: &Request,
     ) -> Result<Applied, AllocError>
         requires asker { p ≤ length self.old.processes }
-        ensures served { IfOk result
-            (Serves self.old self.new (plain self.old p ring (ask.CreateSeg path.now words brackets.now))) }
+        ensures served { IfOk result (Serves self.old self.new (amendment self.old p ring path.now follow request.now)) }
         ensures err { OnErr result (self.new ≡ self.old) }
     {
         let processes = self.processes.as_slice();
         let who = caller(&self.initializer, &self.root, processes, p, ring);
-        let given = self.hier.create_seg(alloc, &who, path, words, *brackets);
-        let reply = done(given)?;
-        Ok(Applied::unchanged(alloc, reply))
-    }
-
-    pub(crate) fn create_object(
-        &mut self,
-        alloc: Global,
-        p: u8,
-        ring: Ring,
-        path: &Pathname,
-        words: u32,
-        brackets: &[Ring; 3],
-        map: &ObjectMap,
-    ) -> Result<Applied, AllocError>
-        requires asker { p ≤ length self.old.processes }
-        ensures served { IfOk result
-            (Serves self.old self.new (plain self.old p ring (ask.CreateObject path.now words brackets.now map.now))) }
-        ensures err { OnErr result (self.new ≡ self.old) }
-    {
-        let processes = self.processes.as_slice();
-        let who = caller(&self.initializer, &self.root, processes, p, ring);
-        let given = self
-            .hier
-            .create_object(alloc, &who, path, words, *brackets, map);
-        let reply = done(given)?;
-        Ok(Applied::unchanged(alloc, reply))
-    }
-
-    pub(crate) fn create_link(
-        &mut self,
-        alloc: Global,
-        p: u8,
-        ring: Ring,
-        path: &Pathname,
-        target: &Pathname,
-    ) -> Result<Applied, AllocError>
-        requires asker { p ≤ length self.old.processes }
-        ensures served { IfOk result
-            (Serves self.old self.new (plain self.old p ring (ask.CreateLink path.now target.now))) }
-        ensures err { OnErr result (self.new ≡ self.old) }
-    {
-        let processes = self.processes.as_slice();
-        let who = caller(&self.initializer, &self.root, processes, p, ring);
-        let given = self.hier.create_link(alloc, &who, path, target);
-        let reply = done(given)?;
-        Ok(Applied::unchanged(alloc, reply))
-    }
-
-    pub(crate) fn rename(
-        &mut self,
-        alloc: Global,
-        p: u8,
-        ring: Ring,
-        path: &Pathname,
-        name: &EntryName,
-    ) -> Result<Applied, AllocError>
-        requires asker { p ≤ length self.old.processes }
-        ensures served { IfOk result (Serves self.old self.new (plain self.old p ring (ask.Rename path.now name.now))) }
-        ensures err { OnErr result (self.new ≡ self.old) }
-    {
-        let processes = self.processes.as_slice();
-        let who = caller(&self.initializer, &self.root, processes, p, ring);
-        let uid = match self.hier.entry(alloc, &who, path, false) {
+        let uid = match self.hier.entry(alloc, &who, path, follow) {
             Ok(uid) => uid,
             Err(error) => return refused(alloc, error),
         };
-        let given = self.hier.rename(&who, uid, name);
-        let reply = done(given)?;
-        Ok(Applied::unchanged(alloc, reply))
-    }
-
-    pub(crate) fn set_dir_brackets(
-        &mut self,
-        alloc: Global,
-        p: u8,
-        ring: Ring,
-        path: &Pathname,
-        d1: Ring,
-        d2: Ring,
-    ) -> Result<Applied, AllocError>
-        requires asker { p ≤ length self.old.processes }
-        ensures served { IfOk result
-            (Serves self.old self.new (plain self.old p ring (ask.SetDirBrackets path.now d1 d2))) }
-        ensures err { OnErr result (self.new ≡ self.old) }
-    {
-        let processes = self.processes.as_slice();
-        let who = caller(&self.initializer, &self.root, processes, p, ring);
-        let uid = match self.hier.entry(alloc, &who, path, true) {
-            Ok(uid) => uid,
-            Err(error) => return refused(alloc, error),
-        };
-        let given = self.hier.set_dir_brackets(&who, uid, d1, d2);
+        let given = amend(&mut self.hier, &who, uid, request);
         let reply = done(given)?;
         Ok(Applied::unchanged(alloc, reply))
     }
@@ -183,5 +97,38 @@ impl State {
             Ok(value) => Ok(Applied::unchanged(alloc, Reply::Names(value))),
             Err(error) => refused(alloc, error),
         }
+    }
+}
+
+// Makes the entry that one of these requests asks for.
+fn create(hier: &mut Hier, alloc: Global, who: &Who, request: &Request) -> Result<(), HierError>
+    ensures answer { Answers (created hier.old (caller_of who.now) request.now) hier.old result hier.new }
+{
+    match request {
+        Request::CreateDir { path, d1, d2 } => hier.create_dir(alloc, who, path, *d1, *d2),
+        Request::CreateSeg {
+            path,
+            words,
+            brackets,
+        } => hier.create_seg(alloc, who, path, *words, *brackets),
+        Request::CreateObject {
+            path,
+            words,
+            brackets,
+            map,
+        } => hier.create_object(alloc, who, path, *words, *brackets, map),
+        Request::CreateLink { path, target } => hier.create_link(alloc, who, path, target),
+        _ => Ok(()),
+    }
+}
+
+// Changes an entry as one of these requests asks.
+fn amend(hier: &mut Hier, who: &Who, uid: u32, request: &Request) -> Result<(), HierError>
+    ensures answer { Answers (amended_at hier.old (subject who.now) uid request.now) hier.old result hier.new }
+{
+    match request {
+        Request::Rename { path: _, name } => hier.rename(who, uid, name),
+        Request::SetDirBrackets { path: _, d1, d2 } => hier.set_dir_brackets(who, uid, *d1, *d2),
+        _ => Ok(()),
     }
 }

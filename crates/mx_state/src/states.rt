@@ -120,28 +120,17 @@ impl State {
         ensures err { OnErr result (self.new ≡ self.old) }
     {
         match request {
-            Request::CreateDir { path, d1, d2 } => self.create_dir(alloc, p, ring, path, *d1, *d2),
-            Request::CreateSeg {
-                path,
-                words,
-                brackets,
-            } => self.create_seg(alloc, p, ring, path, *words, brackets),
-            Request::CreateObject {
-                path,
-                words,
-                brackets,
-                map,
-            } => self.create_object(alloc, p, ring, path, *words, brackets, map),
-            Request::CreateLink { path, target } => self.create_link(alloc, p, ring, path, target),
-            Request::Rename { path, name } => self.rename(alloc, p, ring, path, name),
-            Request::Delete { path } => self.delete(alloc, p, ring, path),
-            Request::SetAcl { path, id, modes } => self.set_acl(alloc, p, ring, path, id, *modes),
-            Request::DelAcl { path, id } => self.del_acl(alloc, p, ring, path, id),
-            Request::SetBrackets { path, brackets } => {
-                self.set_brackets(alloc, p, ring, path, brackets)
-            }
-            Request::SetDirBrackets { path, d1, d2 } => {
-                self.set_dir_brackets(alloc, p, ring, path, *d1, *d2)
+            Request::CreateDir { .. } => self.create(alloc, p, ring, request),
+            Request::CreateSeg { .. } => self.create(alloc, p, ring, request),
+            Request::CreateObject { .. } => self.create(alloc, p, ring, request),
+            Request::CreateLink { .. } => self.create(alloc, p, ring, request),
+            Request::Rename { path, .. } => self.amend(alloc, p, ring, path, false, request),
+            Request::Delete { path } => self.alter(alloc, p, ring, path, false, request),
+            Request::SetAcl { path, .. } => self.alter(alloc, p, ring, path, true, request),
+            Request::DelAcl { path, .. } => self.alter(alloc, p, ring, path, true, request),
+            Request::SetBrackets { path, .. } => self.alter(alloc, p, ring, path, true, request),
+            Request::SetDirBrackets { path, .. } => {
+                self.amend(alloc, p, ring, path, true, request)
             }
             Request::Status { path } => self.status(alloc, p, ring, path),
             Request::List { path } => self.list(alloc, p, ring, path),

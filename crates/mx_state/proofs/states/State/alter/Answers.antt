@@ -1,0 +1,36 @@
+use Rattle.mx_hier.specs.Rules.{onward}
+use Rattle.mx_hier.specs.Walks.{entry}
+use Rattle.mx_hier.specs.Who.{caller, subject}
+use Rattle.mx_state.specs.Changing.{altered_at, alteration}
+use Rattle.mx_state.proofs.AnswerLaws.{after_call, call_is_sound, of_old_by, found, loud_serves}
+use Rattle.mx_state.proofs.ChangingLaws.{altered_leaves}
+use Rattle.mx_state.proofs.RenewingLaws.{renewed_are}
+use Rattle.mx_state.proofs.SegmentLaws.{Only}
+use Rattle.mx_state.proofs.states.State.alter.Goals as goal
+
+pub invariant_of-self-2 : goal.invariant_of-self-2
+invariant_of-self-2 c =
+    let s = c.self.inside in
+    let who = subject c.caller-who.result in
+    call_is_sound (Only c.in-Ok.uid) (altered_at s.hier who c.in-Ok.uid c.args.request.now) s.hier c.alter-given.new.hier s.mail s.processes.items s.initializer s.root
+    c.alter-given.result c.alter-given.ensures.answer (altered_leaves s.hier who c.in-Ok.uid c.args.request.now) c.self.invariant
+
+pub returns-clause-served : goal.returns-clause-served
+returns-clause-served c =
+    let s = c.self.inside in
+    let who = caller c.caller-who.result in
+    let uid = c.in-Ok.uid in
+    let request = c.args.request.now in
+    let meant = altered_at s.hier who.subject uid request in
+    let before = after_call (Only uid) meant s.hier c.alter-given.new.hier c.alter-given.result c.alter-given.ensures.answer
+    (altered_leaves s.hier who.subject uid request) in
+    of_old_by (λ s. alteration s c.args.p c.args.ring c.args.path.now c.args.follow request) s.hier s.mail s.processes.items _ _ _ c.self.view_is
+    (loud_serves (λ who. onward (entry s.hier who c.args.path.now c.args.follow) (λ uid. altered_at s.hier who.subject uid request))
+    meant s.hier c.alter-given.new.hier s.mail s.processes.items c.args.p c.args.ring who
+    c.alter-given.result c.in_ok-reply.reply c.renewed-changes.result (rw c.as_slice-processes.ensures.value at c.caller-who.ensures)
+    (found (entry s.hier who c.args.path.now c.args.follow) (λ uid. altered_at s.hier who.subject uid request) uid c.in-Ok.ensures.answer)
+    c.alter-given.ensures.answer c.in_ok-reply.ensures c.self.invariant.sound
+    (renewed_are s.hier c.alter-given.new.hier s.mail s.processes.items uid c.in_ok-held.held.items c.renewed-changes.result c.self.invariant.sound before
+    (rw c.as_slice-processes.ensures.value at c.in_ok-held.ensures)
+    (rw (c.as_slice-processes.ensures.value, c.deref.ensures.value) at c.renewed-changes.ensures.value))
+    c.renewed-changes.ensures.admissible)
