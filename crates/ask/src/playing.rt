@@ -1,0 +1,202 @@
+//! A file of requests, played line by line.
+
+use crate::lines::{Asked, Line, read_line};
+use crate::outcome::{Outcome, judge};
+use crate::plays::{Answer, Play};
+use itoa::Buffer;
+use mx_name::Principal;
+use std::alloc::{AllocError, Global};
+
+/// What came of a file: a line for each that came otherwise than told and for each reply that is not told, and what came of each line.
+#[derive(Drop)]
+pub struct Account {
+    pub report: Vec<u8>,
+    pub outcomes: Vec<Outcome>,
+}
+
+// The play of the moment, and the answer to its latest request.
+#[derive(Drop)]
+struct Stage {
+    play: Option<Play>,
+    latest: Option<Answer>,
+}
+
+// What came of one line, with what is said of it.
+#[derive(Drop)]
+struct Step {
+    outcome: Outcome,
+    note: Option<Vec<u8>>,
+}
+
+/// Plays a file of this name and text.
+pub fn play(alloc: Global, name: &str, text: &[u8]) -> Result<Account, AllocError> {
+    let lines = text
+        .split(|byte| *byte == b'\n')
+        .collect::<Vec<&[u8]>>(alloc)?;
+    let mut account = Account {
+        report: Vec::new(alloc),
+        outcomes: Vec::new(alloc),
+    };
+    play_lines(alloc, name, &lines, &mut account)?;
+    Ok(account)
+}
+
+fn play_lines(
+    alloc: Global,
+    name: &str,
+    lines: &[&[u8]],
+    account: &mut Account,
+) -> Result<(), AllocError> {
+    let mut stage = Stage {
+        play: None,
+        latest: None,
+    };
+    for place in 0..lines.len() {
+        let is_told = tells_reply(lines, place + 1);
+        let step = stage.step(alloc, lines[place], is_told)?;
+        account.add(name, place + 1, &step)?;
+    }
+    Ok(())
+}
+
+// Whether the line at a place tells a reply.
+fn tells_reply(lines: &[&[u8]], place: usize) -> bool {
+    match lines.get(place) {
+        Some(line) => line.starts_with(b"= "),
+        None => false,
+    }
+}
+
+impl Account {
+    fn add(&mut self, name: &str, number: usize, step: &Step) -> Result<(), AllocError> {
+        if let Some(note) = &step.note {
+            push_note(&mut self.report, name, number, note)?;
+        }
+        self.outcomes.extend_from_slice(&[step.outcome])
+    }
+}
+
+fn push_note(
+    report: &mut Vec<u8>,
+    name: &str,
+    number: usize,
+    note: &[u8],
+) -> Result<(), AllocError> {
+    let mut buffer = Buffer::new();
+    report.extend_from_slice(name.as_bytes())?;
+    report.extend_from_slice(b", line ")?;
+    report.extend_from_slice(buffer.format(number).as_bytes())?;
+    report.extend_from_slice(b": ")?;
+    report.extend_from_slice(note)?;
+    report.extend_from_slice(b"\n")
+}
+
+impl Stage {
+    fn step(&mut self, alloc: Global, line: &[u8], is_told: bool) -> Result<Step, AllocError> {
+        match read_line(line) {
+            Line::Nothing => Ok(Step {
+                outcome: Outcome::Untold,
+                note: None,
+            }),
+            Line::Processes(principals) => self.open(alloc, principals),
+            Line::Asked(asked) => self.ask(alloc, &asked, is_told),
+            Line::Told(told) => {
+                let latest = self.latest.as_ref();
+                compared(alloc, told, latest.map(|answer| answer.reply.as_slice()))
+            }
+            Line::Changed(told) => {
+                let latest = self.latest.as_ref();
+                compared(alloc, told, latest.map(|answer| answer.changed.as_slice()))
+            }
+            Line::Unknown => Step::wrong(alloc, b"no line of a play"),
+        }
+    }
+
+    // A new play.
+    fn open(&mut self, alloc: Global, principals: &[u8]) -> Result<Step, AllocError> {
+        self.latest = None;
+        self.play = opened(alloc, principals)?;
+        if self.play.is_some() {
+            Ok(Step {
+                outcome: Outcome::Untold,
+                note: None,
+            })
+        } else {
+            Step::wrong(alloc, b"no principals of 1 to 15 processes")
+        }
+    }
+
+    // The next request. A reply that is not told is said.
+    fn ask(&mut self, alloc: Global, asked: &Asked<'_>, is_told: bool) -> Result<Step, AllocError> {
+        match &mut self.play {
+            None => Step::wrong(alloc, b"no processes"),
+            Some(play) => {
+                let answer = play.ask(alloc, asked.process, asked.ring, asked.request)?;
+                let step = Step::of_request(alloc, &answer, is_told)?;
+                self.latest = Some(answer);
+                Ok(step)
+            }
+        }
+    }
+}
+
+impl Step {
+    fn of_request(alloc: Global, answer: &Answer, is_told: bool) -> Result<Step, AllocError> {
+        let note = if is_told {
+            None
+        } else {
+            Some(Vec::from_slice(alloc, &answer.reply)?)
+        };
+        Ok(Step {
+            outcome: Outcome::Untold,
+            note,
+        })
+    }
+
+    fn wrong(alloc: Global, why: &[u8]) -> Result<Step, AllocError> {
+        Ok(Step {
+            outcome: Outcome::Otherwise,
+            note: Some(Vec::from_slice(alloc, why)?),
+        })
+    }
+}
+
+// What is told beside what came.
+fn compared(alloc: Global, told: &[u8], came: Option<&[u8]>) -> Result<Step, AllocError> {
+    let outcome = judge(told, came);
+    let note = if outcome == Outcome::AsTold {
+        None
+    } else {
+        Some(difference(alloc, told, came)?)
+    };
+    Ok(Step { outcome, note })
+}
+
+fn difference(alloc: Global, told: &[u8], came: Option<&[u8]>) -> Result<Vec<u8>, AllocError> {
+    let mut note = Vec::new(alloc);
+    note.extend_from_slice(b"told ")?;
+    note.extend_from_slice(told)?;
+    note.extend_from_slice(b", came ")?;
+    note.extend_from_slice(came.unwrap_or(b"nothing"))?;
+    Ok(note)
+}
+
+// A play of these principals.
+fn opened(alloc: Global, principals: &[u8]) -> Result<Option<Play>, AllocError> {
+    match read_principals(alloc, principals)? {
+        Some(principals) => Play::open(alloc, &principals),
+        None => Ok(None),
+    }
+}
+
+// The principals that a text names, one blank between each two.
+fn read_principals(alloc: Global, text: &[u8]) -> Result<Option<Vec<Principal>>, AllocError> {
+    let mut principals = Vec::new(alloc);
+    for part in text.split(|byte| *byte == b' ') {
+        match Principal::read(part) {
+            Ok(principal) => principals.push(principal)?,
+            Err(_) => return Ok(None),
+        }
+    }
+    Ok(Some(principals))
+}

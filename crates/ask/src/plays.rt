@@ -1,0 +1,152 @@
+//! A play: some processes before the plain supervisor, from their opening on.
+
+ghost use Rattle.std.specs.Prelude.{◌≡◌, IfOk, IsNone};
+ghost use Rattle.mx_request.specs.ReplyTexts.{reply_text};
+ghost use Rattle.mx_state.specs.History.{MayAsk};
+
+use itoa::Buffer;
+use mx_core::Change;
+use mx_name::Principal;
+use mx_request::{Request, RequestClass};
+use mx_sdw::{Ring, write_octal};
+use mx_state::{Applied, State};
+use std::alloc::{AllocError, Global};
+use std::marker::Model;
+
+/// Processes before the plain supervisor, whose state is what a contract sees.
+#[derive(Drop)]
+pub struct Play {
+    state: State,
+    processes: u8,
+}
+
+impl Model for Play {
+    ghost use Rattle.std.specs.Prelude.{◌≡◌, length};
+    ghost use Rattle.mx_state.specs.Plain.{Plain};
+
+    ghost Value = { Plain };
+
+    ghost view = { λ a. a.state };
+
+    ghost invariant = { λ a. a.processes ≡ length a.state.processes };
+}
+
+/// The texts of an answer: the reply, and whose descriptors changed.
+#[derive(Drop)]
+pub struct Answer {
+    pub reply: Vec<u8>,
+    pub changed: Vec<u8>,
+}
+
+impl Play {
+    /// A play from its opening on, for the principals of 1 to 15 processes.
+    pub fn open(alloc: Global, principals: &[Principal]) -> Result<Option<Play>, AllocError> {
+        if principals.is_empty() || principals.len() > 15 {
+            return Ok(None);
+        }
+        let state = State::new(alloc, principals)?;
+        Ok(Some(Play {
+            state,
+            processes: principals.len() as u8,
+        }))
+    }
+
+    /// What a process is answered in a ring to the request that a text spells; process 0 is the initializer, which asks
+    /// on paths alone.
+    pub fn ask(
+        &mut self,
+        alloc: Global,
+        p: u8,
+        ring: Ring,
+        text: &[u8],
+    ) -> Result<Answer, AllocError> {
+        let Some(request) = Request::read(alloc, text)? else {
+            return Answer::unasked(alloc, "no request");
+        };
+        if !is_written_again(alloc, &request, text)? {
+            return Answer::unasked(alloc, "written otherwise");
+        }
+        match self.reason(p, &request) {
+            Some(reason) => Answer::unasked(alloc, reason),
+            None => self.answered(alloc, p, ring, &request),
+        }
+    }
+
+    // Why a process may not ask this.
+    fn reason(&self, p: u8, request: &Request) -> Option<&'static str>
+        ensures { IsNone result → MayAsk self.now p request.now }
+    {
+        if p > self.processes {
+            Some("no such process")
+        } else if p > 0 {
+            None
+        } else {
+            match request.class() {
+                RequestClass::OfPath => None,
+                RequestClass::OfProcess => Some("for a process alone"),
+                RequestClass::OfSupervisor => Some("for the supervisor alone"),
+            }
+        }
+    }
+
+    // What the plain supervisor answers.
+    fn answered(
+        &mut self,
+        alloc: Global,
+        p: u8,
+        ring: Ring,
+        request: &Request,
+    ) -> Result<Answer, AllocError>
+        requires { MayAsk self.old p request.now }
+    {
+        let applied = self.state.apply(alloc, p, ring, request)?;
+        Answer::of(alloc, &applied)
+    }
+}
+
+impl Answer {
+    fn of(alloc: Global, applied: &Applied) -> Result<Answer, AllocError>
+        ensures { IfOk result (λ answer. answer.reply.items ≡ reply_text applied.now.reply) }
+    {
+        let mut reply = Vec::new(alloc);
+        applied.reply.append_to(&mut reply)?;
+        let changed = changed_text(alloc, applied.changes.items())?;
+        Ok(Answer { reply, changed })
+    }
+
+    // The supervisor wasn't asked.
+    fn unasked(alloc: Global, reason: &str) -> Result<Answer, AllocError> {
+        let reply = Vec::from_slice(alloc, reason.as_bytes())?;
+        let changed = changed_text(alloc, &[])?;
+        Ok(Answer { reply, changed })
+    }
+}
+
+// Whether a copy of the request is written as it was read.
+fn is_written_again(alloc: Global, request: &Request, text: &[u8]) -> Result<bool, AllocError> {
+    let mut line = Vec::new(alloc);
+    request.copy()?.append_to(&mut line)?;
+    Ok(line.as_slice() == text)
+}
+
+// Whose descriptors changed: a process and a segment number each, in octal, or `none`.
+fn changed_text(alloc: Global, changes: &[Change]) -> Result<Vec<u8>, AllocError> {
+    let mut text = Vec::new(alloc);
+    for change in changes {
+        if !text.is_empty() {
+            text.extend_from_slice(b" ")?;
+        }
+        push_change(&mut text, change)?;
+    }
+    if text.is_empty() {
+        text.extend_from_slice(b"none")?;
+    }
+    Ok(text)
+}
+
+fn push_change(text: &mut Vec<u8>, change: &Change) -> Result<(), AllocError> {
+    let mut buffer = Buffer::new();
+    text.extend_from_slice(buffer.format(change.process).as_bytes())?;
+    text.extend_from_slice(b"|")?;
+    write_octal(text, u64::from(change.segno))
+}

@@ -1,4 +1,0 @@
-//! The rows, by what they are about.
-
-mod links;
-mod messages;
