@@ -13,8 +13,6 @@ mod names;
 mod numbers;
 mod sections;
 mod segments;
-#[cfg(test)]
-mod tests;
 
 pub use laws::{known_segments_after_initiate, known_segments_after_terminate};
 pub use lots::{LAST_NUMBER, Lot};

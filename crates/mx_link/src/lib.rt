@@ -11,6 +11,3 @@ mod resolving;
 
 pub use laws::{a_link_is_refused_in_order, a_link_leads_where_its_symbol_is_defined};
 pub use resolving::{LinkError, Linker, Target, resolve};
-
-#[cfg(test)]
-mod tests;

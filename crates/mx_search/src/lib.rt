@@ -10,6 +10,3 @@ mod searching;
 
 pub use rules::{Rule, Rules};
 pub use searching::{Finder, Found, search};
-
-#[cfg(test)]
-mod tests;
