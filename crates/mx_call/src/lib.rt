@@ -9,8 +9,6 @@
 
 mod laws;
 mod registers;
-#[cfg(test)]
-mod tests;
 mod transfers;
 
 pub use laws::{

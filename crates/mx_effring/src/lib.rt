@@ -9,8 +9,6 @@
 
 mod chains;
 mod laws;
-#[cfg(test)]
-mod tests;
 mod walks;
 
 pub use laws::{effective_ring_is_the_largest, effective_ring_never_falls};

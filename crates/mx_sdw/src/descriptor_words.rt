@@ -159,33 +159,3 @@ fn has_bit(number: u64, place: u32) -> bool
 {
     (number >> place) % 2 == 1
 }
-
-#[cfg(test)]
-mod tests {
-    use super::*;
-    use crate::cell_words::CellWord;
-    use crate::words::Word;
-    use std::test::Fail;
-
-    fn data() -> Result<Desc, Fail> {
-        let ring = Ring::new(4).ok_or("a ring")?;
-        let brackets = Brackets::new(ring, ring, ring).ok_or("brackets")?;
-        Ok(Desc::segment(brackets, true, false, true, 0, 8, 64))
-    }
-
-    #[test]
-    fn lays_out_words(rt: HostRuntime) -> Result<(), Fail> {
-        let set = DescWord::read(0xa494000101000003).ok_or("a word")?;
-        assert_eq!(rt; set.view(), DescView::Set(3, data()?));
-        let fault = DescWord::read(0x4000000000000009).ok_or("a word")?;
-        assert_eq!(rt; fault.view(), DescView::Fault(9));
-        assert_eq!(rt;
-            DescWord::of(&DescView::Fault(9)).number(),
-            0x4000000000000009
-        );
-        assert_eq!(rt; DescWord::read(0x4000000000040009), None);
-        let cell = CellWord::new(Word::new(0o52).ok_or("a word")?, 1, 3);
-        assert_eq!(rt; cell.number(), 0x004000300000002a);
-        Ok(())
-    }
-}

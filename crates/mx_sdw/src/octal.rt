@@ -79,24 +79,3 @@ fn is_octal_digit(c: u8) -> bool
 {
     (b'0'..=b'7').contains(&c)
 }
-
-#[cfg(test)]
-mod tests {
-    use super::*;
-    use std::test::Fail;
-
-    #[test]
-    fn reads_and_writes(rt: HostRuntime) -> Result<(), Fail> {
-        let mut text = Vec::new(rt.alloc());
-        write_octal(&mut text, 0)?;
-        write_octal(&mut text, 0o37777)?;
-        assert_eq!(rt; text.as_slice(), b"037777".as_slice());
-        assert_eq!(rt; read_octal_number(b"777777777777", 12), Some((1 << 36) - 1));
-        assert_eq!(rt; read_octal_number(b"0", 1), Some(0));
-        assert_eq!(rt; read_octal_number(b"010", 5), None);
-        assert_eq!(rt; read_octal_number(b"8", 5), None);
-        assert_eq!(rt; read_octal_number(b"12345", 4), None);
-        assert_eq!(rt; read_octal_number(b"", 4), None);
-        Ok(())
-    }
-}

@@ -1,0 +1,24 @@
+//! Runs of pages.
+
+use mx_pages::{Pages, PagesFull};
+
+// Whether so many runs of 16 pages follow each other from a page on, each as it was told before.
+fn follow(pages: &mut Pages, first: u32, runs: u32) -> bool {
+    (0..runs).all(|run| {
+        let page = first.wrapping_add(run.wrapping_mul(16));
+        pages.next(16) == Some(page) && pages.allot(16) == Ok(page)
+    })
+}
+
+// One process has the first eight pages for its stacks.
+#[test]
+fn runs_follow_each_other_until_none_is_left(rt: HostRuntime) {
+    let mut pages = Pages::new(8);
+    let follow = follow(&mut pages, 8, 63);
+    let next = pages.next(16);
+    let last = [pages.allot(16), pages.allot(8), pages.allot(1)];
+    assert_eq!(rt;
+        (follow, next, last),
+        (true, None, [Err(PagesFull), Ok(1016), Err(PagesFull)])
+    );
+}
