@@ -1,30 +1,95 @@
--- What the top call printed into an empty sink, under the word `run` and without auditors, is a run of the session that its source held.
-use Rattle.std.proofs.Common.{◌≡◌, ℕ, List, [], subst, Option, Some, refl}
+-- What the top call did without auditors over an empty sink: under `run` it printed a run of the session that its source held, under
+-- `drill` the summary of a drill.
+use Rattle.std.proofs.Common.{◌≡◌, ℕ, ◌≤◌, List, [], ◌∷◌, length, subst, ap, Option, Some, refl, inl, inr}
+use Rattle.std.specs.Prelude.{codes}
 use Rattle.mx_audit.specs.Accounts.{Account}
+use Rattle.mx_legal.specs.Transcripts.{Step}
 use Rattle.mx_run.proofs.VerdictLaws.{run_done}
-use Rattle.mx_run.specs.Commands.{IsRun}
-use Rattle.mx_run.specs.Done.{IsDone, IsDoneBy}
-use Rattle.session_files.specs.Runs.{IsRunOf}
+use Rattle.mx_run.specs.Commands.{IsRun, IsDrill}
+use Rattle.mx_run.specs.Done as done
+use Rattle.mx_run.specs.Done.{IsDone, IsDrilled, IsDoneBy}
+use Rattle.mx_script.specs.Sessions.{Outline}
+use Rattle.mx_script.specs.SessionTexts.{IsText}
+use Rattle.mx_state.specs.declared.journal.Entry.{Entry}
+use Rattle.mx_text.specs.RunText.{run_text}
+use Rattle.session_files.specs.Runs.{IsRunOf, IsPrintedOf, IsSummaryOf}
 
 -- where there were no auditors there are none
-without : (source left sink sink' : Option (List ℕ)) (told : List Account) → IsDone source left sink sink' [] told → IsDone source left sink sink' [] []
-without source left sink sink' told done = record {
-  journal = done.journal;
-  transcripts = done.transcripts;
-  run = done.run;
+without : (words : List (List ℕ)) (source left sink sink' : Option (List ℕ)) (told : List Account)
+    → IsDoneBy words source left sink sink' [] told → IsDoneBy words source left sink sink' [] []
+without words source left sink sink' told (inl done) = inl (
+  done.0,
+  record {
+    journal = done.1.journal;
+    transcripts = done.1.transcripts;
+    run = done.1.run;
+    told = refl;
+    printed = done.1.printed;
+  },
+)
+without words source left sink sink' told (inr drilled) = inr (record {
+  number = drilled.number;
+  words_are = drilled.words_are;
+  journal = drilled.journal;
+  transcripts = drilled.transcripts;
+  run = drilled.run;
   told = refl;
-  printed = done.printed;
-}
+  printed = drilled.printed;
+})
 
-pub printed_run : (words : List (List ℕ)) (session held before after printed : List ℕ) (left : Option (List ℕ)) (accounts told : List Account)
-    → held ≡ session → before ≡ [] → after ≡ printed → accounts ≡ []
-    → IsDoneBy words (Some held) left (Some before) (Some after) accounts told → IsRun words → IsRunOf session printed
-printed_run words session held before after printed left accounts told is_session is_empty is_printed none done run = (
+-- over a source that held this text and an empty sink
+pub done_over : (words : List (List ℕ)) (text held before after printed : List ℕ) (left : Option (List ℕ)) (accounts told : List Account)
+    → held ≡ text → before ≡ [] → after ≡ printed → accounts ≡ []
+    → IsDoneBy words (Some held) left (Some before) (Some after) accounts told
+    → (left : Option (List ℕ)) × IsDoneBy words (Some text) left (Some []) (Some printed) [] []
+done_over words text held before after printed left accounts told is_text is_empty is_printed none done = (
   left,
-  subst (λ (s : List ℕ). IsDone (Some s) left (Some []) (Some printed) [] []) is_session
-      (subst (λ (b : List ℕ). IsDone (Some held) left (Some b) (Some printed) [] []) is_empty
-      (subst (λ (a : List ℕ). IsDone (Some held) left (Some before) (Some a) [] []) is_printed
-      (without (Some held) left (Some before) (Some after) told
-      (subst (λ (those : List Account). IsDone (Some held) left (Some before) (Some after) those told) none
-      (run_done words (Some held) left (Some before) (Some after) accounts told run done))))),
+  subst (λ (s : List ℕ). IsDoneBy words (Some s) left (Some []) (Some printed) [] []) is_text
+      (subst (λ (b : List ℕ). IsDoneBy words (Some held) left (Some b) (Some printed) [] []) is_empty
+      (subst (λ (a : List ℕ). IsDoneBy words (Some held) left (Some before) (Some a) [] []) is_printed
+      (without words (Some held) left (Some before) (Some after) told
+      (subst (λ (those : List Account). IsDoneBy words (Some held) left (Some before) (Some after) those told) none done)))),
+)
+
+-- under `run`
+pub run_of : (words : List (List ℕ)) (session printed : List ℕ) → IsRun words
+    → (left : Option (List ℕ)) × IsDoneBy words (Some session) left (Some []) (Some printed) [] [] → IsRunOf session printed
+run_of words session printed run done =
+    (done.0, run_done words (Some session) done.0 (Some []) (Some printed) [] [] run done.1)
+
+-- `drill` and a word are not `run`
+drill_is_no_run : (number : List ℕ) → IsRun (codes "drill" ∷ number ∷ []) → ⊥
+drill_is_no_run number run = cc
+
+drilled_of : (number : List ℕ) (source left sink sink' : Option (List ℕ))
+    → IsDoneBy (codes "drill" ∷ number ∷ []) source left sink sink' [] [] → IsDrilled (codes "drill" ∷ number ∷ []) sink sink' [] []
+drilled_of number source left sink sink' (inl done) = absurd (drill_is_no_run number done.0)
+drilled_of number source left sink sink' (inr drilled) = drilled
+
+-- under `drill`
+pub summary_of : (words : List (List ℕ)) (number text printed : List ℕ) → words ≡ codes "drill" ∷ number ∷ []
+    → (left : Option (List ℕ)) × IsDoneBy words (Some text) left (Some []) (Some printed) [] [] → IsSummaryOf number printed
+summary_of words number text printed are done =
+    drilled_of number (Some text) done.0 (Some []) (Some printed)
+    (subst (λ (those : List (List ℕ)). IsDoneBy those (Some text) done.0 (Some []) (Some printed) [] []) are done.1)
+
+-- what was printed of a session that has this text
+pub printed_of : (text printed : List ℕ) (session : Outline) → length text ≤ 4194304 → IsText text session → IsPrintedOf session printed
+    → IsRunOf text printed
+printed_of text printed session within spelled told = (
+  Some [],
+  record {
+    journal = told.journal;
+    transcripts = told.transcripts;
+    run = record {
+      spelled = text;
+      session = session;
+      read = (refl, refl);
+      within = within;
+      text = spelled;
+      run = told.run;
+    };
+    told = refl;
+    printed = ap Some told.text;
+  },
 )

@@ -17,3 +17,14 @@ pub fn read<R: Files + Alloc<A = Global>>(
         Err(error) => Err(error),
     }
 }
+
+/// Writes these bytes as the file `NAME.KIND`.
+pub fn write<R: Files + Alloc<A = Global>>(
+    rt: &R,
+    name: &str,
+    kind: &str,
+    bytes: &[u8],
+) -> io::Result<()> {
+    let path = format!(in rt.alloc(); "{name}.{kind}")?;
+    fs::write(rt, path, bytes)
+}

@@ -1,7 +1,8 @@
-//! One run of a session.
+//! One run of a session, or of a drill.
 
-ghost use Rattle.std.specs.Prelude.{IfOk};
-ghost use Rattle.session_files.specs.Runs.{IsEnded};
+ghost use Rattle.std.specs.Prelude.{map, IfOk};
+ghost use Rattle.std.specs.String.{string_bytes};
+ghost use Rattle.session_files.specs.Runs.{IsEnded, IsDrillEnded, IsEndedBy};
 
 use mx_io::{MemorySink, MemorySource};
 use mx_run::{NoGate, multics};
@@ -15,10 +16,10 @@ const PIECE: usize = 4096;
 /// What one run came to.
 #[derive(Drop)]
 pub enum Ended {
-    /// The session was run, and this was printed.
+    /// It ended with status 0, and this was printed.
     Ran(Vec<u8>),
-    /// It ended with this status, which is not 0.
-    Status(u8),
+    /// It ended with this status, which is not 0, and this was printed.
+    Otherwise(u8, Vec<u8>),
 }
 
 /// Runs the session of this text once, with room for so many bytes of its run: one that is longer ends with the status of a
@@ -32,21 +33,53 @@ pub fn run_once<R: Threads + Wait + Sync>(
     ensures { IfOk result (IsEnded session.now) }
 {
     let words = [String::from_str(alloc, "run")?];
-    let text = Vec::from_slice(alloc, session)?;
+    command(rt, alloc, &words, session, room)
+}
+
+/// Runs the drill that this word asks for once, with room for so many bytes of its summary.
+pub fn drill_once<R: Threads + Wait + Sync>(
+    rt: &R,
+    alloc: Global,
+    number: &str,
+    room: usize,
+) -> Result<Ended, AllocError>
+    ensures { IfOk result (IsDrillEnded number.now) }
+{
+    let words = [
+        String::from_str(alloc, "drill")?,
+        String::from_str(alloc, number)?,
+    ];
+    command(rt, alloc, &words, b"", room)
+}
+
+// The top call with these words over a source that has this text, and an empty sink.
+fn command<R: Threads + Wait + Sync>(
+    rt: &R,
+    alloc: Global,
+    words: &[String],
+    text: &[u8],
+    room: usize,
+) -> Result<Ended, AllocError>
+    ensures { IfOk result (IsEndedBy (map string_bytes words.now) text.now) }
+{
+    let text = Vec::from_slice(alloc, text)?;
     let mut source = MemorySource::new(text, Vec::new(alloc), PIECE);
     let made = MemorySink::new(alloc, room, Vec::new(alloc), PIECE);
     let mut sink = made.map_err(|_| AllocError)?;
     let mut auditors = Vec::new(alloc);
-    match multics(
+    let status = multics(
         rt,
         alloc,
-        &words,
+        words,
         &mut source,
         &mut sink,
         &NoGate,
         &mut auditors,
-    ) {
-        0 => Ok(Ended::Ran(Vec::from_slice(alloc, sink.bytes())?)),
-        status => Ok(Ended::Status(status)),
+    );
+    let printed = Vec::from_slice(alloc, sink.bytes())?;
+    if status == 0 {
+        Ok(Ended::Ran(printed))
+    } else {
+        Ok(Ended::Otherwise(status, printed))
     }
 }

@@ -1,50 +1,46 @@
-//! The program: it runs teaching sessions and compares what is printed with the runs that are stored. Each word of its command
-//! line names one: `NAME.session` in the folder that it is started in is the session's text, and `NAME.run` its run. A line for
-//! each says what came of it. Status 0 means that all were as stored, 1 that one was not, 2 that none was named.
+//! The program: it runs stored sessions and drills, and compares what they print with what is stored. Each word of its command
+//! line names an item of the folder that it is started in: `NAME.rows`, an archive, or else `NAME.session` or `NAME.drill`; what
+//! lies beside says what is compared. A line for each item says what came of it; for an archive also one for each row that was not
+//! as stored. Behind the word `store` it writes the lines and the picture of each session anew instead. Status 0 means that all
+//! were as stored, 1 that something was not, 2 that nothing was named.
 #![tactic(auto)]
 
 mod comparison;
+mod findings;
+mod items;
 mod outcome;
+mod outlines;
+mod repeats;
+mod rows;
+mod showing;
 
-use outcome::{Outcome, run_and_compare, status_of};
-use session_files::read;
-use std::alloc::{AllocError, Global};
+use items::{compare, store};
+use outcome::status_of;
 use std::process::ExitCode;
-use std::sync::Wait;
-use std::thread::Threads;
 use std::{env, io};
 
-/// The status where no session is named.
+/// The status where nothing is named.
 const BAD_WORDS: u8 = 2;
 
 fn main(rt: HostRuntime) -> io::Result<ExitCode> {
     let mut names = env::args(&rt)?.skip(1).peekable();
-    if names.peek().is_none() {
-        eprintln!(rt;
-            "sessions NAME ..: runs each NAME.session of this folder, and compares what is printed with NAME.run"
-        )?;
-        return Ok(ExitCode::from(BAD_WORDS));
-    }
+    let stores = match names.peek() {
+        Some(word) => word.as_str() == "store",
+        None => {
+            eprintln!(rt;
+                "sessions [store] NAME ..: compares what NAME.session prints with what is stored beside it, or stores its lines and picture"
+            )?;
+            return Ok(ExitCode::from(BAD_WORDS));
+        }
+    };
     let mut outcomes = Vec::new(rt.alloc());
-    for name in names {
-        let session = read(&rt, &name, "session")?;
-        let stored = read(&rt, &name, "run")?;
-        let outcome = outcome_of(&rt, rt.alloc(), session, stored)?;
-        println!(rt; "{name}: {outcome}")?;
-        outcomes.push(outcome)?;
+    for name in names.skip(if stores { 1 } else { 0 }) {
+        let told = if stores {
+            store(&rt, &name, &mut outcomes)?
+        } else {
+            compare(&rt, &name, &mut outcomes)?
+        };
+        print!(rt; "{told}")?;
     }
     Ok(ExitCode::from(status_of(&outcomes)))
-}
-
-// Runs a session, where there are its text and its stored run.
-fn outcome_of<R: Threads + Wait + Sync>(
-    rt: &R,
-    alloc: Global,
-    session: Option<Vec<u8>>,
-    stored: Option<Vec<u8>>,
-) -> Result<Outcome, AllocError> {
-    match (session, stored) {
-        (Some(session), Some(stored)) => run_and_compare(rt, alloc, &session, &stored),
-        _ => Ok(Outcome::NotFound),
-    }
 }
