@@ -3,15 +3,11 @@
 use Rattle.std.proofs.Common.{◌≡◌, ℕ, ◌≤◌, List, [], ◌∷◌, length, subst, ap, Option, Some, refl, inl, inr}
 use Rattle.std.specs.Prelude.{codes}
 use Rattle.mx_audit.specs.Accounts.{Account}
-use Rattle.mx_legal.specs.Transcripts.{Step}
 use Rattle.mx_run.proofs.VerdictLaws.{run_done}
-use Rattle.mx_run.specs.Commands.{IsRun, IsDrill}
-use Rattle.mx_run.specs.Done as done
-use Rattle.mx_run.specs.Done.{IsDone, IsDrilled, IsDoneBy}
+use Rattle.mx_run.specs.Commands.{IsRun}
+use Rattle.mx_run.specs.Done.{IsDrilled, IsDoneBy}
 use Rattle.mx_script.specs.Sessions.{Outline}
 use Rattle.mx_script.specs.SessionTexts.{IsText}
-use Rattle.mx_state.specs.declared.journal.Entry.{Entry}
-use Rattle.mx_text.specs.RunText.{run_text}
 use Rattle.session_files.specs.Runs.{IsRunOf, IsPrintedOf, IsSummaryOf}
 
 -- where there were no auditors there are none
