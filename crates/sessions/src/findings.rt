@@ -5,7 +5,7 @@ use crate::outcome::{
     show_and_compare, steps_and_compare,
 };
 use crate::repeats::{Compared, has_several_processes, repeat};
-use crate::rows::Row;
+use crate::rows::{Part, is_strange, text_of};
 use std::alloc::{AllocError, Global};
 use std::str;
 use std::sync::Wait;
@@ -18,108 +18,130 @@ pub struct Finding {
     pub outcome: Outcome,
 }
 
-/// What came of all that is stored of a row; that nothing was found, where nothing is.
+/// What came of all that is stored of a row, over its own session or drill or an earlier one; that nothing was found, where
+/// nothing is.
 pub fn findings_of<R: Threads + Wait + Sync>(
     rt: &R,
     alloc: Global,
-    row: &Row<'_>,
+    source: Option<Part<'_>>,
+    parts: &[Part<'_>],
 ) -> Result<Vec<Finding>, AllocError> {
     let mut findings = Vec::new(alloc);
-    if let Some(finding) = found_in_run(rt, alloc, row)? {
-        findings.push(finding)?;
-    }
-    for (kind, word, stored) in [
-        ("lint", "lint", row.lint),
-        ("lines", "lines", row.lines),
-        ("svg", "picture", row.svg),
-    ] {
-        if let (Some(session), Some(stored)) = (row.session, stored) {
-            let outcome = show_and_compare(rt, alloc, word, session, stored)?;
-            findings.push(Finding { kind, outcome })?;
+    match source {
+        Some(source) if source.kind == "session" => {
+            find_in_session(rt, alloc, source.text, parts, &mut findings)?;
         }
+        Some(drill) => find_in_drill(rt, alloc, drill.text, parts, &mut findings)?,
+        None => {}
     }
-    if let (Some(session), Some(stored)) = (row.session, row.shared) {
-        let outcome = repeat(rt, alloc, session, stored, Compared::Outline)?;
-        findings.push(Finding {
-            kind: "shared",
-            outcome,
-        })?;
-    }
-    if let (Some(session), Some(order), Some(stored)) = (row.session, row.order, row.steps) {
-        let outcome = found_in_steps(alloc, session, order, stored)?;
-        findings.push(Finding {
-            kind: "steps",
-            outcome,
-        })?;
-    }
-    if let Some(outcome) = lack_of(row, &findings) {
-        findings.push(Finding {
-            kind: "row",
-            outcome,
-        })?;
+    if is_strange(parts) {
+        findings.push(found("row", Outcome::NoKind))?;
+    } else if findings.is_empty() {
+        findings.push(found("row", Outcome::NotFound))?;
     }
     Ok(findings)
 }
 
-// What a row wants, if anything.
-fn lack_of(row: &Row<'_>, findings: &[Finding]) -> Option<Outcome> {
-    if row.is_strange {
-        Some(Outcome::NoKind)
-    } else if findings.is_empty() {
-        Some(Outcome::NotFound)
-    } else {
-        None
-    }
+fn found(kind: &'static str, outcome: Outcome) -> Finding {
+    Finding { kind, outcome }
 }
 
-// What came of a run, of a status, or of a drill.
-fn found_in_run<R: Threads + Wait + Sync>(
+// What came of a drill.
+fn find_in_drill<R: Threads + Wait + Sync>(
     rt: &R,
     alloc: Global,
-    row: &Row<'_>,
-) -> Result<Option<Finding>, AllocError> {
-    let Some(wanted) = number_in(row.status.unwrap_or(b"0")) else {
-        return Ok(Some(Finding {
-            kind: "status",
-            outcome: Outcome::NoStatus,
-        }));
-    };
-    match (row.session, row.drill, row.run) {
-        (Some(session), _, _) => found_in_session(rt, alloc, row, session, wanted),
-        (None, Some(drill), Some(run)) => {
-            let outcome = drill_and_compare(rt, alloc, first_line(drill), wanted, run)?;
-            Ok(Some(Finding {
-                kind: "drill",
-                outcome,
-            }))
-        }
-        (None, _, _) => Ok(None),
+    drill: &[u8],
+    parts: &[Part<'_>],
+    findings: &mut Vec<Finding>,
+) -> Result<(), AllocError> {
+    if let Some(run) = text_of(parts, "run") {
+        let outcome = match wanted_status(parts) {
+            Some(wanted) => drill_and_compare(rt, alloc, first_line(drill), wanted, run)?,
+            None => Outcome::NoStatus,
+        };
+        findings.push(found("drill", outcome))?;
     }
+    Ok(())
 }
 
-// The same of a session that is to end with this status.
-fn found_in_session<R: Threads + Wait + Sync>(
+// What came of a session.
+fn find_in_session<R: Threads + Wait + Sync>(
     rt: &R,
     alloc: Global,
-    row: &Row<'_>,
     session: &[u8],
-    wanted: u8,
-) -> Result<Option<Finding>, AllocError> {
-    let (kind, outcome) = match (row.run, row.order) {
-        (Some(run), Some(order)) => ("order", found_in_order(alloc, session, order, run)?),
-        (None, Some(_)) => ("order", Outcome::NotFound),
-        (Some(run), None) if wanted == 0 => ("run", found_in_whole(rt, alloc, session, run)?),
-        (Some(run), None) => (
+    parts: &[Part<'_>],
+    findings: &mut Vec<Finding>,
+) -> Result<(), AllocError> {
+    match text_of(parts, "order") {
+        Some(order) => find_in_order(alloc, session, order, parts, findings)?,
+        None => find_in_run(rt, alloc, session, parts, findings)?,
+    }
+    if let Some(stored) = text_of(parts, "shared") {
+        let outcome = repeat(rt, alloc, session, stored, Compared::Outline)?;
+        findings.push(found("shared", outcome))?;
+    }
+    for (kind, word) in [("lint", "lint"), ("lines", "lines"), ("svg", "picture")] {
+        if let Some(stored) = text_of(parts, kind) {
+            let outcome = show_and_compare(rt, alloc, word, session, stored)?;
+            findings.push(found(kind, outcome))?;
+        }
+    }
+    Ok(())
+}
+
+// What came of a run, or of a status alone.
+fn find_in_run<R: Threads + Wait + Sync>(
+    rt: &R,
+    alloc: Global,
+    session: &[u8],
+    parts: &[Part<'_>],
+    findings: &mut Vec<Finding>,
+) -> Result<(), AllocError> {
+    let run = text_of(parts, "run");
+    let has_status = text_of(parts, "status").is_some();
+    let (kind, outcome) = match (run, wanted_status(parts)) {
+        (_, None) => ("status", Outcome::NoStatus),
+        (Some(run), Some(0)) => ("run", found_in_whole(rt, alloc, session, run)?),
+        (Some(run), Some(wanted)) => (
             "run",
             refuse_and_compare(rt, alloc, session, wanted, Some(run))?,
         ),
-        (None, None) if row.status.is_some() => (
+        (None, Some(wanted)) if has_status => (
             "status",
             refuse_and_compare(rt, alloc, session, wanted, None)?,
         ),
-        (None, None) => return Ok(None),
+        (None, Some(_)) => return Ok(()),
     };
-    Ok(Some(Finding { kind, outcome }))
+    findings.push(found(kind, outcome))?;
+    Ok(())
+}
+
+// What came of a run in an order, and of the order's steps.
+fn find_in_order(
+    alloc: Global,
+    session: &[u8],
+    order: &[u8],
+    parts: &[Part<'_>],
+    findings: &mut Vec<Finding>,
+) -> Result<(), AllocError> {
+    let Some(order) = numbers_in(alloc, order)? else {
+        findings.push(found("order", Outcome::NoOrder))?;
+        return Ok(());
+    };
+    if let Some(run) = text_of(parts, "run") {
+        let outcome = order_and_compare(alloc, session, &order, run)?;
+        findings.push(found("order", outcome))?;
+    }
+    if let Some(steps) = text_of(parts, "steps") {
+        let outcome = steps_and_compare(alloc, session, &order, steps)?;
+        findings.push(found("steps", outcome))?;
+    }
+    Ok(())
+}
+
+// The status that is wanted: 0 where none is stored; none where what is stored is no number.
+fn wanted_status(parts: &[Part<'_>]) -> Option<u8> {
+    number_in(text_of(parts, "status").unwrap_or(b"0"))
 }
 
 // What came of a session whose run is the only one.
@@ -133,32 +155,6 @@ fn found_in_whole<R: Threads + Wait + Sync>(
         repeat(rt, alloc, session, run, Compared::Whole)
     } else {
         run_and_compare(rt, alloc, session, run)
-    }
-}
-
-// What came of a run in an order.
-fn found_in_order(
-    alloc: Global,
-    session: &[u8],
-    order: &[u8],
-    run: &[u8],
-) -> Result<Outcome, AllocError> {
-    match numbers_in(alloc, order)? {
-        Some(order) => order_and_compare(alloc, session, &order, run),
-        None => Ok(Outcome::NoOrder),
-    }
-}
-
-// What came of the steps of an order.
-fn found_in_steps(
-    alloc: Global,
-    session: &[u8],
-    order: &[u8],
-    steps: &[u8],
-) -> Result<Outcome, AllocError> {
-    match numbers_in(alloc, order)? {
-        Some(order) => steps_and_compare(alloc, session, &order, steps),
-        None => Ok(Outcome::NoOrder),
     }
 }
 

@@ -2,7 +2,7 @@
 
 use crate::findings::{Finding, findings_of};
 use crate::outcome::Outcome;
-use crate::rows::{Row, rows_of};
+use crate::rows::{KINDS, Part, parts_of, source_in};
 use crate::showing::shown;
 use session_files::{read, write};
 use std::alloc::{Alloc, AllocError, Global};
@@ -31,23 +31,34 @@ fn compare_rows<R: Threads + Wait + Sync>(
     archive: &[u8],
     outcomes: &mut Vec<Outcome>,
 ) -> Result<String, AllocError> {
-    let rows = rows_of(alloc, archive)?;
+    let parts = parts_of(alloc, archive)?;
+    let mut source = None;
     let mut text = String::new(alloc);
-    let mut good = 0_usize;
-    for row in rows.iter() {
-        let findings = findings_of(rt, alloc, row)?;
+    let (mut good, mut all) = (0_usize, 0_usize);
+    for row in parts.chunk_by(|part, next| part.row == next.row) {
+        source = source_in(row).or(source);
+        let findings = findings_of(rt, alloc, source, row)?;
+        all = all.saturating_add(1);
         if are_as_stored(&findings) {
             good = good.saturating_add(1);
         } else {
-            let found = text_of(alloc, &findings)?;
-            let line = format!(in alloc; "{name}, {}: {found}\n", row.name)?;
+            let found = told(alloc, &findings)?;
+            let line = format!(in alloc; "{name}, {}: {found}\n", name_of(row))?;
             text.push_str(&line)?;
         }
         add(outcomes, &findings)?;
     }
-    let line = format!(in alloc; "{name}: {good} of {} as stored\n", rows.len())?;
+    let line = format!(in alloc; "{name}: {good} of {all} as stored\n")?;
     text.push_str(&line)?;
     Ok(text)
+}
+
+// The name of a row.
+fn name_of<'a>(row: &[Part<'a>]) -> &'a str {
+    match row.first() {
+        Some(part) => part.row,
+        None => "",
+    }
 }
 
 // Compares what is stored in files of this name.
@@ -56,31 +67,34 @@ fn compare_one<R: Threads + Wait + Sync + Files + Alloc<A = Global>>(
     name: &str,
     outcomes: &mut Vec<Outcome>,
 ) -> io::Result<String> {
-    let session = read(rt, name, "session")?;
-    let drill = read(rt, name, "drill")?;
-    let run = read(rt, name, "run")?;
-    let status = read(rt, name, "status")?;
-    let shared = read(rt, name, "shared")?;
-    let order = read(rt, name, "order")?;
-    let steps = read(rt, name, "steps")?;
-    let lint = read(rt, name, "lint")?;
-    let lines = read(rt, name, "lines")?;
-    let svg = read(rt, name, "svg")?;
-    let row = Row {
-        run: run.as_deref(),
-        status: status.as_deref(),
-        shared: shared.as_deref(),
-        order: order.as_deref(),
-        steps: steps.as_deref(),
-        lint: lint.as_deref(),
-        lines: lines.as_deref(),
-        svg: svg.as_deref(),
-        ..Row::over(name, session.as_deref(), drill.as_deref())
-    };
-    let findings = findings_of(rt, rt.alloc(), &row)?;
+    let mut texts = Vec::new(rt.alloc());
+    for kind in KINDS {
+        texts.push(read(rt, name, kind)?)?;
+    }
+    let parts = parts_in(rt.alloc(), name, &texts)?;
+    let findings = findings_of(rt, rt.alloc(), source_in(&parts), &parts)?;
     add(outcomes, &findings)?;
-    let found = text_of(rt.alloc(), &findings)?;
+    let found = told(rt.alloc(), &findings)?;
     Ok(format!(in rt.alloc(); "{name}: {found}\n")?)
+}
+
+// The files of this name, of which these texts are there, one a kind.
+fn parts_in<'a>(
+    alloc: Global,
+    name: &'a str,
+    texts: &'a [Option<Vec<u8>>],
+) -> Result<Vec<Part<'a>>, AllocError> {
+    let mut parts = Vec::new(alloc);
+    for (kind, text) in KINDS.iter().zip(texts.iter()) {
+        if let Some(text) = text {
+            parts.push(part(name, *kind, text))?;
+        }
+    }
+    Ok(parts)
+}
+
+fn part<'a>(row: &'a str, kind: &'a str, text: &'a [u8]) -> Part<'a> {
+    Part { row, kind, text }
 }
 
 /// Writes the lines and the picture of a session, as they are shown now, and gives a line that says so.
@@ -102,7 +116,7 @@ pub fn store<R: Threads + Wait + Sync + Files + Alloc<A = Global>>(
 }
 
 // What was found, each by its kind.
-fn text_of(alloc: Global, findings: &[Finding]) -> Result<String, AllocError> {
+fn told(alloc: Global, findings: &[Finding]) -> Result<String, AllocError> {
     let mut text = String::new(alloc);
     for finding in findings {
         if !text.is_empty() {
