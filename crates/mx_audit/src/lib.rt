@@ -12,6 +12,3 @@ mod logs;
 pub use auditors::{Auditor, Verdict};
 pub use laws::{accounts_grow, denials_add_up, room_for_the_most_is_enough};
 pub use logs::AuditLog;
-
-#[cfg(test)]
-mod tests;

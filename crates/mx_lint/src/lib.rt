@@ -2,7 +2,7 @@
 //!
 //! [`lint`] tells the line that `read_session` of `mx_script` names, with its text, and the fault that is found in it by reading
 //! its fields against the shape of its kind, or by its place among the other lines. That the fault is the one that a reader
-//! would name is tested, by a table of bad texts; the line, its text and the reading of each field are proved.
+//! would name is shown by stored texts, run by the program `sessions`; the line, its text and the reading of each field are proved.
 #![tactic(auto)]
 
 mod faults;
@@ -12,8 +12,6 @@ mod linting;
 mod orders;
 mod places;
 mod reading;
-#[cfg(test)]
-mod tests;
 mod texts;
 
 pub use faults::Fault;

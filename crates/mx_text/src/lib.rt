@@ -10,6 +10,3 @@ mod printing;
 
 pub use laws::each_run_text_is_of_one_run;
 pub use printing::{TextError, print};
-
-#[cfg(test)]
-mod tests;

@@ -1,6 +1,5 @@
-//! Run texts as the formats give them.
+//! The run text of transcripts that no session has: a journal of one entry beside what a process did at more segments.
 
-use crate::print;
 use mx_io::MemorySink;
 use mx_legal::{
     Element, Event, Event2, Kind, Outcome, Recording, Result2, Transcript, Transcripts,
@@ -10,6 +9,7 @@ use mx_ptr::Pointer;
 use mx_request::{Reply, Request};
 use mx_sdw::{Denial, Ring};
 use mx_state::{Entry, Journal};
+use mx_text::print;
 use std::alloc::{AllocError, Global};
 use std::test::Fail;
 

@@ -1,0 +1,8 @@
+//! Tests of a run that no stored session shows: ends that fail, words that are not accepted, gates that hold a process, a caller's
+//! own auditors, and what a caller reads of a session, a drill or a log.
+//!
+//! The crate has tests alone. They stand apart from `mx_run` and the crates below it, so that no proofs are made twice.
+#![tactic(auto)]
+
+#[cfg(test)]
+mod tests;

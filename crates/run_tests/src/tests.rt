@@ -1,0 +1,10 @@
+//! Each test compares one table or one value with what was worked out by hand.
+
+mod auditors;
+mod calls;
+mod drills;
+mod ends;
+mod logs;
+mod printing;
+mod scripts;
+mod threads;
