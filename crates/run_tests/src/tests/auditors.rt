@@ -110,10 +110,7 @@ fn two(
     requires second { 700000 ≤ (account second).room }
     ensures { IfOk result (λ auditors. HaveRoom 700000 (map account auditors.items)) }
 {
-    let mut auditors = Vec::new(alloc);
-    auditors.push(first)?;
-    auditors.push(second)?;
-    Ok(auditors)
+    Ok(vec![in alloc; first, second]?)
 }
 
 // How often an auditor was told, and its first two denials.

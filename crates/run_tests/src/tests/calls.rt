@@ -62,7 +62,12 @@ pub(super) fn call_with<R: Threads + Wait + Sync, G: Gate>(
 fn own(alloc: Global, words: &[&str]) -> Result<Vec<String>, AllocError> {
     let mut own = Vec::new(alloc);
     for word in words {
-        own.push(String::from_str(alloc, word)?)?;
+        add(alloc, &mut own, word)?;
     }
     Ok(own)
+}
+
+fn add(alloc: Global, words: &mut Vec<String>, word: &str) -> Result<(), AllocError> {
+    words.push(String::from_str(alloc, word)?)?;
+    Ok(())
 }
