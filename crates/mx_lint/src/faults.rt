@@ -11,7 +11,7 @@ use std::alloc::{AllocError, Global};
 use std::fmt::{self, Display, Formatter, Write};
 
 /// What is wrong with a line.
-#[derive(Clone, Copy, Debug, PartialEq, Eq)]
+#[derive(Clone, Copy)]
 pub enum Fault<'a> {
     /// The text ends where this may come next.
     TextEnds(Place),
@@ -48,7 +48,7 @@ pub(crate) fn fault_of<'a>(
     line: &'a [u8],
     ends: bool,
 ) -> Result<Fault<'a>, AllocError> {
-    if ends && line.is_empty() && place != Place::Ended {
+    if ends && line.is_empty() && !matches!(place, Place::Ended) {
         return Ok(Fault::TextEnds(place));
     }
     match fault_in(alloc, place, line)? {
@@ -84,7 +84,7 @@ fn fault_in<'a>(
 
 // What is wrong with a line as a row of fields.
 fn layout_fault(place: Place, line: &[u8]) -> Option<Fault<'static>> {
-    if place == Place::Ended {
+    if matches!(place, Place::Ended) {
         return Some(Fault::Order(Form::End, Order::AfterEnd));
     }
     if line.is_empty() {
@@ -136,7 +136,7 @@ fn field_fault<'a>(
         rest = after;
     }
     match rest {
-        Some(text) if form == Form::CreateObject => object_fault(alloc, text),
+        Some(text) if matches!(form, Form::CreateObject) => object_fault(alloc, text),
         Some(text) => Ok(Some(Fault::Extra(form, text))),
         None => Ok(None),
     }

@@ -13,7 +13,7 @@ use mx_sdw::read_octal_number;
 use std::alloc::{AllocError, Global};
 
 /// A field, by the name that it has in the shape of a line.
-#[derive(Clone, Copy, Debug, PartialEq, Eq)]
+#[derive(Clone, Copy)]
 pub enum Field {
     Version,
     Limit,

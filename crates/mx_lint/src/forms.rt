@@ -3,7 +3,7 @@
 use crate::fields::Field;
 
 /// Whose lines they are.
-#[derive(Clone, Copy, Debug, PartialEq, Eq)]
+#[derive(Clone, Copy)]
 pub(crate) enum Group {
     /// The lines that hold a session together.
     Frame,
@@ -16,7 +16,7 @@ pub(crate) enum Group {
 }
 
 /// A kind of line.
-#[derive(Clone, Copy, Debug, PartialEq, Eq)]
+#[derive(Clone, Copy)]
 pub enum Form {
     Header,
     History,

@@ -16,7 +16,7 @@ use std::alloc::{AllocError, Global};
 
 /// The first bad line of a text that is no session: its number, counted from 1, its text without the newline, and what is
 /// wrong with it. Where the text ends too early it is the empty line that should come next.
-#[derive(Clone, Copy, Debug)]
+#[derive(Clone, Copy)]
 pub struct Diagnosis<'a> {
     pub number: u32,
     pub text: &'a [u8],
@@ -24,7 +24,7 @@ pub struct Diagnosis<'a> {
 }
 
 /// What is found in a text.
-#[derive(Debug, Drop)]
+#[derive(Drop)]
 pub enum Finding<'a> {
     /// It is the text of this session.
     Good(Session),

@@ -4,7 +4,7 @@ use crate::forms::{Form, Group};
 use crate::orders::Order;
 
 /// What stands before a line, all of it good.
-#[derive(Clone, Copy, Debug, PartialEq, Eq)]
+#[derive(Clone, Copy)]
 pub enum Place {
     /// Nothing.
     Start,
@@ -59,7 +59,7 @@ impl Place {
 
     fn setup_refuses(self, form: Form) -> Option<Order> {
         match form {
-            Form::History if self == Place::Headed => None,
+            Form::History if matches!(self, Place::Headed) => None,
             Form::Process => None,
             Form::Logout => Some(Order::LogoutWithoutProcess),
             Form::End => Some(Order::EndWithoutProcess),

@@ -112,7 +112,10 @@ fn headed(alloc: Global, row: Row) -> Option<Draft>
 {
     match row {
         Row::Header => Some(Draft::Headed(None, Requests::new(alloc))),
-        _ => None,
+        Row::History(_) => None,
+        Row::Line(_) => None,
+        Row::Process(_) => None,
+        Row::End => None,
     }
 }
 
