@@ -4,6 +4,7 @@ use Rattle.mx_io.specs.Bytes.{TakesAll, TakesTooMany, Appends, AppendsPart}
 use Rattle.mx_legal.specs.Legal.{IsLegal, HasGatedFalls, HasSoundRegisters}
 use Rattle.mx_legal.specs.Transcripts.{Step}
 use Rattle.mx_lint.specs.Diagnoses.{IsAbout}
+use Rattle.mx_picture.specs.Drawings.{GainsDrawing}
 use Rattle.mx_script.specs.FirstBadLine.{IsFirstBad}
 use Rattle.mx_script.specs.Sessions.{Outline}
 use Rattle.mx_script.specs.SessionTexts.{IsText, IsSomeSession}
@@ -41,8 +42,7 @@ pub record IsDrawnRun (x : Outline) (sink sink' : Option (List ℕ)) : Type 0 wh
   pub journal : List journaled.Entry
   pub transcripts : List (List Step)
   pub run : IsRunOf x journal transcripts
-  pub drawing : List ℕ
-  pub drawn : Appends sink sink' drawing
+  pub drawn : GainsDrawing sink sink'
 
 -- what a command shows of a session: that it is one, its run line by line, or drawn
 abbrev pub Shows : List (List ℕ) → Outline → Option (List ℕ) → Option (List ℕ) → Type 0

@@ -11,7 +11,8 @@ use mx_io::{ReadError, Sink, Source, read_all, write_all};
 use mx_lint::{Diagnosis, Finding, lint};
 use mx_proc::{NoGate, run};
 use mx_script::Session;
-use mx_show::{ShowError, show_lines, show_picture};
+use mx_picture::show_picture;
+use mx_show::{ShowError, show_lines};
 use std::alloc::Global;
 use std::sync::Wait;
 use std::thread::Threads;
@@ -80,6 +81,9 @@ pub fn show<R: Threads + Wait + Sync, S: Source, K: Sink>(
     ensures refused { (IsCommand (map string_bytes words.now) → ⊥) → (result ≡ 2) ⊎ (result ≡ 4) }
     ensures unread { (IsCommand (map string_bytes words.now) → ⊥) → source.new ≡ source.old }
     ensures bad_words { result ≡ 2 → IsCommand (map string_bytes words.now) → ⊥ }
+
+    // At status 1 neither end had failed.
+    ensures unfailed { result ≡ 1 → (S.faults source.new ≡ S.faults source.old) × (K.faults sink.new ≡ K.faults sink.old) }
 
     // Status 3 is a fault of the source, with nothing written, and status 4 one of the sink.
     ensures source_fault { result ≡ 3 → Rose (S.faults source.old) (S.faults source.new) }

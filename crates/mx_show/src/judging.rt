@@ -12,7 +12,7 @@ use mx_state::Journal;
 use std::alloc::{AllocError, Global};
 
 /// The ring in which a process begins.
-pub(crate) const FIRST_RING: u8 = 4;
+pub const FIRST_RING: u8 = 4;
 
 /// The references of a run in the order of their points, those of one process in its own order, and the descriptors that
 /// the journal's entries changed.
@@ -24,7 +24,7 @@ pub struct Accesses {
 
 /// The access of each reference of a legal run: the descriptor at its point. The journal is run once, so this takes time
 /// linear in the run, but for the sorting of the references by their points.
-pub(crate) fn judge_all(
+pub fn judge_all(
     alloc: Global,
     session: &Session,
     journal: &Journal,

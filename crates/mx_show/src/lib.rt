@@ -1,25 +1,28 @@
-//! A legal run of a session, told line by line and drawn.
+//! A legal run of a session, told line by line.
 //!
-//! [`show_lines`] and [`show_picture`] ask of their caller that the run is a legal one of that session. The access beside each reference is
-//! the descriptor at its point (`Judging`), a denial is explained by the comparison of its rule, with the numbers of that access
-//! (`Reasons`), a read names the store that the transcript names (`Sources`), and an arrow leads there (`Arrows`). The words and the
-//! drawing themselves are tested alone. Stands on `mx_state` for the access at each point, and on `mx_legal` for the run.
+//! [`show_lines`] asks of its caller that the run is a legal one of that session. The access beside each reference is the descriptor
+//! at its point (`Judging`), a denial is explained by the comparison of its rule, with the numbers of that access (`Reasons`), and a
+//! read names the store that the transcript names (`Sources`). The words themselves are tested alone. What a drawing of the run needs
+//! of it stands here too: [`judge_all`], [`explain`], [`source_of`]. Stands on `mx_state` for the access at each point, and on
+//! `mx_legal` for the run.
 #![tactic(auto)]
 
 mod errors;
 mod judging;
-mod layout;
 mod lines;
-mod pictures;
+mod parts;
 mod reasons;
+mod refusals;
 mod replays;
 mod sources;
-mod svg;
 mod telling;
 mod words;
 
 pub use errors::ShowError;
+pub use judging::{Accesses, FIRST_RING, judge_all};
 pub use lines::show_lines;
-pub use pictures::show_picture;
+pub use parts::{NOTHING, Part, add_parts, add_printable, ring};
 pub use reasons::{Bracket, Reason, explain};
+pub use replays::{Changed, Judged};
 pub use sources::{StoredBy, source_of};
+pub use words::{kind_word, modes};

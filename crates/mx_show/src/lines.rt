@@ -60,7 +60,7 @@ pub fn show_lines<K: Sink>(
 }
 
 // What is told of.
-#[derive(Clone, Copy, Debug)]
+#[derive(Clone, Copy)]
 struct Told<'a> {
     journal: &'a Journal,
     accesses: &'a Accesses,

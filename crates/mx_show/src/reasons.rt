@@ -3,6 +3,8 @@
 ghost use Rattle.std.specs.Prelude.{IfSome};
 ghost use Rattle.mx_show.specs.Reasons.{Explains};
 
+use crate::parts::NOTHING;
+use crate::parts::Part::{self, Decimal, Octal, Text};
 use mx_sdw::{Denial, Desc, DescKind, Ring};
 use std::fmt::{self, Display, Formatter, Write};
 
@@ -14,12 +16,13 @@ pub enum Bracket {
     R3(u8),
 }
 
-impl Display for Bracket {
-    fn fmt<W: Write>(&self, f: &mut Formatter<W>) -> fmt::Result {
+impl Bracket {
+    /// Its name, and the ring that it is.
+    pub fn parts(self) -> [Part<'static>; 2] {
         match self {
-            Bracket::R1(ring) => write!(f, "R1 = {ring}"),
-            Bracket::R2(ring) => write!(f, "R2 = {ring}"),
-            Bracket::R3(ring) => write!(f, "R3 = {ring}"),
+            Bracket::R1(ring) => [Text("R1 = "), Decimal(u32::from(ring))],
+            Bracket::R2(ring) => [Text("R2 = "), Decimal(u32::from(ring))],
+            Bracket::R3(ring) => [Text("R3 = "), Decimal(u32::from(ring))],
         }
     }
 }
@@ -49,34 +52,80 @@ pub enum Reason {
     Raises { entered: u8, current: u8 },
 }
 
-impl Display for Reason {
-    fn fmt<W: Write>(&self, f: &mut Formatter<W>) -> fmt::Result {
+impl Reason {
+    /// What it says.
+    pub fn parts(self) -> [Part<'static>; 5] {
         match self {
-            Reason::NotKnown => f.write_str("the number stands for no segment"),
-            Reason::Deleted => f.write_str("the segment was deleted"),
+            Reason::NotKnown => whole("the number stands for no segment"),
+            Reason::Deleted => whole("the segment was deleted"),
             Reason::Beyond { word, bound } => {
-                write!(f, "word {word:o} is not below the bound {bound:o} (octal)")
+                place(word, " is not below the bound ", u64::from(bound))
             }
-            Reason::NoRead => f.write_str("the flag r is off"),
-            Reason::NoWrite => f.write_str("the flag w is off"),
-            Reason::NoExecute => f.write_str("the flag e is off"),
-            Reason::Above { ring, bracket } => { write!(f, "ring {ring} is above {bracket}") }
-            Reason::Below { ring, bracket } => { write!(f, "ring {ring} is below {bracket}") }
+            Reason::NoRead => whole("the flag r is off"),
+            Reason::NoWrite => whole("the flag w is off"),
+            Reason::NoExecute => whole("the flag e is off"),
+            Reason::Above { ring, bracket } => against(ring, " is above ", bracket),
+            Reason::Below { ring, bracket } => against(ring, " is below ", bracket),
             Reason::NoGate { word, gate: 0 } => {
-                write!(f, "word {word:o} is no gate: the segment has none")
+                let word = Octal(u64::from(word));
+                [
+                    Text("word "),
+                    word,
+                    Text(" is no gate: the segment has none"),
+                    NOTHING,
+                    NOTHING,
+                ]
             }
             Reason::NoGate { word, gate } => {
-                write!(
-                    f,
-                    "word {word:o} is no gate: they are below {gate:o} (octal)"
-                )
+                place(word, " is no gate: they are below ", u64::from(gate))
             }
             Reason::Raises { entered, current } => {
-                write!(f, "it would enter ring {entered}")?;
-                write!(f, ", above the current ring {current}")
+                let (entered, current) = (Decimal(u32::from(entered)), Decimal(u32::from(current)));
+                let above = Text(", above the current ring ");
+                [
+                    Text("it would enter ring "),
+                    entered,
+                    above,
+                    current,
+                    NOTHING,
+                ]
             }
         }
     }
+}
+
+impl Display for Reason {
+    fn fmt<W: Write>(&self, f: &mut Formatter<W>) -> fmt::Result {
+        for part in &self.parts() {
+            write!(f, "{part}")?;
+        }
+        Ok(())
+    }
+}
+
+fn whole(words: &'static str) -> [Part<'static>; 5] {
+    [Text(words), NOTHING, NOTHING, NOTHING, NOTHING]
+}
+
+fn place(word: u16, how: &'static str, limit: u64) -> [Part<'static>; 5] {
+    [
+        Text("word "),
+        Octal(u64::from(word)),
+        Text(how),
+        Octal(limit),
+        Text(" (octal)"),
+    ]
+}
+
+fn against(ring: u8, how: &'static str, bracket: Bracket) -> [Part<'static>; 5] {
+    let [name, limit] = bracket.parts();
+    [
+        Text("ring "),
+        Decimal(u32::from(ring)),
+        Text(how),
+        name,
+        limit,
+    ]
 }
 
 /// Why an access denies a reference with this denial, in an effective ring, from a current ring: what the rule of the denial

@@ -37,14 +37,14 @@ pub struct Judged {
 }
 
 // A descriptor as it is now, and the entry that made it so.
-#[derive(Clone, Copy, Debug)]
+#[derive(Clone, Copy)]
 struct Held {
     desc: Desc,
     since: u32,
 }
 
 /// The plain supervisor after the first `at` entries of a right journal, and what each of them changed.
-#[derive(Debug, Drop)]
+#[derive(Drop)]
 pub struct Replay<'a> {
     principals: &'a [Principal],
     journal: &'a [Entry],

@@ -1,19 +1,20 @@
 //! What the lines of one process came to, line by line.
 
 use crate::judging::{Accesses, FIRST_RING};
+use crate::parts::Part::{self, Decimal, Octal, Place, Text};
+use crate::parts::{NOTHING, add_parts, add_sentences, ring};
 use crate::reasons::{Reason, explain};
 use crate::replays::{Changed, Judged};
 use crate::sources::source_of;
-use crate::words::{Access, add_access, add_lack, add_reply, kind_word, modes, walk_words};
+use crate::words::{access_word, add_access, add_lack, add_reply, extent, kind_word, walk_words};
 use mx_legal::{Event, Event2, Kind, Outcome, Result2, entry_at};
 use mx_ptr::{Pointer, is_link};
 use mx_sdw::{Denial, DescKind, Ring, Word};
 use mx_state::Journal;
 use std::alloc::{AllocError, Global};
-use std::fmt::Write;
 
 /// Tells of one process after another, what each of its lines came to.
-#[derive(Debug, Drop)]
+#[derive(Drop)]
 pub(crate) struct Teller<'a> {
     journal: &'a Journal,
     accesses: &'a Accesses,
@@ -47,36 +48,25 @@ impl<'a> Teller<'a> {
     ) -> Result<(), AllocError> {
         let mut denied = false;
         for event in events {
-            denied = self.add_event(alloc, out, event)?;
+            self.add_event(alloc, out, event)?;
+            denied = is_denied(event);
         }
         self.add_result(out, set, &ends, denied)
     }
 
-    // Adds an event, and says whether it was a denial.
+    // Adds an event.
     fn add_event(
         &mut self,
         alloc: Global,
         out: &mut String,
         event: &Event2,
-    ) -> Result<bool, AllocError> {
+    ) -> Result<(), AllocError> {
         match event {
-            Event2::Entry(number) => {
-                self.add_entry(alloc, out, *number)?;
-                Ok(false)
-            }
-            Event2::Core(Event::Missing { segno, by }) => {
-                write!(
-                    out,
-                    "segment {segno:o} is missing: entry {by} changed its access; begun anew\n"
-                )?;
-                Ok(false)
-            }
-            Event2::Core(Event::Seen(element)) => match self.next_judged() {
-                Some(judged) => {
-                    add_reference(alloc, out, &judged, self.ring)?;
-                    Ok(matches!(element.outcome, Outcome::Denied(_)))
-                }
-                None => Ok(false),
+            Event2::Entry(number) => self.add_entry(alloc, out, *number),
+            Event2::Core(Event::Missing { segno, by }) => add_missing(out, *segno, *by),
+            Event2::Core(Event::Seen(_)) => match self.next_judged() {
+                Some(judged) => add_reference(alloc, out, &judged, self.ring),
+                None => Ok(()),
             },
         }
     }
@@ -103,9 +93,18 @@ impl<'a> Teller<'a> {
         let Some(entry) = entry_at(self.journal, number) else {
             return Ok(());
         };
-        write!(out, "entry {number} in ring {}: ", entry.ring.number())?;
+        let (at, within) = (Decimal(number), ring(entry.ring));
+        add_parts(
+            out,
+            &[Text("entry "), at, Text(" in ring "), within, Text(": ")],
+        )?;
         add_reply(alloc, out, entry)?;
         out.push_str("\n")?;
+        self.add_changes(out, number)
+    }
+
+    // Adds whose access this entry changed.
+    fn add_changes(&mut self, out: &mut String, number: u32) -> Result<(), AllocError> {
         let Some(rest) = self.accesses.changed.get(self.changed..) else {
             return Ok(());
         };
@@ -131,47 +130,92 @@ impl<'a> Teller<'a> {
     ) -> Result<(), AllocError> {
         match ends {
             Result2::Done => match set {
-                Some(word) => write!(out, "A is {:o}\n", word.value()),
+                Some(word) => add_parts(out, &[Text("A is "), Octal(word.value()), Text("\n")]),
                 None => Ok(()),
             },
             Result2::A(_) | Result2::Refused => Ok(()),
-            Result2::Pr { n, pointer } => add_register(out, *n, pointer),
-            Result2::Moved { ring, procedure } => self.add_move(out, ring, procedure),
-            Result2::Denied(_) if denied => Ok(()),
-            Result2::Denied(denial) => {
-                write!(out, "denied {}: {}\n", denial.text(), walk_words(*denial))
+            Result2::Pr { n, pointer } => add_parts(out, &register_words(*n, pointer)),
+            Result2::Moved { ring, procedure } => {
+                let from = self.ring;
+                self.ring = ring.number();
+                add_parts(out, &move_words(from, *ring, procedure))
             }
+            Result2::Denied(denial) => add_parts(out, &denied_words(*denial, denied)),
             Result2::HistoryFull => out.push_str("the journal is full: nothing is entered\n"),
-        }
-    }
-
-    // Adds where the process goes on, and how its ring changed.
-    fn add_move(
-        &mut self,
-        out: &mut String,
-        ring: &Ring,
-        procedure: &Pointer,
-    ) -> Result<(), AllocError> {
-        let (from, to) = (self.ring, ring.number());
-        self.ring = to;
-        write!(out, "goes on at {:o}|{:o}", procedure.segno, procedure.word)?;
-        if to < from {
-            write!(
-                out,
-                ": the ring falls from {from} to {to}, through a gate\n"
-            )
-        } else if to > from {
-            write!(out, ": the ring rises from {from} to {to}\n")
-        } else {
-            write!(out, " in ring {to} as before\n")
         }
     }
 }
 
-// Adds what a pointer register holds now.
-fn add_register(out: &mut String, n: u8, pointer: &Pointer) -> Result<(), AllocError> {
-    write!(out, "PR{n} is {:o}|{:o}", pointer.segno, pointer.word)?;
-    write!(out, " in ring {}\n", pointer.ring.number())
+// Whether an event is a reference that was denied.
+fn is_denied(event: &Event2) -> bool {
+    match event {
+        Event2::Core(Event::Seen(element)) => matches!(element.outcome, Outcome::Denied(_)),
+        Event2::Core(Event::Missing { .. }) | Event2::Entry(_) => false,
+    }
+}
+
+// Adds that a segment number was missing.
+fn add_missing(out: &mut String, segno: u16, by: u32) -> Result<(), AllocError> {
+    let number = Octal(u64::from(segno));
+    let (missing, anew) = (
+        Text(" is missing: entry "),
+        Text(" changed its access; begun anew\n"),
+    );
+    add_parts(out, &[Text("segment "), number, missing, Decimal(by), anew])
+}
+
+// What a pointer register holds now.
+fn register_words(n: u8, pointer: &Pointer) -> [Part<'static>; 7] {
+    [
+        Text("PR"),
+        Decimal(u32::from(n)),
+        Text(" is "),
+        Place(pointer.segno, pointer.word),
+        Text(" in ring "),
+        ring(pointer.ring),
+        Text("\n"),
+    ]
+}
+
+// Where the process goes on, and how its ring changed.
+fn move_words(from: u8, to: Ring, procedure: &Pointer) -> [Part<'static>; 7] {
+    let (before, after) = (Decimal(u32::from(from)), ring(to));
+    let place = Place(procedure.segno, procedure.word);
+    let on = Text("goes on at ");
+    if to.number() < from {
+        let falls = Text(": the ring falls from ");
+        [
+            on,
+            place,
+            falls,
+            before,
+            Text(" to "),
+            after,
+            Text(", through a gate\n"),
+        ]
+    } else if to.number() > from {
+        let rises = Text(": the ring rises from ");
+        [on, place, rises, before, Text(" to "), after, Text("\n")]
+    } else {
+        [
+            on,
+            place,
+            Text(" in ring "),
+            after,
+            Text(" as before\n"),
+            NOTHING,
+            NOTHING,
+        ]
+    }
+}
+
+// A denial that ends a line, where it is not that of a reference, which was told.
+fn denied_words(denial: Denial, told: bool) -> [Part<'static>; 5] {
+    if told {
+        return [NOTHING; 5];
+    }
+    let (name, why) = (Text(denial.text()), Text(walk_words(denial)));
+    [Text("denied "), name, Text(": "), why, Text("\n")]
 }
 
 // Adds a reference, what came of it, and the access that it was judged on.
@@ -181,30 +225,60 @@ fn add_reference(
     judged: &Judged,
     current: u8,
 ) -> Result<(), AllocError> {
-    let element = &judged.element;
-    write!(
+    add_parts(out, &reference_words(judged))?;
+    add_outcome(alloc, out, judged, current)?;
+    add_parts(
         out,
-        "{} {:o}|{:o}",
-        kind_word(element.kind),
-        element.segno,
-        element.word
+        &[
+            Text("\n    at point "),
+            Decimal(judged.element.point),
+            Text(": "),
+        ],
     )?;
-    write!(out, " in ring {}", element.ring.number())?;
-    match element.outcome {
-        Outcome::Denied(denial) => add_denial(alloc, out, judged, denial, current)?,
-        Outcome::Written { value } => write!(out, ": stores {:o}\n", value.value())?,
-        Outcome::Entered { ring } => write!(out, ": enters ring {}\n", ring.number())?,
-        Outcome::Read { value, .. } => add_read(out, judged, value)?,
-    }
-    write!(out, "    at point {}: ", element.point)?;
     add_access(alloc, out, judged)?;
-    match judged.since {
-        0 => out.push_str(", from the start\n"),
-        since => write!(out, ", since entry {since}\n"),
+    add_parts(out, &since_words(judged.since))
+}
+
+// What is referred to, in which ring.
+fn reference_words(judged: &Judged) -> [Part<'static>; 5] {
+    let element = &judged.element;
+    let place = Place(element.segno, element.word);
+    let kind = Text(kind_word(element.kind));
+    [
+        kind,
+        Text(" "),
+        place,
+        Text(" in ring "),
+        ring(element.ring),
+    ]
+}
+
+// Since when the access is what it is.
+fn since_words(entry: u32) -> [Part<'static>; 3] {
+    match entry {
+        0 => [Text(", from the start\n"), NOTHING, NOTHING],
+        _ => [Text(", since entry "), Decimal(entry), Text("\n")],
     }
 }
 
-// Adds a denial with the numbers that its rule compares, and for a flag that is off the entry that lacks it.
+// Adds what came of a reference.
+fn add_outcome(
+    alloc: Global,
+    out: &mut String,
+    judged: &Judged,
+    current: u8,
+) -> Result<(), AllocError> {
+    match judged.element.outcome {
+        Outcome::Denied(denial) => add_denial(alloc, out, judged, denial, current),
+        Outcome::Written { value } => add_parts(out, &[Text(": stores "), Octal(value.value())]),
+        Outcome::Entered { ring: entered } => {
+            add_parts(out, &[Text(": enters ring "), ring(entered)])
+        }
+        Outcome::Read { value, .. } => add_read(out, judged, value),
+    }
+}
+
+// Adds a denial with the numbers that its rule compares, and what else is to be known of it.
 fn add_denial(
     alloc: Global,
     out: &mut String,
@@ -213,76 +287,124 @@ fn add_denial(
     current: u8,
 ) -> Result<(), AllocError> {
     let element = &judged.element;
-    write!(out, " denied {}: ", denial.text())?;
+    let head = [Text(" denied "), Text(denial.text()), Text(": ")];
     match explain(&judged.desc, denial, element.ring, element.word, current) {
         Some(reason) => {
-            write!(out, "{reason}")?;
-            if matches!(reason, Reason::NoRead | Reason::NoWrite | Reason::NoExecute) {
-                add_lack(alloc, out, judged)?;
-            }
+            add_sentences(out, &[&head, &reason.parts()])?;
+            add_beside(alloc, out, judged, reason)
         }
-        None => out.push_str(walk_words(denial))?,
+        None => add_sentences(out, &[&head, &[Text(walk_words(denial))]]),
     }
-    out.push_str("\n")
+}
+
+// Adds, for a flag that is off, the entry that lacks it, and for a segment without gates the other way in.
+fn add_beside(
+    alloc: Global,
+    out: &mut String,
+    judged: &Judged,
+    reason: Reason,
+) -> Result<(), AllocError> {
+    match reason {
+        Reason::NoRead | Reason::NoWrite | Reason::NoExecute => add_lack(alloc, out, judged),
+        Reason::NoGate { gate: 0, .. } => {
+            let way = Text("; the other way in is a call from within segment ");
+            add_parts(out, &[way, Octal(u64::from(judged.element.segno))])
+        }
+        _ => Ok(()),
+    }
 }
 
 // Adds the word read, whose store it is, and where it leads.
 fn add_read(out: &mut String, judged: &Judged, value: Word) -> Result<(), AllocError> {
-    let element = &judged.element;
-    write!(out, ": {:o}", value.value())?;
-    match source_of(element.outcome) {
-        Some(store) => {
-            write!(
-                out,
-                ", stored by process {} at point {}",
-                store.process, store.point
-            )?;
-        }
-        None => out.push_str(", nobody has stored there")?,
-    }
-    match (element.kind, Pointer::read(value)) {
+    let head = [Text(": "), Octal(value.value())];
+    let store = store_words(judged.element.outcome);
+    match (judged.element.kind, Pointer::read(value)) {
         (Kind::Ind, Some(pointer)) => {
-            write!(out, "; it points to {:o}|{:o}", pointer.segno, pointer.word)?;
-            write!(out, " in ring {}", pointer.ring.number())?;
-            add_raised(out, judged, &pointer)?;
-            out.push_str("\n")
+            let (leads, raised) = (pointer_words(&pointer), raised_words(judged, &pointer));
+            add_sentences(out, &[&head, &store, &leads, &raised])
         }
-        (Kind::Ind, None) if is_link(value) => out.push_str("; it is a link\n"),
-        _ => out.push_str("\n"),
+        (Kind::Ind, None) if is_link(value) => {
+            add_sentences(out, &[&head, &store, &[Text("; it is a link")]])
+        }
+        _ => add_sentences(out, &[&head, &store]),
     }
 }
 
-// Adds how a pointer that was read raises the effective ring, and which number does so.
-fn add_raised(out: &mut String, judged: &Judged, pointer: &Pointer) -> Result<(), AllocError> {
-    let ring = judged.element.ring.number();
-    let (said, r1) = (pointer.ring.number(), judged.desc.brackets().r1().number());
-    if said > ring && said >= r1 {
-        write!(out, "; it raises the effective ring to {said}")
-    } else if r1 > ring {
-        write!(
-            out,
-            "; the effective ring rises to {r1}, R1 of segment {:o}",
-            judged.element.segno
-        )
+// Whose store a word is.
+fn store_words(outcome: Outcome) -> [Part<'static>; 4] {
+    match source_of(outcome) {
+        Some(store) => [
+            Text(", stored by process "),
+            Decimal(u32::from(store.process)),
+            Text(" at point "),
+            Decimal(store.point),
+        ],
+        None => { [Text(", nobody has stored there"), NOTHING, NOTHING, NOTHING] }
+    }
+}
+
+// Where a pointer that was read leads.
+fn pointer_words(pointer: &Pointer) -> [Part<'static>; 5] {
+    let further = if pointer.further {
+        ", and on from there"
     } else {
-        Ok(())
+        ""
+    };
+    [
+        Text("; it points to "),
+        Place(pointer.segno, pointer.word),
+        Text(" in ring "),
+        ring(pointer.ring),
+        Text(further),
+    ]
+}
+
+// How it raises the effective ring, and which number does so.
+fn raised_words(judged: &Judged, pointer: &Pointer) -> [Part<'static>; 4] {
+    let at = judged.element.ring.number();
+    let (said, r1) = (pointer.ring, judged.desc.brackets().r1());
+    if said.number() > at && said.number() >= r1.number() {
+        [
+            Text("; it raises the effective ring to "),
+            ring(said),
+            NOTHING,
+            NOTHING,
+        ]
+    } else if r1.number() > at {
+        let (rises, of) = (
+            Text("; the effective ring rises to "),
+            Text(", R1 of segment "),
+        );
+        [rises, ring(r1), of, Octal(u64::from(judged.element.segno))]
+    } else {
+        [NOTHING; 4]
     }
 }
 
-// Adds whose access changed, and from what to what.
+// Adds whose access changed, and from what to what: the modes alone where nothing else did.
 fn add_changed(out: &mut String, changed: &Changed) -> Result<(), AllocError> {
-    write!(
-        out,
-        "    process {}, segment {:o}: ",
-        changed.process, changed.segno
-    )?;
     let (before, after) = (&changed.before, &changed.after);
+    let (process, segno) = (
+        Decimal(u32::from(changed.process)),
+        Octal(u64::from(changed.segno)),
+    );
+    let (place, was) = (Text(", segment "), Text(": was "));
+    let head = [
+        Text("    process "),
+        process,
+        place,
+        segno,
+        was,
+        Text(access_word(before)),
+    ];
+    let then = [Text("; is "), Text(access_word(after))];
     if before.kind() == DescKind::Segment
         && after.kind() == DescKind::Segment
         && before.brackets() == after.brackets()
     {
-        write!(out, "was {}; is {}\n", modes(before), modes(after))
+        add_sentences(out, &[&head, &then, &[Text("\n")]])
     } else {
-        write!(out, "was {}; is {}\n", Access(before), Access(after))
+        let (before, after) = (extent(before), extent(after));
+        add_sentences(out, &[&head, &before, &then, &after, &[Text("\n")]])
     }
 }

@@ -1,95 +1,21 @@
-//! Accesses, replies and script lines in words.
+//! Accesses and replies in words.
 
+use crate::parts::Part::{self, Decimal, Octal, Place, Text};
+use crate::parts::{NOTHING, add_parts, add_printable, add_sentences, ring};
+use crate::refusals::refusal_words;
 use crate::replays::Judged;
-use mx_hier::Refusal;
 use mx_legal::Kind;
-use mx_name::{AclId, Principal};
-use mx_request::{Known, Reply, Request};
+use mx_name::AclId;
+use mx_request::{Known, Reply};
 use mx_sdw::{Denial, Desc, DescKind};
 use mx_state::Entry;
 use std::alloc::{AllocError, Global};
-use std::fmt::{self, Display, Formatter, Write};
 
-/// An access in words: the modes, the brackets, the size and the gates.
-#[derive(Clone, Copy, Debug)]
-pub(crate) struct Access<'a>(pub(crate) &'a Desc);
-
-impl<'a> Display for Access<'a> {
-    fn fmt<W: Write>(&self, f: &mut Formatter<W>) -> fmt::Result {
-        match self.0.kind() {
-            DescKind::Unknown => f.write_str("no segment"),
-            DescKind::Gone => f.write_str("a deleted segment"),
-            DescKind::Segment => write!(f, "{}{}", modes(self.0), Extent(self.0)),
-        }
-    }
-}
-
-// The brackets of a segment, its size and its gates.
-#[derive(Clone, Copy, Debug)]
-struct Extent<'a>(&'a Desc);
-
-impl<'a> Display for Extent<'a> {
-    fn fmt<W: Write>(&self, f: &mut Formatter<W>) -> fmt::Result {
-        let brackets = self.0.brackets();
-        write!(f, ", brackets {}", brackets.r1().number())?;
-        write!(f, ",{},{}", brackets.r2().number(), brackets.r3().number())?;
-        let bound = self.0.bound();
-        let words = if bound == 1 { "word" } else { "words" };
-        write!(f, ", {bound} {words}")?;
-        match self.0.gate() {
-            0 => Ok(()),
-            1 => f.write_str(", gate 0"),
-            gate => write!(f, ", gates 0 to {:o}", gate - 1),
-        }
-    }
-}
-
-/// Adds the access that a reference was judged on, and which entry of the access list gave the modes.
-pub(crate) fn add_access(
-    alloc: Global,
-    out: &mut String,
-    judged: &Judged,
-) -> Result<(), AllocError> {
-    let desc = &judged.desc;
-    match &judged.entry {
-        Some((id, _)) => {
-            write!(out, "{} by ", modes(desc))?;
-            add_id(alloc, out, id)?;
-            write!(out, "{}", Extent(desc))
-        }
-        None if is_unmatched(judged) => { write!(out, "null: no entry matches{}", Extent(desc)) }
-        None => write!(out, "{}", Access(desc)),
-    }
-}
-
-/// Adds which entry of the access list lacks a flag, where the modes come of an access list.
-pub(crate) fn add_lack(alloc: Global, out: &mut String, judged: &Judged) -> Result<(), AllocError> {
-    match &judged.entry {
-        Some((id, modes)) => {
-            out.push_str(", as the entry ")?;
-            add_id(alloc, out, id)?;
-            write!(out, " gives {}", modes.text())
-        }
-        None if is_unmatched(judged) => out.push_str(", as no entry matches"),
-        None => Ok(()),
-    }
-}
-
-// Whether it is a segment of which no entry of the access list matches: a stack and a linkage section have r and w.
-fn is_unmatched(judged: &Judged) -> bool {
-    let desc = &judged.desc;
-    judged.entry.is_none() && desc.kind() == DescKind::Segment && !desc.r() && !desc.w()
-}
-
-// Adds the identifier of an entry.
-fn add_id(alloc: Global, out: &mut String, id: &AclId) -> Result<(), AllocError> {
-    let mut bytes = Vec::new(alloc);
-    id.append_to(&mut bytes)?;
-    add_bytes(out, &bytes)
-}
+/// The stacks of a process have the numbers below this one.
+const STACKS: u16 = 8;
 
 /// What the access list gives: `null`, or letters of `rew`.
-pub(crate) fn modes(desc: &Desc) -> &'static str {
+pub fn modes(desc: &Desc) -> &'static str {
     match (desc.r(), desc.e(), desc.w()) {
         (false, false, false) => "null",
         (true, false, false) => "r",
@@ -103,7 +29,7 @@ pub(crate) fn modes(desc: &Desc) -> &'static str {
 }
 
 /// A kind of reference, as a run prints it.
-pub(crate) fn kind_word(kind: Kind) -> &'static str {
+pub fn kind_word(kind: Kind) -> &'static str {
     match kind {
         Kind::Read => "read",
         Kind::Ind => "ind",
@@ -123,69 +49,107 @@ pub(crate) fn walk_words(denial: Denial) -> &'static str {
     }
 }
 
-/// What a refusal says.
-pub(crate) fn refusal_words(refusal: Refusal) -> &'static str {
-    match refusal {
-        Refusal::BadPath => "the pathname leads above the root, or is longer than 168 characters",
-        Refusal::NoEntry => "the directory has no such entry",
-        Refusal::NoInfo => "a caller who may not list the directory is told nothing about it",
-        Refusal::NotADir => "what was reached is no directory",
-        Refusal::LinkLoop => "more than ten links on the way",
-        Refusal::IncorrectAccess => "the caller's access in this ring does not allow it",
-        Refusal::NameDup => "the name stands there already",
-        Refusal::NotASeg => "what was reached is no segment",
-        Refusal::DirNotEmpty => "the directory has entries",
-        Refusal::DirFull => "the directory has 256 entries",
-        Refusal::BadLength =>
-            "the length is not 1 to 1024 words, or a gate or definition lies beyond it",
-        Refusal::BadBrackets => "the brackets are not in order, or below the caller's ring",
-        Refusal::InvalidMode => "such modes have no meaning on this kind of entry",
-        Refusal::AclFull => "the access list has 64 entries",
-        Refusal::NoAclEntry => "the access list has no such entry",
-        Refusal::NoPages => "too few pages are left",
-        Refusal::KstFull => "too few segment numbers are left",
-        Refusal::UnknownSegno => "the number stands for no segment that was made known",
-        Refusal::NotLinkage => "this is no link word of a linkage section",
-        Refusal::SegmentNotFound => "the search rules find no segment",
-        Refusal::NotObject => "the segment found is no object",
-        Refusal::NoDefinition => "the object found does not define the symbol",
-        Refusal::NoProcess => "there is no such process",
-        Refusal::MailFull => "64 messages wait for it already",
-        Refusal::Ended => "the process has ended",
+/// The modes of an access, or why there are none.
+pub(crate) fn access_word(desc: &Desc) -> &'static str {
+    match desc.kind() {
+        DescKind::Unknown => "no segment",
+        DescKind::Gone => "a deleted segment",
+        DescKind::Segment => modes(desc),
     }
 }
 
-/// Adds bytes, printable ASCII as it is and a point for any other.
-pub(crate) fn add_bytes(out: &mut String, bytes: &[u8]) -> Result<(), AllocError> {
-    for byte in bytes {
-        let shown = if (b' '..=b'~').contains(byte) {
-            *byte
-        } else {
-            b'.'
-        };
-        out.push(char::from(shown))?;
+/// The brackets of a segment, its size and its gates; nothing where there is none.
+pub(crate) fn extent(desc: &Desc) -> [Part<'static>; 11] {
+    let brackets = desc.brackets();
+    let bound = desc.bound();
+    let words = if bound == 1 { " word" } else { " words" };
+    let (gates, last) = gates(desc.gate());
+    match desc.kind() {
+        DescKind::Segment => [
+            Text(", brackets "),
+            ring(brackets.r1()),
+            Text(","),
+            ring(brackets.r2()),
+            Text(","),
+            ring(brackets.r3()),
+            Text(", "),
+            Decimal(u32::from(bound)),
+            Text(words),
+            Text(gates),
+            last,
+        ],
+        DescKind::Unknown | DescKind::Gone => [NOTHING; 11],
     }
-    Ok(())
 }
 
-/// A principal, as it is written.
-pub(crate) fn principal_text(alloc: Global, principal: &Principal) -> Result<String, AllocError> {
-    let mut bytes = Vec::new(alloc);
-    principal.append_to(&mut bytes)?;
-    let mut out = String::new(alloc);
-    add_bytes(&mut out, &bytes)?;
-    Ok(out)
+// So many gates.
+fn gates(gate: u16) -> (&'static str, Part<'static>) {
+    match gate {
+        0 => ("", NOTHING),
+        1 => (", gate 0", NOTHING),
+        gate => (", gates 0 to ", Octal(u64::from(gate - 1))),
+    }
 }
 
-/// Adds a request as its line.
-pub(crate) fn add_request(
+/// Adds the access that a reference was judged on, and which entry of the access list gave the modes.
+pub(crate) fn add_access(
     alloc: Global,
     out: &mut String,
-    request: &Request,
+    judged: &Judged,
 ) -> Result<(), AllocError> {
+    add_decided(alloc, out, judged)?;
+    add_parts(out, &extent(&judged.desc))
+}
+
+// Adds the modes, and which entry gave them.
+fn add_decided(alloc: Global, out: &mut String, judged: &Judged) -> Result<(), AllocError> {
+    let word = access_word(&judged.desc);
+    match &judged.entry {
+        Some((id, _)) => {
+            let id = id_text(alloc, id)?;
+            add_parts(out, &[Text(word), Text(" by "), Text(&id)])
+        }
+        None if is_unmatched(judged) => out.push_str("null: no entry matches"),
+        None => out.push_str(word),
+    }
+}
+
+/// Adds why a flag is off: which entry of the access list lacks it, that none matches, or that it is a stack.
+pub(crate) fn add_lack(alloc: Global, out: &mut String, judged: &Judged) -> Result<(), AllocError> {
+    match &judged.entry {
+        Some((id, modes)) => {
+            let id = id_text(alloc, id)?;
+            let (by, gives) = (Text(", as the entry "), Text(" gives "));
+            add_parts(out, &[by, Text(&id), gives, Text(modes.text())])
+        }
+        None => out.push_str(lack_words(judged)),
+    }
+}
+
+// Why a flag is off that no entry of an access list lacks.
+fn lack_words(judged: &Judged) -> &'static str {
+    if is_unmatched(judged) {
+        ", as no entry matches"
+    } else if judged.element.segno < STACKS {
+        ", as this is a stack"
+    } else {
+        ""
+    }
+}
+
+// Whether it is a segment of which no entry of the access list matches: a stack and a linkage section have r and w.
+fn is_unmatched(judged: &Judged) -> bool {
+    let desc = &judged.desc;
+    judged.entry.is_none() && desc.kind() == DescKind::Segment && !desc.r() && !desc.w()
+}
+
+// The identifier of an entry, as it is written.
+fn id_text(alloc: Global, id: &AclId) -> Result<String, AllocError> {
     let mut bytes = Vec::new(alloc);
-    request.append_to(&mut bytes)?;
-    add_bytes(out, &bytes)
+    id.append_to(&mut bytes)?;
+    let mut text = String::new(alloc);
+    add_printable(&mut text, &bytes)?;
+    Ok(text)
 }
 
 /// Adds what an entry was answered.
@@ -193,56 +157,68 @@ pub(crate) fn add_reply(alloc: Global, out: &mut String, entry: &Entry) -> Resul
     match &entry.reply {
         Reply::Done => out.push_str("done"),
         Reply::Refused(refusal) => {
-            write!(
-                out,
-                "refused {}: {}",
-                refusal.text(),
-                refusal_words(*refusal)
-            )
+            let why = refusal_words(*refusal, &entry.request);
+            let name = Text(refusal.text());
+            add_parts(out, &[Text("refused "), name, Text(": "), Text(why)])
         }
-        Reply::Segno(known) => add_known(out, known),
+        Reply::Segno(known) => add_parts(out, &known_words(known)),
         Reply::Linked {
             segno,
             word,
             fresh,
             linkage,
         } => {
-            write!(out, "the link leads to {segno:o}|{word:o}: ")?;
-            add_known(
-                out,
-                &Known {
-                    segno: *segno,
-                    fresh: *fresh,
-                    linkage: *linkage,
-                },
-            )
+            let known = Known {
+                segno: *segno,
+                fresh: *fresh,
+                linkage: *linkage,
+            };
+            let head = [Text("the link leads to "), Place(*segno, *word), Text(": ")];
+            add_sentences(out, &[&head, &known_words(&known)])
         }
         Reply::Sent => out.push_str("the message is sent"),
         Reply::Message { sender, word } => {
-            write!(out, "process {sender} sent {:o}", word.value())
+            let sender = Decimal(u32::from(*sender));
+            add_parts(
+                out,
+                &[
+                    Text("process "),
+                    sender,
+                    Text(" sent "),
+                    Octal(word.value()),
+                ],
+            )
         }
         Reply::Nobody => out.push_str("nobody is left who could send a message"),
         Reply::Waiting => out.push_str("it waits for a message"),
-        other => add_answer(alloc, out, other),
+        Reply::Status(_) | Reply::Names(_) => add_answer(alloc, out, &entry.reply),
     }
 }
 
-fn add_known(out: &mut String, known: &Known) -> Result<(), AllocError> {
+// The number of a segment, and since when it is known.
+fn known_words(known: &Known) -> [Part<'static>; 5] {
+    let number = Octal(u64::from(known.segno));
     let how = if known.fresh {
-        "known from now on"
+        ", known from now on"
     } else {
-        "known before"
+        ", known before"
     };
-    write!(out, "segment number {:o}, {how}", known.segno)?;
-    match known.linkage {
-        Some(linkage) => write!(out, ", with its linkage section {linkage:o}"),
-        None => Ok(()),
-    }
+    let (with, linkage) = match known.linkage {
+        Some(linkage) => (", with its linkage section ", Octal(u64::from(linkage))),
+        None => ("", NOTHING),
+    };
+    [
+        Text("segment number "),
+        number,
+        Text(how),
+        Text(with),
+        linkage,
+    ]
 }
 
 // A reply as it stands in the journal.
 fn add_answer(alloc: Global, out: &mut String, reply: &Reply) -> Result<(), AllocError> {
     let mut bytes = Vec::new(alloc);
     reply.append_to(&mut bytes)?;
-    add_bytes(out, &bytes)
+    add_printable(out, &bytes)
 }

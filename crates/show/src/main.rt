@@ -33,6 +33,3 @@ fn words(rt: &HostRuntime) -> Result<Vec<String>, AllocError> {
     }
     Ok(words)
 }
-
-#[cfg(test)]
-mod tests;

@@ -1,25 +1,25 @@
 //! A run as a drawing.
 
-ghost use Rattle.std.specs.Prelude.{◌≡◌, ◌≤◌, OnOk, IsErrOf};
+ghost use Rattle.std.specs.Prelude.{◌≡◌, ◌≤◌, IfOk, OnOk, IsErrOf};
+ghost use Rattle.std.specs.String.{string_bytes};
 ghost use Rattle.mx_io.specs.Faults.{Rose};
 ghost use Rattle.mx_legal.specs.Legal.{IsLegal};
-ghost use Rattle.mx_show.specs.Drawings.{GainsDrawing};
+ghost use Rattle.mx_picture.specs.Drawings.{GainsDrawing, IsFramed};
 
 mod entries;
 mod legends;
 mod marks;
 mod rings;
 
-use crate::errors::ShowError;
-use crate::judging::{Accesses, judge_all};
-use crate::layout::{LANE_STEP, LANES, Layout};
+use crate::layout::Layout;
 use crate::svg::add_head;
 use entries::{add_change_lines, add_entries, add_tags};
-use legends::{LEGEND_HEIGHT, add_legend, add_rings, add_title};
+use legends::{add_legend, add_rings, add_title, height};
 use marks::{add_arrows, add_boxes};
 use mx_io::{Sink, write_all};
 use mx_legal::Transcripts;
 use mx_script::Session;
+use mx_show::{Accesses, ShowError, judge_all};
 use mx_state::Journal;
 use rings::add_lanes;
 use std::alloc::{AllocError, Global};
@@ -41,12 +41,24 @@ pub fn show_picture<K: Sink>(
     ensures later { K.faults sink.old ≤ K.faults sink.new }
 {
     let accesses = judge_all(alloc, session, journal, transcripts)?;
-    let picture = draw(alloc, session, journal, &accesses)?;
+    let marks = draw(alloc, session, journal, &accesses)?;
+    let picture = framed(alloc, &marks)?;
     write_all(sink, picture.as_bytes())?;
     Ok(())
 }
 
-// The drawing. It has a fixed size at most, so it is held whole.
+// What is drawn, within its frame.
+fn framed(alloc: Global, marks: &str) -> Result<String, AllocError>
+    ensures { IfOk result (λ text. IsFramed (string_bytes text)) }
+{
+    let mut text = String::new(alloc);
+    text.push_str("<svg")?;
+    text.push_str(marks)?;
+    text.push_str("</svg>\n")?;
+    Ok(text)
+}
+
+// The marks of the drawing. They have a fixed size at most, so they are held whole.
 fn draw(
     alloc: Global,
     session: &Session,
@@ -55,22 +67,16 @@ fn draw(
 ) -> Result<String, AllocError> {
     let processes = session.principals().items().len();
     let layout = Layout::new(alloc, accesses, journal.items().len(), processes)?;
-    let bottom = LANES.saturating_add((layout.lanes as u32).saturating_mul(LANE_STEP));
     let mut out = String::new(alloc);
-    add_head(
-        &mut out,
-        layout.width.max(980),
-        bottom.saturating_add(LEGEND_HEIGHT),
-    )?;
-    add_title(alloc, &mut out, session, journal, accesses, &layout)?;
+    add_head(&mut out, layout.width.max(980), height(&layout))?;
+    add_title(alloc, &mut out, processes, journal, accesses, &layout)?;
     add_rings(&mut out)?;
     add_lanes(alloc, &mut out, session, &layout)?;
     add_change_lines(&mut out, accesses, &layout)?;
     add_entries(alloc, &mut out, journal, &layout)?;
     add_tags(alloc, &mut out, accesses, &layout)?;
-    add_boxes(alloc, &mut out, &layout)?;
+    add_boxes(&mut out, &layout)?;
     add_arrows(&mut out, &layout)?;
-    add_legend(&mut out, bottom)?;
-    out.push_str("</svg>\n")?;
+    add_legend(&mut out, &layout)?;
     Ok(out)
 }

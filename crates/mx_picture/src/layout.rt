@@ -3,13 +3,12 @@
 
 ghost use Rattle.std.specs.Prelude.{◌≡◌, ◌≤◌, length, IfSome, IsTrue};
 ghost use Rattle.mx_core.specs.declared.elements.Outcome.TheVariants as read;
-ghost use Rattle.mx_show.specs.Arrows.{IsStoreFor, cell_of};
+ghost use Rattle.mx_picture.specs.Arrows.{IsStoreFor, cell_of};
 
-use crate::judging::Accesses;
-use crate::replays::Judged;
-use crate::sources::source_of;
+use crate::positions::Position;
 use mx_legal::Outcome;
 use mx_sdw::{Ring, Word};
+use mx_show::{Accesses, Judged, source_of};
 use std::alloc::{AllocError, Global};
 
 /// The most entries that are drawn.
@@ -19,16 +18,16 @@ pub(crate) const MOST_ENTRIES: usize = 60;
 pub(crate) const MOST_PROCESSES: usize = 6;
 
 /// The most references that are drawn.
-pub(crate) const MOST_REFERENCES: usize = 240;
+const MOST_REFERENCES: usize = 240;
 
 /// Where the columns begin.
 pub(crate) const LEFT: u32 = 150;
 
 /// The width of an entry's column, before what hangs behind it.
-pub(crate) const ENTRY_WIDTH: u32 = 40;
+const ENTRY_WIDTH: u32 = 40;
 
 /// The width that a reference takes.
-pub(crate) const BOX_STEP: u32 = 142;
+const BOX_STEP: u32 = 142;
 
 /// The width of its box.
 pub(crate) const BOX_WIDTH: u32 = 132;
@@ -40,25 +39,32 @@ pub(crate) const BOX_HEIGHT: u32 = 54;
 pub(crate) const JOURNAL: u32 = 326;
 
 /// The top of the first lane.
-pub(crate) const LANES: u32 = 366;
+const LANES: u32 = 366;
 
 /// The height of a lane, and from one lane's top to the next.
 pub(crate) const LANE_HEIGHT: u32 = 170;
 
-pub(crate) const LANE_STEP: u32 = 184;
+const LANE_STEP: u32 = 184;
 
 /// Where boxes begin in a lane.
-pub(crate) const BOXES: u32 = 54;
+const BOXES: u32 = 54;
 
 /// A reference in its place.
-#[derive(Clone, Copy, Debug)]
+#[derive(Clone, Copy)]
 pub(crate) struct Placed {
     pub(crate) judged: Judged,
-    pub(crate) x: u32,
+    x: u32,
+}
+
+impl Placed {
+    /// The corner of its box.
+    pub(crate) fn corner(&self) -> Position {
+        Position::new(self.x, lane_top(self.judged.process)).down(BOXES)
+    }
 }
 
 /// The columns of the entries from 0, before the first, and the references in their places.
-#[derive(Debug, Drop)]
+#[derive(Drop)]
 pub(crate) struct Layout {
     pub(crate) columns: Vec<u32>,
     pub(crate) placed: Vec<Placed>,
@@ -100,10 +106,20 @@ impl Layout {
         })
     }
 
-    /// The middle of an entry's column.
-    pub(crate) fn entry(&self, number: u32) -> Option<u32> {
+    /// The middle of an entry's column, on the line of the journal.
+    pub(crate) fn entry(&self, number: u32) -> Option<Position> {
         let x = self.columns.get(number as usize)?;
-        Some(x.saturating_add(ENTRY_WIDTH / 2))
+        Some(Position::new(*x, JOURNAL).right(ENTRY_WIDTH / 2))
+    }
+
+    /// Where the lanes end on the right.
+    pub(crate) fn right(&self) -> u32 {
+        self.width.saturating_sub(20)
+    }
+
+    /// Where they end below.
+    pub(crate) fn bottom(&self) -> u32 {
+        LANES.saturating_add((self.lanes as u32).saturating_mul(LANE_STEP))
     }
 }
 

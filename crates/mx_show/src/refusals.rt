@@ -1,0 +1,84 @@
+//! What a refusal says, in the words that are right for the request that was refused.
+
+use mx_hier::Refusal;
+use mx_name::Pathname;
+use mx_request::Request;
+
+/// Why this request was refused.
+pub(crate) fn refusal_words(refusal: Refusal, request: &Request) -> &'static str {
+    match refusal {
+        Refusal::BadPath => "the pathname leads above the root, or is longer than 168 characters",
+        Refusal::NoEntry => "the directory has no such entry",
+        Refusal::NoInfo => "a caller who may not list the directory is told nothing about it",
+        Refusal::NotADir => "what was reached is no directory",
+        Refusal::LinkLoop => "more than ten links on the way",
+        Refusal::IncorrectAccess => access_words(request),
+        Refusal::NameDup => name_words(request),
+        Refusal::NotASeg => "what was reached is no segment",
+        Refusal::DirNotEmpty => "the directory has entries",
+        Refusal::DirFull => "the directory has 256 entries",
+        Refusal::BadLength =>
+            "the length is not 1 to 1024 words, or a gate or definition lies beyond it",
+        Refusal::BadBrackets => bracket_words(request),
+        Refusal::InvalidMode => "letters of the other kind of entry, or m without s",
+        Refusal::AclFull => "the access list has 64 entries",
+        Refusal::NoAclEntry => "the access list has no such entry",
+        Refusal::NoPages => "too few pages are left",
+        Refusal::KstFull => "too few segment numbers are left",
+        Refusal::UnknownSegno => "the number stands for no segment that was made known",
+        Refusal::NotLinkage => "this is no link word of a linkage section",
+        Refusal::SegmentNotFound => "the search rules find no segment",
+        Refusal::NotObject => "the segment found is no object",
+        Refusal::NoDefinition => "the object found does not define the symbol",
+        Refusal::NoProcess => "there is no such process",
+        Refusal::MailFull => "64 messages wait for it already",
+        Refusal::Ended => "the process has ended",
+    }
+}
+
+// Whose access the request would need: at the root that of nobody.
+fn access_words(request: &Request) -> &'static str {
+    match request {
+        Request::Rename { path, .. } | Request::Delete { path } if is_root(path) =>
+            "the root is neither renamed nor deleted",
+        _ => "the caller's access in this ring does not allow it",
+    }
+}
+
+// What has the name already.
+fn name_words(request: &Request) -> &'static str {
+    match request {
+        Request::Initiate { .. } => "the reference name stands for another segment in this ring",
+        Request::CreateDir { path, .. }
+        | Request::CreateSeg { path, .. }
+        | Request::CreateObject { path, .. }
+        | Request::CreateLink { path, .. }
+            if is_root(path) => "this is the root",
+        Request::Rename { path, name } if is_last(path.bytes(), name.bytes()) =>
+            "this is the name that it has",
+        _ => "the name stands there already",
+    }
+}
+
+// What is wrong with brackets: new ones alone where an entry is made, and those that an entry has where they are set.
+fn bracket_words(request: &Request) -> &'static str {
+    match request {
+        Request::SetBrackets { .. } | Request::SetDirBrackets { .. } =>
+            "the brackets are not in order, or the first one, old or new, is below the caller's ring",
+        _ => "the brackets are not in order, or the first one is below the caller's ring",
+    }
+}
+
+// Whether the pathname is written as the root's path. One that goes up to the root is not: where it leads hangs on the working directory.
+fn is_root(path: &Pathname) -> bool {
+    matches!(path.bytes(), [b'>'])
+}
+
+// Whether the last name of a pathname is this one.
+fn is_last(path: &[u8], name: &[u8]) -> bool {
+    match path.strip_suffix(name) {
+        Some([]) => true,
+        Some([.., mark]) => matches!(mark, b'>' | b'<'),
+        None => false,
+    }
+}

@@ -1,0 +1,223 @@
+//! Two tables: what each command comes to, and what each denial is explained by.
+
+use mx_explain::show;
+use mx_io::{MemorySink, MemorySource};
+use mx_sdw::{Brackets, Denial, Desc, Ring};
+use mx_show::{Reason, explain};
+use std::alloc::{AllocError, Global};
+use std::sync::Wait;
+use std::test::Fail;
+use std::thread::Threads;
+
+// A word and a text, whether the source fails at its first call, the room of the sink; and the status that comes, with what is
+// written.
+type Row = (&'static str, &'static [u8], bool, usize, u8, &'static str);
+
+const SMALLEST: &[u8] =
+    b"multics 1\ncreate_seg >a 64 1 4 4\nset_acl >a Jones.Faculty.a rw\nprocess Jones.Faculty.a\n\
+    initiate >a\nset 52\nsta 10|5\nlda 10|5\nlogout\nend\n";
+
+const SMALLEST_LINES: &str = "processes: 1; journal entries: 4\n\n\
+    setup: Initializer.SysDaemon.z in ring 0\n\
+    line 2: create_seg >a 64 1 4 4\n    entry 1 in ring 0: done\n\
+    line 3: set_acl >a Jones.Faculty.a rw\n    entry 2 in ring 0: done\n\n\
+    process 1: Jones.Faculty.a, from ring 4\n\
+    line 5: initiate >a\n    entry 3 in ring 4: segment number 10, known from now on\n\
+    \x20       process 1, segment 10: was no segment; is rw, brackets 1,4,4, 64 words\n\
+    line 6: set 52\n    A is 52\n\
+    line 7: sta 10|5\n    write 10|5 in ring 4 denied write_bracket: ring 4 is above R1 = 1\n\
+    \x20       at point 3: rw by Jones.Faculty.a, brackets 1,4,4, 64 words, since entry 3\n\
+    line 8: lda 10|5\n    read 10|5 in ring 4: 0, nobody has stored there\n\
+    \x20       at point 3: rw by Jones.Faculty.a, brackets 1,4,4, 64 words, since entry 3\n\
+    line 9: logout\n    entry 4 in ring 4: done\n";
+
+const ENDED: &str = "line 1: the text ends here; what may come is `multics 1`\n";
+
+const COMMANDS: &[Row] = &[
+    ("lint", SMALLEST, false, 4096, 0, "good\n"),
+    ("lines", SMALLEST, false, 4096, 0, SMALLEST_LINES),
+    ("lint", b"", false, 4096, 5, ENDED),
+    ("lines", b"", false, 4096, 5, ENDED),
+    ("picture", b"", false, 4096, 5, ENDED),
+    ("run", SMALLEST, false, 4096, 2, "bad words\n"),
+    ("lines", SMALLEST, true, 4096, 3, ""),
+    ("lint", SMALLEST, false, 3, 4, "goo"),
+    ("picture", SMALLEST, false, 4, 4, "<svg"),
+];
+
+#[test]
+fn each_status_has_its_cause(rt: HostRuntime) -> Result<(), Fail> {
+    let mut wrong = None;
+    for (i, row) in COMMANDS.iter().enumerate() {
+        if !comes_so(&rt, rt.alloc(), row)? {
+            wrong = Some(i);
+        }
+    }
+    assert_eq!(rt; wrong, None);
+    Ok(())
+}
+
+// Whether the command comes to the status and the bytes of its row.
+fn comes_so<R: Threads + Wait + Sync>(
+    rt: &R,
+    alloc: Global,
+    row: &Row,
+) -> Result<bool, AllocError> {
+    let (word, text, fails, room, wanted, told) = *row;
+    let words = [String::from_str(alloc, word)?];
+    let mut source = source(alloc, text, fails)?;
+    let mut sink = sink(alloc, room)?;
+    let status = show(rt, alloc, &words, &mut source, &mut sink);
+    Ok(status == wanted && sink.bytes() == told.as_bytes())
+}
+
+fn source(alloc: Global, text: &[u8], fails: bool) -> Result<MemorySource, AllocError> {
+    let mut faults = Vec::new(alloc);
+    if fails {
+        faults.push(0)?;
+    }
+    Ok(MemorySource::new(Vec::from_slice(alloc, text)?, faults, 100))
+}
+
+fn sink(alloc: Global, room: usize) -> Result<MemorySink, AllocError> {
+    MemorySink::new(alloc, room, Vec::new(alloc), 100).map_err(|_| AllocError)
+}
+
+// A descriptor's kind, a denial on it, the effective ring, the word, the current ring, and what is said of it.
+type Why = (Shape, Denial, u8, u16, u8, &'static str);
+
+#[derive(Clone, Copy)]
+enum Shape {
+    Unknown,
+    Gone,
+    // Brackets 1,3,5, no flag, 2 gates, 64 words.
+    Closed,
+}
+
+use Shape::{Closed, Gone, Unknown};
+
+const DENIALS: &[Why] = &[
+    (
+        Unknown,
+        Denial::UnknownSegment,
+        4,
+        0,
+        4,
+        "the number stands for no segment",
+    ),
+    (Unknown, Denial::NotPointer, 4, 0, 4, ""),
+    (Gone, Denial::NoSegment, 4, 0, 4, "the segment was deleted"),
+    (Gone, Denial::NotPointer, 4, 0, 4, ""),
+    (
+        Closed,
+        Denial::OutOfBounds,
+        4,
+        64,
+        4,
+        "word 100 is not below the bound 100 (octal)",
+    ),
+    (Closed, Denial::NotReadable, 1, 0, 1, "the flag r is off"),
+    (
+        Closed,
+        Denial::ReadBracket,
+        4,
+        0,
+        4,
+        "ring 4 is above R2 = 3",
+    ),
+    (Closed, Denial::NotWritable, 1, 0, 1, "the flag w is off"),
+    (
+        Closed,
+        Denial::WriteBracket,
+        4,
+        0,
+        4,
+        "ring 4 is above R1 = 1",
+    ),
+    (Closed, Denial::NotExecutable, 4, 0, 4, "the flag e is off"),
+    (
+        Closed,
+        Denial::ExecuteBracket,
+        4,
+        0,
+        4,
+        "ring 4 is above R2 = 3",
+    ),
+    (
+        Closed,
+        Denial::ExecuteBracket,
+        0,
+        0,
+        0,
+        "ring 0 is below R1 = 1",
+    ),
+    (
+        Closed,
+        Denial::CallBracket,
+        6,
+        0,
+        6,
+        "ring 6 is above R3 = 5",
+    ),
+    (
+        Closed,
+        Denial::UpwardCall,
+        0,
+        0,
+        0,
+        "ring 0 is below R1 = 1",
+    ),
+    (
+        Closed,
+        Denial::Gate,
+        5,
+        2,
+        5,
+        "word 2 is no gate: they are below 2 (octal)",
+    ),
+    (
+        Closed,
+        Denial::RaisedRing,
+        3,
+        0,
+        2,
+        "it would enter ring 3, above the current ring 2",
+    ),
+    (Closed, Denial::BadReturn, 4, 0, 4, "ring 4 is above R2 = 3"),
+];
+
+#[test]
+fn each_denial_is_explained(rt: HostRuntime) -> Result<(), Fail> {
+    let mut wrong = None;
+    for (i, row) in DENIALS.iter().enumerate() {
+        if said(rt.alloc(), explained(row))?.as_str() != row.5 {
+            wrong = Some(i);
+        }
+    }
+    assert_eq!(rt; wrong, None);
+    Ok(())
+}
+
+// The reason of a row; none also where one of its numbers is no ring.
+fn explained(row: &Why) -> Option<Reason> {
+    let (shape, denial, ring, word, current, _) = *row;
+    explain(&desc_of(shape)?, denial, Ring::new(ring)?, word, current)
+}
+
+fn desc_of(shape: Shape) -> Option<Desc> {
+    match shape {
+        Unknown => Some(Desc::unknown()),
+        Gone => Some(Desc::gone()),
+        Closed => {
+            let brackets = Brackets::new(Ring::new(1)?, Ring::new(3)?, Ring::new(5)?)?;
+            Some(Desc::segment(brackets, false, false, false, 2, 8, 64))
+        }
+    }
+}
+
+fn said(alloc: Global, reason: Option<Reason>) -> Result<String, AllocError> {
+    match reason {
+        Some(reason) => format!(in alloc; "{reason}"),
+        None => Ok(String::new(alloc)),
+    }
+}
