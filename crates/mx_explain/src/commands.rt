@@ -9,9 +9,9 @@ ghost use Rattle.mx_explain.specs.Views.{word_of, ShowsOf, Tells, CutsOff, Tells
 
 use mx_io::{ReadError, Sink, Source, read_all, write_all};
 use mx_lint::{Diagnosis, Finding, lint};
+use mx_picture::show_picture;
 use mx_proc::{NoGate, run};
 use mx_script::Session;
-use mx_picture::show_picture;
 use mx_show::{ShowError, show_lines};
 use std::alloc::Global;
 use std::sync::Wait;

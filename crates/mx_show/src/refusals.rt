@@ -36,11 +36,19 @@ pub(crate) fn refusal_words(refusal: Refusal, request: &Request) -> &'static str
     }
 }
 
-// Whose access the request would need: at the root that of nobody.
+// What the caller may not do: at the root that is what nobody may.
 fn access_words(request: &Request) -> &'static str {
     match request {
-        Request::Rename { path, .. } | Request::Delete { path } if is_root(path) =>
-            "the root is neither renamed nor deleted",
+        Request::Rename { path, .. } | Request::Delete { path } => removal_words(path.bytes()),
+        _ => "the caller's access in this ring does not allow it",
+    }
+}
+
+// The same of what renames or deletes. A pathname that goes up alone may lead to the root: that hangs on the working directory.
+fn removal_words(path: &[u8]) -> &'static str {
+    match path {
+        [b'>'] => "the root is neither renamed nor deleted",
+        [.., b'<'] => "the caller's access in this ring does not allow it, or this is the root",
         _ => "the caller's access in this ring does not allow it",
     }
 }
@@ -69,7 +77,7 @@ fn bracket_words(request: &Request) -> &'static str {
     }
 }
 
-// Whether the pathname is written as the root's path. One that goes up to the root is not: where it leads hangs on the working directory.
+// Whether the pathname is written as the root's path.
 fn is_root(path: &Pathname) -> bool {
     matches!(path.bytes(), [b'>'])
 }
