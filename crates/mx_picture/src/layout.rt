@@ -69,7 +69,7 @@ pub(crate) struct Layout {
     pub(crate) columns: Vec<u32>,
     pub(crate) placed: Vec<Placed>,
     pub(crate) width: u32,
-    pub(crate) lanes: usize,
+    pub(crate) lanes: u8,
 }
 
 impl Layout {
@@ -85,7 +85,7 @@ impl Layout {
         ensures { IfOk result (λ layout. layout.lanes ≤ 6) }
     {
         let entries = entries.min(MOST_ENTRIES);
-        let lanes = processes.min(MOST_PROCESSES);
+        let lanes = processes.min(MOST_PROCESSES) as u8;
         let mut columns = Vec::with_capacity(alloc, MOST_ENTRIES + 1)?;
         let mut placed = Vec::new(alloc);
         let mut rest = accesses.judged.as_slice();
@@ -119,7 +119,7 @@ impl Layout {
 
     /// Where they end below.
     pub(crate) fn bottom(&self) -> u32 {
-        LANES.saturating_add((self.lanes as u32).saturating_mul(LANE_STEP))
+        LANES + LANE_STEP * u32::from(self.lanes)
     }
 }
 
@@ -139,17 +139,16 @@ fn hanging(references: &[Judged], point: usize) -> usize
 fn place(
     hung: &[Judged],
     behind: u32,
-    lanes: usize,
+    lanes: u8,
     placed: &mut Vec<Placed>,
 ) -> Result<u32, AllocError> {
     let mut counts = [0u32; 16];
     let mut most = 0;
     for judged in hung {
-        let process = usize::from(judged.process);
-        if process > lanes || placed.len() >= MOST_REFERENCES {
+        if judged.process > lanes || placed.len() >= MOST_REFERENCES {
             continue;
         }
-        if let Some(count) = counts.get_mut(process) {
+        if let Some(count) = counts.get_mut(usize::from(judged.process)) {
             let x = behind.saturating_add(count.saturating_mul(BOX_STEP));
             placed.push(Placed { judged: *judged, x })?;
             *count = count.saturating_add(1);
@@ -161,7 +160,7 @@ fn place(
 
 /// The top of the lane of a process, from 1.
 pub(crate) fn lane_top(process: u8) -> u32 {
-    LANES.saturating_add(u32::from(process.saturating_sub(1)).saturating_mul(LANE_STEP))
+    LANES + LANE_STEP * u32::from(process.saturating_sub(1))
 }
 
 /// The store that a reference at this place stands for, where it is a read and the store is drawn: the last one of its writer in

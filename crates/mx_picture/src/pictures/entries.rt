@@ -52,8 +52,8 @@ pub(super) fn add_entries(
 }
 
 // Adds the line from an entry to the lane of the process that made it.
-fn add_call(out: &mut String, process: u8, at: Position, lanes: usize) -> Result<(), AllocError> {
-    if process < 1 || usize::from(process) > lanes {
+fn add_call(out: &mut String, process: u8, at: Position, lanes: u8) -> Result<(), AllocError> {
+    if process < 1 || process > lanes {
         return Ok(());
     }
     let to = Position::new(at.x, lane_top(process));
@@ -134,7 +134,7 @@ pub(super) fn add_change_lines(
         let Some(at) = layout.entry(changed.entry) else {
             break;
         };
-        if usize::from(changed.process) <= layout.lanes {
+        if changed.process <= layout.lanes {
             add_change_line(out, changed, at)?;
         }
     }
@@ -153,11 +153,10 @@ pub(super) fn add_tags(
         let Some(at) = layout.entry(changed.entry) else {
             break;
         };
-        let process = usize::from(changed.process);
-        if process > layout.lanes {
+        if changed.process > layout.lanes {
             continue;
         }
-        if let Some(level) = levels.get_mut(process) {
+        if let Some(level) = levels.get_mut(usize::from(changed.process)) {
             add_tag(alloc, out, changed, at.x, *level % 3)?;
             *level = (*level % 3) + 1;
         }

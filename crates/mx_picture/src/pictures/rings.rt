@@ -17,7 +17,12 @@ pub(super) fn add_lanes(
     layout: &Layout,
 ) -> Result<(), AllocError> {
     let mut process = 0u8;
-    for principal in session.principals().items().iter().take(layout.lanes) {
+    for principal in session
+        .principals()
+        .items()
+        .iter()
+        .take(usize::from(layout.lanes))
+    {
         process = process.saturating_add(1);
         add_name(alloc, out, process, principal)?;
         add_bands(out, layout, process)?;
