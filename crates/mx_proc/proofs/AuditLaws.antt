@@ -1,6 +1,6 @@
 -- What the auditors of a bench were told, as its processes make steps.
 use Rattle.std.proofs.Common.{◌≡◌, ℕ, zero, suc, ◌<◌, ◌≤◌, ◌+◌, ◌-◌, List, [], ◌∷◌, ◌++◌, map, take, drop, length, get_or, Option, Some, None, refl, sym, ◌∙◌, ap, subst, arith, append-nil}
-use Rattle.std.specs.List.{slice_get, slice_set, filter_map}
+use Rattle.std.specs.List.{slice_get, slice_set}
 use Rattle.mx_audit.proofs.AccountLaws.{with_both, with_none}
 use Rattle.mx_audit.specs.Accounts.{Account, with_denials, with_all, HaveGrown, HaveRoomFor}
 use Rattle.mx_legal.proofs.DenialLaws.{last_of, denials_append, few_denials}
@@ -10,16 +10,16 @@ use Rattle.mx_legal.specs.Transcripts.{Step}
 use Rattle.mx_script.specs.Sessions.{Outline}
 use Rattle.mx_script.specs.declared.lines.Line.{Line}
 use Rattle.mx_sdw.specs.declared.denials.Denial.{Denial}
-use Rattle.mx_proc.proofs.BenchLaws.{map_get, map_set, set_same}
-use Rattle.mx_proc.proofs.BoundLaws.{fewer_done}
-use Rattle.mx_proc.proofs.SeatLaws.{set_here}
+use Rattle.mx_bench.proofs.BenchLaws.{map_get, map_set, set_same}
+use Rattle.mx_bench.proofs.BoundLaws.{fewer_done}
+use Rattle.mx_line.proofs.SeatLaws.{set_here}
 use Rattle.mx_proc.specs.Auditors.{WereTold, HaveRoomForLines}
-use Rattle.mx_proc.specs.Auditing.{AreTold, IsAudited, IsLastDenial, HasRoomAt, denied_in, with_more}
-use Rattle.mx_proc.specs.Running.{left_of}
-use Rattle.mx_proc.specs.Stepping.{IsOpening, IsSeat, HasMoved, HasStepped}
-use Rattle.mx_proc.specs.Worlds.{Seat, World, steps_in, transcripts_of}
-use Rattle.mx_proc.specs.declared.benches.Stepped.{Stepped}
-use Rattle.mx_proc.specs.declared.benches.Stepped.TheVariants.{More, LineDone, Ended, Waits}
+use Rattle.mx_proc.specs.Auditing.{AreTold, IsAudited, HasRoomAt, denied_in, with_more}
+use Rattle.mx_bench.specs.Stepping.{IsLastDenial, IsOpening, HasMoved, HasStepped}
+use Rattle.mx_line.specs.Seats.{Seat, steps_in}
+use Rattle.mx_bench.specs.Worlds.{World, transcripts_of}
+use Rattle.mx_line.specs.declared.steps.Stepped.{Stepped}
+use Rattle.mx_line.specs.declared.steps.Stepped.TheVariants.{More, LineDone, Ended, Waits}
 
 -- a line's denial as a list
 abbrev pub list_of : Option (ℕ × Denial) → List (ℕ × Denial)

@@ -18,10 +18,11 @@ use Rattle.mx_state.specs.Requests.{plain}
 use Rattle.mx_state.specs.Waiting.{does, does_after, IsAwake}
 use Rattle.mx_state.specs.declared.journal.Entry as journaled
 use Rattle.mx_proc.specs.Rounds.{HaveStoppedUpTo}
-use Rattle.mx_proc.specs.Running.{IsRunning, left_of}
-use Rattle.mx_proc.specs.Standing.{AreStanding}
-use Rattle.mx_proc.specs.Stepping.{IsWaiting, HaveEnded, state_in}
-use Rattle.mx_proc.specs.Worlds.{Seat, World}
+use Rattle.mx_bench.specs.Running.{IsRunning, left_of}
+use Rattle.mx_bench.specs.Standing.{AreStanding}
+use Rattle.mx_bench.specs.Stepping.{IsWaiting, HaveEnded, state_in}
+use Rattle.mx_line.specs.Seats.{Seat}
+use Rattle.mx_bench.specs.Worlds.{World}
 
 -- the mail has as many processes as the session
 one_entry : (s : Plain) (entry : journaled.Entry) → IsRightEntry s entry

@@ -3,13 +3,14 @@ use Rattle.std.proofs.Common.{◌≡◌, ◌⊎◌, inl, inr, ℕ, ◌<◌, ◌�
 use Rattle.std.proofs.lemmas.Bool.{cases_lt}
 use Rattle.std.specs.List.{slice_get}
 use Rattle.mx_script.specs.Sessions.{Outline}
-use Rattle.mx_proc.proofs.SeatLaws.{set_here}
-use Rattle.mx_proc.specs.Asking.{IsTold}
+use Rattle.mx_line.proofs.SeatLaws.{set_here}
+use Rattle.mx_bench.specs.Asking.{IsTold}
 use Rattle.mx_proc.specs.Ending.{WasSeenEnded, WereSeenEnded}
-use Rattle.mx_proc.specs.Running.{IsRunning}
-use Rattle.mx_proc.specs.Stepping.{HasStepped, HasEnded}
-use Rattle.mx_proc.specs.Worlds.{Seat, World}
-use Rattle.mx_proc.specs.declared.operands.Progress.TheVariants.{Before, Waiting}
+use Rattle.mx_bench.specs.Running.{IsRunning}
+use Rattle.mx_bench.specs.Stepping.{HasStepped, HasEnded}
+use Rattle.mx_line.specs.Seats.{Seat}
+use Rattle.mx_bench.specs.Worlds.{World}
+use Rattle.mx_line.specs.declared.operands.Progress.TheVariants.{Before, Waiting}
 
 pub seen_one : (x : Outline) (w : World) (p : ℕ) → w.session ≡ x → IsRunning w → HasEnded w p → WereSeenEnded x p p
 seen_one x w p same running ended q low high =

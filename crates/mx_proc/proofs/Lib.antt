@@ -1,24 +1,4 @@
-pub mod RaisedLaws
-pub mod SeatLaws
-pub mod CellLaws
-pub mod FillLaws
-pub mod PlaceLaws
-pub mod WorldLaws
-pub mod StandingLaws
-pub mod MadeLaws
-pub mod OperandLaws
-pub mod BenchLaws
-pub mod KindLaws
-pub mod OpeningLaws
-pub mod FinishLaws
 pub mod AwakeLaws
 pub mod RoundLaws
-pub mod ProcessLaws
-pub mod NextLaws
-pub mod BoundLaws
-pub mod AskingLaws
-pub mod StepLaws
-pub mod SeenLaws
-pub mod NumberLaws
 pub mod EndLaws
 mod AuditLaws

@@ -7,17 +7,18 @@ use Rattle.mx_legal.specs.Transcripts.{Step}
 use Rattle.mx_script.specs.Sessions.{Outline, limit_of}
 use Rattle.mx_state.specs.declared.journal.Entry as journaled
 use Rattle.mx_script.specs.declared.lines.Line.{Line}
-use Rattle.mx_proc.proofs.SeatLaws.{set_length, left_more}
-use Rattle.mx_proc.specs.Operands.{steps_in}
+use Rattle.mx_line.proofs.SeatLaws.{set_length, left_more}
+use Rattle.mx_line.specs.Operands.{steps_in}
 use Rattle.mx_proc.proofs.AwakeLaws.{not_all_wait}
 use Rattle.mx_proc.specs.Rounds.{steps_of, steps_left, all_left, HaveStoppedUpTo, IsAsked}
-use Rattle.mx_proc.specs.Running.{left_of, IsRunning}
-use Rattle.mx_proc.specs.Standing.{AreStanding}
-use Rattle.mx_proc.specs.Stepping.{IsWaiting, HasMoved, HasStepped, HasEnded, HaveEnded}
-use Rattle.mx_proc.specs.Worlds.{Seat, World}
-use Rattle.mx_proc.specs.declared.benches.Stepped.{Stepped}
-use Rattle.mx_proc.specs.declared.benches.Stepped.TheVariants.{More, LineDone, Waits, Ended}
-use Rattle.mx_proc.specs.declared.operands.Progress.{Progress}
+use Rattle.mx_bench.specs.Running.{left_of, IsRunning}
+use Rattle.mx_bench.specs.Standing.{AreStanding}
+use Rattle.mx_bench.specs.Stepping.{IsWaiting, HasMoved, HasStepped, HasEnded, HaveEnded}
+use Rattle.mx_line.specs.Seats.{Seat}
+use Rattle.mx_bench.specs.Worlds.{World}
+use Rattle.mx_line.specs.declared.steps.Stepped.{Stepped}
+use Rattle.mx_line.specs.declared.steps.Stepped.TheVariants.{More, LineDone, Waits, Ended}
+use Rattle.mx_line.specs.declared.operands.Progress.{Progress}
 
 -- fewer steps of one process
 fewer : (x : Outline) (p : ℕ) (seats : List Seat) (i : ℕ) (before after : Seat) → slice_get seats i ≡ Some before

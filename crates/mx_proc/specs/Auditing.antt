@@ -1,12 +1,12 @@
 -- Helpers: what the auditors of a bench were told so far, and the one that is told next.
-use Rattle.std.specs.Prelude.{◌≡◌, ℕ, zero, suc, ◌≤◌, List, [], ◌∷◌, Option, Some, map, slice_get}
+use Rattle.std.specs.Prelude.{◌≡◌, ℕ, zero, suc, ◌≤◌, List, [], ◌∷◌, Some, map, slice_get}
 use Rattle.mx_audit.specs.Accounts.{Account, with_denials, with_all}
-use Rattle.mx_legal.specs.Denials.{denials, last_denial}
+use Rattle.mx_legal.specs.Denials.{denials}
 use Rattle.mx_script.specs.Sessions.{Outline}
 use Rattle.mx_sdw.specs.declared.denials.Denial.{Denial}
 use Rattle.mx_proc.specs.Auditors.{HaveRoomForLines}
-use Rattle.mx_proc.specs.Stepping.{IsSeat}
-use Rattle.mx_proc.specs.Worlds.{Seat, World, steps_in}
+use Rattle.mx_line.specs.Seats.{Seat, steps_in}
+use Rattle.mx_bench.specs.Worlds.{World}
 
 -- what each process was denied so far, and that its auditor was told of it
 abbrev pub denied_in : List Seat → List (List (ℕ × Denial))
@@ -25,10 +25,6 @@ pub record IsAudited (x : Outline) (before : List Account) (w : World) (accounts
   pub session : w.session ≡ x
   pub told : AreTold before w.seats accounts
   pub room : HaveRoomForLines x before
-
--- the denial of the last line that process p has done, with the line's number, if that line was denied
-abbrev pub IsLastDenial : World → ℕ → Option (ℕ × Denial) → Type 0
-IsLastDenial w p told = (seat : Seat) → IsSeat w p seat → told ≡ last_denial seat.steps
 
 -- one auditor, where it is there, is told of these denials more
 abbrev pub with_more : List Account → ℕ → List (ℕ × Denial) → List Account

@@ -1,9 +1,9 @@
 -- What is known of a process that was seen at its end.
 use Rattle.std.specs.Prelude.{◌≡◌, ℕ, ◌≤◌}
 use Rattle.mx_script.specs.Sessions.{Outline}
-use Rattle.mx_proc.specs.Running.{IsRunning}
-use Rattle.mx_proc.specs.Stepping.{HasEnded}
-use Rattle.mx_proc.specs.Worlds.{World}
+use Rattle.mx_bench.specs.Running.{IsRunning}
+use Rattle.mx_bench.specs.Stepping.{HasEnded}
+use Rattle.mx_bench.specs.Worlds.{World}
 
 -- processes with numbers one behind the other
 pub record Span : Type 0 where

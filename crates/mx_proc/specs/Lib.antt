@@ -1,17 +1,8 @@
 -- what auditors are told
 pub mod Auditors
--- the processes on a bench, and helpers
-pub mod Fills
-pub mod Operands
-pub mod Worlds
-pub mod Running
-pub mod Access
-pub mod Processes
-pub mod Making
-pub mod Benches
-pub mod Stepping
-pub mod Standing
-pub mod Asking
+-- a bench: passed on
+pub use Rattle.mx_bench.specs.Stepping
+-- rounds of steps, who was seen at its end, and what auditors were told so far
 pub mod Rounds
 pub mod Ending
 pub mod Auditing

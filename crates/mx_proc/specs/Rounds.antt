@@ -1,10 +1,11 @@
 -- Helpers: how many steps are left on a bench, at most, and what a round of steps does.
 use Rattle.std.specs.Prelude.{◌≡◌, ◌⊎◌, ℕ, suc, ◌+◌, ◌-◌, ◌*◌, ◌<◌, List, [], ◌∷◌, length, Some, slice_get}
 use Rattle.mx_script.specs.Sessions.{Outline, limit_of}
-use Rattle.mx_proc.specs.Operands.{steps_in}
-use Rattle.mx_proc.specs.Running.{left_of}
-use Rattle.mx_proc.specs.Stepping.{IsWaiting}
-use Rattle.mx_proc.specs.Worlds.{Seat, World}
+use Rattle.mx_line.specs.Operands.{steps_in}
+use Rattle.mx_bench.specs.Running.{left_of}
+use Rattle.mx_bench.specs.Stepping.{IsWaiting}
+use Rattle.mx_line.specs.Seats.{Seat}
+use Rattle.mx_bench.specs.Worlds.{World}
 
 -- the steps that are left to a process before its next entry, at most: eleven a line, but for those made of the line at
 -- work
@@ -19,14 +20,6 @@ steps_left x p (seat ∷ seats) = steps_of x p seat + steps_left x (suc p) seats
 -- an entry makes the line at work at most so many steps longer
 abbrev pub all_left : World → ℕ
 all_left w = 1200 * (limit_of w.session - length w.journal) + steps_left w.session 1 w.seats
-
--- a process, counted from 0, has no line left
-abbrev pub HasNone : World → ℕ → Type 0
-HasNone w i = (seat : Seat) → slice_get w.seats i ≡ Some seat → left_of w.session (suc i) seat ≡ []
-
--- these first processes have no line left
-abbrev pub HaveEndedUpTo : World → ℕ → Type 0
-HaveEndedUpTo w count = (i : ℕ) (seat : Seat) → i < count → slice_get w.seats i ≡ Some seat → left_of w.session (suc i) seat ≡ []
 
 -- these first processes have no line left, or wait
 abbrev pub HaveStoppedUpTo : World → ℕ → Type 0

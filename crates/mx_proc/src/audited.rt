@@ -6,12 +6,12 @@ ghost use Rattle.mx_legal.specs.Legal.{IsLegal, HasGatedFalls, HasSoundRegisters
 ghost use Rattle.mx_proc.specs.Auditing.{HasRoomAt, with_more};
 ghost use Rattle.mx_proc.specs.Auditors.{WereTold, HaveRoomForLines};
 ghost use Rattle.mx_proc.specs.Rounds.{all_left};
-ghost use Rattle.mx_proc.specs.Stepping.{IsOpening, IsWaiting, HasMoved, HasStepped, HasEnded, HaveEnded};
-ghost use Rattle.mx_proc.specs.declared.benches.Stepped.TheVariants.{More, Ended, LineDone, Waits};
+ghost use Rattle.mx_bench.specs.Stepping.{IsOpening, IsWaiting, HasMoved, HasStepped, HasEnded, HaveEnded};
+ghost use Rattle.mx_line.specs.declared.steps.Stepped.TheVariants.{More, Ended, LineDone, Waits};
 
-use crate::benches::{Bench, Stepped};
 use crate::naming::Naming;
 use mx_audit::{Auditor, Verdict};
+use mx_bench::{Bench, Stepped};
 use mx_legal::Transcripts;
 use mx_sdw::Denial;
 use mx_state::Journal;

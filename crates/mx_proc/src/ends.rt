@@ -1,10 +1,10 @@
 //! What shows that processes were seen at their end.
 
 ghost use Rattle.std.specs.Prelude.{◌≡◌, ◌+◌, length};
-ghost use Rattle.mx_proc.specs.Stepping.{HasEnded};
+ghost use Rattle.mx_bench.specs.Stepping.{HasEnded};
 
-use crate::benches::Bench;
 use crate::naming::Naming;
+use mx_bench::Bench;
 use std::marker::{Model, PhantomData};
 
 /// Shows that each process from the first to the last was seen with no line left, on a bench of the session that `B` names.

@@ -3,17 +3,17 @@
 ghost use Rattle.std.specs.Prelude.{◌≡◌, ◌≤◌, true, Ok, IfOk, IfSome, IsNone, OnErr, IsErr, ℕ, Option, map, length};
 ghost use Rattle.mx_audit.specs.Accounts.{HaveGrown};
 ghost use Rattle.mx_proc.specs.Ending.{Span};
-ghost use Rattle.mx_proc.specs.Stepping.{IsNumbered, IsWaiting, HasMoved, HasStepped, HasEnded};
+ghost use Rattle.mx_bench.specs.Stepping.{IsNumbered, IsWaiting, HasMoved, HasStepped, HasEnded};
 ghost use Rattle.mx_proc.specs.declared.turns.Turn.TheVariants as turns;
 ghost use Rattle.mx_proc.specs.declared.turns.Came.TheVariants as came;
 
 use crate::audited::AuditedBench;
-use crate::benches::Stepped;
 use crate::ends::{AllEnds, Ends};
 use crate::gates::Gate;
 use crate::naming::Naming;
 use crate::turns::{Came, Turn};
 use mx_audit::Auditor;
+use mx_bench::Stepped;
 use std::alloc::{AllocError, Global};
 use std::sync::{Condvar, Mutex, Wait};
 

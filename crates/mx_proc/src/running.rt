@@ -6,12 +6,12 @@ ghost use Rattle.mx_legal.specs.Legal.{IsLegal, HasGatedFalls, HasSoundRegisters
 ghost use Rattle.mx_proc.specs.Auditors.{WereTold, HaveRoomForLines};
 
 use crate::audited::AuditedBench;
-use crate::benches::Bench;
 use crate::ends::{AllEnds, Ends};
 use crate::gates::Gate;
 use crate::halls::Hall;
 use crate::naming::Naming;
 use mx_audit::Auditor;
+use mx_bench::Bench;
 use mx_legal::Transcripts;
 use mx_script::Session;
 use mx_state::Journal;

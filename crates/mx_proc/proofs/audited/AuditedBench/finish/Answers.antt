@@ -1,7 +1,7 @@
 use Rattle.std.proofs.Common.{subst, sym}
 use Rattle.mx_proc.proofs.AuditLaws.{told_last}
 use Rattle.mx_proc.specs.Auditing.{Audited}
-use Rattle.mx_proc.specs.Stepping.{HaveEnded}
+use Rattle.mx_bench.specs.Stepping.{HaveEnded}
 use Rattle.mx_proc.proofs.audited.AuditedBench.finish.Goals as goal
 
 pub finish-journal-requires : goal.finish-journal-requires

@@ -2,9 +2,9 @@ use Rattle.std.proofs.Common.{rules, ◌≡◌, ◌<◌, length, Ok, ap, subst}
 use Rattle.mx_proc.proofs.RoundLaws.{asked_on, round_less}
 use Rattle.mx_proc.specs.Auditing.{Audited}
 use Rattle.mx_proc.specs.Rounds.{IsAsked, all_left}
-use Rattle.mx_proc.specs.Running.{IsRunning}
-use Rattle.mx_proc.specs.Standing.{AreStanding}
-use Rattle.mx_proc.specs.Stepping.{HaveEnded}
+use Rattle.mx_bench.specs.Running.{IsRunning}
+use Rattle.mx_bench.specs.Standing.{AreStanding}
+use Rattle.mx_bench.specs.Stepping.{HaveEnded}
 use Rattle.mx_proc.proofs.audited.AuditedBench.round.Goals as goal
 
 pub loop-i-preserved : goal.loop-i-preserved

@@ -1,7 +1,7 @@
-use Rattle.std.proofs.Common.{◌≡◌, ◌-◌, ◌∙◌, List, Ok, Some, None, ap, map, subst, sym}
-use Rattle.mx_audit.specs.Accounts.{Account}
+use Rattle.std.proofs.Common.{◌≡◌, ◌-◌, ◌∙◌, List, Ok, Some, ap, map, subst, sym}
 use Rattle.mx_proc.proofs.AuditLaws.{audited_on, audited_done, audited_undenied, audited_room, list_of, take_front}
-use Rattle.mx_proc.specs.Auditing.{HasRoomAt, IsLastDenial, with_more}
+use Rattle.mx_proc.specs.Auditing.{HasRoomAt, with_more}
+use Rattle.mx_bench.specs.Stepping.{IsLastDenial}
 use Rattle.mx_proc.proofs.audited.AuditedBench.step.Goals as goal
 
 pub tell-requires : goal.tell-requires

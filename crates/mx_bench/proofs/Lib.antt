@@ -1,0 +1,12 @@
+pub mod WorldLaws
+pub mod StandingLaws
+pub mod BenchLaws
+pub mod KindLaws
+pub mod OpeningLaws
+pub mod FinishLaws
+pub mod NextLaws
+pub mod BoundLaws
+pub mod AskingLaws
+pub mod StepLaws
+pub mod SeenLaws
+pub mod NumberLaws

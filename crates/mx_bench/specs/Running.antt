@@ -1,0 +1,68 @@
+-- What is true of a bench, whatever has been stepped: all that a legal run asks, so far.
+use Rattle.std.specs.Prelude.{◌≡◌, ℕ, suc, List, [], ◌∷◌, drop, length, Some, slice_get}
+use Rattle.mx_call.specs.Registers.{Registers}
+use Rattle.mx_legal.specs.Courses.{Course, Attempt, Answer, Judged}
+use Rattle.mx_legal.specs.Scripts.{lines_of}
+use Rattle.mx_script.specs.Sessions.{Outline}
+use Rattle.mx_request.specs.declared.replies.Reply.TheVariants as reply
+use Rattle.mx_request.specs.declared.requests.Request.TheVariants.{Block}
+use Rattle.mx_script.specs.declared.lines.Line.{Line}
+use Rattle.mx_script.specs.declared.lines.Line.TheVariants.{Ask}
+use Rattle.mx_state.specs.declared.journal.Entry as journaled
+use Rattle.mx_ties.specs.Bench.{IsBench}
+use Rattle.mx_ties.specs.BenchGoing.{IsBenched}
+use Rattle.mx_ties.specs.Closed.{followed}
+use Rattle.mx_ties.specs.Ran.{HasRun, IsSetUp}
+use Rattle.mx_ties.specs.Views.{Marked, View}
+use Rattle.mx_line.specs.Fills.{IsFilling, IsAnew}
+use Rattle.mx_line.specs.Operands.{IsPlaced}
+use Rattle.mx_line.specs.Seats.{Seat}
+use Rattle.mx_bench.specs.Worlds.{World}
+use Rattle.mx_line.specs.Cells.{held_in, always}
+use Rattle.mx_line.specs.declared.operands.Progress.{Progress}
+use Rattle.mx_line.specs.declared.operands.Progress.TheVariants.{Before, Walking, AtLink, Waiting, Filling}
+
+-- since its last call a line has come so far: it is a `block`, and its process was told to wait; or a write is next that
+-- the reply asks for; or the line begins anew
+abbrev pub IsAnswered : Registers → Line → journaled.Entry → List Judged → Progress → Type 0
+IsAnswered g l entry filled Waiting =
+    (entry.reply ≡ reply.Waiting) × (entry.request ≡ Block) × (l ≡ Ask Block)
+IsAnswered g l entry filled (Filling fill) = IsFilling g l entry filled fill
+IsAnswered g l entry filled Before = IsAnew g l entry filled
+IsAnswered g l entry filled (Walking walk) = ⊥
+IsAnswered g l entry filled (AtLink place) = ⊥
+
+-- A line has done this, and has come so far: its attempt has seen what its operand asked for, or it has made a call.
+abbrev pub IsCome : Registers → Line → Course → Progress → Type 0
+IsCome g l (Attempt seen) progress = IsPlaced g l seen progress
+IsCome g l (Answer entry filled) progress = IsAnswered g l entry filled progress
+
+-- a line is at work: it has done this, and has come so far
+pub record IsAtWork (x : Outline) (setup : List journaled.Entry) (p : ℕ) (seat : Seat) (number : ℕ) (line : Line)
+    (left : List (ℕ × Line)) (v : View) : Type 0 where
+  pub course : Course
+  pub benched : IsBenched x setup p seat.steps number line left seat.registers seat.events course v
+  pub come : IsCome seat.registers line course seat.progress
+
+-- before these lines: the first of them is at work; where none is left, the process has run
+abbrev pub IsBefore : Outline → List journaled.Entry → ℕ → Seat → List (ℕ × Line) → View → Type 0
+IsBefore x setup p seat [] v = HasRun x setup p seat.steps v
+IsBefore x setup p seat (next ∷ left) v = IsAtWork x setup p seat next.0 next.1 left v
+
+-- the lines of process p that are left after those done
+abbrev pub left_of : Outline → ℕ → Seat → List (ℕ × Line)
+left_of x p seat = drop (length seat.steps) (lines_of x p)
+
+-- The journal is the setup's entries and then those of the processes. Each process has a view: its trace, its own front of
+-- the journal as it was when it last stepped, and its floor. By these views the run is closed so far, the cells hold what
+-- they should, and each process has run so far.
+pub record IsRunning (w : World) : Type 0 where
+  pub setup : List journaled.Entry
+  pub history : List Marked
+  pub views : ℕ → View
+  pub journal : w.journal ≡ followed setup history
+  pub bench : IsBench w.session setup history views always (held_in w.cells)
+  pub set_up : IsSetUp w.session setup w.set_up
+  pub count : length w.seats ≡ length w.session.principals
+  pub each : (i : ℕ) (seat : Seat) → slice_get w.seats i ≡ Some seat
+      → IsBefore w.session setup (suc i) seat (left_of w.session (suc i) seat) (views (suc i))

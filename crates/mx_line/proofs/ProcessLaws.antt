@@ -1,0 +1,215 @@
+-- One process of a list is changed in its place.
+use Rattle.std.proofs.Common.{◌≡◌, ◌⊎◌, inl, inr, ℕ, zero, suc, ◌<◌, ◌+◌, ◌^◌, Bool, IsTrue, IsFalse, List, [], ◌∷◌, ◌++◌, length, Option, Some, refl, sym, ◌∙◌, ap, subst, arith, length-append}
+use Rattle.std.specs.List.{slice_get, slice_set, slice_index_or}
+use Rattle.mx_call.specs.Registers.{Registers, ArePackable}
+use Rattle.mx_legal.specs.Denials.{last_denial}
+use Rattle.mx_legal.specs.Openings.{opening_registers}
+use Rattle.mx_legal.specs.Recorded.{Recorded, IsStill as IsStillRecorded}
+use Rattle.mx_legal.specs.Scripts.{first_line}
+use Rattle.mx_legal.specs.declared.transcripts.Event2.{Event2}
+use Rattle.mx_legal.specs.declared.transcripts.Result2.{Result2}
+use Rattle.mx_script.specs.Sessions.{Outline}
+use Rattle.mx_script.specs.declared.lines.Line.{Line}
+use Rattle.mx_script.specs.declared.lines.Operand.{Operand}
+use Rattle.mx_sdw.specs.declared.denials.Denial.{Denial}
+use Rattle.mx_line.proofs.SeatLaws.{set_here}
+use Rattle.mx_line.specs.Operands.{IsGoodProgress, AsksFor, IsGoodAsked, IsLed}
+use Rattle.mx_line.specs.Processes.{IsFresh, AreFreshUpTo, IsStill, HasRoom, IsCountable, IsGoodAt, IsLedAt, IsFed, HasAsked, HasFed, HasEnded, HasGoneOn, HasProgress, ReadsOperand, StoresNothing, HasFill, HasRegisters, HasLines, HasNumber, HasLastDenial, fill_of}
+use Rattle.mx_line.specs.declared.steps.Stepped.{Stepped}
+use Rattle.mx_line.specs.declared.fills.Fill.{Fill}
+use Rattle.mx_line.specs.declared.operands.Asked.{Asked}
+use Rattle.mx_line.specs.declared.operands.Place.{Place}
+use Rattle.mx_line.specs.declared.operands.Progress.{Progress}
+use Rattle.mx_line.specs.declared.operands.Progress.TheVariants.{Before, Waiting, Filling}
+use Rattle.mx_line.specs.declared.processes.Process.{Process}
+
+get_at : {A : Type 0} (xs : List A) (i : ℕ) (d : A) → i < length xs → slice_get xs i ≡ Some (slice_index_or xs i d)
+get_at [] i d h = absurd (omega (arith, h))
+get_at (x ∷ xs) zero d h = refl
+get_at (x ∷ xs) (suc i) d h = get_at xs i d (omega (arith, h))
+
+abbrev pub with_recording : Process → Recorded → Process
+with_recording p r = record { first = p.first; registers = p.registers; recording = r; progress = p.progress }
+
+pub reserved_still : (processes : List Process) (i : ℕ) (q : Process) (r : Recorded) → i < length processes
+    → IsStillRecorded (slice_index_or processes i q).recording r → IsStill processes i (slice_set processes i (with_recording (slice_index_or processes i q) r))
+reserved_still processes i q r h s = record {
+  before = slice_index_or processes i q;
+  at = get_at processes i q h;
+  after = with_recording (slice_index_or processes i q) r;
+  first = refl;
+  registers = refl;
+  steps = s.steps;
+  events = s.events;
+  progress = refl;
+  set = refl;
+}
+
+pub reserved_room : (processes : List Process) (i : ℕ) (q p : Process) → i < length processes → IsTrue p.recording.event_room → IsTrue p.recording.line_room
+    → HasRoom (slice_set processes i p) i
+reserved_room processes i q p h event line = record {
+  process = p;
+  at = set_here processes i (slice_index_or processes i q) p (get_at processes i q h);
+  event = event;
+  line = line;
+}
+
+-- the one that is read is the one that has room
+same_at : (processes : List Process) (i : ℕ) (q p : Process) → i < length processes → slice_get processes i ≡ Some p → p ≡ slice_index_or processes i q
+same_at processes i q p h at = one p (slice_index_or processes i q) (sym at ∙ get_at processes i q h)
+  where
+    one : (a b : Process) → Some a ≡ Some b → a ≡ b
+    one a b e = cc
+
+pub room_of : (processes : List Process) (i : ℕ) (q : Process) → i < length processes → HasRoom processes i
+    → IsTrue (slice_index_or processes i q).recording.event_room × IsTrue (slice_index_or processes i q).recording.line_room
+room_of processes i q h room =
+    let same = same_at processes i q room.process h room.at in
+    (subst (λ (p : Process). IsTrue p.recording.event_room) same room.event, subst (λ (p : Process). IsTrue p.recording.line_room) same room.line)
+
+pub number_of : (processes : List Process) (i : ℕ) (q : Process) → i < length processes → IsCountable processes i
+    → (slice_index_or processes i q).first + length (slice_index_or processes i q).recording.steps < 2 ^ 32
+number_of processes i q h c =
+    subst (λ (p : Process). p.first + length p.recording.steps < 2 ^ 32) (same_at processes i q c.process h c.at) c.number
+
+pub has_ended : (processes : List Process) (i : ℕ) (q p : Process) (events : List Event2) (ends : Result2) (registers : Registers)
+    → i < length processes → p.first ≡ (slice_index_or processes i q).first → p.registers ≡ registers
+    → p.recording.steps ≡ (slice_index_or processes i q).recording.steps
+    ++ ((slice_index_or processes i q).first + length (slice_index_or processes i q).recording.steps, (slice_index_or processes i q).recording.events ++ events, ends) ∷ []
+    → p.recording.events ≡ [] → p.progress ≡ Before → HasEnded processes i events ends registers (slice_set processes i p)
+has_ended processes i q p events ends registers h first done steps idle fresh = record {
+  before = slice_index_or processes i q;
+  at = get_at processes i q h;
+  after = p;
+  first = first;
+  done = done;
+  steps = steps;
+  idle = idle;
+  fresh = fresh;
+  set = refl;
+}
+
+-- it has gone on
+pub has_gone_on : (processes : List Process) (i : ℕ) (q p : Process) (event : Event2) (progress : Progress) → i < length processes
+    → p.first ≡ (slice_index_or processes i q).first → p.registers ≡ (slice_index_or processes i q).registers
+    → p.recording.steps ≡ (slice_index_or processes i q).recording.steps
+    → p.recording.events ≡ (slice_index_or processes i q).recording.events ++ event ∷ [] → p.progress ≡ progress
+    → HasGoneOn processes i (event ∷ []) progress (slice_set processes i p)
+has_gone_on processes i q p event progress h first registers steps more come = record {
+  before = slice_index_or processes i q;
+  at = get_at processes i q h;
+  after = p;
+  first = first;
+  registers = registers;
+  steps = steps;
+  more = more;
+  progress_is = come;
+  set = refl;
+}
+
+pub progress_of : (processes : List Process) (i : ℕ) (q : Process) (waits : Bool) → i < length processes
+    → (IsTrue waits → (slice_index_or processes i q).progress ≡ Waiting)
+    → (IsFalse waits → (slice_index_or processes i q).progress ≡ Waiting → ⊥) → HasProgress processes i waits
+progress_of processes i q waits h waited awake =
+    record { process = slice_index_or processes i q; at = get_at processes i q h; yes = waited; no = awake }
+
+pub fill_of_one : (processes : List Process) (i : ℕ) (q : Process) (found : Option Fill) → i < length processes
+    → found ≡ fill_of (slice_index_or processes i q).progress → HasFill processes i found
+fill_of_one processes i q found h e = record { process = slice_index_or processes i q; at = get_at processes i q h; fill = e }
+
+pub last_of_one : (processes : List Process) (i : ℕ) (q : Process) (found : Option (ℕ × Denial)) → i < length processes
+    → found ≡ last_denial (slice_index_or processes i q).recording.steps → HasLastDenial processes i found
+last_of_one processes i q found h e = record { process = slice_index_or processes i q; at = get_at processes i q h; last = e }
+
+pub stores_nothing_of : (processes : List Process) (i : ℕ) (q : Process) (it : Fill) → i < length processes → StoresNothing processes i
+    → (slice_index_or processes i q).progress ≡ Filling it → ⊥
+stores_nothing_of processes i q it h nothing = nothing (slice_index_or processes i q) it (get_at processes i q h)
+
+pub reads_of : (processes : List Process) (i : ℕ) (q : Process) → i < length processes → ReadsOperand processes i
+    → (slice_index_or processes i q).progress ≡ Waiting → ⊥
+reads_of processes i q h reads = reads (slice_index_or processes i q) (get_at processes i q h)
+
+pub registers_of : (processes : List Process) (i : ℕ) (q : Process) → i < length processes → HasRegisters processes i (slice_index_or processes i q).registers
+registers_of processes i q h = record { process = slice_index_or processes i q; at = get_at processes i q h; registers = refl }
+
+pub lines_of_one : (processes : List Process) (i n : ℕ) (q : Process) → i < length processes
+    → n ≡ length (slice_index_or processes i q).recording.steps → HasLines processes i n
+lines_of_one processes i n q h e = record { process = slice_index_or processes i q; at = get_at processes i q h; lines = e }
+
+pub number_of_one : (processes : List Process) (i n : ℕ) (q : Process) → i < length processes
+    → n ≡ (slice_index_or processes i q).first + length (slice_index_or processes i q).recording.steps → HasNumber processes i n
+number_of_one processes i n q h e = record { process = slice_index_or processes i q; at = get_at processes i q h; number = e }
+
+-- what is good, asked and led of the one that is read
+pub good_of : (processes : List Process) (i : ℕ) (q : Process) → i < length processes → IsGoodAt processes i
+    → ArePackable (slice_index_or processes i q).registers
+    × IsGoodProgress (slice_index_or processes i q).registers (slice_index_or processes i q).progress
+good_of processes i q h good =
+    let same = same_at processes i q good.process h good.at in (
+      subst (λ (p : Process). ArePackable p.registers) same good.packable,
+      subst (λ (p : Process). IsGoodProgress p.registers p.progress) same good.progress,
+    )
+
+pub led_of : (processes : List Process) (i : ℕ) (q : Process) (o : Operand) (place : Place) → i < length processes → IsLedAt processes i o place
+    → IsLed (slice_index_or processes i q).registers o (slice_index_or processes i q).progress place
+led_of processes i q o place h led =
+    subst (λ (p : Process). IsLed p.registers o p.progress place) (same_at processes i q led.process h led.at) led.led
+
+pub has_asked : (processes : List Process) (i : ℕ) (q : Process) (o : Operand) (asked : Asked) → i < length processes
+    → AsksFor (slice_index_or processes i q).registers o (slice_index_or processes i q).progress asked
+    → IsGoodAsked (slice_index_or processes i q).registers asked → HasAsked processes i o asked
+has_asked processes i q o asked h asks good = record {
+  process = slice_index_or processes i q;
+  at = get_at processes i q h;
+  asks = asks;
+  good = good;
+}
+
+pub has_fed : (processes : List Process) (i : ℕ) (q p : Process) (l : Line) (o : Operand) (value r1 : ℕ) (event : Event2) (stepped : Stepped)
+    → i < length processes → IsFed (slice_index_or processes i q) l o value r1 event p stepped
+    → HasFed processes i l o value r1 event (slice_set processes i p) stepped
+has_fed processes i q p l o value r1 event stepped h fed = record {
+  before = slice_index_or processes i q;
+  at = get_at processes i q h;
+  after = p;
+  fed = fed;
+  set = refl;
+}
+
+-- processes before their first lines, one after another
+place_in : (processes : List Process) (p found : Process) (i : ℕ) → slice_get (processes ++ p ∷ []) i ≡ Some found
+    → (slice_get processes i ≡ Some found) ⊎ ((i ≡ length processes) × (p ≡ found))
+place_in [] p found zero e = inr (refl, cc)
+place_in [] p found (suc i) e = absurd (cc)
+place_in (q ∷ processes) p found zero e = inl e
+place_in (q ∷ processes) p found (suc i) e = elim (place_in processes p found i e) [
+  | inl old ↦ inl old
+  | inr new ↦ inr (ap suc new.0, new.1)
+]
+
+pub fresh_more : (x : Outline) (count : ℕ) (processes processes' : List Process) (p : Process) → AreFreshUpTo x count processes
+    → p.first ≡ first_line x (count + 1) → p.registers ≡ opening_registers 1 → ArePackable p.registers → p.recording.steps ≡ []
+    → p.recording.events ≡ [] → p.progress ≡ Before → processes' ≡ processes ++ p ∷ [] → AreFreshUpTo x (count + 1) processes'
+fresh_more x count processes processes' p f first registers packable steps events progress more = record {
+  count = ap length more ∙ length-append processes (p ∷ []) ∙ ap (λ n. n + 1) f.count;
+  each = λ i found e. elim (place_in processes p found i (ap (λ (l : List Process). slice_get l i) (sym more) ∙ e)) [
+    | inl old ↦ f.each i found old
+    | inr new ↦ subst (λ (q : Process). IsFresh x i q) new.1 (fresh i (new.0 ∙ f.count))
+  ];
+}
+  where
+    next : (n : ℕ) → n + 1 ≡ suc n
+    next n = omega arith
+
+    fresh : (i : ℕ) → i ≡ count → IsFresh x i p
+    fresh i e = record {
+      good = record {
+        first = first ∙ ap (first_line x) (next count ∙ ap suc (sym e));
+        packable = packable;
+        progress = subst (IsGoodProgress p.registers) (sym progress) tt;
+      };
+      registers = registers;
+      steps = steps;
+      events = events;
+      progress = progress;
+    }

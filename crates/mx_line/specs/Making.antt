@@ -1,0 +1,105 @@
+-- Helpers: a reference that was made at a target, on a descriptor and at a point.
+use Rattle.std.specs.Prelude.{◌≡◌, ℕ, List, length, None, Result, Ok, Err}
+use Rattle.mx_call.specs.Registers.{Registers}
+use Rattle.mx_core.specs.declared.elements.Element.{Element}
+use Rattle.mx_core.specs.declared.elements.Kind.{Kind}
+use Rattle.mx_core.specs.declared.elements.Kind.TheVariants.{Ind}
+use Rattle.mx_core.specs.declared.elements.Outcome.{Outcome}
+use Rattle.mx_core.specs.declared.elements.Outcome.TheVariants.{Read, Entered, Denied}
+use Rattle.mx_legal.specs.Courses.{Judged}
+use Rattle.mx_legal.specs.Elements.{IsJudged}
+use Rattle.mx_legal.specs.Next.{Reference, Ends}
+use Rattle.mx_legal.specs.Targets.{after_target}
+use Rattle.mx_legal.specs.declared.transcripts.Result2.TheVariants as result
+use Rattle.mx_ptr.specs.Pointers.{PointerParts}
+use Rattle.mx_script.specs.declared.lines.Line.{Line}
+use Rattle.mx_script.specs.declared.lines.Line.TheVariants as lines
+use Rattle.mx_sdw.specs.Descriptors.{Descriptor}
+use Rattle.mx_sdw.specs.declared.denials.Denial.{Denial}
+use Rattle.mx_sdw.specs.declared.operations.Op.TheVariants as op
+use Rattle.mx_line.specs.Access.{IsAccess}
+use Rattle.mx_line.specs.declared.memory.Contents.{Contents}
+use Rattle.mx_line.specs.declared.operands.Place.{Place}
+use Rattle.mx_line.specs.declared.references.Looked.{Looked}
+use Rattle.mx_line.specs.declared.references.Made.{Made}
+
+-- a line makes a reference at its target that stores nothing
+abbrev pub IsReferring : Line → Type 0
+IsReferring (lines.Lda o) = Unit {0}
+IsReferring lines.Fetch = Unit {0}
+IsReferring (lines.Call o) = Unit {0}
+IsReferring (lines.Return o) = Unit {0}
+IsReferring _ = ⊥
+
+-- a line stores at its target
+abbrev pub IsStore : Line → Type 0
+IsStore (lines.Sta o) = Unit {0}
+IsStore (lines.Spri n o) = Unit {0}
+IsStore _ = ⊥
+
+abbrev pub element : Kind → PointerParts → ℕ → Outcome → Element
+element kind target point outcome = record {
+  kind = kind;
+  segno = target.segno;
+  word = target.word;
+  ring = target.ring;
+  point = point;
+  outcome = outcome;
+}
+
+abbrev pub moved : Kind → PointerParts → ℕ → Registers → Made
+moved kind target point after = record {
+  element = element kind target point (Entered after.ring);
+  ends = result.Moved after.ring after.procedure;
+  after = after;
+}
+
+abbrev pub denied : Kind → PointerParts → Registers → ℕ → Denial → Made
+denied kind target g point denial = record {
+  element = element kind target point (Denied denial);
+  ends = result.Denied denial;
+  after = g;
+}
+
+-- an indirect word
+abbrev pub indirect : Place → ℕ → Outcome → Element
+indirect place point outcome = record {
+  kind = Ind;
+  segno = place.segno;
+  word = place.word;
+  ring = place.ring;
+  point = point;
+  outcome = outcome;
+}
+
+abbrev pub looks : Place → Reference
+looks place = record { op = op.Indirect; segno = place.segno; word = place.word; ring = place.ring; stores = None }
+
+-- the word that was read, or the denial
+pub record HasRead (value : ℕ) (came : Outcome) : Type 0 where
+  pub writer : ℕ
+  pub stamp : ℕ
+  pub is : came ≡ Read value writer stamp
+
+abbrev pub HasCome : Result ℕ Denial → Outcome → Type 0
+HasCome (Ok value) came = HasRead value came
+HasCome (Err denial) came = came ≡ Denied denial
+
+pub record IsLooked (place : Place) (d : Descriptor) (p point : ℕ) (cells : List Contents) (l : Looked) : Type 0 where
+  pub judged : IsJudged (looks place) d l.element
+  pub segno : l.element.segno ≡ place.segno
+  pub point_is : l.element.point ≡ point
+  pub access : length cells ≡ 65536 → IsAccess cells cells p (record { element = l.element; desc = d })
+  pub came : HasCome l.came l.element.outcome
+
+abbrev pub beside : Made → Descriptor → Judged
+beside m d = record { element = m.element; desc = d }
+
+-- it is the reference that was asked for, judged on the descriptor; it did with the cells what it tells, and its line ends
+pub record IsMade (line : Line) (asked : Reference) (g : Registers) (d : Descriptor) (target : PointerParts) (p point : ℕ)
+    (cells cells' : List Contents) (m : Made) : Type 0 where
+  pub judged : IsJudged asked d m.element
+  pub segno : m.element.segno ≡ target.segno
+  pub point_is : m.element.point ≡ point
+  pub access : length cells ≡ 65536 → IsAccess cells cells' p (beside m d)
+  pub end : after_target g line target d m.element.outcome ≡ Ends m.ends m.after

@@ -1,0 +1,223 @@
+-- Helpers: the processes of a bench, and what is recorded of one as it goes on.
+use Rattle.std.specs.Prelude.{◌≡◌, ℕ, suc, ◌+◌, ◌-◌, ◌<◌, ◌^◌, Bool, IsTrue, IsFalse, List, [], ◌∷◌, ◌++◌, Option, Some, None, length, slice_get, slice_set}
+use Rattle.mx_call.specs.Registers.{Registers, ArePackable}
+use Rattle.mx_core.specs.declared.elements.Outcome.TheVariants.{Read}
+use Rattle.mx_effring.specs.Chains as chains
+use Rattle.mx_legal.specs.Courses.{Judged}
+use Rattle.mx_legal.specs.Denials.{last_denial}
+use Rattle.mx_legal.specs.Openings.{opening_registers}
+use Rattle.mx_legal.specs.Scripts.{first_line}
+use Rattle.mx_legal.specs.Standing.{IsWalked}
+use Rattle.mx_legal.specs.Transcripts.{Step}
+use Rattle.mx_legal.specs.declared.transcripts.Event2.{Event2}
+use Rattle.mx_legal.specs.declared.transcripts.Result2.{Result2}
+use Rattle.mx_script.specs.Sessions.{Outline}
+use Rattle.mx_script.specs.declared.lines.Line.{Line}
+use Rattle.mx_script.specs.declared.lines.Operand.{Operand}
+use Rattle.mx_sdw.specs.declared.denials.Denial.{Denial}
+use Rattle.mx_line.specs.Operands.{walk_at, IsGoodProgress, AsksFor, IsGoodAsked, IsLed, IsOnward, IsGoodOnward, IsCloser}
+use Rattle.mx_line.specs.Seats.{Seat}
+use Rattle.mx_line.specs.declared.steps.Stepped.{Stepped}
+use Rattle.mx_line.specs.declared.steps.Stepped.TheVariants as went
+use Rattle.mx_line.specs.declared.fills.Fill.{Fill}
+use Rattle.mx_line.specs.declared.operands.Asked.{Asked}
+use Rattle.mx_line.specs.declared.operands.Onward.{Onward}
+use Rattle.mx_line.specs.declared.operands.Onward.TheVariants.{More, End}
+use Rattle.mx_line.specs.declared.operands.Place.{Place}
+use Rattle.mx_line.specs.declared.operands.Progress.{Progress}
+use Rattle.mx_line.specs.declared.operands.Progress.TheVariants.{Before, Walking, AtLink, Waiting, Filling}
+use Rattle.mx_line.specs.declared.processes.Process.{Process}
+
+-- a process as contracts see it
+abbrev pub seat_in : Process → Seat
+seat_in p = record {
+  registers = p.registers;
+  steps = p.recording.steps;
+  events = p.recording.events;
+  progress = p.progress;
+}
+
+abbrev pub recorded_steps : Process → List Step
+recorded_steps p = p.recording.steps
+
+-- the next line's number is the first one's and the lines done; each pointer in the registers has a word, and a walk
+-- began at one
+pub record IsGood (x : Outline) (i : ℕ) (p : Process) : Type 0 where
+  pub first : p.first ≡ first_line x (suc i)
+  pub packable : ArePackable p.registers
+  pub progress : IsGoodProgress p.registers p.progress
+
+abbrev pub AreGood : Outline → List Process → Type 0
+AreGood x processes = (i : ℕ) (p : Process) → slice_get processes i ≡ Some p → IsGood x i p
+
+-- before its first line
+pub record IsFresh (x : Outline) (i : ℕ) (p : Process) : Type 0 where
+  pub good : IsGood x i p
+  pub registers : p.registers ≡ opening_registers (suc i)
+  pub steps : p.recording.steps ≡ []
+  pub events : p.recording.events ≡ []
+  pub progress : p.progress ≡ Before
+
+pub record AreFreshUpTo (x : Outline) (many : ℕ) (processes : List Process) : Type 0 where
+  pub count : length processes ≡ many
+  pub each : (i : ℕ) (p : Process) → slice_get processes i ≡ Some p → IsFresh x i p
+
+abbrev pub AreFresh : Outline → List Process → Type 0
+AreFresh x processes = AreFreshUpTo x (length x.scripts) processes
+
+-- room was made, or not: nothing that was recorded changes
+pub record IsStill (old : List Process) (i : ℕ) (new : List Process) : Type 0 where
+  pub before : Process
+  pub at : slice_get old i ≡ Some before
+  pub after : Process
+  pub first : after.first ≡ before.first
+  pub registers : after.registers ≡ before.registers
+  pub steps : after.recording.steps ≡ before.recording.steps
+  pub events : after.recording.events ≡ before.recording.events
+  pub progress : after.progress ≡ before.progress
+  pub set : new ≡ slice_set old i after
+
+pub record HasRoom (processes : List Process) (i : ℕ) : Type 0 where
+  pub process : Process
+  pub at : slice_get processes i ≡ Some process
+  pub event : IsTrue process.recording.event_room
+  pub line : IsTrue process.recording.line_room
+
+pub record IsCountable (processes : List Process) (i : ℕ) : Type 0 where
+  pub process : Process
+  pub at : slice_get processes i ≡ Some process
+  pub number : process.first + length process.recording.steps < 2 ^ 32
+
+-- whether process i was told to wait
+pub record HasProgress (processes : List Process) (i : ℕ) (waits : Bool) : Type 0 where
+  pub process : Process
+  pub at : slice_get processes i ≡ Some process
+  pub yes : IsTrue waits → process.progress ≡ Waiting
+  pub no : IsFalse waits → process.progress ≡ Waiting → ⊥
+
+-- process i was not told to wait
+abbrev pub ReadsOperand : List Process → ℕ → Type 0
+ReadsOperand processes i = (process : Process) → slice_get processes i ≡ Some process → process.progress ≡ Waiting → ⊥
+
+-- what a process is to store next
+abbrev pub fill_of : Progress → Option Fill
+fill_of (Filling fill) = Some fill
+fill_of Before = None
+fill_of (Walking walk) = None
+fill_of (AtLink place) = None
+fill_of Waiting = None
+
+pub record HasFill (processes : List Process) (i : ℕ) (found : Option Fill) : Type 0 where
+  pub process : Process
+  pub at : slice_get processes i ≡ Some process
+  pub fill : found ≡ fill_of process.progress
+
+-- process i is to store nothing
+abbrev pub StoresNothing : List Process → ℕ → Type 0
+StoresNothing processes i = (process : Process) (fill : Fill) → slice_get processes i ≡ Some process
+    → process.progress ≡ Filling fill → ⊥
+
+-- what is read of process i
+pub record HasRegisters (processes : List Process) (i : ℕ) (g : Registers) : Type 0 where
+  pub process : Process
+  pub at : slice_get processes i ≡ Some process
+  pub registers : g ≡ process.registers
+
+pub record HasLines (processes : List Process) (i n : ℕ) : Type 0 where
+  pub process : Process
+  pub at : slice_get processes i ≡ Some process
+  pub lines : n ≡ length process.recording.steps
+
+-- the number of its next line
+pub record HasNumber (processes : List Process) (i n : ℕ) : Type 0 where
+  pub process : Process
+  pub at : slice_get processes i ≡ Some process
+  pub number : n ≡ process.first + length process.recording.steps
+
+-- the denial of the last line that it has done, with the line's number, if that line was denied
+pub record HasLastDenial (processes : List Process) (i : ℕ) (told : Option (ℕ × Denial)) : Type 0 where
+  pub process : Process
+  pub at : slice_get processes i ≡ Some process
+  pub last : told ≡ last_denial process.recording.steps
+
+abbrev pub events_in : Option Event2 → List Event2
+events_in None = []
+events_in (Some event) = event ∷ []
+
+-- process i has done its line
+pub record HasEnded (old : List Process) (i : ℕ) (events : List Event2) (ends : Result2) (registers : Registers) (new : List Process) : Type 0 where
+  pub before : Process
+  pub at : slice_get old i ≡ Some before
+  pub after : Process
+  pub first : after.first ≡ before.first
+  pub done : after.registers ≡ registers
+  pub steps : after.recording.steps ≡ before.recording.steps
+      ++ (before.first + length before.recording.steps, before.recording.events ++ events, ends) ∷ []
+  pub idle : after.recording.events ≡ []
+  pub fresh : after.progress ≡ Before
+  pub set : new ≡ slice_set old i after
+
+-- process i has these events more of its line at work, whose operand has come so far
+pub record HasGoneOn (old : List Process) (i : ℕ) (events : List Event2) (progress : Progress) (new : List Process) : Type 0 where
+  pub before : Process
+  pub at : slice_get old i ≡ Some before
+  pub after : Process
+  pub first : after.first ≡ before.first
+  pub registers : after.registers ≡ before.registers
+  pub steps : after.recording.steps ≡ before.recording.steps
+  pub more : after.recording.events ≡ before.recording.events ++ events
+  pub progress_is : after.progress ≡ progress
+  pub set : new ≡ slice_set old i after
+
+-- what is asked of process i
+pub record IsGoodAt (processes : List Process) (i : ℕ) : Type 0 where
+  pub process : Process
+  pub at : slice_get processes i ≡ Some process
+  pub packable : ArePackable process.registers
+  pub progress : IsGoodProgress process.registers process.progress
+
+pub record HasAsked (processes : List Process) (i : ℕ) (o : Operand) (asked : Asked) : Type 0 where
+  pub process : Process
+  pub at : slice_get processes i ≡ Some process
+  pub asks : AsksFor process.registers o process.progress asked
+  pub good : IsGoodAsked process.registers asked
+
+pub record IsLedAt (processes : List Process) (i : ℕ) (o : Operand) (place : Place) : Type 0 where
+  pub process : Process
+  pub at : slice_get processes i ≡ Some process
+  pub led : IsLed process.registers o process.progress place
+
+-- what an indirect word makes of the line at work, by the walk that asked for it
+pub record Feeds (g : Registers) (l : Line) (walk : chains.Operand) (value r1 : ℕ) (onward : Onward) : Type 0 where
+  pub leads : (seen : List Judged) (j : Judged) (writer stamp : ℕ) → IsWalked g l seen walk
+      → j.element.outcome ≡ Read value writer stamp → j.desc.brackets.r1 ≡ r1 → IsOnward g l (seen ++ j ∷ []) onward
+  pub good : IsGoodOnward g onward
+  pub closer : IsCloser (9 - length walk.chain) onward
+
+-- one process, fed
+abbrev pub Goes : Process → Event2 → Onward → Process → Stepped → Type 0
+Goes before event (More progress) after stepped = (stepped ≡ went.More) × (after.first ≡ before.first)
+    × (after.registers ≡ before.registers) × (after.recording.steps ≡ before.recording.steps)
+    × (after.recording.events ≡ before.recording.events ++ event ∷ []) × (after.progress ≡ progress)
+Goes before event (End ends registers) after stepped = (stepped ≡ went.LineDone) × (after.first ≡ before.first)
+    × (after.registers ≡ registers)
+    × (after.recording.steps ≡ before.recording.steps
+    ++ (before.first + length before.recording.steps, before.recording.events ++ event ∷ [], ends) ∷ [])
+    × (after.recording.events ≡ []) × (after.progress ≡ Before)
+
+pub record IsFed (before : Process) (l : Line) (o : Operand) (value r1 : ℕ) (event : Event2) (after : Process)
+    (stepped : Stepped) : Type 0 where
+  pub walk : chains.Operand
+  pub walks : walk_at before.registers o before.progress ≡ Some walk
+  pub onward : Onward
+  pub feeds : Feeds before.registers l walk value r1 onward
+  pub goes : Goes before event onward after stepped
+
+-- process i, fed
+pub record HasFed (old : List Process) (i : ℕ) (l : Line) (o : Operand) (value r1 : ℕ) (event : Event2) (new : List Process)
+    (stepped : Stepped) : Type 0 where
+  pub before : Process
+  pub at : slice_get old i ≡ Some before
+  pub after : Process
+  pub fed : IsFed before l o value r1 event after stepped
+  pub set : new ≡ slice_set old i after

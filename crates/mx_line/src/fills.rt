@@ -1,0 +1,199 @@
+//! The writes in ring 0 that a reply asks for: the link words of a new linkage section, and the pointer in the word of a
+//! snapped link.
+
+ghost use Rattle.std.specs.Prelude.{◌≡◌, false};
+ghost use Rattle.mx_legal.specs.Filling.{snapped, stored_into};
+ghost use Rattle.mx_legal.specs.Next.{storing};
+ghost use Rattle.mx_ptr.specs.Pointers.{IsPackable};
+ghost use Rattle.mx_request.specs.Sections.{section_in};
+ghost use Rattle.mx_state.specs.Told.{IsLinkedWithin};
+ghost use Rattle.mx_line.specs.Fills.{IsShort, after_fill, behind, first_fill, snap_writes, write_of};
+
+use mx_ptr::{Pointer, link_word};
+use mx_request::{Reply, Request};
+use mx_sdw::{Ring, Word};
+
+/// A pointer that is to be stored in the word of a link.
+#[derive(Clone, Copy)]
+pub struct Snap {
+    pub segno: u16,
+    pub word: u16,
+    pub value: Word,
+}
+
+/// A new linkage section, how many link words it has, the next of them to be stored, and the pointer that is to be stored
+/// behind them.
+#[derive(Clone, Copy)]
+pub struct LinkWords {
+    pub section: u16,
+    pub words: u16,
+    pub next: u16,
+    pub snap: Option<Snap>,
+}
+
+/// What is stored next.
+#[derive(Clone, Copy)]
+pub enum Fill {
+    /// A link word of a new linkage section.
+    Words(LinkWords),
+    /// The pointer of a snapped link.
+    Pointer(Snap),
+}
+
+/// What follows a write.
+#[derive(Clone, Copy)]
+pub enum Filled {
+    /// Another write.
+    More(Fill),
+    /// A new attempt: the link is snapped.
+    Anew,
+    /// The line's end.
+    Done,
+}
+
+impl Fill {
+    /// Where something is stored, in ring 0, and what.
+    pub fn write(&self) -> (Pointer, Word)
+        requires { IsShort self.now }
+        ensures { storing result.1 result.0 ≡ write_of self.now }
+    {
+        match self {
+            Fill::Words(words) => (in_ring_0(words.section, words.next), link_word(words.next)),
+            Fill::Pointer(snap) => (in_ring_0(snap.segno, snap.word), snap.value),
+        }
+    }
+
+    /// What follows this write.
+    pub fn after(&self) -> Filled
+        requires { IsShort self.now }
+        ensures { result ≡ after_fill self.now }
+    {
+        match self {
+            Fill::Words(words) if words.next + 1 < words.words => {
+                Filled::More(Fill::Words(LinkWords {
+                    next: words.next + 1,
+                    ..*words
+                }))
+            }
+            Fill::Words(words) => behind(words.snap),
+            Fill::Pointer(_) => Filled::Anew,
+        }
+    }
+}
+
+fn in_ring_0(segno: u16, word: u16) -> Pointer
+    ensures { result ≡ record { ring = 0; segno = segno; word = word; further = false } }
+{
+    let Some(ring) = Ring::new(0) else {
+        unreachable!()
+    };
+    Pointer {
+        ring,
+        segno,
+        word,
+        further: false,
+    }
+}
+
+fn behind(snap: Option<Snap>) -> Filled
+    ensures { result ≡ behind snap }
+{
+    match snap {
+        Some(snap) => Filled::More(Fill::Pointer(snap)),
+        None => Filled::Done,
+    }
+}
+
+/// The first write of all, for a new section with so many words and a pointer.
+pub fn first_fill(section: Option<(u16, u16)>, snap: Option<Snap>) -> Option<Fill>
+    ensures { result ≡ first_fill section snap }
+{
+    match (section, snap) {
+        (Some((section, words)), snap) => Some(Fill::Words(LinkWords {
+            section,
+            words,
+            next: 0,
+            snap,
+        })),
+        (None, Some(snap)) => Some(Fill::Pointer(snap)),
+        (None, None) => None,
+    }
+}
+
+/// The linkage section of which a reply tells.
+pub fn section_in(reply: &Reply) -> Option<u16>
+    ensures { result ≡ section_in reply.now }
+{
+    match reply {
+        Reply::Segno(known) => known.linkage,
+        Reply::Linked { linkage, .. } => *linkage,
+        Reply::Done
+        | Reply::Refused(_)
+        | Reply::Status(_)
+        | Reply::Names(_)
+        | Reply::Sent
+        | Reply::Message { .. }
+        | Reply::Nobody
+        | Reply::Waiting => None,
+    }
+}
+
+/// The pointer that is to be stored after the reply to a request in a ring.
+pub fn snap_of(request: &Request, ring: Ring, reply: &Reply) -> Option<Snap>
+    requires { IsLinkedWithin reply.now }
+    ensures { snap_writes result ≡ snapped request.now ring reply.now }
+{
+    match reply {
+        Reply::Linked { segno, word, .. } => snap_into(
+            request,
+            &Pointer {
+                ring,
+                segno: *segno,
+                word: *word,
+                further: false,
+            },
+        ),
+        Reply::Segno(_)
+        | Reply::Done
+        | Reply::Refused(_)
+        | Reply::Status(_)
+        | Reply::Names(_)
+        | Reply::Sent
+        | Reply::Message { .. }
+        | Reply::Nobody
+        | Reply::Waiting => None,
+    }
+}
+
+fn snap_into(request: &Request, target: &Pointer) -> Option<Snap>
+    requires { IsPackable target.now }
+    ensures { snap_writes result ≡ stored_into request.now target.now }
+{
+    match request {
+        Request::Link { segno, word } => Some(Snap {
+            segno: *segno,
+            word: *word,
+            value: target.pack(),
+        }),
+        Request::CreateDir { .. }
+        | Request::CreateSeg { .. }
+        | Request::CreateObject { .. }
+        | Request::CreateLink { .. }
+        | Request::Rename { .. }
+        | Request::Delete { .. }
+        | Request::SetAcl { .. }
+        | Request::DelAcl { .. }
+        | Request::SetBrackets { .. }
+        | Request::SetDirBrackets { .. }
+        | Request::Status { .. }
+        | Request::List { .. }
+        | Request::ChangeWdir { .. }
+        | Request::SetRules { .. }
+        | Request::Initiate { .. }
+        | Request::Terminate { .. }
+        | Request::Wakeup { .. }
+        | Request::Block
+        | Request::Resume
+        | Request::Logout => None,
+    }
+}

@@ -1,0 +1,244 @@
+//! How far the line at work has come; what its operand asks for, and what an indirect word makes of it.
+
+ghost use Rattle.std.specs.Prelude.{◌≡◌, ◌≤◌, ◌-◌, ℕ, true, List, [], ◌∷◌, ◌++◌, Some, length};
+ghost use Rattle.mx_call.specs.Loading.{loaded};
+ghost use Rattle.mx_call.specs.Registers.{ArePackable, going_on};
+ghost use Rattle.mx_core.specs.declared.elements.Outcome.TheVariants.{Read as WasRead};
+ghost use Rattle.mx_effring.specs.Walks.{wanted};
+ghost use Rattle.mx_effring.specs.declared.walks.Want.TheVariants.{Word as WantsWord};
+ghost use Rattle.mx_legal.specs.Courses.{Judged};
+ghost use Rattle.mx_legal.specs.Operands.{base_of, beyond, operand_walk};
+ghost use Rattle.mx_legal.specs.Standing.{IsWalked};
+ghost use Rattle.mx_legal.specs.declared.transcripts.Result2.TheVariants as results;
+ghost use Rattle.mx_ptr.specs.Pointers.{IsPackable};
+ghost use Rattle.mx_script.specs.Sessions.{is_address, is_script_line};
+ghost use Rattle.mx_line.specs.Operands.{HasBegun, IsGoodWalk, IsGoodProgress, IsTarget, asked_by, AsksFor, IsGoodAsked, IsOnward, IsGoodOnward, IsCloser, IsRegisterWord};
+ghost use Rattle.mx_line.specs.declared.fills.Fill.{Fill as PlainFill};
+ghost use Rattle.mx_line.specs.declared.operands.Onward.TheVariants.{End};
+ghost use Rattle.mx_line.specs.declared.operands.Progress.TheVariants.{Waiting, Filling};
+
+use crate::fills::Fill;
+use mx_call::Regs;
+use mx_effring::{Stuck, Walk, Want};
+use mx_legal::Result2;
+use mx_ptr::Pointer;
+use mx_script::{Base, Line, Operand};
+use mx_sdw::{Denial, Ring, Word};
+
+/// A word of memory, referred to at an effective ring.
+#[derive(Clone, Copy)]
+pub struct Place {
+    pub segno: u16,
+    pub word: u16,
+    pub ring: Ring,
+}
+
+/// How far the line at work has come.
+#[derive(Drop)]
+pub enum Progress {
+    /// Nothing of its operand was read yet.
+    Before,
+    /// It has read some indirect words.
+    Walking(Walk),
+    /// The word at this place was a link, which is to be snapped.
+    AtLink(Place),
+    /// It is a `block`, and its process was told to wait.
+    Waiting,
+    /// The reply to its call asks for writes, of which this is the next.
+    Filling(Fill),
+}
+
+/// What an operand asks for.
+#[derive(Clone, Copy)]
+pub enum Asked {
+    /// Nothing more: it leads to this effective pointer.
+    Target(Pointer),
+    /// First what stands on its way.
+    First(Way),
+}
+
+/// What stands on the way of an operand.
+#[derive(Clone, Copy)]
+pub enum Way {
+    /// An indirect word, to be read.
+    Word(Place),
+    /// A link, to be snapped.
+    Link(Place),
+}
+
+/// What an indirect word comes to: the line goes on from here, or has ended.
+#[derive(Drop)]
+pub enum Onward {
+    More(Progress),
+    End { ends: Result2, after: Regs },
+}
+
+/// The walk of an operand that begins now.
+pub(crate) fn start(registers: &Regs, operand: &Operand) -> Walk
+    requires address { is_address operand.now ≡ true }
+    requires packable { ArePackable registers.now }
+    ensures walk { operand_walk registers.now operand.now ≡ Some result }
+    ensures good { IsGoodWalk registers.now result }
+{
+    let base = base_of(registers, operand);
+    Walk::start(registers.ring, base, operand.indirect)
+}
+
+// The pointer at which an operand begins: at a word of a segment in the current ring, or where a register points.
+fn base_of(registers: &Regs, operand: &Operand) -> Pointer
+    requires address { is_address operand.now ≡ true }
+    requires packable { ArePackable registers.now }
+    ensures base { base_of registers.now operand.now.base operand.now.word ≡ Some result }
+    ensures packable { IsPackable result }
+{
+    match operand.base {
+        Base::Segment(segno) => Pointer {
+            ring: registers.ring,
+            segno,
+            word: operand.word,
+            further: false,
+        },
+        Base::Register(n) => beyond(operand.word, &registers.pr[usize::from(n)]),
+    }
+}
+
+// So many words beyond where a pointer points; word numbers go round at 16,384.
+fn beyond(word: u16, pointer: &Pointer) -> Pointer
+    ensures value { result ≡ beyond word pointer.now }
+    ensures packable { IsPackable pointer.now → IsPackable result }
+{
+    let word = (u32::from(pointer.word) + u32::from(word)) % 16_384;
+    Pointer {
+        word: word as u16,
+        ..*pointer
+    }
+}
+
+/// What the operand asks for, where it has come so far.
+pub(crate) fn asks(registers: &Regs, operand: &Operand, progress: &Progress) -> Asked
+    requires address { is_address operand.now ≡ true }
+    requires packable { ArePackable registers.now }
+    requires good { IsGoodProgress registers.now progress.now }
+    requires reads { progress.now ≡ Waiting → ⊥ }
+    requires unfilled { (fill : PlainFill) → progress.now ≡ Filling fill → ⊥ }
+    ensures asks { AsksFor registers.now operand.now progress.now result }
+    ensures good { IsGoodAsked registers.now result }
+{
+    match progress {
+        Progress::Before => asked_by(registers, &start(registers, operand)),
+        Progress::Walking(walk) => asked_by(registers, walk),
+        Progress::AtLink(place) => Asked::First(Way::Link(*place)),
+        Progress::Waiting | Progress::Filling(_) => unreachable!(),
+    }
+}
+
+fn asked_by(registers: &Regs, walk: &Walk) -> Asked
+    requires { IsGoodWalk registers.now walk.now }
+    ensures asked { result ≡ asked_by (wanted walk.now) }
+    ensures good { IsGoodAsked registers.now result }
+{
+    match walk.want() {
+        Want::Word { segno, word, ring } => Asked::First(Way::Word(Place { segno, word, ring })),
+        Want::Done(target) => Asked::Target(target),
+    }
+}
+
+/// What the indirect word at a place makes of a walk that asked for it, where its segment has the first bracket `r1`.
+pub(crate) fn feed(
+    line: &Line,
+    registers: &Regs,
+    mut walk: Walk,
+    place: Place,
+    value: Word,
+    r1: Ring,
+) -> Onward
+    requires line { is_script_line line.now ≡ true }
+    requires packable { ArePackable registers.now }
+    requires good { IsGoodWalk registers.now walk }
+    requires wants { wanted walk ≡ WantsWord place.segno place.word place.ring }
+    ensures onward { (seen : List Judged) (j : Judged) (writer stamp : ℕ) → IsWalked registers.now line.now seen walk
+        → j.element.outcome ≡ WasRead value writer stamp → j.desc.brackets.r1 ≡ r1
+        → IsOnward registers.now line.now (seen ++ j ∷ []) result }
+    ensures good { IsGoodOnward registers.now result }
+    ensures closer { IsCloser (9 - length walk.chain) result }
+{
+    match walk.feed(value, r1) {
+        Ok(()) => led(line, registers, walk),
+        Err(Stuck::Link) => Onward::More(Progress::AtLink(place)),
+        Err(Stuck::NotPointer) => denied(registers, Denial::NotPointer),
+        Err(Stuck::Limit) => denied(registers, Denial::IndirectLimit),
+    }
+}
+
+fn denied(registers: &Regs, denial: Denial) -> Onward
+    ensures { result ≡ End (results.Denied denial) registers.now }
+{
+    Onward::End {
+        ends: Result2::Denied(denial),
+        after: *registers,
+    }
+}
+
+// A walk was led on: `epp` ends where it is done, and the other lines refer to their target.
+fn led(line: &Line, registers: &Regs, walk: Walk) -> Onward
+    requires line { is_script_line line.now ≡ true }
+    requires packable { ArePackable registers.now }
+    requires begun { HasBegun registers.now walk }
+    ensures onward { (seen : List Judged) → IsWalked registers.now line.now seen walk
+        → IsOnward registers.now line.now seen result }
+    ensures good { IsGoodOnward registers.now result }
+    ensures closer { IsCloser (10 - length walk.chain) result }
+{
+    match walk.want() {
+        Want::Word { .. } => Onward::More(Progress::Walking(walk)),
+        Want::Done(target) => match line {
+            Line::Epp { n, .. } => Onward::End {
+                ends: Result2::Pr {
+                    n: *n,
+                    pointer: target,
+                },
+                after: loaded(registers, *n, &target),
+            },
+            _ => Onward::More(Progress::Walking(walk)),
+        },
+    }
+}
+
+/// The place where the process runs, in its current ring.
+pub fn here(registers: &Regs) -> Pointer
+    ensures { result ≡ going_on registers.now.procedure registers.now.ring }
+{
+    Pointer {
+        ring: registers.ring,
+        segno: registers.procedure.segno,
+        word: registers.procedure.word,
+        further: false,
+    }
+}
+
+/// The registers after pointer register `n` was loaded with an effective pointer.
+pub fn loaded(registers: &Regs, n: u8, target: &Pointer) -> Regs
+    requires number { n ≤ 7 }
+    requires packable { ArePackable registers.now }
+    requires target { IsTarget registers.now target.now }
+    ensures value { result ≡ loaded registers.now n target.now }
+    ensures packable { ArePackable result }
+{
+    let mut after = *registers;
+    after.load(n, target);
+    after
+}
+
+/// The word of pointer register `n`, without further indirection.
+pub fn register_word(registers: &Regs, n: u8) -> Word
+    requires number { n ≤ 7 }
+    requires packable { ArePackable registers.now }
+    ensures { IsRegisterWord registers.now n result }
+{
+    let pointer = registers.pr[usize::from(n)];
+    let plain = Pointer {
+        further: false,
+        ..pointer
+    };
+    plain.pack()
+}

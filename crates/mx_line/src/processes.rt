@@ -1,0 +1,443 @@
+//! Processes: their registers, and what was recorded of them.
+
+ghost use Rattle.std.specs.Prelude.{◌≡◌, ◌<◌, ◌+◌, ◌^◌, true, [], ◌∷◌, ◌++◌, IfOk, IsTrue, IsFalse, IsSome, OnOk, Some, length};
+ghost use Rattle.mx_call.specs.Registers.{ArePackable};
+ghost use Rattle.mx_script.specs.Sessions.{IsSession, is_address, is_script_line};
+ghost use Rattle.mx_line.specs.Operands.{IsGoodProgress, IsGoodWalk, IsLed, walk_at};
+ghost use Rattle.mx_line.specs.Processes.{AreFresh, IsStill, HasRoom, IsCountable, IsGoodAt, HasEnded, HasGoneOn, HasFed, IsFed, HasProgress, ReadsOperand, StoresNothing, HasRegisters, HasLines, HasNumber, HasLastDenial, HasAsked, HasFill, IsLedAt, fill_of, events_in};
+ghost use Rattle.mx_line.specs.declared.operands.Progress.TheVariants.{Before, Waiting};
+
+use crate::fills::Fill;
+use crate::operands::{Asked, Onward, Place, Progress, asks, feed, start};
+use crate::steps::Stepped;
+use mx_call::Regs;
+use mx_effring::Walk;
+use mx_legal::{Event2, Recording, Result2, Transcript, first_line};
+use mx_script::{Line, Operand, Session};
+use mx_sdw::{Denial, Ring, Word};
+use std::alloc::{AllocError, Global};
+use std::marker::Model;
+use std::mem;
+
+/// A process: the number of its first line in the session text, its registers at the start of the line at work, what was
+/// recorded of its lines, and how far the line at work has come.
+#[derive(Drop)]
+pub struct Process {
+    pub first: u32,
+    pub registers: Regs,
+    pub recording: Recording,
+    pub progress: Progress,
+}
+
+/// The processes 1, 2, .. of a session, counted from 0.
+#[derive(Drop)]
+pub struct Processes {
+    items: Vec<Process>,
+}
+
+impl Model for Processes {
+    ghost use Rattle.std.specs.Prelude.{List};
+    ghost use Rattle.mx_line.specs.declared.processes.Process.{Process as PlainProcess};
+
+    ghost Value = { List PlainProcess };
+
+    ghost view = { λ a. a.items.items };
+}
+
+impl Processes {
+    /// The processes of a session before their first lines.
+    pub fn fresh(alloc: Global, session: &Session) -> Result<Processes, AllocError>
+        ensures fresh { IfOk result (λ processes. AreFresh session.now processes) }
+        ensures session { IsSession session.now }
+    {
+        let items = fresh_processes(alloc, session)?;
+        Ok(Processes { items })
+    }
+
+    /// How many there are.
+    pub fn len(&self) -> usize
+        ensures { result ≡ length self.now }
+    {
+        self.items.len()
+    }
+
+    /// The registers of a process.
+    pub fn registers(&self, i: usize) -> Regs
+        requires { i < length self.now }
+        ensures { HasRegisters self.now i result }
+    {
+        registers_at(&self.items, i)
+    }
+
+    /// How many lines a process has done.
+    pub fn lines(&self, i: usize) -> usize
+        requires { i < length self.now }
+        ensures { HasLines self.now i result }
+    {
+        lines_at(&self.items, i)
+    }
+
+    /// The number of the next line of a process, if one is left.
+    pub fn number(&self, i: usize) -> u32
+        requires within { i < length self.now }
+        requires number { IsCountable self.now i }
+        ensures { HasNumber self.now i result }
+    {
+        number_at(&self.items, i)
+    }
+
+    /// Of the last line that a process has done, its number and its denial, if it ended denied.
+    pub fn last_denial(&self, i: usize) -> Option<(u32, Denial)>
+        requires { i < length self.now }
+        ensures { HasLastDenial self.now i result }
+    {
+        last_denial_at(&self.items, i)
+    }
+
+    /// Makes room for the next line of a process; nothing else changes.
+    pub fn reserve(&mut self, i: usize) -> Result<(), AllocError>
+        requires { i < length self.old }
+        ensures room { OnOk result (HasRoom self.new i) }
+        ensures still { IsStill self.old i self.new }
+    {
+        reserve(self.items.as_mut_slice(), i)
+    }
+
+    /// The line at work of a process ends, with this event if there is one.
+    pub fn end_line(&mut self, i: usize, event: Option<Event2>, ends: Result2, after: &Regs)
+        requires within { i < length self.old }
+        requires room { HasRoom self.old i }
+        requires number { IsCountable self.old i }
+        ensures { HasEnded self.old i (events_in event) ends after.now self.new }
+    {
+        end_line(self.items.as_mut_slice(), i, event, ends, after);
+    }
+
+    /// The line at work of a process has this event, and has come so far.
+    pub fn go_on(&mut self, i: usize, event: Event2, progress: Progress)
+        requires within { i < length self.old }
+        requires room { HasRoom self.old i }
+        ensures { HasGoneOn self.old i (event ∷ []) progress self.new }
+    {
+        go_on(self.items.as_mut_slice(), i, event, progress);
+    }
+
+    /// What a process is to store next, if anything.
+    pub fn filling(&self, i: usize) -> Option<Fill>
+        requires { i < length self.now }
+        ensures { HasFill self.now i result }
+    {
+        filling(&self.items, i)
+    }
+
+    /// Whether a process was told to wait.
+    pub fn is_waiting(&self, i: usize) -> bool
+        requires { i < length self.now }
+        ensures { HasProgress self.now i result }
+    {
+        is_waiting(&self.items, i)
+    }
+
+    /// What the operand of the line at work of a process asks for.
+    pub fn asks(&self, i: usize, operand: &Operand) -> Asked
+        requires within { i < length self.now }
+        requires good { IsGoodAt self.now i }
+        requires reads { ReadsOperand self.now i }
+        requires unfilled { StoresNothing self.now i }
+        requires address { is_address operand.now ≡ true }
+        ensures { HasAsked self.now i operand.now result }
+    {
+        asks_at(&self.items, i, operand)
+    }
+
+    /// The indirect word for which the operand of a process asks was read, from a segment with the first bracket `r1`: the
+    /// line at work has this event, and goes on or ends.
+    pub fn feed(
+        &mut self,
+        i: usize,
+        line: &Line,
+        operand: &Operand,
+        place: Place,
+        value: Word,
+        r1: Ring,
+        event: Event2,
+    ) -> Stepped
+        requires within { i < length self.old }
+        requires room { HasRoom self.old i }
+        requires number { IsCountable self.old i }
+        requires good { IsGoodAt self.old i }
+        requires line { is_script_line line.now ≡ true }
+        requires address { is_address operand.now ≡ true }
+        requires led { IsLedAt self.old i operand.now place }
+        ensures { HasFed self.old i line.now operand.now value r1 event self.new result }
+    {
+        feed_at(
+            self.items.as_mut_slice(),
+            i,
+            line,
+            operand,
+            place,
+            value,
+            r1,
+            event,
+        )
+    }
+
+    /// The processes themselves.
+    pub fn into_items(self) -> Vec<Process>
+        ensures { result.items ≡ self }
+    {
+        self.items
+    }
+}
+
+fn fresh_processes(alloc: Global, session: &Session) -> Result<Vec<Process>, AllocError>
+    ensures fresh { IfOk result (λ processes. AreFresh session.now processes.items) }
+    ensures session { IsSession session.now }
+{
+    let scripts = session.scripts().items();
+    let mut processes = Vec::with_capacity(alloc, scripts.len())?;
+    for (i, script) in scripts.iter().enumerate() {
+        let process = Process {
+            first: first_line(session, i as u8 + 1),
+            registers: Regs::opening(),
+            recording: Recording::with_room(alloc, script.items().len())?,
+            progress: Progress::Before,
+        };
+        processes.push(process)?;
+    }
+    Ok(processes)
+}
+
+fn registers_at(processes: &[Process], i: usize) -> Regs
+    requires { i < length processes.now }
+    ensures { HasRegisters processes.now i result }
+{
+    processes[i].registers
+}
+
+fn lines_at(processes: &[Process], i: usize) -> usize
+    requires { i < length processes.now }
+    ensures { HasLines processes.now i result }
+{
+    processes[i].recording.lines()
+}
+
+fn number_at(processes: &[Process], i: usize) -> u32
+    requires within { i < length processes.now }
+    requires number { IsCountable processes.now i }
+    ensures { HasNumber processes.now i result }
+{
+    processes[i].number()
+}
+
+fn last_denial_at(processes: &[Process], i: usize) -> Option<(u32, Denial)>
+    requires { i < length processes.now }
+    ensures { HasLastDenial processes.now i result }
+{
+    processes[i].recording.last_denial()
+}
+
+fn is_waiting(processes: &[Process], i: usize) -> bool
+    requires { i < length processes.now }
+    ensures { HasProgress processes.now i result }
+{
+    waits(&processes[i].progress)
+}
+
+fn waits(progress: &Progress) -> bool
+    ensures yes { IsTrue result → progress.now ≡ Waiting }
+    ensures no { IsFalse result → progress.now ≡ Waiting → ⊥ }
+{
+    matches!(progress, Progress::Waiting)
+}
+
+fn go_on(processes: &mut [Process], i: usize, event: Event2, progress: Progress)
+    requires within { i < length processes.old }
+    requires room { HasRoom processes.old i }
+    ensures { HasGoneOn processes.old i (event ∷ []) progress processes.new }
+{
+    processes[i].go_on(event, progress);
+}
+
+fn filling(processes: &[Process], i: usize) -> Option<Fill>
+    requires { i < length processes.now }
+    ensures { HasFill processes.now i result }
+{
+    fill_of(&processes[i].progress)
+}
+
+fn fill_of(progress: &Progress) -> Option<Fill>
+    ensures { result ≡ fill_of progress.now }
+{
+    match progress {
+        Progress::Filling(fill) => Some(*fill),
+        Progress::Before | Progress::Walking(_) | Progress::AtLink(_) | Progress::Waiting => None,
+    }
+}
+
+fn asks_at(processes: &[Process], i: usize, operand: &Operand) -> Asked
+    requires within { i < length processes.now }
+    requires good { IsGoodAt processes.now i }
+    requires reads { ReadsOperand processes.now i }
+    requires unfilled { StoresNothing processes.now i }
+    requires address { is_address operand.now ≡ true }
+    ensures { HasAsked processes.now i operand.now result }
+{
+    asks(&processes[i].registers, operand, &processes[i].progress)
+}
+
+fn feed_at(
+    processes: &mut [Process],
+    i: usize,
+    line: &Line,
+    operand: &Operand,
+    place: Place,
+    value: Word,
+    r1: Ring,
+    event: Event2,
+) -> Stepped
+    requires within { i < length processes.old }
+    requires room { HasRoom processes.old i }
+    requires number { IsCountable processes.old i }
+    requires good { IsGoodAt processes.old i }
+    requires line { is_script_line line.now ≡ true }
+    requires address { is_address operand.now ≡ true }
+    requires led { IsLedAt processes.old i operand.now place }
+    ensures { HasFed processes.old i line.now operand.now value r1 event processes.new result }
+{
+    processes[i].feed(line, operand, place, value, r1, event)
+}
+
+fn reserve(processes: &mut [Process], i: usize) -> Result<(), AllocError>
+    requires { i < length processes.old }
+    ensures room { OnOk result (HasRoom processes.new i) }
+    ensures still { IsStill processes.old i processes.new }
+{
+    processes[i].recording.reserve()
+}
+
+fn end_line(processes: &mut [Process], i: usize, event: Option<Event2>, ends: Result2, after: &Regs)
+    requires within { i < length processes.old }
+    requires room { HasRoom processes.old i }
+    requires number { IsCountable processes.old i }
+    ensures { HasEnded processes.old i (events_in event) ends after.now processes.new }
+{
+    processes[i].end_line(event, ends, after);
+}
+
+impl Process {
+    /// What was recorded of it.
+    pub fn finish(self) -> Transcript
+        ensures { result ≡ self.recording.steps }
+    {
+        let Process { recording, .. } = self;
+        recording.finish()
+    }
+
+    // The number of its next line.
+    fn number(&self) -> u32
+        requires { self.now.first + length self.now.recording.steps < 2 ^ 32 }
+        ensures { result ≡ self.now.first + length self.now.recording.steps }
+    {
+        self.first + self.recording.lines() as u32
+    }
+
+    // Its line at work ends.
+    fn end_line(&mut self, event: Option<Event2>, ends: Result2, after: &Regs)
+        requires event { IsTrue self.old.recording.event_room }
+        requires line { IsTrue self.old.recording.line_room }
+        requires number { self.old.first + length self.old.recording.steps < 2 ^ 32 }
+        ensures first { self.new.first ≡ self.old.first }
+        ensures done { self.new.registers ≡ after.now }
+        ensures steps { self.new.recording.steps ≡ self.old.recording.steps
+            ++ (self.old.first + length self.old.recording.steps, self.old.recording.events ++ events_in event, ends) ∷ [] }
+        ensures idle { self.new.recording.events ≡ [] }
+        ensures fresh { self.new.progress ≡ Before }
+    {
+        let number = self.number();
+        push_if(&mut self.recording, event);
+        self.recording.end_line(number, ends);
+        self.registers = *after;
+        self.progress = Progress::Before;
+    }
+
+    // Its line at work has this event, and has come so far.
+    fn go_on(&mut self, event: Event2, progress: Progress)
+        requires event { IsTrue self.old.recording.event_room }
+        ensures first { self.new.first ≡ self.old.first }
+        ensures registers { self.new.registers ≡ self.old.registers }
+        ensures steps { self.new.recording.steps ≡ self.old.recording.steps }
+        ensures more { self.new.recording.events ≡ self.old.recording.events ++ event ∷ [] }
+        ensures progress { self.new.progress ≡ progress }
+    {
+        self.recording.push(event);
+        self.progress = progress;
+    }
+
+    // The indirect word for which its operand asks was read.
+    fn feed(
+        &mut self,
+        line: &Line,
+        operand: &Operand,
+        place: Place,
+        value: Word,
+        r1: Ring,
+        event: Event2,
+    ) -> Stepped
+        requires event { IsTrue self.old.recording.event_room }
+        requires room { IsTrue self.old.recording.line_room }
+        requires number { self.old.first + length self.old.recording.steps < 2 ^ 32 }
+        requires packable { ArePackable self.old.registers }
+        requires progress { IsGoodProgress self.old.registers self.old.progress }
+        requires line { is_script_line line.now ≡ true }
+        requires address { is_address operand.now ≡ true }
+        requires led { IsLed self.old.registers operand.now self.old.progress place }
+        ensures { IsFed self.old line.now operand.now value r1 event self.new result }
+    {
+        let registers = self.registers;
+        let walk = self.take_walk(operand);
+        match feed(line, &registers, walk, place, value, r1) {
+            Onward::More(progress) => {
+                self.recording.push(event);
+                self.progress = progress;
+                Stepped::More
+            }
+            Onward::End { ends, after } => {
+                self.end_line(Some(event), ends, &after);
+                Stepped::LineDone
+            }
+        }
+    }
+
+    // The walk that its operand is at, taken out.
+    fn take_walk(&mut self, operand: &Operand) -> Walk
+        requires packable { ArePackable self.old.registers }
+        requires progress { IsGoodProgress self.old.registers self.old.progress }
+        requires address { is_address operand.now ≡ true }
+        requires led { IsSome (walk_at self.old.registers operand.now self.old.progress) }
+        ensures walk { walk_at self.old.registers operand.now self.old.progress ≡ Some result }
+        ensures good { IsGoodWalk self.old.registers result }
+        ensures first { self.new.first ≡ self.old.first }
+        ensures registers { self.new.registers ≡ self.old.registers }
+        ensures recording { self.new.recording ≡ self.old.recording }
+    {
+        match mem::replace(&mut self.progress, Progress::Before) {
+            Progress::Before => start(&self.registers, operand),
+            Progress::Walking(walk) => walk,
+            Progress::AtLink(_) | Progress::Waiting | Progress::Filling(_) => unreachable!(),
+        }
+    }
+}
+
+// One more event, if there is one.
+fn push_if(recording: &mut Recording, event: Option<Event2>)
+    requires { IsTrue recording.old.event_room }
+    ensures steps { recording.new.steps ≡ recording.old.steps }
+    ensures events { recording.new.events ≡ recording.old.events ++ events_in event }
+    ensures room { recording.new.line_room ≡ recording.old.line_room }
+{
+    if let Some(event) = event {
+        recording.push(event);
+    }
+}

@@ -1,0 +1,249 @@
+//! References to memory: judged, made on the cells, and what they make of the registers.
+
+ghost use Rattle.std.specs.Prelude.{◌≡◌, ◌<◌, ℕ, List, length, IfOk};
+ghost use Rattle.mx_call.specs.Transfers.{calling};
+ghost use Rattle.mx_legal.specs.Next.{Reference, Asks, at_place, storing};
+ghost use Rattle.mx_legal.specs.Targets.{at_target};
+ghost use Rattle.mx_script.specs.declared.lines.Operand.{Operand as PlainOperand};
+ghost use Rattle.mx_script.specs.declared.lines.Line.TheVariants as lines;
+ghost use Rattle.mx_sdw.specs.Admissible.{IsAdmissible};
+ghost use Rattle.mx_sdw.specs.Judging.{judgement};
+ghost use Rattle.mx_sdw.specs.declared.operations.Op.TheVariants as ops;
+ghost use Rattle.mx_line.specs.Making.{IsReferring, IsMade, IsLooked, element, indirect, moved, denied};
+ghost use Rattle.mx_line.specs.declared.memory.Contents.{Contents as PlainContents};
+
+use crate::memory::{Contents, Memory};
+use crate::operands::Place;
+use mx_call::{Regs, call, ret};
+use mx_legal::{Element, Kind, Outcome, Result2};
+use mx_ptr::Pointer;
+use mx_script::Line;
+use mx_sdw::{Cell, Denial, Desc, Op, Ring, Word, judge};
+
+/// A reference that was made: its element, and the result of its line and the registers after it.
+#[derive(Clone, Copy)]
+pub struct Made {
+    pub element: Element,
+    pub ends: Result2,
+    pub after: Regs,
+}
+
+/// An indirect word that was read: its element, and the word, or why it was denied.
+#[derive(Clone, Copy)]
+pub struct Looked {
+    pub element: Element,
+    pub came: Result<Word, Denial>,
+}
+
+/// Reads the indirect word at a place, on this descriptor and at this point.
+pub fn look(cells: &Memory, desc: &Desc, place: &Place, point: u32) -> Looked
+    requires { IsAdmissible desc.now }
+    ensures { (p : ℕ) → IsLooked place.now desc.now p point cells.now result }
+{
+    match ruling(desc, Op::Indirect, place.ring, place.word) {
+        Ok(cell) => {
+            let held = cells.contents(cell.0);
+            let outcome = Outcome::Read {
+                value: held.value,
+                writer: held.writer,
+                stamp: held.stamp,
+            };
+            Looked {
+                element: indirect(place, point, outcome),
+                came: Ok(held.value),
+            }
+        }
+        Err(denial) => Looked {
+            element: indirect(place, point, Outcome::Denied(denial)),
+            came: Err(denial),
+        },
+    }
+}
+
+fn indirect(place: &Place, point: u32, outcome: Outcome) -> Element
+    ensures { result ≡ indirect place.now point outcome }
+{
+    Element {
+        kind: Kind::Ind,
+        segno: place.segno,
+        word: place.word,
+        ring: place.ring,
+        point,
+        outcome,
+    }
+}
+
+/// Makes a line's own reference, one that stores nothing, at its target, on this descriptor and at this point.
+pub fn refer(
+    cells: &Memory,
+    desc: &Desc,
+    line: &Line,
+    target: &Pointer,
+    registers: &Regs,
+    point: u32,
+) -> Made
+    requires desc { IsAdmissible desc.now }
+    requires line { IsReferring line.now }
+    ensures { (asked : Reference) (p : ℕ) → at_target registers.now line.now target.now ≡ Asks asked
+        → IsMade line.now asked registers.now desc.now target.now p point cells.now cells.now result }
+{
+    match line {
+        Line::Lda { .. } => load(cells, desc, target, registers, point),
+        Line::Fetch => fetch(cells, desc, target, registers, point),
+        Line::Call { .. } => enter(desc, target, registers, point),
+        Line::Return { .. } => go_back(desc, target, registers, point),
+        Line::Ask(_) | Line::Set { .. } | Line::Epp { .. } | Line::Sta { .. } | Line::Spri { .. } =>
+            unreachable!(),
+    }
+}
+
+// Reads the word at the target: A becomes it.
+fn load(cells: &Memory, desc: &Desc, target: &Pointer, registers: &Regs, point: u32) -> Made
+    requires { IsAdmissible desc.now }
+    ensures { (o : PlainOperand) → (p : ℕ) → IsMade (lines.Lda o) (at_place ops.Read target.now) registers.now desc.now target.now p point cells.now cells.now result }
+{
+    match ruling(desc, Op::Read, target.ring, target.word) {
+        Ok(cell) => {
+            let held = cells.contents(cell.0);
+            let outcome = Outcome::Read {
+                value: held.value,
+                writer: held.writer,
+                stamp: held.stamp,
+            };
+            Made {
+                element: element(Kind::Read, target, point, outcome),
+                ends: Result2::A(held.value),
+                after: Regs {
+                    a: held.value,
+                    ..*registers
+                },
+            }
+        }
+        Err(denial) => denied(Kind::Read, target, registers, point, denial),
+    }
+}
+
+// Fetches the word at the target.
+fn fetch(cells: &Memory, desc: &Desc, target: &Pointer, registers: &Regs, point: u32) -> Made
+    requires { IsAdmissible desc.now }
+    ensures { (p : ℕ) → IsMade lines.Fetch (at_place ops.Fetch target.now) registers.now desc.now target.now p point cells.now cells.now result }
+{
+    match ruling(desc, Op::Fetch, target.ring, target.word) {
+        Ok(cell) => {
+            let held = cells.contents(cell.0);
+            let outcome = Outcome::Read {
+                value: held.value,
+                writer: held.writer,
+                stamp: held.stamp,
+            };
+            Made {
+                element: element(Kind::Fetch, target, point, outcome),
+                ends: Result2::Done,
+                after: *registers,
+            }
+        }
+        Err(denial) => denied(Kind::Fetch, target, registers, point, denial),
+    }
+}
+
+// Calls the target: the process goes on there.
+fn enter(desc: &Desc, target: &Pointer, registers: &Regs, point: u32) -> Made
+    ensures { (o : PlainOperand) (p : ℕ) (cells : List PlainContents) → IsMade (lines.Call o) (at_place (calling registers.now target.now) target.now) registers.now desc.now target.now p point cells cells result }
+{
+    match call(registers, target, desc) {
+        Ok(after) => moved(Kind::Call, target, point, after),
+        Err(denial) => denied(Kind::Call, target, registers, point, denial),
+    }
+}
+
+// Returns to the target: the process goes on there.
+fn go_back(desc: &Desc, target: &Pointer, registers: &Regs, point: u32) -> Made
+    ensures { (o : PlainOperand) (p : ℕ) (cells : List PlainContents) → IsMade (lines.Return o) (at_place ops.Return target.now) registers.now desc.now target.now p point cells cells result }
+{
+    match ret(registers, target, desc) {
+        Ok(after) => moved(Kind::Return, target, point, after),
+        Err(denial) => denied(Kind::Return, target, registers, point, denial),
+    }
+}
+
+/// Stores a word at the target, on this descriptor and at this point, for process `p`.
+pub fn store(
+    cells: &mut Memory,
+    desc: &Desc,
+    target: &Pointer,
+    value: Word,
+    registers: &Regs,
+    p: u8,
+    point: u32,
+) -> Made
+    requires { IsAdmissible desc.now }
+    ensures sta { (o : PlainOperand) → IsMade (lines.Sta o) (storing value target.now) registers.now desc.now target.now p point cells.old cells.new result }
+    ensures spri { (n : ℕ) → (o : PlainOperand) → IsMade (lines.Spri n o) (storing value target.now) registers.now desc.now target.now p point cells.old cells.new result }
+    ensures wide { length cells.new ≡ length cells.old }
+{
+    match ruling(desc, Op::Write, target.ring, target.word) {
+        Ok(cell) => {
+            cells.store(
+                cell.0,
+                Contents {
+                    value,
+                    writer: p,
+                    stamp: point,
+                },
+            );
+            Made {
+                element: element(Kind::Write, target, point, Outcome::Written { value }),
+                ends: Result2::Done,
+                after: *registers,
+            }
+        }
+        Err(denial) => denied(Kind::Write, target, registers, point, denial),
+    }
+}
+
+// The cell that the judging rule grants, or its denial.
+fn ruling(desc: &Desc, op: Op, ring: Ring, word: u16) -> Result<Cell, Denial>
+    requires { IsAdmissible desc.now }
+    ensures value { result ≡ judgement desc.now op ring word }
+    ensures within { IfOk result (λ cell. cell.0 < 65536) }
+{
+    judge(desc, op, ring, u32::from(word))
+}
+
+fn element(kind: Kind, target: &Pointer, point: u32, outcome: Outcome) -> Element
+    ensures { result ≡ element kind target.now point outcome }
+{
+    Element {
+        kind,
+        segno: target.segno,
+        word: target.word,
+        ring: target.ring,
+        point,
+        outcome,
+    }
+}
+
+// The process goes on with these registers.
+fn moved(kind: Kind, target: &Pointer, point: u32, after: Regs) -> Made
+    ensures { result ≡ moved kind target.now point after }
+{
+    Made {
+        element: element(kind, target, point, Outcome::Entered { ring: after.ring }),
+        ends: Result2::Moved {
+            ring: after.ring,
+            procedure: after.procedure,
+        },
+        after,
+    }
+}
+
+// A denial leaves the registers as they were.
+fn denied(kind: Kind, target: &Pointer, registers: &Regs, point: u32, denial: Denial) -> Made
+    ensures { result ≡ denied kind target.now registers.now point denial }
+{
+    Made {
+        element: element(kind, target, point, Outcome::Denied(denial)),
+        ends: Result2::Denied(denial),
+        after: *registers,
+    }
+}

@@ -1,5 +1,0 @@
-use Rattle.mx_proc.proofs.ProcessLaws.{registers_of}
-use Rattle.mx_proc.proofs.processes.registers_at.Goals as goal
-
-pub returns : goal.returns
-returns c = registers_of _ _ c.index-processes-i.result c.requires
