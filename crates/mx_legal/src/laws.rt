@@ -101,8 +101,8 @@ pub fn a_snapped_link_begins_anew()
     ensures wrong { WrongLinks }
 {}
 
-/// Wrong runs, each one change away from a right one that stands beside them, are refused: at least three by each
-/// rule.
+/// Lines, pointers, transfers, scripts, points, reads and falls, each one change away from a right one that stands beside
+/// them, are refused. None of them departs from the rule of misses, or from the rules of the whole journal.
 pub fn wrong_runs_are_refused()
     ensures references { WrongReferences }
     ensures calls { WrongCalls }
