@@ -1,5 +1,7 @@
 //! A file of requests, played line by line.
 
+ghost use Rattle.std.specs.Prelude.{◌<◌, length};
+
 use crate::lines::{Asked, Line, read_line};
 use crate::outcome::{Outcome, judge};
 use crate::plays::{Answer, Play};
@@ -51,12 +53,7 @@ fn play_lines(
         play: None,
         latest: None,
     };
-    for place in 0..lines.len() {
-        let is_told = tells_reply(lines, place + 1);
-        let step = stage.step(alloc, lines[place], is_told)?;
-        account.add(name, place + 1, &step)?;
-    }
-    Ok(())
+    stage.play(alloc, name, lines, account)
 }
 
 // Whether the line at a place tells a reply.
@@ -92,6 +89,34 @@ fn push_note(
 }
 
 impl Stage {
+    fn play(
+        &mut self,
+        alloc: Global,
+        name: &str,
+        lines: &[&[u8]],
+        account: &mut Account,
+    ) -> Result<(), AllocError> {
+        for place in 0..lines.len() {
+            self.play_line(alloc, name, lines, place, account)?;
+        }
+        Ok(())
+    }
+
+    fn play_line(
+        &mut self,
+        alloc: Global,
+        name: &str,
+        lines: &[&[u8]],
+        place: usize,
+        account: &mut Account,
+    ) -> Result<(), AllocError>
+        requires { place < length lines.now }
+    {
+        let is_told = tells_reply(lines, place + 1);
+        let step = self.step(alloc, lines[place], is_told)?;
+        account.add(name, place + 1, &step)
+    }
+
     fn step(&mut self, alloc: Global, line: &[u8], is_told: bool) -> Result<Step, AllocError> {
         match read_line(line) {
             Line::Nothing => Ok(Step {

@@ -60,15 +60,27 @@ impl Play {
         ring: Ring,
         text: &[u8],
     ) -> Result<Answer, AllocError> {
-        let Some(request) = Request::read(alloc, text)? else {
-            return Answer::unasked(alloc, "no request");
-        };
-        if !is_written_again(alloc, &request, text)? {
+        match Request::read(alloc, text)? {
+            Some(request) => self.ask_request(alloc, p, ring, text, &request),
+            None => Answer::unasked(alloc, "no request"),
+        }
+    }
+
+    // The same of a request that was read from its text.
+    fn ask_request(
+        &mut self,
+        alloc: Global,
+        p: u8,
+        ring: Ring,
+        text: &[u8],
+        request: &Request,
+    ) -> Result<Answer, AllocError> {
+        if !is_written_again(alloc, request, text)? {
             return Answer::unasked(alloc, "written otherwise");
         }
-        match self.reason(p, &request) {
+        match self.reason(p, request) {
             Some(reason) => Answer::unasked(alloc, reason),
-            None => self.answered(alloc, p, ring, &request),
+            None => self.answered(alloc, p, ring, request),
         }
     }
 
@@ -125,8 +137,13 @@ impl Answer {
 // Whether a copy of the request is written as it was read.
 fn is_written_again(alloc: Global, request: &Request, text: &[u8]) -> Result<bool, AllocError> {
     let mut line = Vec::new(alloc);
-    request.copy()?.append_to(&mut line)?;
+    write_copy(request, &mut line)?;
     Ok(line.as_slice() == text)
+}
+
+fn write_copy(request: &Request, line: &mut Vec<u8>) -> Result<(), AllocError> {
+    let copy = request.copy()?;
+    copy.append_to(line)
 }
 
 // Whose descriptors changed: a process and a segment number each, in octal, or `none`.
