@@ -13,12 +13,12 @@ use mx_text::print;
 use std::alloc::{AllocError, Global};
 use std::test::Fail;
 
-fn ring(n: u8) -> Result<Ring, Fail> {
-    Ok(Ring::new(n).ok_or("a ring")?)
+fn ring(n: u8) -> Result<Ring, AllocError> {
+    Ring::new(n).ok_or(AllocError)
 }
 
-fn entry(alloc: Global, maker: (u8, u8), line: &[u8], reply: Reply) -> Result<Entry, Fail> {
-    let request = Request::read(alloc, line)?.ok_or("a request")?;
+fn entry(alloc: Global, maker: (u8, u8), line: &[u8], reply: Reply) -> Result<Entry, AllocError> {
+    let request = Request::read(alloc, line)?.ok_or(AllocError)?;
     Ok(Entry {
         process: maker.0,
         ring: ring(maker.1)?,
@@ -28,7 +28,7 @@ fn entry(alloc: Global, maker: (u8, u8), line: &[u8], reply: Reply) -> Result<En
 }
 
 // A reference to the word 10|5 in ring 4.
-fn seen(kind: Kind, point: u32, outcome: Outcome) -> Result<Event2, Fail> {
+fn seen(kind: Kind, point: u32, outcome: Outcome) -> Result<Event2, AllocError> {
     Ok(Event2::Core(Event::Seen(Element {
         kind,
         segno: 0o10,
@@ -55,10 +55,18 @@ fn transcript(
     Ok(recording.finish())
 }
 
-fn text(alloc: Global, journal: &Journal, transcripts: &Transcripts) -> Result<MemorySink, Fail> {
-    let mut sink = MemorySink::new(alloc, 4096, Vec::new(alloc), 100)?;
-    print(alloc, journal, transcripts, &mut sink)?;
-    Ok(sink)
+// What a sink holds to which they were printed.
+fn text(
+    alloc: Global,
+    journal: &Journal,
+    transcripts: &Transcripts,
+) -> Result<MemorySink, AllocError> {
+    let made = MemorySink::new(alloc, 4096, Vec::new(alloc), 100);
+    let mut sink = made.map_err(|_| AllocError)?;
+    match print(alloc, journal, transcripts, &mut sink) {
+        Ok(()) => Ok(sink),
+        Err(_) => Err(AllocError),
+    }
 }
 
 #[test]
