@@ -70,10 +70,10 @@ impl State {
         requires most { length principals.now ≤ 15 }
         ensures { IfOk result (λ state. state ≡ opening principals.now) }
     {
+        let mail = Mail::new(alloc, principals.len() as u8)?;
         let processes = fresh_processes(alloc, principals)?;
         // Each process has eight stacks, of one page each.
         let hier = Hier::new(alloc, 8 * principals.len() as u32)?;
-        let mail = Mail::new(alloc, principals.len() as u8)?;
         Ok(State {
             hier,
             initializer: make_initializer(),
