@@ -25,9 +25,9 @@ fn greatest(alloc: Global) -> Key
 #[test]
 fn the_greatest_table_fits(rt: HostRuntime) -> Result<(), Fail> {
     let key = greatest(rt.alloc());
-    assert_eq!(rt; key.layout.words(), 67_488);
-    assert_eq!(rt; key.layout.cell(65_535), 67_487);
-    let (words, chief): (Words<u32>, SuperSeat<u32>) = open(rt.alloc(), &key)?;
-    close(words, chief);
+    let (words, last) = (key.layout.words(), key.layout.cell(65_535));
+    let (table, chief): (Words<u32>, SuperSeat<u32>) = open(rt.alloc(), &key)?;
+    close(table, chief);
+    assert_eq!(rt; (words, last), (67_488, 67_487));
     Ok(())
 }

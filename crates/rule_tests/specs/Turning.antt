@@ -5,7 +5,7 @@ use Rattle.mx_core.specs.declared.words.Stage.TheVariants.{Outside}
 use Rattle.mx_rule.specs.Shown.{Office}
 use Rattle.mx_rule.specs.declared.layout.Layout.{Layout}
 use Rattle.mx_rule.specs.declared.views.PassView.{PassView}
-use Rattle.mx_rule_rows.specs.Changing.{IsAtRest, present}
+use Rattle.rule_tests.specs.Changing.{IsAtRest, present}
 
 -- a seat with this place and layout is one of a table
 pub record Fits (place : TableId) (layout : Layout) (table : TableId) (key : Layout) : Type 0 where

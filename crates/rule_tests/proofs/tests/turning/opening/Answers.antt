@@ -1,8 +1,8 @@
 use Rattle.std.proofs.Common.{◌≡◌, ℕ, ◌≤◌, true, List, sym, subst, rules}
 use Rattle.mx_core.specs.declared.changes.Change.{Change}
 use Rattle.mx_rule.specs.Shown.{base_of}
-use Rattle.mx_rule_rows.proofs.TurnLaws.{gives_two, base_writable}
-use Rattle.mx_rule_rows.proofs.tests.turning.opening.Goals as goal
+use Rattle.rule_tests.proofs.TurnLaws.{gives_two, base_writable}
+use Rattle.rule_tests.proofs.tests.turning.opening.Goals as goal
 
 pub returns-clause-writable : goal.returns-clause-writable
 returns-clause-writable c =

@@ -4,8 +4,8 @@ use Rattle.mx_sdw.specs.Descriptors.{Descriptor}
 use Rattle.mx_core.specs.declared.changes.Change.{Change}
 use Rattle.mx_rule.specs.Dealing.{opening_view}
 use Rattle.mx_rule.specs.Shown.{Office, office_of, base_of}
-use Rattle.mx_rule_rows.specs.Changing.{IsAtRest, present}
-use Rattle.mx_rule_rows.specs.Turning.{AreTurned}
+use Rattle.rule_tests.specs.Changing.{IsAtRest, present}
+use Rattle.rule_tests.specs.Turning.{AreTurned}
 
 pub turned_thrice : (x : Office) (f g : ℕ → ℕ → Descriptor) (writable : Bool) → IsAtRest x
     → (f 1 0).w ≡ writable → ((p : ℕ) → p ≢ 2 → g p 0 ≡ f p 0) → (g 2 0).w ≡ writable

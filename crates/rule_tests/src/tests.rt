@@ -6,7 +6,7 @@ ghost use Rattle.mx_core.specs.declared.words.Stage.TheVariants.{Outside};
 ghost use Rattle.mx_rule.specs.Openings.{MayOpen};
 ghost use Rattle.mx_rule.specs.Seats.{pass_of, super_of};
 ghost use Rattle.mx_rule.specs.Shown.{base_of};
-ghost use Rattle.mx_rule_rows.specs.Changing.{IsAtRest, present, seen};
+ghost use Rattle.rule_tests.specs.Changing.{IsAtRest, present, seen};
 ghost use Rattle.mx_sdw.specs.Admissible.{IsAdmissible};
 
 mod changing;

@@ -15,7 +15,7 @@ use Rattle.mx_core.proofs.Puts.{pick_true}
 use Rattle.mx_rule.specs.Holding.{read_by, read_held, stored_by, stored_held}
 use Rattle.mx_rule.specs.Loading.{missed_view, judged_view, remembering_view, loaded_view}
 use Rattle.mx_rule.specs.declared.views.PassView.{PassView}
-use Rattle.mx_rule_rows.specs.Referring.{HoldsFor}
+use Rattle.rule_tests.specs.Referring.{HoldsFor}
 
 pub judged_stage : (o : Option Outcome) (u : Triple) (a : Asked) (v : PassView) → (judged_view o u a v).stage ≡ v.stage
 judged_stage None u a v = refl

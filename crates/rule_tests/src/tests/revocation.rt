@@ -4,7 +4,7 @@
 ghost use Rattle.std.specs.Prelude.{◌≡◌, ◌≢◌, ◌<◌, [], ◌∷◌};
 ghost use Rattle.mx_core.specs.declared.words.Stage.TheVariants.{Outside};
 ghost use Rattle.mx_rule.specs.Seats.{pass_of, super_of};
-ghost use Rattle.mx_rule_rows.specs.Changing.{IsAtRest, IsUnsettled, present, seen};
+ghost use Rattle.rule_tests.specs.Changing.{IsAtRest, IsUnsettled, present, seen};
 ghost use Rattle.mx_sdw.specs.Admissible.{IsAdmissible};
 
 use super::changing::{answer, append, connect, look, note, settle, strike};

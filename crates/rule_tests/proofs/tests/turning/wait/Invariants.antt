@@ -1,6 +1,6 @@
 use Rattle.std.proofs.Common.{◌≡◌}
-use Rattle.mx_rule_rows.specs.Changing.{IsConnected, present, seen}
-use Rattle.mx_rule_rows.proofs.tests.turning.wait.Given as goal
+use Rattle.rule_tests.specs.Changing.{IsConnected, present, seen}
+use Rattle.rule_tests.proofs.tests.turning.wait.Given as goal
 
 abbrev pub invariant-loop : goal.invariant-loop
 invariant-loop l = IsConnected (seen l.chief.seat.me.0) l.process l.segno

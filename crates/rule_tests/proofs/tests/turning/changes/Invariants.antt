@@ -1,7 +1,7 @@
 use Rattle.std.proofs.Common.{◌≡◌}
-use Rattle.mx_rule_rows.specs.Changing.{seen}
-use Rattle.mx_rule_rows.specs.Turning.{AreTurned}
-use Rattle.mx_rule_rows.proofs.tests.turning.changes.Given as goal
+use Rattle.rule_tests.specs.Changing.{seen}
+use Rattle.rule_tests.specs.Turning.{AreTurned}
+use Rattle.rule_tests.proofs.tests.turning.changes.Given as goal
 
 abbrev pub invariant-loop : goal.invariant-loop
 invariant-loop l = AreTurned (seen l.chief.seat.me.0) l.now

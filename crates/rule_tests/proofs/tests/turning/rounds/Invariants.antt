@@ -1,8 +1,8 @@
 use Rattle.std.proofs.Common.{◌≡◌}
 use Rattle.mx_rule.specs.Seats.{pass_of}
-use Rattle.mx_rule_rows.specs.Changing.{seen}
-use Rattle.mx_rule_rows.specs.Turning.{AreTurned, Stands}
-use Rattle.mx_rule_rows.proofs.tests.turning.rounds.Given as goal
+use Rattle.rule_tests.specs.Changing.{seen}
+use Rattle.rule_tests.specs.Turning.{AreTurned, Stands}
+use Rattle.rule_tests.proofs.tests.turning.rounds.Given as goal
 
 abbrev pub invariant-loop : goal.invariant-loop
 invariant-loop g l = AreTurned (seen l.chief.seat.me.0) l.writable

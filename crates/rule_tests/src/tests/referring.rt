@@ -5,7 +5,7 @@ ghost use Rattle.mx_core.specs.AssociativeMemory.{recalled};
 ghost use Rattle.mx_core.specs.Judging.{at_once};
 ghost use Rattle.mx_core.specs.declared.words.Stage.TheVariants.{Outside, Ready};
 ghost use Rattle.mx_rule.specs.Seats.{pass_of};
-ghost use Rattle.mx_rule_rows.specs.Referring.{HoldsFor};
+ghost use Rattle.rule_tests.specs.Referring.{HoldsFor};
 ghost use Rattle.mx_sdw.specs.Operations.{transfers};
 
 use mx_core::Outcome;

@@ -18,8 +18,8 @@ use Rattle.mx_rule.specs.Shown.{Office, office_of, tables_of, base_of, words_of,
 use Rattle.mx_rule.specs.Striking.{Changes, MayStrike, struck_view, MaySettle, settled_view}
 use Rattle.mx_rule.specs.declared.views.SuperView.{SuperView}
 use Rattle.mx_rule.specs.declared.views.ReportView.{ReportView}
-use Rattle.mx_rule_rows.specs.Turning.{AreTurned}
-use Rattle.mx_rule_rows.specs.Changing.{HasPair, IsAtRest, IsChanging, IsStruck, IsConnected, HasLeft, IsUnsettled, present}
+use Rattle.rule_tests.specs.Turning.{AreTurned}
+use Rattle.rule_tests.specs.Changing.{HasPair, IsAtRest, IsChanging, IsStruck, IsConnected, HasLeft, IsUnsettled, present}
 
 first_is : (c a : Change) (i : ℕ) → slice_get (c ∷ []) i ≡ Some a → (i ≡ 0) × (c ≡ a)
 first_is c a zero e = (refl, cc)

@@ -5,8 +5,8 @@ ghost use Rattle.std.specs.Thread.{IsSync};
 ghost use Rattle.mx_rule.specs.Openings.{MayOpen};
 ghost use Rattle.mx_rule.specs.Seats.{pass_of, super_of};
 ghost use Rattle.mx_rule.specs.Shown.{base_of};
-ghost use Rattle.mx_rule_rows.specs.Changing.{HasLeft, IsAtRest, IsConnected, present, seen};
-ghost use Rattle.mx_rule_rows.specs.Turning.{AreTurned, Fits, Stands};
+ghost use Rattle.rule_tests.specs.Changing.{HasLeft, IsAtRest, IsConnected, present, seen};
+ghost use Rattle.rule_tests.specs.Turning.{AreTurned, Fits, Stands};
 ghost use Rattle.mx_sdw.specs.Admissible.{IsAdmissible};
 
 use super::changing::{answer, append, connect, look, settle, strike};
@@ -663,6 +663,18 @@ fn is_history(ran: &Ran, process: u32, deeds: &[Deed]) -> bool {
     true
 }
 
+fn lengths(ran: &Ran) -> [usize; 3] {
+    [ran.first.len(), ran.second.len(), ran.third.len()]
+}
+
+fn histories(ran: &Ran) -> [bool; 3] {
+    [
+        is_history(ran, 1, &ran.first),
+        is_history(ran, 2, &ran.second),
+        is_history(ran, 3, &ran.third),
+    ]
+}
+
 #[test]
 fn access_changes_while_three_processes_refer(rt: HostRuntime) -> Result<(), Fail> {
     let four = ring()?;
@@ -676,10 +688,9 @@ fn access_changes_while_three_processes_refer(rt: HostRuntime) -> Result<(), Fai
     let key = opening(rt.alloc(), &turns, common)?;
     let (words, chief) = open(rt.alloc(), &key)?;
     let ran = long_run(&rt, rt.alloc(), words, chief, &turns, four);
-    assert!(rt; ran.went && ran.kept);
-    assert!(rt; ran.first.len() == 8000 && ran.second.len() == 8000 && ran.third.len() == 8000);
-    assert!(rt; is_history(&ran, 1, &ran.first));
-    assert!(rt; is_history(&ran, 2, &ran.second));
-    assert!(rt; is_history(&ran, 3, &ran.third));
+    assert_eq!(rt;
+        (ran.went, ran.kept, lengths(&ran), histories(&ran)),
+        (true, true, [8000; 3], [true; 3])
+    );
     Ok(())
 }

@@ -2,7 +2,7 @@
 
 ghost use Rattle.std.specs.Prelude.{◌≡◌, ◌≢◌, ◌<◌, [], ◌∷◌, MatchBool};
 ghost use Rattle.mx_core.specs.Put.{put};
-ghost use Rattle.mx_rule_rows.specs.Changing.{HasLeft, HasPair, IsAtRest, IsChanging, IsConnected, IsStruck, IsUnsettled, present, seen};
+ghost use Rattle.rule_tests.specs.Changing.{HasLeft, HasPair, IsAtRest, IsChanging, IsConnected, IsStruck, IsUnsettled, present, seen};
 ghost use Rattle.mx_sdw.specs.Admissible.{IsAdmissible};
 
 use mx_core::{Changes, Runs};
