@@ -4,7 +4,7 @@ ghost use Rattle.std.specs.Prelude.{◌≤◌};
 
 use mx_name::cut;
 use mx_request::read_decimal;
-use mx_sdw::Ring;
+use mx_sdw::{Ring, read_octal_number};
 
 /// What a line of a file says.
 #[derive(Clone, Copy)]
@@ -19,6 +19,10 @@ pub enum Line<'a> {
     Told(&'a [u8]),
     /// `changed P|SEGNO ..` or `changed none`: whose descriptors it must change.
     Changed(&'a [u8]),
+    /// `ready P`: whether this process would be told to go on, if it asked for a message.
+    Ready(u8),
+    /// `descriptor P|SEGNO`: what a process's segment number stands for.
+    Descriptor(u8, u16),
     /// No line of a play.
     Unknown,
 }
@@ -49,12 +53,30 @@ fn read_fields<'a>(word: &[u8], rest: &'a [u8]) -> Line<'a> {
         Line::Told(rest)
     } else if word == b"changed".as_slice() {
         Line::Changed(rest)
+    } else if word == b"ready".as_slice() {
+        match read_small(rest, 2) {
+            Some(process) => Line::Ready(process),
+            None => Line::Unknown,
+        }
+    } else if word == b"descriptor".as_slice() {
+        match read_number(rest) {
+            Some((process, segno)) => Line::Descriptor(process, segno),
+            None => Line::Unknown,
+        }
     } else {
         match read_asked(word, rest) {
             Some(asked) => Line::Asked(asked),
             None => Line::Unknown,
         }
     }
+}
+
+// A process and a segment number of it.
+fn read_number(text: &[u8]) -> Option<(u8, u16)> {
+    let (process, segno) = cut(b'|', text)?;
+    let process = read_small(process, 2)?;
+    let segno = u16::try_from(read_octal_number(segno, 4)?).ok()?;
+    Some((process, segno))
 }
 
 fn read_asked<'a>(word: &[u8], rest: &'a [u8]) -> Option<Asked<'a>> {

@@ -4,7 +4,7 @@ ghost use Rattle.std.specs.Prelude.{◌<◌, length};
 
 use crate::lines::{Asked, Line, read_line};
 use crate::outcome::{Outcome, judge};
-use crate::plays::{Answer, Play};
+use crate::plays::{Answer, Play, descriptor_text, readiness_text};
 use itoa::Buffer;
 use mx_name::Principal;
 use std::alloc::{AllocError, Global};
@@ -125,6 +125,18 @@ impl Stage {
             }),
             Line::Processes(principals) => self.open(alloc, principals),
             Line::Asked(asked) => self.ask(alloc, &asked, is_told),
+            Line::Ready(p) => {
+                let ready = self.play.as_ref().and_then(|play| play.ready(p));
+                self.tell(alloc, readiness_text(ready), is_told)
+            }
+            Line::Descriptor(p, segno) => {
+                let desc = self
+                    .play
+                    .as_ref()
+                    .and_then(|play| play.descriptor(p, segno));
+                let text = descriptor_text(alloc, desc)?;
+                self.tell(alloc, &text, is_told)
+            }
             Line::Told(told) => {
                 let latest = self.latest.as_ref();
                 compared(alloc, told, latest.map(|answer| answer.reply.as_slice()))
@@ -149,6 +161,14 @@ impl Stage {
         } else {
             Step::wrong(alloc, b"no principals of 1 to 15 processes")
         }
+    }
+
+    // The answer to a question from without. One that is not told is said.
+    fn tell(&mut self, alloc: Global, text: &[u8], is_told: bool) -> Result<Step, AllocError> {
+        let answer = Answer::to_question(alloc, text)?;
+        let step = Step::of_request(alloc, &answer, is_told)?;
+        self.latest = Some(answer);
+        Ok(step)
     }
 
     // The next request. A reply that is not told is said.

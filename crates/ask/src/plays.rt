@@ -8,7 +8,7 @@ use itoa::Buffer;
 use mx_core::Change;
 use mx_name::Principal;
 use mx_request::{Request, RequestClass};
-use mx_sdw::{Ring, write_octal};
+use mx_sdw::{Desc, DescKind, Ring, write_octal};
 use mx_state::{Applied, State};
 use std::alloc::{AllocError, Global};
 use std::marker::Model;
@@ -66,6 +66,24 @@ impl Play {
         }
     }
 
+    /// Whether a process would be told to go on, if it asked for a message; none where there is no such process.
+    pub fn ready(&self, p: u8) -> Option<bool> {
+        if p == 0 || p > self.processes {
+            None
+        } else {
+            Some(self.state.ready(p))
+        }
+    }
+
+    /// The descriptor that a process has of a segment number; none where there is no such process.
+    pub fn descriptor(&self, p: u8, segno: u16) -> Option<Desc> {
+        if p == 0 || p > self.processes {
+            None
+        } else {
+            Some(self.state.descriptor(p, segno))
+        }
+    }
+
     // The same of a request that was read from its text.
     fn ask_request(
         &mut self,
@@ -117,6 +135,13 @@ impl Play {
 }
 
 impl Answer {
+    /// The answer to a question from without, which changes nothing.
+    pub fn to_question(alloc: Global, text: &[u8]) -> Result<Answer, AllocError> {
+        let reply = Vec::from_slice(alloc, text)?;
+        let changed = changed_text(alloc, &[])?;
+        Ok(Answer { reply, changed })
+    }
+
     fn of(alloc: Global, applied: &Applied) -> Result<Answer, AllocError>
         ensures { IfOk result (λ answer. answer.reply.items ≡ reply_text applied.now.reply) }
     {
@@ -128,9 +153,7 @@ impl Answer {
 
     // The supervisor wasn't asked.
     fn unasked(alloc: Global, reason: &str) -> Result<Answer, AllocError> {
-        let reply = Vec::from_slice(alloc, reason.as_bytes())?;
-        let changed = changed_text(alloc, &[])?;
-        Ok(Answer { reply, changed })
+        Answer::to_question(alloc, reason.as_bytes())
     }
 }
 
@@ -166,4 +189,61 @@ fn push_change(text: &mut Vec<u8>, change: &Change) -> Result<(), AllocError> {
     text.extend_from_slice(buffer.format(change.process).as_bytes())?;
     text.extend_from_slice(b"|")?;
     write_octal(text, u64::from(change.segno))
+}
+
+/// What is told of readiness.
+pub fn readiness_text(ready: Option<bool>) -> &'static [u8] {
+    match ready {
+        Some(true) => b"yes",
+        Some(false) => b"no",
+        None => b"no such process",
+    }
+}
+
+/// What is told of a descriptor: `unknown`, `gone`, or its modes, brackets, gates, page and words.
+pub fn descriptor_text(alloc: Global, desc: Option<Desc>) -> Result<Vec<u8>, AllocError> {
+    match desc {
+        Some(desc) => text_of(alloc, &desc),
+        None => Vec::from_slice(alloc, b"no such process"),
+    }
+}
+
+fn text_of(alloc: Global, desc: &Desc) -> Result<Vec<u8>, AllocError> {
+    match desc.kind() {
+        DescKind::Unknown => Vec::from_slice(alloc, b"unknown"),
+        DescKind::Gone => Vec::from_slice(alloc, b"gone"),
+        DescKind::Segment => segment_text(alloc, desc),
+    }
+}
+
+fn segment_text(alloc: Global, desc: &Desc) -> Result<Vec<u8>, AllocError> {
+    let brackets = desc.brackets();
+    let mut text = Vec::new(alloc);
+    text.extend_from_slice(flags_text(desc.r(), desc.e(), desc.w()))?;
+    push_number(&mut text, b" ", u32::from(brackets.r1().number()))?;
+    push_number(&mut text, b" ", u32::from(brackets.r2().number()))?;
+    push_number(&mut text, b" ", u32::from(brackets.r3().number()))?;
+    push_number(&mut text, b" gate ", u32::from(desc.gate()))?;
+    push_number(&mut text, b" page ", u32::from(desc.page()))?;
+    push_number(&mut text, b" words ", u32::from(desc.bound()))?;
+    Ok(text)
+}
+
+fn flags_text(r: bool, e: bool, w: bool) -> &'static [u8] {
+    match (r, e, w) {
+        (false, false, false) => b"null",
+        (true, false, false) => b"r",
+        (false, true, false) => b"e",
+        (false, false, true) => b"w",
+        (true, true, false) => b"re",
+        (true, false, true) => b"rw",
+        (false, true, true) => b"ew",
+        (true, true, true) => b"rew",
+    }
+}
+
+fn push_number(text: &mut Vec<u8>, before: &[u8], number: u32) -> Result<(), AllocError> {
+    let mut buffer = Buffer::new();
+    text.extend_from_slice(before)?;
+    text.extend_from_slice(buffer.format(number).as_bytes())
 }
