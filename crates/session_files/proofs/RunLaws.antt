@@ -1,14 +1,22 @@
 -- What the top call did without auditors over an empty sink: under `run` it printed a run of the session that its source held, under
 -- `drill` the summary of a drill.
-use Rattle.std.proofs.Common.{◌≡◌, ℕ, ◌≤◌, List, [], ◌∷◌, length, subst, ap, Option, Some, refl, inl, inr}
-use Rattle.std.specs.Prelude.{codes}
+use Rattle.std.proofs.Common.{◌≡◌, ℕ, ◌≤◌, List, [], ◌∷◌, length, subst, ap, Option, Some, None, Result, Ok, Err, IfOk, refl, inl, inr}
+use Rattle.std.specs.Prelude.{codes, IfSome}
 use Rattle.mx_audit.specs.Accounts.{Account}
 use Rattle.mx_run.proofs.VerdictLaws.{run_done}
 use Rattle.mx_run.specs.Commands.{IsRun}
+use Rattle.mx_run.specs.Done as done
 use Rattle.mx_run.specs.Done.{IsDrilled, IsDoneBy}
+use Rattle.mx_run.specs.Statuses.{IsDueStatus}
 use Rattle.mx_script.specs.Sessions.{Outline}
 use Rattle.mx_script.specs.SessionTexts.{IsText}
-use Rattle.session_files.specs.Runs.{IsRunOf, IsPrintedOf, IsSummaryOf}
+use Rattle.mx_legal.specs.Transcripts.{Step}
+use Rattle.mx_state.specs.declared.journal.Entry.{Entry}
+use Rattle.mx_text.specs.RunText.{run_text}
+use Rattle.session_files.specs.Runs.{IsRunOf, IsPrintedOf, IsSummaryOf, IsEnded, IsDrillEnded, IsEndedBy}
+use Rattle.session_files.specs.declared.orders.InOrder.{InOrder}
+use Rattle.session_files.specs.declared.runs.Ended.{Ended}
+use Rattle.session_files.specs.declared.runs.Ended.TheVariants.{Ran, Otherwise}
 
 -- where there were no auditors there are none
 without : (words : List (List ℕ)) (source left sink sink' : Option (List ℕ)) (told : List Account)
@@ -89,3 +97,30 @@ printed_of text printed session within spelled told = (
     printed = ap Some told.text;
   },
 )
+
+-- what a command came to, under `run` and under `drill`
+pub ended_of : {E : Type 0} (words : List (List ℕ)) (session : List ℕ) (r : Result Ended E) → words ≡ codes "run" ∷ []
+    → IfOk r (IsEndedBy words session) → IfOk r (IsEnded session)
+ended_of words session (Ok (Ran printed)) are told = run_of words session printed.items are told
+ended_of words session (Ok (Otherwise status printed)) are told = record {
+  other = told.0;
+  due = elim told.1 [
+    | inl stopped ↦ inl stopped
+    | inr due ↦ inr (subst (λ (those : List (List ℕ)). IsDueStatus those session status) are due)
+  ];
+}
+ended_of words session (Err error) are told = told
+
+pub drill_ended_of : {E : Type 0} (words : List (List ℕ)) (number text : List ℕ) (r : Result Ended E)
+    → words ≡ codes "drill" ∷ number ∷ [] → IfOk r (IsEndedBy words text) → IfOk r (IsDrillEnded number)
+drill_ended_of words number text (Ok (Ran printed)) are told = summary_of words number text printed.items are told
+drill_ended_of words number text (Ok (Otherwise status printed)) are told = told.0
+drill_ended_of words number text (Err error) are told = told
+
+-- what came of a session in an order
+pub in_order_of : {E : Type 0} (text : List ℕ) (session : Outline) (r : Result (Option InOrder) E) → length text ≤ 4194304
+    → IsText text session → IfOk r (λ told. IfSome told (λ ran. IsPrintedOf session ran.printed.items))
+    → IfOk r (λ told. IfSome told (λ ran. IsRunOf text ran.printed.items))
+in_order_of text session (Ok (Some ran)) within spelled told = printed_of text ran.printed.items session within spelled told
+in_order_of text session (Ok None) within spelled told = told
+in_order_of text session (Err error) within spelled told = told

@@ -1,6 +1,7 @@
 //! A run of a session in a chosen order.
 
-ghost use Rattle.std.specs.Prelude.{◌≡◌, IfOk, IfSome};
+ghost use Rattle.std.specs.Prelude.{◌≡◌, Ok, true, IfOk, IfSome};
+ghost use Rattle.mx_proc.specs.Stepping.{HaveEnded};
 ghost use Rattle.mx_run.specs.Done as done;
 ghost use Rattle.mx_text.specs.RunText.{run_text};
 ghost use Rattle.session_files.specs.Runs.{IsRunOf, IsPrintedOf};
@@ -98,25 +99,63 @@ fn ran(
     ensures { IfOk result (λ told. IfSome told (λ ran. done.IsRunOf session.now ran.0 ran.1)) }
 {
     let mut bench = Bench::new(alloc, session)?;
+    match drive(&mut bench, alloc, order, steps) {
+        Ok(true) => Ok(Some(bench.finish())),
+        Ok(false) => Ok(None),
+        Err(error) => Err(error),
+    }
+}
+
+// Makes the steps of this order, and then steps in turn, and tells whether all have ended; they have not where there is no such
+// process.
+fn drive(
+    bench: &mut Bench<'_>,
+    alloc: Global,
+    order: &[u8],
+    steps: &mut Vec<u8>,
+) -> Result<bool, AllocError>
+    ensures session { bench.new.session ≡ bench.old.session }
+    ensures ended { result ≡ Ok true → HaveEnded bench.new }
+{
+    if follow(bench, alloc, order, steps)? {
+        take_turns(bench, alloc)
+    } else {
+        Ok(false)
+    }
+}
+
+// Makes the steps of this order, as long as there is such a process.
+fn follow(
+    bench: &mut Bench<'_>,
+    alloc: Global,
+    order: &[u8],
+    steps: &mut Vec<u8>,
+) -> Result<bool, AllocError>
+    ensures { bench.new.session ≡ bench.old.session }
+{
     for p in order {
-        match step(&mut bench, alloc, *p)? {
+        match step(bench, alloc, *p)? {
             Some(stepped) => steps.extend_from_slice(word_of(stepped))?,
-            None => return Ok(None),
+            None => return Ok(false),
         }
     }
+    Ok(true)
+}
+
+// Steps all processes in turn, until they have ended.
+fn take_turns(bench: &mut Bench<'_>, alloc: Global) -> Result<bool, AllocError>
+    ensures session { bench.new.session ≡ bench.old.session }
+    ensures ended { result ≡ Ok true → HaveEnded bench.new }
+{
     for _turn in 0..TURNS {
         if bench.has_ended() {
-            break;
+            return Ok(true);
         }
         for p in 1..16 {
-            step(&mut bench, alloc, p)?;
+            step(bench, alloc, p)?;
         }
     }
-    if bench.has_ended() {
-        Ok(Some(bench.finish()))
-    } else {
-        Ok(None)
-    }
+    Ok(false)
 }
 
 // A step of a process, where there is such a process.
