@@ -1,5 +1,6 @@
 -- What a reader of a legal run may rely on: each printed reference is what the judging rule gives on the access at
--- its printed point.
+-- its printed point, for some current ring and some answer to whether a call stays within its segment; the line rule
+-- says that they are those of the registers.
 use Rattle.std.specs.Prelude.{◌≡◌, ℕ, ◌<◌, List, length, Some, slice_get}
 use Rattle.mx_script.specs.Sessions.{Outline}
 use Rattle.mx_state.specs.declared.journal.Entry as journaled

@@ -57,7 +57,9 @@ pub fn rings_law()
     ensures run { LegalRingsLaw }
 {}
 
-/// In a legal run each printed reference is what the judging rule gives on the access at its printed point.
+/// In a legal run each printed reference is what the judging rule gives on the access at its printed point, for some
+/// current ring and some answer to whether a call stays within its segment; the line rule says that they are those of
+/// the registers.
 pub fn each_reference_is_judged()
     ensures { EachReferenceLaw }
 {}
