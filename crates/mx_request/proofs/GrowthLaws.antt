@@ -41,6 +41,17 @@ grown_on (Ok a) old mid new first second = tt
 grown_on (Err e) old mid new first second =
     (first.0 ++ second.0, second.1 ∙ ap (λ xs. xs ++ second.0) first.1 ∙ append_assoc old first.0 second.0)
 
+-- the same where the first time was an addition
+pub grown_from : (old mid new added : List ℕ) → mid ≡ old ++ added → IsGrown mid new → IsGrown old new
+grown_from old mid new added first second =
+    (added ++ second.0, second.1 ∙ ap (λ xs. xs ++ second.0) first ∙ append_assoc old added second.0)
+
+-- what has grown has grown further by a last step, where that fails
+pub grown_last : {A E : Type 0} (result : Result A E) (old mid new : List ℕ) → IsGrown old mid → OnErr result (IsGrown mid new)
+    → OnErr result (IsGrown old new)
+grown_last (Ok a) old mid new first last = tt
+grown_last (Err e) old mid new first last = grown_from old mid new first.0 first.1 last
+
 -- three pieces, one after the other, where the last may fail
 pub three_pieces : {A E : Type 0} (result : Result A E) (old first second new x y z : List ℕ) → first ≡ old ++ x → second ≡ first ++ y
     → OnOk result (new ≡ second ++ z) → OnOk result (new ≡ old ++ (x ++ (y ++ z)))

@@ -7,7 +7,7 @@ use crate::requests::Request;
 
 /// Who may make a request. A session's setup has requests on paths alone, a process's script those of the first two
 /// classes, and the journal all three.
-#[derive(Clone, Copy, Debug, PartialEq, Eq)]
+#[derive(Clone, Copy)]
 pub enum RequestClass {
     /// On a path of the hierarchy: the setup makes it, and every process.
     OfPath,

@@ -6,6 +6,7 @@
 #![tactic(auto)]
 
 mod classes;
+mod copies;
 mod laws;
 mod reading;
 mod replies;

@@ -4,6 +4,7 @@ ghost use Rattle.std.specs.Prelude.{◌≡◌, ◌++◌, true, Ok, Some, None, I
 ghost use Rattle.mx_request.specs.declared.requests.Request.{Request as RequestValue};
 ghost use Rattle.mx_request.specs.RequestTexts.{request_text, fits_request};
 
+use crate::copies;
 use crate::reading::read_line;
 use crate::writing::push_request;
 use mx_acl::Modes;
@@ -13,9 +14,9 @@ use mx_object::ObjectMap;
 use mx_sdw::{Ring, Word};
 use mx_search::Rules;
 use std::alloc::{AllocError, Global};
+use std::fmt::{self, Debug, Formatter, Write};
 
 /// A supervisor call. Brackets need not be in order, nor a length in its bounds: the supervisor refuses.
-#[derive(Debug)]
 pub enum Request {
     /// `create_dir PATH D1 D2`: make a directory.
     CreateDir {
@@ -120,73 +121,69 @@ pub enum Request {
     Logout,
 }
 
+// By hand, and no more than that it is a request: its line says what it asks.
+impl Debug for Request {
+    fn fmt<W: Write>(&self, f: &mut Formatter<W>) -> fmt::Result {
+        f.debug_struct("Request").finish_non_exhaustive()
+    }
+}
+
 // By hand, so that what lets a request go calls this, and need not let go of each of its parts.
 impl Drop for Request {
     fn drop(self) {
         match self {
             Request::CreateDir {
                 path: _path,
-                d1: _d1,
-                d2: _d2,
-            } => {}
-            Request::CreateSeg {
+                d1: _,
+                d2: _,
+            }
+            | Request::CreateSeg {
                 path: _path,
-                words: _words,
-                brackets: _brackets,
+                words: _,
+                brackets: _,
+            }
+            | Request::Rename {
+                path: _path,
+                name: _,
+            }
+            | Request::Delete { path: _path }
+            | Request::SetAcl {
+                path: _path,
+                id: _,
+                modes: _,
+            }
+            | Request::DelAcl { path: _path, id: _ }
+            | Request::SetBrackets {
+                path: _path,
+                brackets: _,
+            }
+            | Request::SetDirBrackets {
+                path: _path,
+                d1: _,
+                d2: _,
+            }
+            | Request::Status { path: _path }
+            | Request::List { path: _path }
+            | Request::ChangeWdir { path: _path }
+            | Request::Initiate {
+                path: _path,
+                name: _,
             } => {}
             Request::CreateObject {
                 path: _path,
-                words: _words,
-                brackets: _brackets,
+                words: _,
+                brackets: _,
                 map: _map,
             } => {}
             Request::CreateLink {
                 path: _path,
                 target: _target,
             } => {}
-            Request::Rename {
-                path: _path,
-                name: _name,
-            } => {}
-            Request::Delete { path: _path } => {}
-            Request::SetAcl {
-                path: _path,
-                id: _id,
-                modes: _modes,
-            } => {}
-            Request::DelAcl {
-                path: _path,
-                id: _id,
-            } => {}
-            Request::SetBrackets {
-                path: _path,
-                brackets: _brackets,
-            } => {}
-            Request::SetDirBrackets {
-                path: _path,
-                d1: _d1,
-                d2: _d2,
-            } => {}
-            Request::Status { path: _path } => {}
-            Request::List { path: _path } => {}
-            Request::ChangeWdir { path: _path } => {}
             Request::SetRules { rules: _rules } => {}
-            Request::Initiate {
-                path: _path,
-                name: _name,
-            } => {}
-            Request::Terminate { segno: _segno } => {}
-            Request::Wakeup {
-                to: _to,
-                word: _word,
-            } => {}
-            Request::Block => {}
-            Request::Link {
-                segno: _segno,
-                word: _word,
-            } => {}
-            Request::Resume => {}
-            Request::Logout => {}
+            Request::Terminate { segno: _ } => {}
+            Request::Wakeup { to: _, word: _ } => {}
+            Request::Block | Request::Resume | Request::Logout => {}
+            Request::Link { segno: _, word: _ } => {}
         }
     }
 }
@@ -229,76 +226,30 @@ impl Request {
         ensures { IfOk result (λ request. request ≡ self.now) }
     {
         match self {
-            Request::CreateDir { path, d1, d2 } => Ok(Request::CreateDir {
-                path: path.copy()?,
-                d1: *d1,
-                d2: *d2,
-            }),
+            Request::CreateDir { path, d1, d2 } => copies::create_dir(path, *d1, *d2),
             Request::CreateSeg {
                 path,
                 words,
                 brackets,
-            } => Ok(Request::CreateSeg {
-                path: path.copy()?,
-                words: *words,
-                brackets: *brackets,
-            }),
+            } => copies::create_seg(path, *words, brackets),
             Request::CreateObject {
                 path,
                 words,
                 brackets,
                 map,
-            } => {
-                let path = path.copy()?;
-                let map = map.copy()?;
-                Ok(Request::CreateObject {
-                    path,
-                    words: *words,
-                    brackets: *brackets,
-                    map,
-                })
-            }
-            Request::CreateLink { path, target } => {
-                let path = path.copy()?;
-                let target = target.copy()?;
-                Ok(Request::CreateLink { path, target })
-            }
-            Request::Rename { path, name } => {
-                let path = path.copy()?;
-                Ok(Request::Rename { path, name: *name })
-            }
-            Request::Delete { path } => Ok(Request::Delete { path: path.copy()? }),
-            Request::SetAcl { path, id, modes } => {
-                let path = path.copy()?;
-                Ok(Request::SetAcl {
-                    path,
-                    id: *id,
-                    modes: *modes,
-                })
-            }
-            Request::DelAcl { path, id } => {
-                let path = path.copy()?;
-                Ok(Request::DelAcl { path, id: *id })
-            }
-            Request::SetBrackets { path, brackets } => Ok(Request::SetBrackets {
-                path: path.copy()?,
-                brackets: *brackets,
-            }),
-            Request::SetDirBrackets { path, d1, d2 } => Ok(Request::SetDirBrackets {
-                path: path.copy()?,
-                d1: *d1,
-                d2: *d2,
-            }),
-            Request::Status { path } => Ok(Request::Status { path: path.copy()? }),
-            Request::List { path } => Ok(Request::List { path: path.copy()? }),
-            Request::ChangeWdir { path } => Ok(Request::ChangeWdir { path: path.copy()? }),
-            Request::SetRules { rules } => Ok(Request::SetRules {
-                rules: rules.copy()?,
-            }),
-            Request::Initiate { path, name } => {
-                let path = path.copy()?;
-                Ok(Request::Initiate { path, name: *name })
-            }
+            } => copies::create_object(path, *words, brackets, map),
+            Request::CreateLink { path, target } => copies::create_link(path, target),
+            Request::Rename { path, name } => copies::rename(path, name),
+            Request::Delete { path } => copies::delete(path),
+            Request::SetAcl { path, id, modes } => copies::set_acl(path, id, modes),
+            Request::DelAcl { path, id } => copies::del_acl(path, id),
+            Request::SetBrackets { path, brackets } => copies::set_brackets(path, brackets),
+            Request::SetDirBrackets { path, d1, d2 } => copies::set_dir_brackets(path, *d1, *d2),
+            Request::Status { path } => copies::status(path),
+            Request::List { path } => copies::list(path),
+            Request::ChangeWdir { path } => copies::change_wdir(path),
+            Request::SetRules { rules } => copies::set_rules(rules),
+            Request::Initiate { path, name } => copies::initiate(path, *name),
             Request::Terminate { segno } => Ok(Request::Terminate { segno: *segno }),
             Request::Wakeup { to, word } => Ok(Request::Wakeup {
                 to: *to,
