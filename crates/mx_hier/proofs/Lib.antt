@@ -12,6 +12,7 @@ pub mod MakingLaws
 pub mod ChangeLaws
 pub mod SortLaws
 pub mod DescriptorLaws
+pub mod DirectoryLaws
 pub mod EntryLaws
 pub mod NameTextLaws
 pub mod FindLaws

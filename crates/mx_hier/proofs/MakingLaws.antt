@@ -1,27 +1,30 @@
 -- A refusal of every request that makes an entry is that of each.
-use Rattle.std.proofs.Common.{◌≡◌, ◌==◌, ◌≤◌, ◌<◌, leb, ◌||◌, ltb, ℕ, is_none, Option, None, refl, arith, Bool, true, false, cond, List, [], ◌∷◌, ◌++◌, Some, Result, Ok, Err, ap, sym, subst, ◌∙◌}
+use Rattle.std.proofs.Common.{◌≡◌, ◌==◌, ◌≤◌, ◌<◌, leb, ◌||◌, ltb, ℕ, is_none, not, Option, None, refl, arith, Bool, true, false, cond, List, [], ◌∷◌, ◌++◌, Some, Result, Ok, Err, ap, sym, subst, ◌∙◌}
 use Rattle.std.proofs.lemmas.Bool.{or_parts}
 use Rattle.std.specs.List.{list_any}
 use Rattle.std.specs.Map.{lookup}
 use Rattle.mx_name.specs.Names.{same_name}
 use Rattle.mx_object.specs.Objects.{PlainObjectMap}
 use Rattle.mx_hier.specs.declared.branches.Directory.{Directory}
+use Rattle.mx_acl.specs.declared.modes.AclKind.TheVariants.{Segment as OfSegment}
+use Rattle.mx_acl.specs.declared.modes.Modes.{Modes}
 use Rattle.mx_hier.specs.declared.branches.Node.TheVariants.{Directory as IsDirectory}
+use Rattle.mx_hier.specs.declared.branches.Node.{Node}
 use Rattle.mx_hier.specs.declared.making.Place.{Place}
 use Rattle.mx_hier.specs.declared.refusals.HierError.{HierError}
 use Rattle.mx_hier.specs.declared.refusals.HierError.TheVariants.{Refused, Memory}
 use Rattle.mx_sdw.specs.Rings.{Bracketing}
 use Rattle.mx_hier.specs.declared.refusals.Refusal.{Refusal}
-use Rattle.mx_hier.specs.declared.refusals.Refusal.TheVariants.{NotADir, BadLength, BadBrackets, NoPages}
+use Rattle.mx_hier.specs.declared.refusals.Refusal.TheVariants.{NotADir, IncorrectAccess, BadLength, BadBrackets, NoPages}
 use Rattle.mx_pages.specs.Runs.{pages_for, run_given}
-use Rattle.mx_hier.specs.Branches.{Hierarchy, directory_at}
+use Rattle.mx_hier.specs.Branches.{Hierarchy, directory_at, holding}
 use Rattle.mx_hier.specs.Brackets.{settable}
-use Rattle.mx_hier.specs.Callers.{Subject, on}
+use Rattle.mx_hier.specs.Callers.{Subject, has_append, on}
 use Rattle.mx_hier.specs.Objects.{gate_of, defined_in}
-use Rattle.mx_hier.specs.MakeSegment.{Wanted, reaches_beyond, is_bad_length, make_segment_refusals, make_segment_at, new_segment, segment_added}
+use Rattle.mx_hier.specs.MakeSegment.{Wanted, reaches_beyond, is_bad_length, make_segment_refusals, make_segment_at, new_segment, segment_added, segment_on_pages}
 use Rattle.mx_hier.specs.CreateDirectory.{create_dir_refusals, new_directory, create_dir_at}
-use Rattle.mx_hier.specs.Making.{making_refusals, made, added}
-use Rattle.mx_hier.specs.Rules.{first_of, onward, required, unless, Answers, Tells, TellsFirst}
+use Rattle.mx_hier.specs.Making.{entry_refusals, making_refusals, made, added, created_at, first_acl}
+use Rattle.mx_hier.specs.Rules.{first_of, say, onward, required, unless, Answers, Tells, TellsFirst}
 
 first_again : (rules own : List (Bool × Refusal)) (why : Refusal) → first_of rules ≡ Some why → first_of (rules ++ own) ≡ Some why
 first_again [] own why is = absurd (cc)
@@ -52,31 +55,34 @@ made_all h at rules make parent none is =
     ap (λ refusal. onward (unless refusal at) (λ (at : Place). onward (required NotADir (directory_at h at.dir)) make)) none
     ∙ ap (λ directory. onward (required NotADir directory) make) is
 
--- a directory: what refuses every making, then its brackets, else it is made
+-- where nothing refuses a making there is the directory
+record HasParent (found : Option Directory) : Type 0 where
+  parent : Directory
+  is : found ≡ Some parent
+
+has_parent : (found : Option Directory) (why : Refusal) (rules : List (Bool × Refusal)) → first_of ((is_none found, why) ∷ rules) ≡ None → HasParent found
+has_parent None why rules none = absurd (cc)
+has_parent (Some directory) why rules none = record { parent = directory; is = refl }
+
+parent_of : (h : Hierarchy) (who : Subject) (at : Place) → first_of (making_refusals h who at) ≡ None → HasParent (directory_at h at.dir)
+parent_of h who at none =
+    has_parent (directory_at h at.dir) (say who NotADir (holding h at.dir))
+    ((not (on (has_append who) (directory_at h at.dir)), say who IncorrectAccess (directory_at h at.dir)) ∷ entry_refusals h at) none
+
+-- what nothing refuses but what refuses every making
+pub node_refused : (h : Hierarchy) (who : Subject) (at : Place) (node : Node) (why : Refusal)
+    → Some why ≡ first_of (making_refusals h who at) → created_at h who at node ≡ Err why
+node_refused h who at node why is = made_refused h at (making_refusals h who at) (λ parent. Ok (added h at node)) why (sym is)
+
+-- a directory
 pub dir_refused : (h : Hierarchy) (who : Subject) (at : Place) (d1 d2 : ℕ) (why : Refusal)
-    → first_of (making_refusals h who at) ≡ Some why → create_dir_at h who at d1 d2 ≡ Err why
+    → Some why ≡ first_of (making_refusals h who at) → create_dir_at h who at d1 d2 ≡ Err why
 dir_refused h who at d1 d2 why is =
     made_refused h at (create_dir_refusals h who at d1 d2) (λ parent. Ok (added h at (IsDirectory (new_directory parent who d1 d2)))) why
-    (first_again (making_refusals h who at) ((ltb d2 d1 || ltb d1 who.ring, BadBrackets) ∷ []) why is)
-
-pub dir_unbracketed : (h : Hierarchy) (who : Subject) (at : Place) (d1 d2 : ℕ)
-    → first_of (making_refusals h who at) ≡ None → (ltb d2 d1 || ltb d1 who.ring) ≡ true → create_dir_at h who at d1 d2 ≡ Err BadBrackets
-dir_unbracketed h who at d1 d2 none bad =
-    made_refused h at (create_dir_refusals h who at d1 d2) (λ parent. Ok (added h at (IsDirectory (new_directory parent who d1 d2)))) BadBrackets
-    (first_past (making_refusals h who at) ((ltb d2 d1 || ltb d1 who.ring, BadBrackets) ∷ []) none
-    ∙ ap (λ (b : Bool). cond b (Some BadBrackets) None) bad)
-
-pub dir_made : (h : Hierarchy) (who : Subject) (at : Place) (d1 d2 : ℕ) (parent : Directory)
-    → first_of (making_refusals h who at) ≡ None → (ltb d2 d1 || ltb d1 who.ring) ≡ false → directory_at h at.dir ≡ Some parent
-    → create_dir_at h who at d1 d2 ≡ Ok (added h at (IsDirectory (new_directory parent who d1 d2)))
-dir_made h who at d1 d2 parent none good is =
-    made_all h at (create_dir_refusals h who at d1 d2) (λ parent. Ok (added h at (IsDirectory (new_directory parent who d1 d2)))) parent
-    (first_past (making_refusals h who at) ((ltb d2 d1 || ltb d1 who.ring, BadBrackets) ∷ []) none
-    ∙ ap (λ (b : Bool). cond b (Some BadBrackets) None) good)
-    is
+    (first_again (making_refusals h who at) ((ltb d2 d1 || ltb d1 who.ring, BadBrackets) ∷ []) why (sym is))
 
 pub segment_refused : (h : Hierarchy) (who : Subject) (at : Place) (wanted : Wanted) (why : Refusal)
-    → first_of (making_refusals h who at) ≡ Some why → make_segment_at h who at wanted ≡ Err why
+    → Some why ≡ first_of (making_refusals h who at) → make_segment_at h who at wanted ≡ Err why
 segment_refused h who at wanted why is =
     made_refused h at (make_segment_refusals h who at wanted)
     (λ parent.
@@ -86,14 +92,17 @@ segment_refused h who at wanted why is =
     why
     (first_again (making_refusals h who at)
     ((is_bad_length wanted.words wanted.object, BadLength) ∷ (is_none (settable who.ring wanted.rings), BadBrackets)
-    ∷ (is_none (run_given h.pages (pages_for wanted.words)), NoPages) ∷ []) why is)
+    ∷ (is_none (run_given h.pages (pages_for wanted.words)), NoPages) ∷ []) why (sym is))
 
 own_refusals : Subject → Wanted → Option ℕ → List (Bool × Refusal)
 own_refusals who wanted page =
     (is_bad_length wanted.words wanted.object, BadLength) ∷ (is_none (settable who.ring wanted.rings), BadBrackets) ∷ (is_none page, NoPages) ∷ []
 
 -- a segment with a bad length, with bad brackets, without pages, and one that is made
-module _ (h : Hierarchy) (who : Subject) (at : Place) (wanted : Wanted) (none : first_of (making_refusals h who at) ≡ None) where
+module _ (h : Hierarchy) (who : Subject) (at : Place) (wanted : Wanted) (is_free : None ≡ first_of (making_refusals h who at)) where
+  none : first_of (making_refusals h who at) ≡ None
+  none = sym is_free
+
   page : Option ℕ
   page = run_given h.pages (pages_for wanted.words)
 
@@ -119,7 +128,7 @@ module _ (h : Hierarchy) (who : Subject) (at : Place) (wanted : Wanted) (none : 
       ∙ ap (λ (b : Bool). cond b (Some BadLength) (cond (is_none (settable who.ring wanted.rings)) (Some BadBrackets) (cond (is_none page) (Some NoPages) None))) fit
       ∙ ap (λ (o : Option Bracketing). cond (is_none o) (Some BadBrackets) (cond (is_none page) (Some NoPages) None)) bad)
 
-  pub segment_unpaged : (brackets : Bracketing) → is_bad_length wanted.words wanted.object ≡ false → settable who.ring wanted.rings ≡ Some brackets
+  segment_unpaged : (brackets : Bracketing) → is_bad_length wanted.words wanted.object ≡ false → settable who.ring wanted.rings ≡ Some brackets
       → run_given h.pages (pages_for wanted.words) ≡ None → make_segment_at h who at wanted ≡ Err NoPages
   unfolding own_refusals page make
   segment_unpaged brackets fit good lacking =
@@ -129,7 +138,7 @@ module _ (h : Hierarchy) (who : Subject) (at : Place) (wanted : Wanted) (none : 
       ∙ ap (λ (o : Option Bracketing). cond (is_none o) (Some BadBrackets) (cond (is_none page) (Some NoPages) None)) good
       ∙ ap (λ (o : Option ℕ). cond (is_none o) (Some NoPages) None) lacking)
 
-  pub segment_made : (brackets : Bracketing) (first : ℕ) (parent : Directory) → is_bad_length wanted.words wanted.object ≡ false
+  segment_made : (brackets : Bracketing) (first : ℕ) (parent : Directory) → is_bad_length wanted.words wanted.object ≡ false
       → settable who.ring wanted.rings ≡ Some brackets → run_given h.pages (pages_for wanted.words) ≡ Some first → directory_at h at.dir ≡ Some parent
       → make_segment_at h who at wanted ≡ Ok (segment_added h at (new_segment parent who wanted brackets first) wanted.object)
   unfolding own_refusals page make
@@ -146,6 +155,38 @@ module _ (h : Hierarchy) (who : Subject) (at : Place) (wanted : Wanted) (none : 
       Ok (segment_added h at (new_segment parent who wanted brackets page) wanted.object)))) good
       ∙ ap (λ (o : Option ℕ).
       onward (required NoPages o) (λ page. Ok (segment_added h at (new_segment parent who wanted brackets page) wanted.object))) some
+
+  pub segment_left : (brackets : Bracketing) → is_bad_length wanted.words wanted.object ≡ false → settable who.ring wanted.rings ≡ Some brackets
+      → make_segment_at h who at wanted ≡ segment_on_pages h who at wanted.words brackets wanted.modes wanted.object
+  segment_left brackets fit good = by (run_given h.pages (pages_for wanted.words)) refl
+    where
+      by : (o : Option ℕ) → run_given h.pages (pages_for wanted.words) ≡ o
+          → make_segment_at h who at wanted
+          ≡ onward (required NoPages o) (λ page.
+          Ok (segment_added h at (record { acl = first_acl OfSegment who wanted.modes; brackets = brackets; words = wanted.words; page = page }) wanted.object))
+      by None is = segment_unpaged brackets fit good is
+      by (Some first) is =
+          let found = parent_of h who at none in
+          segment_made brackets first found.parent fit good is found.is
+
+-- a segment that has its pages
+pub pages_there : (h : Hierarchy) (who : Subject) (at : Place) (words first : ℕ) (brackets : Bracketing) (modes : Modes) (object : Option PlainObjectMap)
+    → run_given h.pages (pages_for words) ≡ Some first
+    → segment_on_pages h who at words brackets modes object
+    ≡ Ok (segment_added h at (record { acl = first_acl OfSegment who modes; brackets = brackets; words = words; page = first }) object)
+pages_there h who at words first brackets modes object there =
+    ap (λ (o : Option ℕ).
+    onward (required NoPages o) (λ page.
+    Ok (segment_added h at (record { acl = first_acl OfSegment who modes; brackets = brackets; words = words; page = page }) object))) there
+
+-- what a call answers is what an equal definition says
+pub answers_as : {meant same : Result Hierarchy Refusal} (h : Hierarchy) (result : Result (Unit {0}) HierError) (new : Hierarchy) → same ≡ meant
+    → Answers meant h result new → Answers same h result new
+answers_as h result new e found = subst (λ (m : Result Hierarchy Refusal). Answers m h result new) (sym e) found
+
+pub tells_first_as : {meant same : Result Hierarchy Refusal} (result : Result (Unit {0}) HierError) → same ≡ meant
+    → TellsFirst meant result → TellsFirst same result
+tells_first_as result e told = subst (λ (m : Result Hierarchy Refusal). TellsFirst m result) (sym e) told
 
 -- what a request comes to that goes on where a place was found
 onward_ok : {A B C : Type 0} (r : Result A Refusal) (f : A → Result B Refusal) (g : B → Result C Refusal) (b : B) → onward r f ≡ Ok b

@@ -1,5 +1,5 @@
 -- Where names lead from a link and from a refusal, and where walks end.
-use Rattle.std.proofs.Common.{◌≡◌, ◌≤◌, ℕ, zero, suc, length, get_or, Bool, true, false, List, [], ◌∷◌, ◌++◌, fold, Option, Some, None, Result, Ok, Err, is_ok, refl, sym, ap, ◌∙◌, arith}
+use Rattle.std.proofs.Common.{◌≡◌, ◌≤◌, ◌-◌, ℕ, zero, suc, length, get_or, Bool, true, false, List, [], ◌∷◌, ◌++◌, fold, Option, Some, None, Result, Ok, Err, is_ok, refl, sym, ap, ◌∙◌, arith}
 use Rattle.std.proofs.lemmas.List.{append-nil, append_assoc}
 use Rattle.mx_hier.specs.declared.branches.Directory.{Directory}
 use Rattle.mx_hier.specs.declared.refusals.Refusal.{Refusal}
@@ -71,6 +71,14 @@ pub walk_refused : (left : ℕ) (h : Hierarchy) (who : Subject) (follow : Bool) 
     → Refused why dir ≡ along h follow from names → Err (say who why dir) ≡ told who (walk left h follow from names)
 walk_refused zero h who follow from names why dir e = ap (λ stop. told who (outcome stop (λ dir path. Err (LinkLoop, dir)))) e
 walk_refused (suc left) h who follow from names why dir e = ap (λ stop. told who (outcome stop (λ dir path. walk left h follow 0 path))) e
+
+-- a walk that comes to a link goes on at the root
+pub walk_linked : (left : ℕ) (h : Hierarchy) (who : Subject) (follow : Bool) (from : ℕ) (names : List (List ℕ)) (dir : Option Directory) (path : List (List ℕ))
+    → 1 ≤ left → Linked dir path ≡ along h follow from names → told who (walk (left - 1) h follow 0 path) ≡ told who (walk left h follow from names)
+walk_linked zero h who follow from names dir path some e = absurd (omega arith)
+walk_linked (suc left) h who follow from names dir path some e =
+    let same : suc left - 1 ≡ left = omega arith in
+    ap (λ n. told who (walk n h follow 0 path)) same ∙ ap (λ stop. told who (outcome stop (λ dir path. walk left h follow 0 path))) e
 
 -- whether a walk ends well is asked of nobody
 told_alike : (who other : Subject) (end : Result ℕ (Refusal × Option Directory)) → is_ok (told who end) ≡ is_ok (told other end)

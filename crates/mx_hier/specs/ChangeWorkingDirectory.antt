@@ -12,6 +12,9 @@ directory_refusals h who uid =
     (is_none (directory_at h uid), say who NotADir (holding h uid))
     ∷ (not (on (has_any who) (directory_at h uid)), say who IncorrectAccess (holding h uid)) ∷ []
 
+abbrev pub directory_reached : Hierarchy → Subject → List (List ℕ) → Result (Unit {0}) Refusal
+directory_reached h who path = onward (reached h who true path) (λ uid. unless (first_of (directory_refusals h who uid)) tt)
+
 -- the path as it is written, not where its links lead
 abbrev pub directory : Hierarchy → Caller → List ℕ → Result (List (List ℕ)) Refusal
 directory h who pathname =

@@ -15,6 +15,10 @@ accessible h who (Err refusal) = None
 abbrev pub find_in : Hierarchy → Subject → ℕ → List ℕ → Option ℕ
 find_in h who dir name = accessible h who (walk 10 h true dir (name ∷ []))
 
+-- at a path from the root
+abbrev pub find_along : Hierarchy → Subject → List (List ℕ) → Option ℕ
+find_along h who path = accessible h who (walk 10 h true 0 path)
+
 -- in the directory at a path: the path and the name are one walk from the root, with one count of links
 abbrev pub find_at : Hierarchy → Subject → List (List ℕ) → List ℕ → Option ℕ
 find_at h who path name = accessible h who (walk 10 h true 0 (path ++ name ∷ []))

@@ -64,6 +64,14 @@ make_segment_at h who at wanted =
     onward (required NoPages (run_given h.pages (pages_for wanted.words))) (λ page.
     Ok (segment_added h at (new_segment parent who wanted brackets page) wanted.object))))
 
+-- what it comes to where nothing but the want of pages refuses it
+abbrev pub segment_on_pages : Hierarchy → Subject → Place → ℕ → Bracketing → Modes → Option PlainObjectMap
+    → Result Hierarchy Refusal
+segment_on_pages h who at words brackets modes object =
+    onward (required NoPages (run_given h.pages (pages_for words))) (λ page.
+    Ok (segment_added h at
+    (record { acl = first_acl OfSegment who modes; brackets = brackets; words = words; page = page }) object))
+
 abbrev pub make_segment : Hierarchy → Caller → List ℕ → Wanted → Result Hierarchy Refusal
 make_segment h who pathname wanted =
     onward (resolved who pathname) (λ path.

@@ -27,6 +27,12 @@ place h who path =
     onward (required NameDup (last_name path)) (λ name.
     onward (reached h who true (parent_path path)) (λ dir. Ok (record { dir = dir; name = name })))
 
+-- a directory has the name already, or is full
+abbrev pub entry_refusals : Hierarchy → Place → List (Bool × Refusal)
+entry_refusals h at =
+    (is_some (uid_in h.branches at.dir at.name), NameDup)
+    ∷ (nat_le 256 (length (entries_of h.branches at.dir)), DirFull) ∷ []
+
 -- the first refusals of every request that makes an entry, in order
 abbrev pub making_refusals : Hierarchy → Subject → Place → List (Bool × Refusal)
 making_refusals h who at =
@@ -47,6 +53,10 @@ added h at node = record h {
   branches = h.branches ++ record { uid = h.next; parent = at.dir; name = at.name; node = node } ∷ [];
   next = 1 + h.next;
 }
+
+-- an entry that nothing refuses but what refuses every making
+abbrev pub created_at : Hierarchy → Subject → Place → Node → Result Hierarchy Refusal
+created_at h who at node = made h at (making_refusals h who at) (λ parent. Ok (added h at node))
 
 -- its access list: the one entry `Person.Project.*` of its maker
 abbrev pub first_acl : AclKind → Subject → Modes → Access

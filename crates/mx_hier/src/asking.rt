@@ -4,7 +4,7 @@ ghost use Rattle.std.specs.Prelude.{◌≡◌, ◌<◌, ◌≤◌, Some, IfOk, I
 ghost use Rattle.mx_sdw.specs.Admissible.{IsAdmissible};
 ghost use Rattle.std.specs.Option.{option_copied, option_map};
 ghost use Rattle.mx_hier.specs.Branches.{object_at};
-ghost use Rattle.mx_hier.specs.ChangeWorkingDirectory.{directory_refusals, directory};
+ghost use Rattle.mx_hier.specs.ChangeWorkingDirectory.{directory_refusals, directory_reached, directory};
 ghost use Rattle.mx_hier.specs.Connected.{desc_of, desc_for};
 ghost use Rattle.mx_hier.specs.DecidingEntry.{deciding_entry, AreFlagsOf};
 ghost use Rattle.mx_hier.specs.Initiate.{segment_refusals, segment};
@@ -23,14 +23,14 @@ use crate::names::Names;
 use crate::refusals::{HierError, Refusal};
 use crate::walks::resolved;
 use mx_acl::Modes;
-use mx_name::{AclId, Path, Pathname, Principal};
+use mx_name::{AclId, EntryName, Path, Pathname, Principal};
 use mx_object::ObjectMap;
 use mx_sdw::{Brackets, Desc, Ring};
 use std::alloc::{AllocError, Global};
 
 /// What `status` says of an entry: the modes are those that its access list gives the caller, in whatever ring. An
 /// object segment has gates, definitions and links.
-#[derive(Debug, Drop, PartialEq, Eq)]
+#[derive(Drop)]
 pub enum Status {
     Segment {
         words: u16,
@@ -119,10 +119,20 @@ impl Hier {
         ensures told { TellsFirst (resolved (caller who.now) path.now) result }
     {
         let path = resolved(alloc, who, path)?;
-        let uid = self.reached(alloc, who, true, path.names())??;
+        match self.reach_directory(alloc, who, path.names()) {
+            Ok(()) => Ok(path),
+            Err(error) => Err(error),
+        }
+    }
+
+    /// Whether some mode is left to the caller on the directory that a path from the root leads to.
+    fn reach_directory(&self, alloc: Global, who: &Who, path: &[EntryName]) -> Result<(), HierError>
+        ensures { Tells (directory_reached self.now (subject who.now) path.now) result }
+    {
+        let uid = self.reached(alloc, who, true, path)?;
         match self.directory_refusal(who, uid) {
             Some(why) => Err(HierError::Refused(why)),
-            None => Ok(path),
+            None => Ok(()),
         }
     }
 

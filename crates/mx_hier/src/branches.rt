@@ -6,7 +6,7 @@ use mx_sdw::{Brackets, Ring};
 
 /// What is said of a directory: its access list and its brackets `d1 <= d2`. A caller in ring v has m or a on it only
 /// where v is at most `d1`, and s only where v is at most `d2` (Multics Programmers' Manual).
-#[derive(Debug, Drop)]
+#[derive(Drop)]
 pub struct Directory {
     pub acl: Acl,
     pub d1: Ring,
@@ -15,7 +15,7 @@ pub struct Directory {
 
 /// What is said of a segment: its access list, its brackets, its length of 1 to 1,024 words, and its first page of 64
 /// words.
-#[derive(Debug, Drop)]
+#[derive(Drop)]
 pub struct Segment {
     pub acl: Acl,
     pub brackets: Brackets,
@@ -24,7 +24,6 @@ pub struct Segment {
 }
 
 /// What an entry is: a directory, a segment, or a link to a path.
-#[derive(Debug)]
 pub enum Node {
     Directory(Directory),
     Segment(Segment),
@@ -44,7 +43,7 @@ impl Drop for Node {
 
 /// An entry of a directory. Its uid is never used again; `parent` is the uid of the directory that holds it, 0 for
 /// the root.
-#[derive(Debug, Drop)]
+#[derive(Drop)]
 pub struct Branch {
     pub uid: u32,
     pub parent: u32,

@@ -13,7 +13,7 @@ use mx_name::{Path, Principal};
 use mx_sdw::Ring;
 
 /// Who makes a request: a principal in a ring, with the working directory from which its pathnames are resolved.
-#[derive(Debug, Drop)]
+#[derive(Drop)]
 pub struct Who<'a> {
     pub principal: &'a Principal,
     pub ring: Ring,

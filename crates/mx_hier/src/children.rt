@@ -17,7 +17,7 @@ use std::marker::Model;
 
 /// The names in one directory, each with the uid of its branch, in the order of their making; and once more, alone and
 /// in byte order, for `list`.
-#[derive(Debug, Drop)]
+#[derive(Drop)]
 pub(crate) struct Children {
     uids: IndexMap<EntryName, u32>,
     sorted: Vec<EntryName>,

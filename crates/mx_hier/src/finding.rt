@@ -3,11 +3,12 @@
 ghost use Rattle.std.specs.Prelude.{◌≡◌, ◌<◌, None, Some, IfOk, IfSome, if◌then◌else◌};
 ghost use Rattle.mx_hier.specs.Branches.{segment_at};
 ghost use Rattle.mx_hier.specs.Callers.{has_access, on};
-ghost use Rattle.mx_hier.specs.Find.{find_in, find_at};
+ghost use Rattle.mx_hier.specs.Find.{find_in, find_along, find_at};
 ghost use Rattle.mx_hier.specs.Who.{subject};
 
 use crate::callers::Who;
 use crate::hier::Hier;
+use crate::refusals::HierError;
 use crate::walks::joined;
 use mx_name::{EntryName, Path};
 use std::alloc::{AllocError, Global};
@@ -34,7 +35,6 @@ impl Hier {
 
     /// The same in a directory given by its path: the path and the name are one walk from the root, with one count of
     /// links.
-    #[tactic(auto, using(crate::proofs::FindLaws::found, crate::proofs::FindLaws::not_found))]
     pub fn find_at(
         &self,
         alloc: Global,
@@ -46,9 +46,23 @@ impl Hier {
         ensures below { IfOk result (λ uid. IfSome uid (λ uid. uid < self.now.next)) }
     {
         let path = joined(alloc, dir.names(), &[*name])?;
-        match self.reached(alloc, who, true, path.as_slice())? {
+        self.find_along(alloc, path.as_slice(), who)
+    }
+
+    /// The same at a path from the root.
+    fn find_along(
+        &self,
+        alloc: Global,
+        path: &[EntryName],
+        who: &Who,
+    ) -> Result<Option<u32>, AllocError>
+        ensures value { IfOk result (λ uid. uid ≡ find_along self.now (subject who.now) path.now) }
+        ensures below { IfOk result (λ uid. IfSome uid (λ uid. uid < self.now.next)) }
+    {
+        match self.reached(alloc, who, true, path) {
             Ok(uid) => Ok(self.accessible(who, uid)),
-            Err(_) => Ok(None),
+            Err(HierError::Refused(_)) => Ok(None),
+            Err(HierError::Memory) => Err(AllocError),
         }
     }
 

@@ -21,7 +21,7 @@ use std::marker::Model;
 
 /// The directory hierarchy: what its directories hold, the pages that are left for segments, and the maps of object
 /// segments by uid.
-#[derive(Debug, Drop)]
+#[derive(Drop)]
 pub struct Hier {
     pub(crate) root: Directory,
     pub(crate) tables: Tables,

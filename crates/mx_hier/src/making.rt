@@ -7,22 +7,23 @@
 //! `NoInfo` instead. An error, the want of memory too, leaves the hierarchy as it was. A request at a place that is
 //! found takes memory only once it is not refused.
 
-ghost use Rattle.std.specs.Prelude.{◌≡◌, ◌+◌, ◌<◌, ◌≤◌, [], ◌∷◌, ◌++◌, Some, None, IfOk, IfErr, OnOk, OnErr, nat_le, nat_lt, ◌||◌};
+ghost use Rattle.std.specs.Prelude.{◌≡◌, ◌+◌, ◌<◌, ◌≤◌, [], ◌∷◌, ◌++◌, Some, None, IfNone, IfOk, OnOk, OnErr, false, nat_le, nat_lt, ◌||◌};
 ghost use Rattle.std.specs.List.{list_any};
 ghost use Rattle.std.specs.Option.{option_map, option_copied};
-ghost use Rattle.mx_hier.specs.Branches.{uid_in, directory_at};
+ghost use Rattle.mx_hier.specs.Branches.{uid_in, as_segment};
 ghost use Rattle.mx_hier.specs.Brackets.{bracketing, settable};
 ghost use Rattle.mx_hier.specs.CreateDirectory.{create_dir_at, create_dir};
 ghost use Rattle.mx_hier.specs.CreateSegment.{create_seg};
 ghost use Rattle.mx_hier.specs.CreateObject.{create_object};
-ghost use Rattle.mx_hier.specs.MakeSegment.{is_bad_length, reaches_beyond, make_segment_at, make_segment};
+ghost use Rattle.mx_hier.specs.MakeSegment.{is_bad_length, reaches_beyond, segment_added, segment_on_pages, make_segment_at, make_segment};
 ghost use Rattle.mx_hier.specs.CreateLink.{create_link_at, create_link};
 ghost use Rattle.mx_hier.specs.Listed.{listed_added};
 ghost use Rattle.mx_hier.specs.Objects.{object_of, with_object};
-ghost use Rattle.mx_hier.specs.Making.{last_name, parent_path, place, making_refusals, first_acl};
+ghost use Rattle.mx_hier.specs.Making.{last_name, parent_path, place, entry_refusals, making_refusals, added, created_at, first_acl};
 ghost use Rattle.mx_hier.specs.Rules.{first_of, onward, Answers, Tells, TellsFirst};
 ghost use Rattle.mx_hier.specs.Walks.{resolved};
 ghost use Rattle.mx_hier.specs.Who.{subject, caller};
+ghost use Rattle.mx_pages.specs.Runs.{IsFreeRun, pages_for, run_given};
 
 use crate::branches::{Directory, Node, Segment};
 use crate::callers::Who;
@@ -33,14 +34,14 @@ use crate::tables::Tables;
 use crate::walks::resolved;
 use indexmap::IndexMap;
 use mx_acl::{Acl, AclKind, Modes};
-use mx_name::{AclId, EntryName, Path, Pathname};
+use mx_name::{AclId, EntryName, Pathname};
 use mx_object::ObjectMap;
 use mx_pages::pages_for;
 use mx_sdw::{Brackets, Ring};
 use std::alloc::{AllocError, Global};
 
 /// Where an entry is to be made: a directory, and the name in it.
-#[derive(Drop)]
+#[derive(Clone, Copy)]
 pub struct Place {
     pub dir: u32,
     pub name: EntryName,
@@ -77,17 +78,14 @@ impl Hier {
         ensures answer { Answers (create_dir_at self.old (subject who.now) at.now d1 d2) self.old result self.new }
         ensures told { TellsFirst (create_dir_at self.old (subject who.now) at.now d1 d2) result }
     {
-        self.parent(who, at)?;
+        if let Some(why) = self.making_refusal(who, at) {
+            return Err(HierError::Refused(why));
+        }
         if is_bad_pair(who.ring, d1, d2) {
             return Err(HierError::Refused(Refusal::BadBrackets));
         }
         let acl = first_acl(alloc, AclKind::Directory, who, Modes::Sma)?;
-        add(
-            &mut self.tables,
-            alloc,
-            at,
-            Node::Directory(Directory { acl, d1, d2 }),
-        )?;
+        self.add_entry(alloc, at, Node::Directory(Directory { acl, d1, d2 }))?;
         Ok(())
     }
 
@@ -149,7 +147,6 @@ impl Hier {
         }
     }
 
-    #[tactic(auto, using(crate::proofs::MakingLaws::segment_refused))]
     fn make_segment_at(
         &mut self,
         alloc: Global,
@@ -166,13 +163,37 @@ impl Hier {
         ensures told { TellsFirst (make_segment_at self.old (subject who.now) at.now
             (record { words = words; rings = rings.now; modes = modes; object = option_copied object.entry })) result }
     {
-        self.parent(who, at)?;
+        if let Some(why) = self.making_refusal(who, at) {
+            return Err(HierError::Refused(why));
+        }
         if is_bad_length(words, object) {
             return Err(HierError::Refused(Refusal::BadLength));
         }
-        let Some(brackets) = settable(who.ring, rings) else {
-            return Err(HierError::Refused(Refusal::BadBrackets));
-        };
+        match settable(who.ring, rings) {
+            Some(brackets) => self.add_segment(alloc, who, at, words, brackets, modes, object),
+            None => Err(HierError::Refused(Refusal::BadBrackets)),
+        }
+    }
+
+    /// Makes a segment where nothing but the want of pages refuses it.
+    fn add_segment(
+        &mut self,
+        alloc: Global,
+        who: &Who,
+        at: &Place,
+        words: u32,
+        brackets: Brackets,
+        modes: Modes,
+        object: Option<&ObjectMap>,
+    ) -> Result<(), HierError>
+        requires free { uid_in self.old.branches at.now.dir at.now.name ≡ None }
+        requires below { at.now.dir < self.old.next }
+        requires fit { is_bad_length words (option_copied object) ≡ false }
+        ensures answer { Answers (segment_on_pages self.old (subject who.now) at.now words brackets modes
+            (option_copied object.entry)) self.old result self.new }
+        ensures told { TellsFirst (segment_on_pages self.old (subject who.now) at.now words brackets modes
+            (option_copied object.entry)) result }
+    {
         let Some(page) = self.pages.next(pages_for(words)) else {
             return Err(HierError::Refused(Refusal::NoPages));
         };
@@ -183,9 +204,30 @@ impl Hier {
             words: words as u16,
             page: page as u16,
         };
+        self.put_segment(alloc, at, segment, object)?;
+        Ok(())
+    }
+
+    /// Puts a segment at a place, on the pages that are given next. Where memory is wanting, nothing changes.
+    fn put_segment(
+        &mut self,
+        alloc: Global,
+        at: &Place,
+        segment: Segment,
+        object: Option<&ObjectMap>,
+    ) -> Result<(), AllocError>
+        requires free { uid_in self.old.branches at.now.dir at.now.name ≡ None }
+        requires below { at.now.dir < self.old.next }
+        requires fit { is_bad_length segment.words (option_copied object) ≡ false }
+        requires page { run_given self.old.pages (pages_for segment.words) ≡ Some segment.page }
+        requires run { IsFreeRun self.old.pages (pages_for segment.words) segment.page }
+        ensures ok { OnOk result (self.new ≡ segment_added self.old at.now segment (option_copied object.entry)) }
+        ensures err { OnErr result (self.new ≡ self.old) }
+    {
+        let pages = pages_for(u32::from(segment.words));
         let node = Node::Segment(segment);
         add_with_map(&mut self.tables, &mut self.objects, alloc, at, node, object)?;
-        let _first = self.pages.allot(pages_for(words));
+        let _first = self.pages.allot(pages);
         Ok(())
     }
 
@@ -219,26 +261,29 @@ impl Hier {
             onward (place self.old (subject who.now) path.now) (λ at.
             create_link_at self.old (subject who.now) at target))) self.old result self.new }
     {
-        let target = resolved(alloc, who, target)?;
+        let link = Node::Link(resolved(alloc, who, target)?);
         match self.place(alloc, who, path) {
-            Ok(Ok(at)) => self.create_link_at(alloc, who, &at, target),
-            Ok(Err(why)) => Err(HierError::Refused(why)),
-            Err(AllocError) => Err(HierError::Memory),
+            Ok(at) => self.create_at(alloc, who, &at, link),
+            Err(error) => Err(error),
         }
     }
 
-    fn create_link_at(
+    /// Makes an entry that is no segment, and that nothing refuses but what refuses every making.
+    fn create_at(
         &mut self,
         alloc: Global,
         who: &Who,
         at: &Place,
-        target: Path,
+        node: Node,
     ) -> Result<(), HierError>
-        ensures answer { Answers (create_link_at self.old (subject who.now) at.now target) self.old result self.new }
-        ensures told { TellsFirst (create_link_at self.old (subject who.now) at.now target) result }
+        requires { as_segment node ≡ None }
+        ensures answer { Answers (created_at self.old (subject who.now) at.now node) self.old result self.new }
+        ensures told { TellsFirst (created_at self.old (subject who.now) at.now node) result }
     {
-        self.parent(who, at)?;
-        add(&mut self.tables, alloc, at, Node::Link(target))?;
+        if let Some(why) = self.making_refusal(who, at) {
+            return Err(HierError::Refused(why));
+        }
+        self.add_entry(alloc, at, node)?;
         Ok(())
     }
 
@@ -249,50 +294,57 @@ impl Hier {
         ensures told { TellsFirst (resolved (caller who.now) pathname.now) result }
     {
         let path = resolved(alloc, who, pathname)?;
-        let at = self.place(alloc, who, path.names())??;
-        Ok(at)
+        self.place(alloc, who, path.names())
     }
 
     /// The directory and the name of a path.
-    fn place(
-        &self,
-        alloc: Global,
-        who: &Who,
-        path: &[EntryName],
-    ) -> Result<Result<Place, Refusal>, AllocError>
-        ensures { IfOk result (λ at. at ≡ place self.now (subject who.now) path.now) }
+    fn place(&self, alloc: Global, who: &Who, path: &[EntryName]) -> Result<Place, HierError>
+        ensures { Tells (place self.now (subject who.now) path.now) result }
     {
         let Some(name) = last_name(path) else {
-            return Ok(Err(Refusal::NameDup));
+            return Err(HierError::Refused(Refusal::NameDup));
         };
-        match self.reached(alloc, who, true, parent_path(path))? {
-            Ok(dir) => Ok(Ok(Place { dir, name: *name })),
-            Err(why) => Ok(Err(why)),
+        let dir = self.reached(alloc, who, true, parent_path(path))?;
+        Ok(Place { dir, name: *name })
+    }
+
+    /// The refusal of every making, whatever is to be made.
+    fn making_refusal(&self, who: &Who, at: &Place) -> Option<Refusal>
+        ensures value { result ≡ first_of (making_refusals self.now (subject who.now) at.now) }
+        ensures free { IfNone result (uid_in self.now.branches at.now.dir at.now.name ≡ None) }
+        ensures below { IfNone result (at.now.dir < self.now.next) }
+    {
+        match self.directory_at(at.dir) {
+            Some(parent) if who.has_append(parent) => self.entry_refusal(at),
+            Some(parent) => Some(who.told(Refusal::IncorrectAccess, Some(parent))),
+            None => Some(who.told(Refusal::NotADir, self.holding(at.dir))),
         }
     }
 
-    /// The directory of a place where an entry can be made, whatever it is to be.
-    fn parent(&self, who: &Who, at: &Place) -> Result<&Directory, Refusal>
-        ensures refused { IfErr result
-            (λ why. first_of (making_refusals self.now (subject who.now) at.now) ≡ Some why) }
-        ensures none { OnOk result (first_of (making_refusals self.now (subject who.now) at.now) ≡ None) }
-        ensures parent { IfOk result (λ parent. directory_at self.now at.now.dir ≡ Some parent.now) }
-        ensures free { OnOk result (uid_in self.now.branches at.now.dir at.now.name ≡ None) }
-        ensures below { OnOk result (at.now.dir < self.now.next) }
+    /// The refusal for what is in the directory already.
+    fn entry_refusal(&self, at: &Place) -> Option<Refusal>
+        ensures value { result ≡ first_of (entry_refusals self.now at.now) }
+        ensures free { IfNone result (uid_in self.now.branches at.now.dir at.now.name ≡ None) }
     {
-        let Some(parent) = self.directory_at(at.dir) else {
-            return Err(who.told(Refusal::NotADir, self.holding(at.dir)));
-        };
-        if !who.has_append(parent) {
-            return Err(who.told(Refusal::IncorrectAccess, Some(parent)));
-        }
         if self.tables.uid_in(at.dir, &at.name).is_some() {
-            return Err(Refusal::NameDup);
+            return Some(Refusal::NameDup);
         }
         if self.tables.count_in(at.dir) >= 256 {
-            return Err(Refusal::DirFull);
+            return Some(Refusal::DirFull);
         }
-        Ok(parent)
+        None
+    }
+
+    /// Adds an entry that is no segment. Where memory is wanting, nothing changes.
+    fn add_entry(&mut self, alloc: Global, at: &Place, node: Node) -> Result<(), AllocError>
+        requires free { uid_in self.old.branches at.now.dir at.now.name ≡ None }
+        requires below { at.now.dir < self.old.next }
+        requires other { as_segment node ≡ None }
+        ensures ok { OnOk result (self.new ≡ added self.old at.now node) }
+        ensures err { OnErr result (self.new ≡ self.old) }
+    {
+        add(&mut self.tables, alloc, at, node)?;
+        Ok(())
     }
 }
 

@@ -105,7 +105,7 @@ impl Refusal {
 }
 
 /// Why a call on the hierarchy came to nothing.
-#[derive(Clone, Copy, Debug, PartialEq, Eq, Error)]
+#[derive(Clone, Copy, Debug, Error)]
 pub enum HierError {
     /// The request is refused: the first refusal of its table that applies.
     #[error("refused")]

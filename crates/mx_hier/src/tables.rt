@@ -31,7 +31,7 @@ use std::marker::Model;
 
 /// The branches of a hierarchy: the branch of uid u stands in slot u - 1, which stays empty once it is removed, and the
 /// names in a directory stand in the place of its uid, those of the root first.
-#[derive(Debug, Drop)]
+#[derive(Drop)]
 pub(crate) struct Tables {
     slots: Vec<Option<Branch>>,
     names: Vec<Children>,

@@ -15,7 +15,7 @@ use std::alloc::{AllocError, Global};
 
 /// Where names have led: to an entry's uid; to a link, met in a directory, with the names after it; or to a refusal
 /// that is to be said at a directory.
-#[derive(Drop)]
+#[derive(Clone, Copy)]
 pub(crate) enum Along<'a> {
     Reached(u32),
     Linked {
@@ -41,8 +41,7 @@ impl Hier {
         ensures told { TellsFirst (resolved (caller who.now) pathname.now) result }
     {
         let path = resolved(alloc, who, pathname)?;
-        let uid = self.reached(alloc, who, follow, path.names())??;
-        Ok(uid)
+        self.reached(alloc, who, follow, path.names())
     }
 
     /// What a path from the root leads to: ten links may be followed.
@@ -52,10 +51,10 @@ impl Hier {
         who: &Who,
         follow: bool,
         path: &[EntryName],
-    ) -> Result<Result<u32, Refusal>, AllocError>
-        ensures { IfOk result (λ uid. uid ≡ reached self.now (subject who.now) follow path.now) }
+    ) -> Result<u32, HierError>
+        ensures { Tells (reached self.now (subject who.now) follow path.now) result }
     {
-        let uid = self.walk(alloc, 10, who, follow, 0, path)?;
+        let uid = self.walk(alloc, 10, who, follow, 0, path)??;
         Ok(uid)
     }
 
@@ -80,8 +79,7 @@ impl Hier {
                     return Ok(Err(who.told(Refusal::LinkLoop, dir)));
                 }
                 let path = joined(alloc, target, rest)?;
-                let uid = self.walk(alloc, left - 1, who, follow, 0, path.as_slice())?;
-                Ok(uid)
+                self.walk(alloc, left - 1, who, follow, 0, path.as_slice())
             }
         }
     }

@@ -11,7 +11,6 @@ use std::alloc::AllocError;
 
 /// The reply to a request. `Done` is printed `ok`. A message tells its sender; where no message waits, `Nobody` says
 /// that no other process could send one, and `Waiting` that the process waits.
-#[derive(Debug)]
 pub enum Reply {
     Done,
     Refused(Refusal),

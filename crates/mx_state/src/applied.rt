@@ -8,7 +8,7 @@ use std::alloc::Global;
 
 /// What a request came to: its reply, and exactly the descriptors that it changed, in order of process and segment
 /// number.
-#[derive(Debug, Drop)]
+#[derive(Drop)]
 pub struct Applied {
     pub reply: Reply,
     pub changes: Changes,

@@ -5,7 +5,7 @@ use mx_request::{Reply, Request};
 use mx_sdw::Ring;
 
 /// One call: the process that made it (0 is the initializer), its ring, what it asked for and what it was answered.
-#[derive(Debug, Drop)]
+#[derive(Drop)]
 pub struct Entry {
     pub process: u8,
     pub ring: Ring,

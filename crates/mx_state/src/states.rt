@@ -41,7 +41,7 @@ pub struct ProcessState {
 
 /// The state of the plain supervisor: the hierarchy, the processes 1 to 15, and the mail, which also knows of each
 /// whether it runs, waits or has ended.
-#[derive(Debug, Drop)]
+#[derive(Drop)]
 pub struct State {
     pub(crate) hier: Hier,
     pub(crate) initializer: Principal,
