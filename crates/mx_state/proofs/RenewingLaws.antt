@@ -1,6 +1,7 @@
 -- A request that changes one segment changes the descriptors of it that are renewed, and no other.
-use Rattle.std.proofs.Common.{◌≡◌, ◌≢◌, ◌⊎◌, ◌+◌, ◌-◌, ℕ, zero, suc, List, [], ◌∷◌, ◌++◌, get_or, Option, Some, None, Bool, true, false, cond, inl, inr, refl, ap, sym, ◌∙◌, subst, slice_get, arith}
+use Rattle.std.proofs.Common.{◌≡◌, ◌≢◌, ◌⊎◌, ◌+◌, ◌-◌, ◌<◌, ◌≤◌, ℕ, zero, suc, List, [], ◌∷◌, ◌++◌, get_or, take, drop, length, append_assoc, add-one, drop-cons, Option, Some, None, Bool, true, false, cond, inl, inr, refl, ap, sym, ◌∙◌, subst, slice_get, slice_set, arith}
 use Rattle.std.proofs.lemmas.Bool.{cases_eq}
+use Rattle.std.proofs.lemmas.List.{drop-set-lt, take_more_set}
 use Rattle.std.proofs.lemmas.List.Elements.{All-append, Contains-get_or, Contains-append_right}
 use Rattle.std.proofs.lemmas.List.Kept.{AllPairs-cons}
 use Rattle.std.specs.List.{All, Contains, AllPairs}
@@ -9,6 +10,7 @@ use Rattle.mx_sdw.specs.Admissible.{IsAdmissible}
 use Rattle.mx_sdw.proofs.SameLaws.{descs_are, descs_apart}
 use Rattle.mx_sdw.specs.Descriptors.{Descriptor}
 use Rattle.mx_sdw.specs.Same.{same_desc}
+use Rattle.mx_sdw.specs.declared.descriptors.Desc.{Desc}
 use Rattle.mx_hier.specs.Branches.{Hierarchy}
 use Rattle.mx_kst.proofs.SoundLaws.{number_is}
 use Rattle.mx_kst.specs.declared.lots.Lot.{Lot}
@@ -21,7 +23,7 @@ use Rattle.mx_state.specs.Numbers.{stands_for}
 use Rattle.mx_state.specs.Plain.{Plain, process_at}
 use Rattle.mx_state.specs.Renewing.{held_by, held_from, held_two, renewed_as, renewed}
 use Rattle.mx_state.specs.Sound.{IsSound}
-use Rattle.mx_state.specs.Table.{descriptor}
+use Rattle.mx_state.specs.Table.{descriptor, descriptor_in}
 use Rattle.mx_state.proofs.AnswerLaws.{plain_state, one_is_admissible}
 use Rattle.mx_state.proofs.Descriptors.{is_there, same_unless}
 use Rattle.mx_state.proofs.Lists.{Contains-first, Contains-one, Contains-cases, nothing_contained, AllPairs-one, AllPairs-none}
@@ -298,3 +300,28 @@ renewing_two s t p segno others = record {
 pub push_admissible : (changes : List Change) (c : Change) → All (λ c. IsAdmissible c.desc) changes → IsAdmissible c.desc
     → All (λ c. IsAdmissible c.desc) (changes ++ c ∷ [])
 push_admissible changes c all fits = All-append (λ c. IsAdmissible c.desc) changes (c ∷ []) all (one_is_admissible c fits)
+
+-- the first of the descriptors that are left is what it was, or is put behind those in front
+module _ (h : Hierarchy) (all : List ProcessState) (xs : List Change) (k i : ℕ) (x : Change) (desc : Desc) where
+  as_now : i < length xs → x ≡ get_or xs i x → desc ≡ descriptor_in h all x.process x.segno
+      → renewed h all (drop i xs) ≡ renewed_as x desc (renewed h all (drop (i + 1) xs))
+  as_now within at is =
+      rw (add-one, drop-cons xs i x within, ← at) (ap (λ d. renewed_as x d (renewed h all (drop (suc i) xs))) (sym is))
+
+  pub left_out : i < length xs → x ≡ get_or xs i x → desc ≡ descriptor_in h all x.process x.segno → same_desc x.desc desc ≡ true
+      → take k xs ++ renewed h all (drop i xs) ≡ take k xs ++ renewed h all (drop (i + 1) xs)
+  left_out within at is same = ap (λ r. take k xs ++ r) (as_now within at is ∙ rw same refl)
+
+  pub put_in_front : k ≤ i → i < length xs → x ≡ get_or xs i x → desc ≡ descriptor_in h all x.process x.segno → same_desc x.desc desc ≡ false
+      → take k xs ++ renewed h all (drop i xs)
+      ≡ take (k + 1) (slice_set xs k (change x.process x.segno desc)) ++ renewed h all (drop (i + 1) (slice_set xs k (change x.process x.segno desc)))
+  put_in_front behind within at is other =
+      let c : Change = change x.process x.segno desc in
+      let rest : List Change = renewed h all (drop (i + 1) xs) in
+      ap (λ r. take k xs ++ r) (as_now within at is ∙ rw other refl) ∙ sym (append_assoc (take k xs) (c ∷ []) rest)
+      ∙ ap (λ t. t ++ rest) (sym (take_more_set xs k c (omega arith)))
+      ∙ ap (λ r. take (k + 1) (slice_set xs k c) ++ renewed h all r) (sym (drop-set-lt (i + 1) xs k c (omega arith)))
+
+pub front_admissible : (xs : List Change) (k : ℕ) (c : Change) → k < length xs → All (λ c. IsAdmissible c.desc) (take k xs) → IsAdmissible c.desc
+    → All (λ c. IsAdmissible c.desc) (take (k + 1) (slice_set xs k c))
+front_admissible xs k c within all fits = rw (take_more_set xs k c within) (push_admissible (take k xs) c all fits)

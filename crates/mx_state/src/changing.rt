@@ -1,8 +1,8 @@
 //! Requests that change one entry, and with it the descriptors of those who know its segment.
 //!
 //! The entry is found by one walk, and what a process knows of it by one look-up. All memory but that of the hierarchy
-//! itself is taken before the hierarchy changes: the descriptors that are held of the segment, and room for those that
-//! become others.
+//! itself is taken before the hierarchy changes: the descriptors that are held of the segment, in place of which those
+//! that become others are told.
 
 ghost use Rattle.std.specs.Prelude.{◌≡◌, ◌≤◌, length, IfOk, OnErr};
 ghost use Rattle.mx_hier.specs.Rules.{Answers};
@@ -44,10 +44,9 @@ impl State {
             Err(error) => return refused(alloc, error),
         };
         let held = held(alloc, &self.hier, processes, uid)?;
-        let room = Vec::with_capacity(alloc, held.len())?;
         let given = alter(&mut self.hier, &who, uid, request);
         let reply = done(given)?;
-        let changes = renewed(&self.hier, processes, &held, room);
+        let changes = renewed(&self.hier, processes, held);
         Ok(Applied { reply, changes })
     }
 }

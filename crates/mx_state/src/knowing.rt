@@ -137,10 +137,9 @@ impl State {
         };
         let next = LAST_NUMBER + 1 - process.known.left();
         let held = held_two(alloc, &self.hier, self.processes.as_slice(), p, next)?;
-        let room = Vec::with_capacity(alloc, held.len())?;
         let known = know(&mut self.processes, i, uid, ring, name, section)?;
         give_page(&mut self.hier, &section);
-        let changes = renewed(&self.hier, self.processes.as_slice(), &held, room);
+        let changes = renewed(&self.hier, self.processes.as_slice(), held);
         Ok(Ok(Connection { known, changes }))
     }
 
@@ -164,9 +163,8 @@ impl State {
             return Ok(Applied::unchanged(alloc, Reply::Refused(Refusal::UnknownSegno)));
         }
         let held = held_two(alloc, &self.hier, self.processes.as_slice(), p, segno)?;
-        let room = Vec::with_capacity(alloc, held.len())?;
         forget(&mut self.processes, i, segno);
-        let changes = renewed(&self.hier, self.processes.as_slice(), &held, room);
+        let changes = renewed(&self.hier, self.processes.as_slice(), held);
         Ok(Applied {
             reply: Reply::Done,
             changes,

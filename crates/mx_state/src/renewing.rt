@@ -1,6 +1,6 @@
 //! Descriptors held before a request and renewed after it.
 
-ghost use Rattle.std.specs.Prelude.{◌≡◌, ◌≤◌, ◌<◌, [], length, vec_capacity, IfOk};
+ghost use Rattle.std.specs.Prelude.{◌≡◌, ◌≤◌, ◌<◌, length, take, IfOk};
 ghost use Rattle.std.specs.List.{All};
 ghost use Rattle.mx_sdw.specs.Admissible.{IsAdmissible};
 ghost use Rattle.mx_state.specs.Renewing.{held_from, held_two, renewed};
@@ -22,16 +22,15 @@ pub(crate) fn held(
     ensures { IfOk result (λ held. held.items
         ≡ held_from hier.now processes.now 1 processes.now uid) }
 {
-    let mut held = Vec::new(alloc);
+    let mut held = Vec::with_capacity(alloc, processes.len())?;
     let mut p: u8 = 1;
     for process in processes {
         if let Some(segno) = process.known.by_uid(uid) {
-            let desc = descriptor(hier, processes, p, segno);
-            held.extend_from_slice(&[Change {
+            held.push_reserved(Change {
                 process: p,
                 segno,
-                desc,
-            }])?;
+                desc: descriptor(hier, processes, p, segno),
+            });
         }
         p += 1;
     }
@@ -65,30 +64,36 @@ pub(crate) fn held_two(
     Ok(held)
 }
 
-/// Those of the held descriptors that are others now, as they are now. Takes no memory but the room that is given.
-pub(crate) fn renewed(
-    hier: &Hier,
-    processes: &[ProcessState],
-    held: &[Change],
-    room: Vec<Change>,
-) -> Changes
-    requires few { length processes.now ≤ 15 }
-    requires empty { room.items ≡ [] }
-    requires room { length held.now ≤ vec_capacity room }
-    ensures value { result ≡ renewed hier.now processes.now held.now }
+/// Those of the held descriptors that are others now, as they are now. Takes no memory: they stand in place of those held.
+pub(crate) fn renewed(hier: &Hier, processes: &[ProcessState], mut held: Vec<Change>) -> Changes
+    requires { length processes.now ≤ 15 }
+    ensures value { result ≡ renewed hier.now processes.now held.items }
     ensures admissible { All (λ change. IsAdmissible change.desc) result }
 {
-    let mut changes = room;
-    for change in held {
-        let desc = descriptor(hier, processes, change.process, change.segno);
-        let same = change.desc.is_same(&desc);
+    let count = renew(hier, processes, held.as_mut_slice());
+    held.truncate(count);
+    Changes::of(held)
+}
+
+// Puts those of the held descriptors that are others now in front, as they are now: how many they are.
+fn renew(hier: &Hier, processes: &[ProcessState], held: &mut [Change]) -> usize
+    requires { length processes.now ≤ 15 }
+    ensures value { take result held.new ≡ renewed hier.now processes.now held.old }
+    ensures admissible { All (λ change. IsAdmissible change.desc) (take result held.new) }
+{
+    let mut count = 0;
+    for i in 0..held.len() {
+        let before = held[i];
+        let desc = descriptor(hier, processes, before.process, before.segno);
+        let same = before.desc.is_same(&desc);
         if !same {
-            changes.push_reserved(Change {
-                process: change.process,
-                segno: change.segno,
+            held[count] = Change {
+                process: before.process,
+                segno: before.segno,
                 desc,
-            });
+            };
+            count += 1;
         }
     }
-    Changes::of(changes)
+    count
 }

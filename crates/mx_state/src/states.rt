@@ -31,7 +31,6 @@ use std::alloc::{AllocError, Global};
 use std::marker::Model;
 
 /// What a process has of its own: its principal, its working directory, its search rules and its known segment table.
-#[derive(Debug, Drop)]
 pub struct ProcessState {
     pub principal: Principal,
     pub working_directory: Path,
@@ -39,15 +38,37 @@ pub struct ProcessState {
     pub known: Kst,
 }
 
+impl Drop for ProcessState {
+    fn drop(self) {
+        let ProcessState {
+            principal: _principal,
+            working_directory: _working_directory,
+            rules: _rules,
+            known: _known,
+        } = self;
+    }
+}
+
 /// The state of the plain supervisor: the hierarchy, the processes 1 to 15, and the mail, which also knows of each
 /// whether it runs, waits or has ended.
-#[derive(Drop)]
 pub struct State {
     pub(crate) hier: Hier,
     pub(crate) initializer: Principal,
     pub(crate) root: Path,
     pub(crate) processes: Vec<ProcessState>,
     pub(crate) mail: Mail,
+}
+
+impl Drop for State {
+    fn drop(self) {
+        let State {
+            hier: _hier,
+            initializer: _initializer,
+            root: _root,
+            processes: _processes,
+            mail: _mail,
+        } = self;
+    }
 }
 
 impl Model for State {

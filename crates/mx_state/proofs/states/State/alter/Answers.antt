@@ -32,5 +32,5 @@ returns-clause-served c =
     c.alter-given.ensures.answer c.in_ok-reply.ensures c.self.invariant.sound
     (renewed_are s.hier c.alter-given.new.hier s.mail s.processes.items uid c.in_ok-held.held.items c.renewed-changes.result c.self.invariant.sound before
     (rw c.as_slice-processes.ensures.value at c.in_ok-held.ensures)
-    (rw (c.as_slice-processes.ensures.value, c.deref.ensures.value) at c.renewed-changes.ensures.value))
+    (rw c.as_slice-processes.ensures.value at c.renewed-changes.ensures.value))
     c.renewed-changes.ensures.admissible)

@@ -45,4 +45,4 @@ returns-clause-connected c = λ process e.
     c.in_ok-held.held.items c.renewed-changes.result c.self.view_is c.self.invariant.sound c.requires.some (omega (arith, c.from-i.ensures)) place e
     (sym c.section.ensures.value ∙ c.in-Ok.is) knows.1 knows.2 c.give_page.ensures (known_next own.known c.left.result c.left.ensures.sound c.left.ensures.value)
     (rw c.as_slice-2.ensures.value at c.in_ok-held.ensures)
-    (rw (c.as_slice-3.ensures.value, c.deref.ensures.value) at c.renewed-changes.ensures.value) c.renewed-changes.ensures.admissible
+    (rw c.as_slice-3.ensures.value at c.renewed-changes.ensures.value) c.renewed-changes.ensures.admissible

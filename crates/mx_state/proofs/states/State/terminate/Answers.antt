@@ -29,4 +29,4 @@ returns-clause-served c =
     (ended_serves s.hier s.mail s.processes.items c.forget.new.processes.items c.args.p (c.from-i.result - 1) process c.args.segno forgotten.0
     c.in_ok-held.held.items c.renewed-changes.result asks c.self.invariant.sound c.requires.some (omega (arith, c.from-i.ensures)) place refl
     forgotten.1 forgotten.2 (rw c.as_slice-2.ensures.value at c.in_ok-held.ensures)
-    (rw (c.as_slice-3.ensures.value, c.deref.ensures.value) at c.renewed-changes.ensures.value) c.renewed-changes.ensures.admissible)
+    (rw c.as_slice-3.ensures.value at c.renewed-changes.ensures.value) c.renewed-changes.ensures.admissible)
