@@ -15,15 +15,13 @@ use Rattle.mx_request.specs.ObjectTexts.{fits_object, is_definition, is_link}
 use Rattle.mx_request.specs.declared.requests.Request.{Request}
 use Rattle.mx_request.specs.declared.requests.Request.TheVariants.{CreateDir, CreateSeg, CreateObject, CreateLink, Rename, Delete, SetAcl, DelAcl, SetBrackets, SetDirBrackets, Status, List as ListNames, ChangeWdir, SetRules, Initiate, Terminate, Wakeup, Block, Link, Resume, Logout}
 use Rattle.mx_script.proofs.FieldLaws.{at_most, at_most_test, below, below_test}
-use Rattle.mx_script.specs.Drafts.{history_step, setup_step, set_up, with_processes, with_process, may_stand, script_on, script_step, process_step, step}
+use Rattle.mx_script.specs.Drafts.{Draft, Empty, Headed, Running, LoggedOut, Ended, history_step, setup_step, set_up, with_processes, with_process, may_stand, script_on, script_step, process_step, step}
 use Rattle.mx_script.specs.FirstBadLine.{BeginsText}
 use Rattle.mx_script.specs.Progress.{front_rows, rows_so_far, texts_so_far, goes_before, IsSetUp, IsOpen, IsSound, run}
 use Rattle.mx_script.specs.Sessions.{Outline, outline, is_session, is_count, is_limit, is_history, is_short, is_short_object, is_short_definition, is_for_setup, is_setup_request, is_for_script, is_script_line, is_logout, is_last, ends, is_script, are_processes}
 use Rattle.mx_script.specs.SessionTexts.{rows_of, row_text, asked, setup_rows, history_rows, process_rows, fits, fits_line}
 use Rattle.mx_script.specs.declared.lines.Line.{Line}
 use Rattle.mx_script.specs.declared.lines.Line.TheVariants.{Ask, Set, Epp, Lda, Sta, Spri, Fetch, Call, Return}
-use Rattle.mx_script.specs.declared.reading.drafts.Draft.{Draft}
-use Rattle.mx_script.specs.declared.reading.drafts.Draft.TheVariants.{Empty, Headed, Running, LoggedOut, Ended}
 use Rattle.mx_script.specs.declared.rows.Row.{Row}
 use Rattle.mx_script.specs.declared.rows.Row.TheVariants as row
 

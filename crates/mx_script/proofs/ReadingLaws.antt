@@ -12,15 +12,13 @@ use Rattle.mx_request.proofs.StepLaws.{both, both_hold, some_is}
 use Rattle.mx_name.specs.Cuts.{cut_at}
 use Rattle.mx_script.proofs.DraftLaws.{none_is_some, parts_of_session, run_session, run_on, step_adds, goes_on}
 use Rattle.mx_script.proofs.RowLaws.{row_free}
-use Rattle.mx_script.specs.Drafts.{step, Goes, finished, IsCountable}
+use Rattle.mx_script.specs.Drafts.{Draft, Empty, Ended, step, Goes, finished, IsCountable}
 use Rattle.mx_script.specs.FirstBadLine.{BeginsText, IsFirstBad}
 use Rattle.mx_script.specs.Progress.{rows_so_far, texts_so_far, run, AreAlone, HasRead}
 use Rattle.mx_script.specs.Reading.{IsRow}
 use Rattle.mx_script.specs.Sessions.{Outline, is_session, history_lines, line_count}
 use Rattle.mx_script.specs.SessionTexts.{asked, history_rows, setup_rows, process_rows, rows_of, row_text, fits, lines_text, IsText}
 use Rattle.mx_script.specs.declared.lines.Line.{Line}
-use Rattle.mx_script.specs.declared.reading.drafts.Draft.{Draft}
-use Rattle.mx_script.specs.declared.reading.drafts.Draft.TheVariants.{Empty, Ended}
 use Rattle.mx_script.specs.declared.rows.Row.{Row}
 use Rattle.mx_script.specs.declared.rows.Row.TheVariants as row
 

@@ -4,13 +4,12 @@ use Rattle.std.specs.List.{list_all}
 use Rattle.mx_request.proofs.StepLaws.{both, some_is}
 use Rattle.mx_script.proofs.ReadingLaws.{lines_front, parts_of, rows_free, whole_of}
 use Rattle.mx_script.proofs.RowLaws.{plain_again, plain_alone, process_again, process_alone, request_row_alone}
-use Rattle.mx_script.specs.Drafts.{finished}
+use Rattle.mx_script.specs.Drafts.{Empty, finished}
 use Rattle.mx_script.specs.Progress.{run}
 use Rattle.mx_script.specs.Reading.{IsRow}
 use Rattle.mx_script.specs.Sessions.{Outline}
 use Rattle.mx_script.specs.SessionTexts.{rows_of, row_text, fits, lines_text, IsText}
 use Rattle.mx_script.specs.declared.lines.Line.TheVariants.{Ask, Set, Epp, Lda, Sta, Spri, Fetch, Call, Return}
-use Rattle.mx_script.specs.declared.reading.drafts.Draft.TheVariants.{Empty}
 use Rattle.mx_script.specs.declared.rows.Row.{Row}
 use Rattle.mx_script.specs.declared.rows.Row.TheVariants as row
 

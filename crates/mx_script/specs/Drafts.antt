@@ -8,10 +8,29 @@ use Rattle.mx_script.specs.Reading.{IsRow}
 use Rattle.mx_script.specs.Sessions.{Outline, outline, session_of, line_count, is_for_setup, is_for_script, is_logout}
 use Rattle.mx_script.specs.declared.lines.Line.{Line}
 use Rattle.mx_script.specs.declared.lines.Line.TheVariants.{Ask, Set, Epp, Lda, Sta, Spri, Fetch, Call, Return}
-use Rattle.mx_script.specs.declared.reading.drafts.Draft.{Draft}
-use Rattle.mx_script.specs.declared.reading.drafts.Draft.TheVariants.{Empty, Headed, Running, LoggedOut, Ended}
+use Rattle.mx_script.specs.declared.reading.stages.Reach.{Reach}
+use Rattle.mx_script.specs.declared.reading.stages.Reach.TheVariants as reach
+use Rattle.mx_script.specs.declared.reading.stages.Stage.{Stage}
+use Rattle.mx_script.specs.declared.reading.stages.Stage.TheVariants as stage
 use Rattle.mx_script.specs.declared.rows.Row.{Row}
 use Rattle.mx_script.specs.declared.rows.Row.TheVariants as row
+
+-- no line yet; the header, the limit, if any, and the setup so far; and the processes that have logged out, and one more with
+-- its script so far; and its logout; and the end
+pub data Draft : Type 0 where
+  Empty : Draft
+  Headed : Option ℕ → List Request → Draft
+  Running : Outline → PlainPrincipal → List Line → Draft
+  LoggedOut : Outline → Draft
+  Ended : Outline → Draft
+
+-- of what is kept, what counts at a stage
+abbrev pub draft_at : Stage → Option ℕ → List Request → Outline → List Line → Draft
+draft_at stage.Empty history setup x script = Empty
+draft_at stage.Headed history setup x script = Headed history setup
+draft_at (stage.Running principal) history setup x script = Running x principal script
+draft_at stage.LoggedOut history setup x script = LoggedOut x
+draft_at stage.Ended history setup x script = Ended x
 
 -- the limit stands before the setup, once
 abbrev pub history_step : Option ℕ → List Request → ℕ → Option Draft
@@ -56,6 +75,12 @@ script_on x principal script line =
 -- a script goes on with a line of its own, up to its logout
 abbrev pub script_step : Outline → PlainPrincipal → List Line → Line → Option Draft
 script_step x principal script line = when (may_stand line) (script_on x principal script line)
+
+-- where a line of a script leads
+abbrev pub reached : Reach → Outline → PlainPrincipal → List Line → Option Draft
+reached reach.Nowhere x principal script = None
+reached reach.Within x principal script = Some (Running x principal script)
+reached reach.Logout x principal script = Some (LoggedOut x)
 
 -- one more process, up to the fifteenth
 abbrev pub process_step : Outline → PlainPrincipal → Option Draft

@@ -2,13 +2,11 @@
 use Rattle.std.specs.Prelude.{◌≡◌, ℕ, ◌+◌, ◌<◌, Bool, true, ◌&&◌, not, List, [], ◌∷◌, ◌++◌, length, map, Option, Some}
 use Rattle.std.specs.List.{list_all}
 use Rattle.mx_request.specs.Steps.{◌>>=◌}
-use Rattle.mx_script.specs.Drafts.{step}
+use Rattle.mx_script.specs.Drafts.{Draft, Empty, Headed, Running, LoggedOut, Ended, step}
 use Rattle.mx_request.specs.declared.requests.Request.{Request}
 use Rattle.mx_script.specs.Sessions.{Outline, is_limit, is_setup_request, is_script_line, is_logout, is_script, is_session}
 use Rattle.mx_script.specs.SessionTexts.{row_text, setup_rows, process_rows, fits, lines_text}
 use Rattle.mx_script.specs.declared.lines.Line.{Line}
-use Rattle.mx_script.specs.declared.reading.drafts.Draft.{Draft}
-use Rattle.mx_script.specs.declared.reading.drafts.Draft.TheVariants.{Empty, Headed, Running, LoggedOut, Ended}
 use Rattle.mx_script.specs.declared.rows.Row.{Row}
 use Rattle.mx_script.specs.declared.rows.Row.TheVariants as row
 

@@ -9,7 +9,7 @@ use std::alloc::{AllocError, Global};
 use std::marker::Model;
 
 /// Where an operand's address begins: at a segment number up to octal 7777, or where pointer register 0 to 7 points.
-#[derive(Clone, Copy, Debug, PartialEq, Eq)]
+#[derive(Clone, Copy)]
 pub enum Base {
     Segment(u16),
     Register(u8),
@@ -17,7 +17,7 @@ pub enum Base {
 
 /// The address of a word, `S|W` or `prN|W`, with word number W up to octal 37777, and with `,*` where an indirect word
 /// stands there.
-#[derive(Clone, Copy, Debug, PartialEq, Eq)]
+#[derive(Clone, Copy)]
 pub struct Operand {
     pub base: Base,
     pub word: u16,
@@ -25,7 +25,7 @@ pub struct Operand {
 }
 
 /// A request on the heap, so that a line takes no more room than a memory line needs.
-#[derive(Debug, Drop)]
+#[derive(Drop)]
 pub struct BoxedRequest {
     request: Box<Request>,
 }
@@ -63,7 +63,7 @@ impl BoxedRequest {
 }
 
 /// One line of a script. A memory line stands for one operation on the accumulator A or on pointer register N, 0 to 7.
-#[derive(Debug, Drop)]
+#[derive(Drop)]
 pub enum Line {
     /// A supervisor call.
     Ask(BoxedRequest),

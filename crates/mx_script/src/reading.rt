@@ -1,9 +1,12 @@
 //! The reader of session texts: from the bytes to the session, or to the number of the first bad line.
 
-ghost use Rattle.std.specs.Prelude.{◌≡◌, ℕ, ◌<◌, Err, length, IfOk};
+ghost use Rattle.std.specs.Prelude.{◌≡◌, ℕ, ◌<◌, Err, None, length, IfOk};
+ghost use Rattle.mx_name.specs.Cuts.{cut_at};
 ghost use Rattle.mx_script.specs.Sessions.{Outline};
 ghost use Rattle.mx_script.specs.SessionTexts.{IsText};
 ghost use Rattle.mx_script.specs.FirstBadLine.{IsFirstBad};
+ghost use Rattle.mx_script.specs.Drafts.{Empty};
+ghost use Rattle.mx_script.specs.Progress.{HasRead};
 ghost use Rattle.mx_script.specs.declared.reading.SessionError.TheVariants.{Memory};
 
 mod cutting;
@@ -11,6 +14,7 @@ mod drafts;
 mod fields;
 mod lines;
 mod parts;
+mod stages;
 
 use crate::reading::drafts::Draft;
 use crate::sessions::Session;
@@ -46,9 +50,30 @@ pub fn read_session(alloc: Global, bytes: &[u8]) -> Result<Session, SessionError
     ensures only { (x : Outline) → IsText bytes.now x → IfOk result (λ y. y ≡ x) }
     ensures bad_line { (n : ℕ) → result ≡ Err (SessionError.BadLine n) → IsFirstBad bytes.now n }
 {
+    let mut draft = Draft::new(alloc);
+    match read_lines(alloc, bytes, &mut draft) {
+        Ok((rest, number)) => match draft.finish(rest) {
+            Some(session) => Ok(session),
+            None => Err(SessionError::BadLine(number)),
+        },
+        Err(error) => Err(error),
+    }
+}
+
+// Reads the whole lines of a text into an empty draft: what is left behind them, and its line's number.
+fn read_lines<'a>(
+    alloc: Global,
+    bytes: &'a [u8],
+    draft: &mut Draft,
+) -> Result<(&'a [u8], u32), SessionError>
+    requires small { length bytes.now < 4294967295 }
+    requires empty { draft.old ≡ Empty }
+    ensures lines { IfOk result (λ left. HasRead bytes.now left.0.now left.1 draft.new) }
+    ensures all { IfOk result (λ left. cut_at 10 left.0.now ≡ None) }
+    ensures bad_line { (n : ℕ) → result ≡ Err (SessionError.BadLine n) → IsFirstBad bytes.now n }
+{
     let mut rest = bytes;
     let mut number = 1;
-    let mut draft = Draft::Empty;
     while let Some((line, after)) = cut(b'\n', rest) {
         if !draft.read(alloc, line)? {
             return Err(SessionError::BadLine(number));
@@ -56,8 +81,5 @@ pub fn read_session(alloc: Global, bytes: &[u8]) -> Result<Session, SessionError
         rest = after;
         number += 1;
     }
-    match draft.finish(rest) {
-        Some(session) => Ok(session),
-        None => Err(SessionError::BadLine(number)),
-    }
+    Ok((rest, number))
 }

@@ -4,7 +4,7 @@ use crate::lines::Line;
 use mx_name::Principal;
 
 /// One line of a session text, read.
-#[derive(Debug, Drop)]
+#[derive(Drop)]
 pub enum Row {
     /// `multics 1`
     Header,

@@ -16,7 +16,7 @@ pub type Principals = Sequence<Principal>;
 /// A session: the journal's limit where it sets one, what its setup asks for, and for each process its principal and its
 /// script. A value always has a setup of requests on paths, and 1 to 15 processes with a script each, which ends with its
 /// logout.
-#[derive(Debug, Drop)]
+#[derive(Drop)]
 pub struct Session {
     version: u8,
     history: Option<u32>,

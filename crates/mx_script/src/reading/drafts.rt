@@ -1,36 +1,55 @@
 //! Sessions as far as their lines were read.
 
-ghost use Rattle.std.specs.Prelude.{◌≡◌, ◌<◌, ◌-◌, ◌^◌, ◌&&◌, not, if◌then◌else◌, IfOk, Some, None};
-ghost use Rattle.mx_script.specs.Sessions.{is_logout};
-ghost use Rattle.mx_script.specs.Drafts.{may_stand, history_step, setup_step, set_up, with_process, script_step, process_step, step, Follows, finished, IsCountable};
+ghost use Rattle.std.specs.Prelude.{◌≡◌, ◌<◌, ◌-◌, ◌^◌, ℕ, Option, if◌then◌else◌, IfOk, Some, None};
+ghost use Rattle.mx_script.specs.Drafts.{Headed, Empty, setup_step, script_step, reached, step, Follows, finished, IsCountable};
+ghost use Rattle.mx_script.specs.declared.rows.Row.TheVariants.{Header as HeaderRow, History as HistoryRow, Line as LineRow, Process as ProcessRow, End as EndRow};
 
 use crate::lines::{Line, Script};
 use crate::outlines::{is_for_setup, is_logout, may_stand};
 use crate::reading::lines::read_row;
 use crate::reading::parts::Parts;
+use crate::reading::stages::{Reach, Stage};
 use crate::rows::Row;
 use crate::sessions::Session;
 use mx_name::Principal;
 use mx_request::Requests;
 use std::alloc::{AllocError, Global};
+use std::marker::Model;
 use std::mem::replace;
 
-/// What the lines read so far say.
+/// What the lines read so far say: up to the first process the limit, if any, and the setup; then the processes that have
+/// logged out, and the script so far of the one that has not.
 #[derive(Drop)]
-pub(crate) enum Draft {
-    /// No line yet.
-    Empty,
-    /// The header, the limit, if any, and the setup so far.
-    Headed(Option<u32>, Requests),
-    /// And the processes that have logged out, and one more with its script so far.
-    Running(Parts, Principal, Script),
-    /// And its logout.
-    LoggedOut(Parts),
-    /// And the end.
-    Ended(Parts),
+pub(crate) struct Draft {
+    stage: Stage,
+    history: Option<u32>,
+    setup: Requests,
+    parts: Parts,
+    script: Script,
+}
+
+impl Model for Draft {
+    ghost use Rattle.mx_script.specs.Drafts.{Draft as DraftValue, draft_at};
+
+    ghost Value = { DraftValue };
+
+    ghost view = { λ a. draft_at a.stage a.history a.setup a.parts a.script };
 }
 
 impl Draft {
+    /// No line yet.
+    pub(crate) fn new(alloc: Global) -> Draft
+        ensures { result ≡ Empty }
+    {
+        Draft {
+            stage: Stage::Empty,
+            history: None,
+            setup: Requests::new(alloc),
+            parts: Parts::new(alloc, None, Requests::new(alloc)),
+            script: Script::new(alloc),
+        }
+    }
+
     /// Goes on with one more line, `false` where the line cannot stand there. Then, and for want of memory, the draft is
     /// of no use any more.
     pub(crate) fn read(&mut self, alloc: Global, line: &[u8]) -> Result<bool, AllocError>
@@ -42,43 +61,115 @@ impl Draft {
         }
     }
 
-    // The lines of a script are taken in place, so that what was read is not moved for each.
     fn take(&mut self, alloc: Global, row: Row) -> Result<bool, AllocError>
         ensures { IfOk result (λ goes. (if goes then Some self.new else None) ≡ step self.old row) }
     {
-        match self {
-            Draft::Running(_, _, script) => match row {
-                Row::Line(line) if is_within(&line) => {
-                    script.push(line)?;
-                    Ok(true)
-                }
-                _ => self.go_on(alloc, row),
-            },
-            _ => self.go_on(alloc, row),
+        match row {
+            Row::Header => Ok(self.take_header(alloc)),
+            Row::History(limit) => Ok(self.take_limit(limit)),
+            Row::Line(line) => self.take_line(alloc, line),
+            Row::Process(principal) => Ok(self.take_process(alloc, principal)),
+            Row::End => Ok(self.take_end()),
         }
     }
 
-    #[inline(never)]
-    fn go_on(&mut self, alloc: Global, row: Row) -> Result<bool, AllocError>
-        ensures { IfOk result (λ goes. (if goes then Some self.new else None) ≡ step self.old row) }
+    fn take_header(&mut self, alloc: Global) -> bool
+        ensures { (if result then Some self.new else None) ≡ step self.old HeaderRow }
     {
-        let draft = replace(self, Draft::Empty);
-        let Some(next) = draft.step(alloc, row)? else {
-            return Ok(false);
-        };
-        *self = next;
-        Ok(true)
+        match self.stage {
+            Stage::Empty => {
+                self.stage = Stage::Headed;
+                self.history = None;
+                self.setup = Requests::new(alloc);
+                true
+            }
+            Stage::Headed => false,
+            Stage::Running(_) => false,
+            Stage::LoggedOut => false,
+            Stage::Ended => false,
+        }
     }
 
-    fn step(self, alloc: Global, row: Row) -> Result<Option<Draft>, AllocError>
-        ensures { IfOk result (λ draft. draft ≡ step self row) }
+    // The limit stands before the setup, once.
+    fn take_limit(&mut self, limit: u32) -> bool
+        ensures { (if result then Some self.new else None) ≡ step self.old (HistoryRow limit) }
     {
-        match self {
-            Draft::Empty => Ok(headed(alloc, row)),
-            Draft::Headed(history, setup) => set_up(alloc, history, setup, row),
-            Draft::Running(parts, principal, script) => went_on(parts, principal, script, row),
-            Draft::LoggedOut(parts) => Ok(logged_out(alloc, parts, row)),
-            _ended => Ok(None),
+        match self.stage {
+            Stage::Headed => {
+                if self.history.is_none() && self.setup.items().is_empty() {
+                    self.history = Some(limit);
+                    true
+                } else {
+                    false
+                }
+            }
+            Stage::Empty => false,
+            Stage::Running(_) => false,
+            Stage::LoggedOut => false,
+            Stage::Ended => false,
+        }
+    }
+
+    fn take_line(&mut self, alloc: Global, line: Line) -> Result<bool, AllocError>
+        ensures { IfOk result (λ goes. (if goes then Some self.new else None) ≡ step self.old (LineRow line)) }
+    {
+        match &self.stage {
+            Stage::Headed => add_request(&mut self.setup, line),
+            Stage::Running(principal) => {
+                match add_line(alloc, &mut self.parts, principal, &mut self.script, line)? {
+                    Reach::Nowhere => Ok(false),
+                    Reach::Within => Ok(true),
+                    Reach::Logout => {
+                        self.stage = Stage::LoggedOut;
+                        Ok(true)
+                    }
+                }
+            }
+            Stage::Empty => Ok(false),
+            Stage::LoggedOut => Ok(false),
+            Stage::Ended => Ok(false),
+        }
+    }
+
+    // One more process, up to the fifteenth.
+    fn take_process(&mut self, alloc: Global, principal: Principal) -> bool
+        ensures { (if result then Some self.new else None) ≡ step self.old (ProcessRow principal) }
+    {
+        match self.stage {
+            Stage::Headed => {
+                let setup = replace(&mut self.setup, Requests::new(alloc));
+                self.parts = Parts::new(alloc, self.history, setup);
+                self.script = Script::new(alloc);
+                self.stage = Stage::Running(principal);
+                true
+            }
+            Stage::LoggedOut => {
+                if self.parts.processes() < 15 {
+                    self.script = Script::new(alloc);
+                    self.stage = Stage::Running(principal);
+                    true
+                } else {
+                    false
+                }
+            }
+            Stage::Empty => false,
+            Stage::Running(_) => false,
+            Stage::Ended => false,
+        }
+    }
+
+    fn take_end(&mut self) -> bool
+        ensures { (if result then Some self.new else None) ≡ step self.old EndRow }
+    {
+        match self.stage {
+            Stage::LoggedOut => {
+                self.stage = Stage::Ended;
+                true
+            }
+            Stage::Empty => false,
+            Stage::Headed => false,
+            Stage::Running(_) => false,
+            Stage::Ended => false,
         }
     }
 
@@ -87,151 +178,62 @@ impl Draft {
         requires { IsCountable self }
         ensures { result ≡ finished self rest.now }
     {
-        match self {
-            Draft::Ended(parts) => {
+        match self.stage {
+            Stage::Ended => {
                 if rest.is_empty() {
-                    parts.into_session()
+                    self.parts.into_session()
                 } else {
                     None
                 }
             }
-            _other => None,
+            Stage::Empty | Stage::Headed | Stage::Running(_) | Stage::LoggedOut => None,
         }
     }
 }
 
-// Whether a line stands in a script and does not end it.
-fn is_within(line: &Line) -> bool
-    ensures { result ≡ (may_stand line.now && not (is_logout line.now)) }
-{
-    may_stand(line) && !is_logout(line)
-}
-
-fn headed(alloc: Global, row: Row) -> Option<Draft>
-    ensures { result ≡ step Draft.Empty row }
-{
-    match row {
-        Row::Header => Some(Draft::Headed(None, Requests::new(alloc))),
-        Row::History(_) => None,
-        Row::Line(_) => None,
-        Row::Process(_) => None,
-        Row::End => None,
-    }
-}
-
-fn set_up(
-    alloc: Global,
-    history: Option<u32>,
-    setup: Requests,
-    row: Row,
-) -> Result<Option<Draft>, AllocError>
-    ensures { IfOk result (λ draft. draft ≡ step (Draft.Headed history setup) row) }
-{
-    match row {
-        Row::Header => Ok(None),
-        Row::History(limit) => Ok(with_limit(history, setup, limit)),
-        Row::Line(line) => with_request(history, setup, line),
-        Row::Process(principal) => {
-            let parts = Parts::new(alloc, history, setup);
-            Ok(Some(Draft::Running(parts, principal, Script::new(alloc))))
-        }
-        Row::End => Ok(None),
-    }
-}
-
-fn with_limit(history: Option<u32>, setup: Requests, limit: u32) -> Option<Draft>
-    ensures { result ≡ history_step history setup limit }
-{
-    if history.is_none() && setup.items().is_empty() {
-        Some(Draft::Headed(Some(limit), setup))
-    } else {
-        None
-    }
-}
-
-fn with_request(
-    history: Option<u32>,
-    mut setup: Requests,
-    line: Line,
-) -> Result<Option<Draft>, AllocError>
-    ensures { IfOk result (λ draft. draft ≡ setup_step history setup line) }
+// A setup goes on with a path request.
+fn add_request(setup: &mut Requests, line: Line) -> Result<bool, AllocError>
+    ensures { (history : Option ℕ) → IfOk result (λ goes. (if goes then Some (Headed history setup.new) else None) ≡ setup_step history setup.old line) }
 {
     match line {
         Line::Ask(request) => {
             if is_for_setup(request.request().class()) {
                 setup.push(request.into_request())?;
-                Ok(Some(Draft::Headed(history, setup)))
+                Ok(true)
             } else {
-                Ok(None)
+                Ok(false)
             }
         }
-        Line::Set { .. } => Ok(None),
-        Line::Epp { .. } => Ok(None),
-        Line::Lda { .. } => Ok(None),
-        Line::Sta { .. } => Ok(None),
-        Line::Spri { .. } => Ok(None),
-        Line::Fetch => Ok(None),
-        Line::Call { .. } => Ok(None),
-        Line::Return { .. } => Ok(None),
+        Line::Set { .. } => Ok(false),
+        Line::Epp { .. } => Ok(false),
+        Line::Lda { .. } => Ok(false),
+        Line::Sta { .. } => Ok(false),
+        Line::Spri { .. } => Ok(false),
+        Line::Fetch => Ok(false),
+        Line::Call { .. } => Ok(false),
+        Line::Return { .. } => Ok(false),
     }
 }
 
-fn went_on(
-    parts: Parts,
-    principal: Principal,
-    script: Script,
-    row: Row,
-) -> Result<Option<Draft>, AllocError>
-    ensures { IfOk result (λ draft. draft ≡ step (Draft.Running parts principal script) row) }
-{
-    match row {
-        Row::Header => Ok(None),
-        Row::History(_) => Ok(None),
-        Row::Line(line) => with_line(parts, principal, script, line),
-        Row::Process(_) => Ok(None),
-        Row::End => Ok(None),
-    }
-}
-
-fn with_line(
-    mut parts: Parts,
-    principal: Principal,
-    mut script: Script,
+// A script goes on with a line of its own, up to its logout.
+fn add_line(
+    alloc: Global,
+    parts: &mut Parts,
+    principal: &Principal,
+    script: &mut Script,
     line: Line,
-) -> Result<Option<Draft>, AllocError>
-    ensures { IfOk result (λ draft. draft ≡ script_step parts principal script line) }
+) -> Result<Reach, AllocError>
+    ensures { IfOk result (λ reach. reached reach parts.new principal.now script.new ≡ script_step parts.old principal.now script.old line) }
 {
     if !may_stand(&line) {
-        return Ok(None);
+        return Ok(Reach::Nowhere);
     }
     let last = is_logout(&line);
     script.push(line)?;
     if last {
-        parts.add(principal, script)?;
-        Ok(Some(Draft::LoggedOut(parts)))
+        parts.add(*principal, replace(script, Script::new(alloc)))?;
+        Ok(Reach::Logout)
     } else {
-        Ok(Some(Draft::Running(parts, principal, script)))
-    }
-}
-
-fn logged_out(alloc: Global, parts: Parts, row: Row) -> Option<Draft>
-    ensures { result ≡ step (Draft.LoggedOut parts) row }
-{
-    match row {
-        Row::Header => None,
-        Row::History(_) => None,
-        Row::Line(_) => None,
-        Row::Process(principal) => with_process(alloc, parts, principal),
-        Row::End => Some(Draft::Ended(parts)),
-    }
-}
-
-fn with_process(alloc: Global, parts: Parts, principal: Principal) -> Option<Draft>
-    ensures { result ≡ process_step parts principal }
-{
-    if parts.processes() < 15 {
-        Some(Draft::Running(parts, principal, Script::new(alloc)))
-    } else {
-        None
+        Ok(Reach::Within)
     }
 }

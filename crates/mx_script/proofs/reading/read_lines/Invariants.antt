@@ -1,6 +1,6 @@
 use Rattle.std.proofs.Common.{length}
 use Rattle.mx_script.specs.Progress.{HasRead}
-use Rattle.mx_script.proofs.reading.read_session.Given as goal
+use Rattle.mx_script.proofs.reading.read_lines.Given as goal
 
 abbrev pub invariant-loop-line : goal.invariant-loop-line
 invariant-loop-line l = HasRead l.bytes l.rest l.number l.draft
