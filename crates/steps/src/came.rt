@@ -1,10 +1,11 @@
 //! What comes of a line, and its spelling.
 
 use mx_core::{Cause, Element, Held, Kept, Kind, Outcome};
+use mx_sdw::{Denial, Word};
 use std::fmt::{self, Display, Formatter, Write};
 
 /// What comes of steps, or what a world answers.
-#[derive(Clone, Copy, Debug)]
+#[derive(Clone, Copy)]
 pub enum Came {
     /// The steps were made.
     Done,
@@ -40,8 +41,8 @@ impl Display for Came {
             Came::Nothing => f.write_str("nothing"),
             Came::Answer(true) => f.write_str("yes"),
             Came::Answer(false) => f.write_str("no"),
-            Came::Valid(number) => write!(f, "valid {number}"),
-            Came::Fault(number) => write!(f, "fault {number}"),
+            Came::Valid(number) => write_one(f, "valid", *number),
+            Came::Fault(number) => write_one(f, "fault", *number),
             Came::Cell(held) => write_held(f, held),
             Came::Event(kept) => write_event(f, kept),
             Came::Number(number) => write!(f, "{number}"),
@@ -49,32 +50,72 @@ impl Display for Came {
     }
 }
 
+// A word and a number.
+fn write_one<W: Write>(f: &mut Formatter<W>, word: &str, number: u32) -> fmt::Result {
+    write!(f, "{word} {number}")
+}
+
+// A word, and a number of a process.
+fn write_pair<W: Write>(f: &mut Formatter<W>, word: &str, process: u8, segno: u16) -> fmt::Result {
+    write!(f, "{word} {process} {segno:o}")
+}
+
 fn write_cause<W: Write>(f: &mut Formatter<W>, cause: &Cause) -> fmt::Result {
+    let word = cause_word(cause);
+    match *cause {
+        Cause::Range
+        | Cause::Limit
+        | Cause::Pending
+        | Cause::NothingPending
+        | Cause::NotChanged
+        | Cause::NotFault
+        | Cause::NoHold
+        | Cause::NoNote => f.write_str(word),
+        Cause::Unconnected { process }
+        | Cause::Inside { process }
+        | Cause::Outside { process }
+        | Cause::Unacknowledged { process }
+        | Cause::NotEntering { process }
+        | Cause::NotReady { process } => write_one(f, word, u32::from(process)),
+        Cause::InUse { page } | Cause::NotClear { page } | Cause::NotGiven { page } => {
+            write_one(f, word, u32::from(page))
+        }
+        Cause::Unstruck { process, segno } | Cause::NoRecall { process, segno } => {
+            write_pair(f, word, process, segno)
+        }
+    }
+}
+
+fn cause_word(cause: &Cause) -> &'static str {
     match cause {
-        Cause::Range => f.write_str("range"),
-        Cause::Limit => f.write_str("limit"),
-        Cause::Pending => f.write_str("pending"),
-        Cause::NothingPending => f.write_str("nothing_pending"),
-        Cause::NotChanged => f.write_str("not_changed"),
-        Cause::Unstruck { process, segno } => write!(f, "unstruck {process} {segno:o}"),
-        Cause::Unconnected { process } => write!(f, "unconnected {process}"),
-        Cause::Inside { process } => write!(f, "inside {process}"),
-        Cause::Outside { process } => write!(f, "outside {process}"),
-        Cause::Unacknowledged { process } => write!(f, "unacknowledged {process}"),
-        Cause::NotEntering { process } => write!(f, "not_entering {process}"),
-        Cause::NotReady { process } => write!(f, "not_ready {process}"),
-        Cause::NoRecall { process, segno } => write!(f, "no_recall {process} {segno:o}"),
-        Cause::NotFault => f.write_str("not_fault"),
-        Cause::InUse { page } => write!(f, "in_use {page}"),
-        Cause::NotClear { page } => write!(f, "not_clear {page}"),
-        Cause::NotGiven { page } => write!(f, "not_given {page}"),
-        Cause::NoHold => f.write_str("no_hold"),
-        Cause::NoNote => f.write_str("no_note"),
+        Cause::Range => "range",
+        Cause::Limit => "limit",
+        Cause::Pending => "pending",
+        Cause::NothingPending => "nothing_pending",
+        Cause::NotChanged => "not_changed",
+        Cause::Unstruck { .. } => "unstruck",
+        Cause::Unconnected { .. } => "unconnected",
+        Cause::Inside { .. } => "inside",
+        Cause::Outside { .. } => "outside",
+        Cause::Unacknowledged { .. } => "unacknowledged",
+        Cause::NotEntering { .. } => "not_entering",
+        Cause::NotReady { .. } => "not_ready",
+        Cause::NoRecall { .. } => "no_recall",
+        Cause::NotFault => "not_fault",
+        Cause::InUse { .. } => "in_use",
+        Cause::NotClear { .. } => "not_clear",
+        Cause::NotGiven { .. } => "not_given",
+        Cause::NoHold => "no_hold",
+        Cause::NoNote => "no_note",
     }
 }
 
 fn write_held<W: Write>(f: &mut Formatter<W>, held: &Held) -> fmt::Result {
-    let (value, writer, stamp) = (held.value.value(), held.writer, held.stamp);
+    write_read(f, held.value, held.writer, held.stamp)
+}
+
+fn write_read<W: Write>(f: &mut Formatter<W>, value: Word, writer: u8, stamp: u32) -> fmt::Result {
+    let value = value.value();
     write!(f, "word {value:o} from {writer} stamp {stamp}")
 }
 
@@ -83,6 +124,7 @@ fn write_event<W: Write>(f: &mut Formatter<W>, kept: &Kept) -> fmt::Result {
     match kept {
         Kept::Judged { element, .. } => {
             write_reference(f, element)?;
+            f.write_str(" ")?;
             write_outcome(f, &element.outcome)
         }
         Kept::Missed { segno, by } => write!(f, "missing {segno:o} by {by}"),
@@ -90,40 +132,42 @@ fn write_event<W: Write>(f: &mut Formatter<W>, kept: &Kept) -> fmt::Result {
 }
 
 fn write_reference<W: Write>(f: &mut Formatter<W>, element: &Element) -> fmt::Result {
-    let kind = match element.kind {
+    let kind = kind_word(element.kind);
+    let (segno, word, ring) = (element.segno, element.word, element.ring.number());
+    let point = element.point;
+    write!(f, "{kind} {segno:o}|{word:o} ring {ring} point {point}")
+}
+
+fn kind_word(kind: Kind) -> &'static str {
+    match kind {
         Kind::Read => "read",
         Kind::Ind => "ind",
         Kind::Write => "write",
         Kind::Fetch => "fetch",
         Kind::Call => "call",
         Kind::Return => "return",
-    };
-    let (segno, word, ring) = (element.segno, element.word, element.ring.number());
-    let point = element.point;
-    write!(f, "{kind} {segno:o}|{word:o} ring {ring} point {point}")
+    }
 }
 
 fn write_outcome<W: Write>(f: &mut Formatter<W>, outcome: &Outcome) -> fmt::Result {
-    match outcome {
+    match *outcome {
         Outcome::Read {
             value,
             writer,
             stamp,
-        } => {
-            let value = value.value();
-            write!(f, " word {value:o} from {writer} stamp {stamp}")
-        }
-        Outcome::Written { value } => {
-            let value = value.value();
-            write!(f, " word {value:o}")
-        }
-        Outcome::Entered { ring } => {
-            let ring = ring.number();
-            write!(f, " enter {ring}")
-        }
-        Outcome::Denied(denial) => {
-            let text = denial.text();
-            write!(f, " denied {text}")
-        }
+        } => write_read(f, value, writer, stamp),
+        Outcome::Written { value } => write_written(f, value),
+        Outcome::Entered { ring } => write_one(f, "enter", u32::from(ring.number())),
+        Outcome::Denied(denial) => write_denied(f, denial),
     }
+}
+
+fn write_written<W: Write>(f: &mut Formatter<W>, value: Word) -> fmt::Result {
+    let value = value.value();
+    write!(f, "word {value:o}")
+}
+
+fn write_denied<W: Write>(f: &mut Formatter<W>, denial: Denial) -> fmt::Result {
+    f.write_str("denied ")?;
+    f.write_str(denial.text())
 }

@@ -4,7 +4,6 @@ use mx_core::Steps;
 use mx_sdw::Desc;
 
 /// A line that says something: not empty, and no comment.
-#[derive(Debug, Drop)]
 pub enum Line {
     /// `world PROCESSES NUMBERS LENGTH`: from here on another world, with a table of these many processes and numbers of each,
     /// all unknown, after so many entries. It opens at the first line that asks something of it.
@@ -30,8 +29,31 @@ pub enum Line {
     Question(Question),
 }
 
+impl Drop for Line {
+    fn drop(self) {
+        match self {
+            Line::World {
+                processes: _processes,
+                numbers: _numbers,
+                start: _start,
+            } => {}
+            Line::Knows {
+                process: _process,
+                segno: _segno,
+                desc: _desc,
+            } => {}
+            Line::MayOpen {
+                processes: _processes,
+                start: _start,
+            } => {}
+            Line::Steps(_steps) => {}
+            Line::Question(_question) => {}
+        }
+    }
+}
+
 /// What a world is asked.
-#[derive(Clone, Copy, Debug)]
+#[derive(Clone, Copy)]
 pub enum Question {
     /// `word PROCESS S`: a descriptor word.
     Word { process: u8, segno: u16 },

@@ -25,29 +25,37 @@ use std::{env, fs, io};
 const BAD_WORDS: u8 = 2;
 
 fn main(rt: HostRuntime) -> io::Result<ExitCode> {
-    let mut names = env::args(&rt)?.skip(1).peekable();
-    if names.peek().is_none() {
+    let names = env::args(&rt)?.skip(1).collect::<Vec<String>>(rt.alloc())?;
+    if names.is_empty() {
         eprintln!(rt;
             "steps NAME ..: plays each NAME.steps of this folder, and compares what comes with what is told"
         )?;
         return Ok(ExitCode::from(BAD_WORDS));
     }
+    Ok(ExitCode::from(play_files(&rt, &names)?))
+}
+
+// Plays each of some files, and answers the status.
+fn play_files<R: Files + Print + Alloc<A = Global>>(rt: &R, names: &[String]) -> io::Result<u8> {
     let mut outcomes = Vec::new(rt.alloc());
     for name in names {
-        let outcome = match read(&rt, &name)? {
-            Some(text) => {
-                let (report, outcome) = play(rt.alloc(), &name, &text)?;
-                print!(rt; "{report}")?;
-                outcome
-            }
-            None => {
-                println!(rt; "{name}: not found")?;
-                Outcome::NotRead
-            }
-        };
-        outcomes.push(outcome)?;
+        outcomes.push(play_file(rt, name)?)?;
     }
-    Ok(ExitCode::from(status_of(&outcomes)))
+    Ok(status_of(&outcomes))
+}
+
+fn play_file<R: Files + Print + Alloc<A = Global>>(rt: &R, name: &str) -> io::Result<Outcome> {
+    match read(rt, name)? {
+        Some(text) => {
+            let (report, outcome) = play(rt.alloc(), name, &text)?;
+            print!(rt; "{report}")?;
+            Ok(outcome)
+        }
+        None => {
+            println!(rt; "{name}: not found")?;
+            Ok(Outcome::NotRead)
+        }
+    }
 }
 
 // The text of the file `NAME.steps` of the folder that the program is started in, or none where there is no such file.

@@ -44,22 +44,27 @@ pub fn descriptor(words: &[&str]) -> Option<Desc> {
     match words {
         ["unknown"] => Some(Desc::unknown()),
         ["gone"] => Some(Desc::gone()),
-        [
-            modes,
-            r1,
-            r2,
-            r3,
-            "gate",
-            gate,
-            "page",
-            page,
-            "words",
-            bound,
-        ] => {
-            let brackets = Brackets::new(ring(r1)?, ring(r2)?, ring(r3)?)?;
-            let (r, e, w) = flags(modes)?;
-            Some(Desc::segment(brackets, r, e, w, short(gate)?, short(page)?, short(bound)?))
-        }
+        [modes, r1, r2, r3, placed @ ..] => segment(modes, brackets(r1, r2, r3)?, placed),
+        _ => None,
+    }
+}
+
+fn brackets(r1: &str, r2: &str, r3: &str) -> Option<Brackets> {
+    Brackets::new(ring(r1)?, ring(r2)?, ring(r3)?)
+}
+
+fn segment(modes: &str, brackets: Brackets, placed: &[&str]) -> Option<Desc> {
+    let (r, e, w) = flags(modes)?;
+    match placed {
+        ["gate", gate, "page", page, "words", bound] => Some(Desc::segment(
+            brackets,
+            r,
+            e,
+            w,
+            short(gate)?,
+            short(page)?,
+            short(bound)?,
+        )),
         _ => None,
     }
 }

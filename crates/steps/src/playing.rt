@@ -18,12 +18,27 @@ use mx_worlds::{DescList, World};
 use std::alloc::{AllocError, Global};
 use std::fmt::Write;
 
-/// A world that is played, or the table with which it is to open.
-#[derive(Drop)]
-struct Stage {
-    table: Option<DescList>,
-    start: u32,
-    world: Option<World>,
+/// What is played on: the table with which a world is to open, or a world.
+enum Stage {
+    /// There is neither.
+    Nothing,
+    /// A world is to open with this table, after so many entries.
+    Table { table: DescList, start: u32 },
+    /// A world is open.
+    World(World),
+}
+
+impl Drop for Stage {
+    fn drop(self) {
+        match self {
+            Stage::Nothing => {}
+            Stage::Table {
+                table: _table,
+                start: _start,
+            } => {}
+            Stage::World(_world) => {}
+        }
+    }
 }
 
 impl Stage {
@@ -35,56 +50,99 @@ impl Stage {
         numbers: u16,
         start: u32,
     ) -> Result<(), AllocError> {
-        self.world = None;
-        self.table = Some(DescList::new(alloc, processes, numbers)?);
-        self.start = start;
+        let table = DescList::new(alloc, processes, numbers)?;
+        *self = Stage::Table { table, start };
         Ok(())
     }
 
     // Gives a number of the table a descriptor, where it has the number.
     fn know(&mut self, process: u8, segno: u16, desc: Desc) -> bool {
-        let Some(table) = &mut self.table else {
-            return false;
-        };
-        if process == 0 || process > table.processes() || segno >= table.numbers() {
-            return false;
+        match self {
+            Stage::Table { table, .. } => put(table, process, segno, desc),
+            Stage::Nothing | Stage::World(_) => false,
         }
-        table.put(process, segno, desc);
-        true
     }
 
     // The world opens where it has not yet, if it may.
     fn open(&mut self, alloc: Global) -> Result<(), AllocError> {
-        if let Some(table) = self.table.take() {
-            let (processes, start) = (table.processes(), self.start);
-            if table.may_open(processes, start) {
-                self.world = Some(World::new(alloc, processes, start, &table)?);
-            }
-        }
+        let opened = match self {
+            Stage::Table { table, start } => opened(alloc, table, *start)?,
+            Stage::Nothing | Stage::World(_) => return Ok(()),
+        };
+        *self = opened;
         Ok(())
     }
 
     fn run(&mut self, alloc: Global, steps: &Steps) -> Result<Turn, AllocError> {
         self.open(alloc)?;
-        match &mut self.world {
-            Some(world) => spell_made(alloc, world, steps),
-            None => no_world(alloc),
+        match self {
+            Stage::World(world) => spell_made(alloc, world, steps),
+            Stage::Nothing | Stage::Table { .. } => no_world(alloc),
         }
     }
 
     fn answer(&mut self, alloc: Global, question: Question) -> Result<Turn, AllocError> {
         self.open(alloc)?;
-        match &self.world {
-            Some(world) => spell_answer(alloc, world, question),
-            None => no_world(alloc),
+        match self {
+            Stage::World(world) => spell_answer(alloc, world, question),
+            Stage::Nothing | Stage::Table { .. } => no_world(alloc),
+        }
+    }
+
+    // Plays one line, and adds what came of it, unless it says nothing.
+    fn play_one(
+        &mut self,
+        alloc: Global,
+        name: &str,
+        number: usize,
+        line: &str,
+        report: &mut String,
+        compared: &mut Vec<Compared>,
+    ) -> Result<bool, AllocError> {
+        if line.is_empty() || line.starts_with('#') {
+            return Ok(true);
+        }
+        let (asked, told) = parts(line);
+        match play_line(alloc, self, asked)? {
+            Turn::Set => Ok(true),
+            Turn::Came(came) => {
+                let one = compare(told, &came);
+                add_line(report, name, number, one, told, &came)?;
+                compared.push(one)?;
+                Ok(true)
+            }
+            Turn::NoLine => {
+                writeln!(report, "{name}, line {number}: no line of steps")?;
+                Ok(false)
+            }
         }
     }
 
     fn may_open(&self, alloc: Global, processes: u8, start: u32) -> Result<Turn, AllocError> {
-        match &self.table {
-            Some(table) => spell(alloc, &Came::Answer(table.may_open(processes, start))),
-            None => no_world(alloc),
+        match self {
+            Stage::Table { table, .. } => {
+                spell(alloc, &Came::Answer(table.may_open(processes, start)))
+            }
+            Stage::Nothing | Stage::World(_) => no_world(alloc),
         }
+    }
+}
+
+fn put(table: &mut DescList, process: u8, segno: u16, desc: Desc) -> bool {
+    if process == 0 || process > table.processes() || segno >= table.numbers() {
+        return false;
+    }
+    table.put(process, segno, desc);
+    true
+}
+
+// The world that opens with a table, if one may.
+fn opened(alloc: Global, table: &DescList, start: u32) -> Result<Stage, AllocError> {
+    let processes = table.processes();
+    if table.may_open(processes, start) {
+        Ok(Stage::World(World::new(alloc, processes, start, table)?))
+    } else {
+        Ok(Stage::Nothing)
     }
 }
 
@@ -162,16 +220,20 @@ enum Turn {
 
 // Plays one line.
 fn play_line(alloc: Global, stage: &mut Stage, asked: &str) -> Result<Turn, AllocError> {
-    let Some(line) = read_line(alloc, asked)? else {
-        return Ok(Turn::NoLine);
-    };
+    match read_line(alloc, asked)? {
+        Some(line) => play_read(alloc, stage, &line),
+        None => Ok(Turn::NoLine),
+    }
+}
+
+fn play_read(alloc: Global, stage: &mut Stage, line: &Line) -> Result<Turn, AllocError> {
     match line {
         Line::World {
             processes,
             numbers,
             start,
         } => {
-            stage.set(alloc, processes, numbers, start)?;
+            stage.set(alloc, *processes, *numbers, *start)?;
             Ok(Turn::Set)
         }
         Line::Knows {
@@ -179,15 +241,15 @@ fn play_line(alloc: Global, stage: &mut Stage, asked: &str) -> Result<Turn, Allo
             segno,
             desc,
         } => {
-            if stage.know(process, segno, desc) {
+            if stage.know(*process, *segno, *desc) {
                 Ok(Turn::Set)
             } else {
                 Ok(Turn::NoLine)
             }
         }
-        Line::MayOpen { processes, start } => stage.may_open(alloc, processes, start),
-        Line::Steps(steps) => stage.run(alloc, &steps),
-        Line::Question(question) => stage.answer(alloc, question),
+        Line::MayOpen { processes, start } => stage.may_open(alloc, *processes, *start),
+        Line::Steps(steps) => stage.run(alloc, steps),
+        Line::Question(question) => stage.answer(alloc, *question),
     }
 }
 
@@ -238,32 +300,24 @@ fn count(compared: &[Compared], one: Compared) -> usize {
 /// told, and at the end one that says how many came as told.
 pub fn play(alloc: Global, name: &str, text: &str) -> Result<(String, Outcome), AllocError> {
     let mut report = String::new(alloc);
-    let mut compared = Vec::new(alloc);
-    let mut stage = Stage {
-        table: None,
-        start: 0,
-        world: None,
-    };
+    let outcome = play_lines(alloc, name, text, &mut report)?;
+    Ok((report, outcome))
+}
+
+fn play_lines(
+    alloc: Global,
+    name: &str,
+    text: &str,
+    report: &mut String,
+) -> Result<Outcome, AllocError> {
+    let (mut stage, mut compared) = (Stage::Nothing, Vec::new(alloc));
     let mut number = 0_usize;
     for line in text.lines() {
         number = number.saturating_add(1);
-        if line.is_empty() || line.starts_with('#') {
-            continue;
-        }
-        let (asked, told) = parts(line);
-        match play_line(alloc, &mut stage, asked)? {
-            Turn::Set => {}
-            Turn::Came(came) => {
-                let one = compare(told, &came);
-                add_line(&mut report, name, number, one, told, &came)?;
-                compared.push(one)?;
-            }
-            Turn::NoLine => {
-                writeln!(report, "{name}, line {number}: no line of steps")?;
-                return Ok((report, Outcome::NotRead));
-            }
+        if !stage.play_one(alloc, name, number, line, report, &mut compared)? {
+            return Ok(Outcome::NotRead);
         }
     }
-    add_counts(&mut report, name, &compared)?;
-    Ok((report, outcome_of(&compared)))
+    add_counts(report, name, &compared)?;
+    Ok(outcome_of(&compared))
 }
