@@ -14,7 +14,6 @@ use mx_object::ObjectMap;
 use mx_sdw::{Ring, Word};
 use mx_search::Rules;
 use std::alloc::{AllocError, Global};
-use std::fmt::{self, Debug, Formatter, Write};
 
 /// A supervisor call. Brackets need not be in order, nor a length in its bounds: the supervisor refuses.
 pub enum Request {
@@ -119,13 +118,6 @@ pub enum Request {
     Resume,
     /// `logout`: end the process.
     Logout,
-}
-
-// By hand, and no more than that it is a request: its line says what it asks.
-impl Debug for Request {
-    fn fmt<W: Write>(&self, f: &mut Formatter<W>) -> fmt::Result {
-        f.debug_struct("Request").finish_non_exhaustive()
-    }
 }
 
 // By hand, so that what lets a request go calls this, and need not let go of each of its parts.
