@@ -241,47 +241,69 @@ impl<'a> Fault<'a> {
     }
 }
 
+/// How a fault is put into words.
+#[derive(Clone, Copy)]
+enum Words<'a> {
+    /// Words alone, in two parts.
+    Alone(&'static str, &'static str),
+    /// A text of the line, between words.
+    Around(&'static str, &'a [u8], &'static str),
+    /// A field, its text, and what it is to be.
+    Wrong(&'static str, &'a [u8], &'static str),
+}
+
+impl<'a> Fault<'a> {
+    fn words(&self) -> Words<'a> {
+        match *self {
+            Fault::TextEnds(place) => {
+                Words::Alone("the text ends here; what may come is ", place.next())
+            }
+            Fault::NoNewline => Words::Alone("the line has no newline behind it", ""),
+            Fault::Empty => Words::Alone("an empty line; no line is empty", ""),
+            Fault::CarriageReturn => {
+                Words::Alone("a carriage return; a line ends with a newline alone", "")
+            }
+            Fault::Spaces => Words::Alone(
+                "fields are separated by exactly one space, and no line begins or ends with one",
+                "",
+            ),
+            Fault::UnknownWord(word) => Words::Around("no line begins with ", word, ""),
+            Fault::Order(_, order) => Words::Alone(order.words(), ""),
+            Fault::Missing(_, field) => Words::Alone(field.name(), " is missing"),
+            Fault::Wrong(_, field, text) => Words::Wrong(field.name(), text, field.wanted()),
+            Fault::Extra(_, text) => Words::Around("", text, " is too much"),
+            Fault::DefinitionBehindLink(field) => Words::Around(
+                "",
+                field,
+                " is behind a link; definitions stand before links",
+            ),
+            Fault::DefinedTwice(symbol) => Words::Around(
+                "the symbol ",
+                symbol,
+                " is defined twice",
+            ),
+            Fault::Unexplained => Words::Alone("this line cannot stand here", ""),
+        }
+    }
+}
+
 impl<'a> Display for Fault<'a> {
     fn fmt<W: Write>(&self, f: &mut Formatter<W>) -> fmt::Result {
+        if let Some(form) = self.form() {
+            write!(f, "{} wants {}; ", form.word(), form.shape())?;
+        }
+        self.words().fmt(f)
+    }
+}
+
+impl<'a> Display for Words<'a> {
+    fn fmt<W: Write>(&self, f: &mut Formatter<W>) -> fmt::Result {
         match self {
-            Fault::TextEnds(place) => {
-                write!(f, "the text ends here; what may come is {}", place.next())
+            Words::Alone(words, more) => write!(f, "{words}{more}"),
+            Words::Around(before, text, behind) => write!(f, "{before}`{}`{behind}", Shown(text)),
+            Words::Wrong(field, text, wanted) => {
+                write!(f, "{field} is `{}`, and not {wanted}", Shown(text))
             }
-            Fault::NoNewline => f.write_str("the line has no newline behind it"),
-            Fault::Empty => f.write_str("an empty line; no line is empty"),
-            Fault::CarriageReturn => {
-                f.write_str("a carriage return; a line ends with a newline alone")
-            }
-            Fault::Spaces => f.write_str(
-                "fields are separated by exactly one space, and no line begins or ends with one",
-            ),
-            Fault::UnknownWord(word) => write!(f, "no line begins with `{}`", Shown(word)),
-            Fault::Order(_, order) => write!(f, "{order}"),
-            Fault::Missing(form, field) => {
-                write!(f, "{} wants {}; ", form.word(), form.shape())?;
-                write!(f, "{} is missing", field.name())
-            }
-            Fault::Wrong(form, field, text) => {
-                write!(f, "{} wants {}; ", form.word(), form.shape())?;
-                write!(f, "{} is `{}`, and not ", field.name(), Shown(text))?;
-                f.write_str(field.wanted())
-            }
-            Fault::Extra(form, text) => {
-                write!(f, "{} wants {}; ", form.word(), form.shape())?;
-                write!(f, "`{}` is too much", Shown(text))
-            }
-            Fault::DefinitionBehindLink(field) => {
-                let form = Form::CreateObject;
-                write!(f, "{} wants {}; ", form.word(), form.shape())?;
-                write!(f, "`{}` is behind a link; ", Shown(field))?;
-                f.write_str("definitions stand before links")
-            }
-            Fault::DefinedTwice(symbol) => {
-                let form = Form::CreateObject;
-                write!(f, "{} wants {}; ", form.word(), form.shape())?;
-                write!(f, "the symbol `{}` is defined twice", Shown(symbol))
-            }
-            Fault::Unexplained => f.write_str("this line cannot stand here"),
         }
     }
 }

@@ -1,7 +1,5 @@
 //! What is wrong with the order of lines.
 
-use std::fmt::{self, Display, Formatter, Write};
-
 /// Why a line that may be right by itself cannot stand at its place.
 #[derive(Clone, Copy)]
 pub enum Order {
@@ -33,9 +31,10 @@ pub enum Order {
     OfSupervisor,
 }
 
-impl Display for Order {
-    fn fmt<W: Write>(&self, f: &mut Formatter<W>) -> fmt::Result {
-        f.write_str(match self {
+impl Order {
+    /// The reason in words.
+    pub(crate) fn words(self) -> &'static str {
+        match self {
             Order::FirstIsHeader => "a session begins with the line `multics 1`",
             Order::HeaderOnce => "`multics 1` stands once, as the first line",
             Order::HistorySecond => "`history` stands once, right behind `multics 1`",
@@ -60,6 +59,6 @@ impl Display for Order {
             Order::OfSupervisor => {
                 "the supervisor enters this for a process in the journal; no session asks for it"
             }
-        })
+        }
     }
 }

@@ -12,15 +12,20 @@ pub(crate) struct Shown<'a>(pub(crate) &'a [u8]);
 impl<'a> Display for Shown<'a> {
     fn fmt<W: Write>(&self, f: &mut Formatter<W>) -> fmt::Result {
         for byte in self.0.iter().take(MOST) {
-            if (b' '..=b'~').contains(byte) {
-                f.write_char(char::from(*byte))?;
-            } else {
-                write!(f, "\\x{byte:02x}")?;
-            }
+            write_byte(f, *byte)?;
         }
         if self.0.len() > MOST {
-            f.write_str(" ..")?;
+            f.write_str(" ..")
+        } else {
+            Ok(())
         }
-        Ok(())
+    }
+}
+
+fn write_byte<W: Write>(f: &mut Formatter<W>, byte: u8) -> fmt::Result {
+    if (b' '..=b'~').contains(&byte) {
+        f.write_char(char::from(byte))
+    } else {
+        write!(f, "\\x{byte:02x}")
     }
 }
