@@ -4,7 +4,7 @@
 //! root holds itself; it is said at that directory: a caller without s on it is told `NoInfo` instead. A refusal is
 //! told whatever memory there is. An error leaves the hierarchy as it was.
 
-ghost use Rattle.std.specs.Prelude.{◌≡◌, ◌==◌, ◌∷◌, [], Some, None, IfOk, OnOk, OnErr, is_ok, not, is_none, is_some, false};
+ghost use Rattle.std.specs.Prelude.{◌≡◌, ◌==◌, ◌∷◌, [], Some, None, IfOk, OnOk, OnErr, is_ok, not, is_none, is_some, false, nat_lt};
 ghost use Rattle.mx_acl.specs.Access.{with_entry, without_entry, entry_of};
 ghost use Rattle.mx_hier.specs.Branches.{uid_in, holder};
 ghost use Rattle.mx_hier.specs.Callers.{on};
@@ -155,9 +155,7 @@ impl Hier {
         let Some(segment) = self.segment_at(uid) else {
             return Some(Refusal::NotASeg);
         };
-        if settable(who.ring, rings).is_none()
-            || segment.brackets.r1().number() < who.ring.number()
-        {
+        if settable(who.ring, rings).is_none() || is_below(segment.brackets.r1(), who.ring) {
             return Some(Refusal::BadBrackets);
         }
         None
@@ -174,7 +172,7 @@ impl Hier {
         };
         if d2.number() < d1.number()
             || d1.number() < who.ring.number()
-            || directory.d1.number() < who.ring.number()
+            || is_below(directory.d1, who.ring)
         {
             return Some(Refusal::BadBrackets);
         }
@@ -275,4 +273,11 @@ impl Hier {
     {
         self.tables.remove(uid);
     }
+}
+
+/// Whether a bracket that stands is below a caller's ring, who may not set it then.
+fn is_below(bracket: Ring, ring: Ring) -> bool
+    ensures { result ≡ nat_lt bracket ring }
+{
+    bracket.number() < ring.number()
 }
