@@ -1,4 +1,4 @@
-use Rattle.std.proofs.Common.{◌≡◌, ◌≤◌, ◌++◌, drop, take, length}
+use Rattle.std.proofs.Common.{◌≡◌, ◌≤◌, ◌++◌, drop, take}
 use Rattle.std.specs.List.{All}
 use Rattle.mx_sdw.specs.Admissible.{IsAdmissible}
 use Rattle.mx_state.specs.Renewing.{renewed}
