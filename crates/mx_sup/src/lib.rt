@@ -6,6 +6,7 @@
 //! on `mx_state` (the plain supervisor), `mx_script` (sessions), `mx_legal` and `mx_ties` (what the setup's part is).
 #![tactic(auto)]
 
+mod answering;
 mod setups;
 mod supervisors;
 

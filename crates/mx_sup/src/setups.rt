@@ -1,12 +1,13 @@
 //! The setup: the initializer's requests, and its part of the run.
 
-ghost use Rattle.std.specs.Prelude.{◌≡◌, ◌<◌, ◌+◌, ◌^◌, [], ◌∷◌, ◌++◌, IsTrue, IfOk, OnOk, slice_get};
+ghost use Rattle.std.specs.Prelude.{◌≡◌, ◌<◌, ◌+◌, ◌^◌, [], ◌∷◌, ◌++◌, IsTrue, IfOk, OnOk, slice_get, vec_capacity, vec_len};
 ghost use Rattle.std.specs.Option.{option_map};
 ghost use Rattle.mx_legal.specs.Legal.{setup_entries};
 ghost use Rattle.mx_script.specs.Sessions.{IsSession};
 ghost use Rattle.mx_state.specs.History.{opening, MayAsk};
 ghost use Rattle.mx_sup.specs.Setups.{HasSetUp, IsEntered, setup_step, setup_part};
 
+use crate::answering::answered;
 use mx_legal::{Event2, Recording, Result2, Transcript, first_line, setup_entries};
 use mx_request::Request;
 use mx_script::Session;
@@ -33,25 +34,21 @@ pub(crate) fn enter_setup(
     Ok(journal)
 }
 
-// Enters one request of the initializer.
+// Enters one request of the initializer, for which there is room.
 fn enter(
     alloc: Global,
     request: &Request,
     state: &mut State,
     journal: &mut Vec<Entry>,
 ) -> Result<(), AllocError>
-    requires { MayAsk state.old 0 request.now }
-    ensures { OnOk result (IsEntered request.now state.old journal.old.items state.new journal.new.items) }
+    requires ask { MayAsk state.old 0 request.now }
+    requires room { vec_len journal.old < vec_capacity journal.old }
+    ensures entered { OnOk result (IsEntered request.now state.old journal.old.items state.new journal.new.items) }
+    ensures capacity { vec_capacity journal.new ≡ vec_capacity journal.old }
 {
     let ring = Ring::new(0).unwrap();
-    let copy = request.copy()?;
-    let applied = state.apply(alloc, 0, ring, request)?;
-    journal.push(Entry {
-        process: 0,
-        ring,
-        request: copy,
-        reply: applied.reply,
-    })?;
+    let entry = answered(alloc, state, 0, ring, request)?;
+    journal.push_reserved(entry);
     Ok(())
 }
 

@@ -11,6 +11,7 @@ ghost use Rattle.mx_sup.specs.Supervised.{Supervised, IsHistory, state_of};
 ghost use Rattle.mx_sup.specs.Entering.{IsOpened, HasEntered};
 ghost use Rattle.mx_sup.specs.declared.supervisors.EnterError.TheVariants.{Memory};
 
+use crate::answering::answered;
 use crate::setups::{enter_setup, entry_in, setup_part};
 use mx_legal::Transcript;
 use mx_list::Sequence;
@@ -103,17 +104,8 @@ impl<'a> Supervisor<'a> {
             return Err(EnterError::HistoryFull);
         }
         self.journal.reserve(1)?;
-        let copy = request.copy()?;
-        let applied = self.state.apply(alloc, p, ring, request)?;
-        let entry = Entry {
-            process: p,
-            ring,
-            request: copy,
-            reply: applied.reply,
-        };
-        let Ok(()) = self.journal.push(entry) else {
-            unreachable!()
-        };
+        let entry = answered(alloc, &mut self.state, p, ring, request)?;
+        self.journal.push_reserved(entry);
         Ok(self.journal.len() as u32)
     }
 

@@ -5,8 +5,8 @@ use Rattle.mx_sup.proofs.AskLaws.{may_ask}
 use Rattle.mx_sup.proofs.SetupLaws.{set_up_on}
 use Rattle.mx_sup.proofs.setups.enter_setup.Goals as goal
 
-pub enter-requires : goal.enter-requires
-enter-requires c =
+pub enter-requires-clause-ask : goal.enter-requires-clause-ask
+enter-requires-clause-ask c =
     let requests : c.items-requests.result.now ≡ c.args.session.now.setup = search rules in
     let within : c.loop-i.i < length c.items-requests.result.now = search rules in
     let at : slice_get c.args.session.now.setup c.loop-i.i ≡ Some c.index-requests-i.result
@@ -19,4 +19,7 @@ loop-i-preserved c =
     let within : c.loop-i.i < length c.items-requests.result.now = search rules in
     let at : slice_get c.args.session.now.setup c.loop-i.i ≡ Some c.index-requests-i.result
     = rw (← requests) (slice_get_read _ _ _ _ refl within c.index-requests-i.is) in
-    set_up_on _ _ _ _ _ _ _ at c.in_ok-enter.ensures c.loop-i.invariant
+    record {
+      entered = set_up_on _ _ _ _ _ _ _ at c.in_ok-enter.ensures.entered c.loop-i.invariant.entered;
+      room = cc;
+    }
