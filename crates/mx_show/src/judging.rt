@@ -1,14 +1,16 @@
 //! All references of a run with the access that each was judged on.
 
-ghost use Rattle.std.specs.Prelude.{IfOk, OnOk};
+ghost use Rattle.std.specs.Prelude.{◌≤◌, length, IfOk, OnOk};
 ghost use Rattle.mx_legal.specs.Legal.{IsLegal};
+ghost use Rattle.mx_state.specs.History.{opening, IsRight};
 ghost use Rattle.mx_show.specs.Judging.{AreAccesses, AreJudged};
 ghost use Rattle.mx_show.specs.Replays.{IsSameJournal};
 
 use crate::replays::{Changed, Judged, Replay};
-use mx_legal::{Element, Event, Event2, Transcripts};
+use mx_legal::{Element, Event, Event2, Transcript, Transcripts};
+use mx_name::Principal;
 use mx_script::Session;
-use mx_state::Journal;
+use mx_state::{Entry, Journal};
 use std::alloc::{AllocError, Global};
 
 /// The ring in which a process begins.
@@ -16,7 +18,7 @@ pub const FIRST_RING: u8 = 4;
 
 /// The references of a run in the order of their points, those of one process in its own order, and the descriptors that
 /// the journal's entries changed.
-#[derive(Debug, Drop)]
+#[derive(Drop)]
 pub struct Accesses {
     pub judged: Vec<Judged>,
     pub changed: Vec<Changed>,
@@ -33,18 +35,48 @@ pub fn judge_all(
     requires { IsLegal session.now journal.now transcripts.now }
     ensures { IfOk result (λ a. AreAccesses session.now journal.now a.judged.items) }
 {
-    let principals = session.principals().items();
     let references = sorted_references(alloc, transcripts)?;
-    let mut replay = Replay::new(alloc, principals, journal.items())?;
     let mut judged = Vec::with_capacity(alloc, references.len())?;
-    for (process, element) in &references {
-        add_judged(alloc, &mut replay, &mut judged, *process, *element)?;
+    let principals = session.principals().items();
+    let changed = judge_each(alloc, principals, journal.items(), &references, &mut judged)?;
+    Ok(Accesses { judged, changed })
+}
+
+// Runs the journal once, adds each of the references with its access, and answers what the entries changed.
+fn judge_each(
+    alloc: Global,
+    principals: &[Principal],
+    journal: &[Entry],
+    references: &[(u8, Element)],
+    judged: &mut Vec<Judged>,
+) -> Result<Vec<Changed>, AllocError>
+    requires some { 1 ≤ length principals.now }
+    requires most { length principals.now ≤ 15 }
+    requires right { IsRight (opening principals.now) journal.now }
+    requires judged { AreJudged principals.now journal.now judged.old.items }
+    ensures { IfOk result (λ changed. AreJudged principals.now journal.now judged.new.items) }
+{
+    let mut replay = Replay::new(alloc, principals, journal)?;
+    let added = add_all_judged(alloc, &mut replay, references, judged);
+    let changed = replay.into_changed();
+    added?;
+    Ok(changed)
+}
+
+// Adds references, and goes through the rest of the journal.
+fn add_all_judged(
+    alloc: Global,
+    replay: &mut Replay,
+    references: &[(u8, Element)],
+    judged: &mut Vec<Judged>,
+) -> Result<(), AllocError>
+    requires { AreJudged replay.old.principals replay.old.journal judged.old.items }
+    ensures { OnOk result (AreJudged replay.old.principals replay.old.journal judged.new.items) }
+{
+    for (process, element) in references {
+        add_judged(alloc, replay, judged, *process, *element)?;
     }
-    replay.finish(alloc)?;
-    Ok(Accesses {
-        judged,
-        changed: replay.into_changed(),
-    })
+    replay.finish(alloc)
 }
 
 // Adds a reference of one of the processes with its access.
@@ -72,15 +104,33 @@ fn sorted_references(
     transcripts: &Transcripts,
 ) -> Result<Vec<(u8, Element)>, AllocError> {
     let mut references = Vec::new(alloc);
-    let mut process = 0u8;
-    for transcript in transcripts.items() {
-        for (_, events, _) in transcript.steps() {
-            add_references(process, events, &mut references)?;
-        }
-        process = process.saturating_add(1);
-    }
+    add_all_references(transcripts.items(), &mut references)?;
     references.sort_by_key(|reference| reference.1.point)?;
     Ok(references)
+}
+
+// Adds the references of each process, from 0.
+fn add_all_references(
+    transcripts: &[Transcript],
+    references: &mut Vec<(u8, Element)>,
+) -> Result<(), AllocError> {
+    let mut process = 0u8;
+    for transcript in transcripts {
+        add_process_references(process, transcript, references)?;
+        process = process.saturating_add(1);
+    }
+    Ok(())
+}
+
+fn add_process_references(
+    process: u8,
+    transcript: &Transcript,
+    references: &mut Vec<(u8, Element)>,
+) -> Result<(), AllocError> {
+    for (_, events, _) in transcript.steps() {
+        add_references(process, events, references)?;
+    }
+    Ok(())
 }
 
 fn add_references(

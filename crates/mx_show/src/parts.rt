@@ -5,7 +5,7 @@ use std::alloc::AllocError;
 use std::fmt::{self, Display, Formatter, Write};
 
 /// A part of a sentence.
-#[derive(Clone, Copy, Debug)]
+#[derive(Clone, Copy)]
 pub enum Part<'a> {
     /// Words.
     Text(&'a str),

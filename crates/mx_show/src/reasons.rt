@@ -9,7 +9,7 @@ use mx_sdw::{Denial, Desc, DescKind, Ring};
 use std::fmt::{self, Display, Formatter, Write};
 
 /// One of the brackets, with the ring that it is.
-#[derive(Clone, Copy, Debug, PartialEq, Eq)]
+#[derive(Clone, Copy)]
 pub enum Bracket {
     R1(u8),
     R2(u8),
@@ -28,7 +28,7 @@ impl Bracket {
 }
 
 /// What a denial comes of, with the numbers that its rule compares.
-#[derive(Clone, Copy, Debug, PartialEq, Eq)]
+#[derive(Clone, Copy)]
 pub enum Reason {
     /// The segment number is not known.
     NotKnown,

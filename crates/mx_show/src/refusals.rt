@@ -39,17 +39,19 @@ pub(crate) fn refusal_words(refusal: Refusal, request: &Request) -> &'static str
 // What the caller may not do: at the root that is what nobody may.
 fn access_words(request: &Request) -> &'static str {
     match request {
-        Request::Rename { path, .. } | Request::Delete { path } => removal_words(path.bytes()),
+        Request::Rename { path, .. } | Request::Delete { path } => removal_words(path),
         _ => "the caller's access in this ring does not allow it",
     }
 }
 
 // The same of what renames or deletes. A pathname that goes up alone may lead to the root: that hangs on the working directory.
-fn removal_words(path: &[u8]) -> &'static str {
-    match path {
-        [b'>'] => "the root is neither renamed nor deleted",
-        [.., b'<'] => "the caller's access in this ring does not allow it, or this is the root",
-        _ => "the caller's access in this ring does not allow it",
+fn removal_words(path: &Pathname) -> &'static str {
+    if is_root(path) {
+        "the root is neither renamed nor deleted"
+    } else if path.bytes().ends_with(b"<") {
+        "the caller's access in this ring does not allow it, or this is the root"
+    } else {
+        "the caller's access in this ring does not allow it"
     }
 }
 

@@ -15,7 +15,7 @@ use std::marker::Model;
 const NUMBERS: usize = 128;
 
 /// A descriptor that an entry of the journal changed: whose, and what it was and is.
-#[derive(Clone, Copy, Debug)]
+#[derive(Clone, Copy)]
 pub struct Changed {
     pub entry: u32,
     pub process: u8,
@@ -27,7 +27,7 @@ pub struct Changed {
 /// A reference of a process, with the descriptor that it was judged on: the one that the first `point` entries of the
 /// journal leave. The last of these entries that changed it is `since`, 0 where none did. `entry` is the entry of the
 /// access list that decided its modes: none of a stack, of a linkage section, and where no entry matches.
-#[derive(Clone, Copy, Debug)]
+#[derive(Clone, Copy)]
 pub struct Judged {
     pub process: u8,
     pub element: Element,

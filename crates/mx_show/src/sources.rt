@@ -6,7 +6,7 @@ ghost use Rattle.mx_show.specs.Sources.{source};
 use mx_legal::Outcome;
 
 /// A store: whose it is, and the point at which it was made.
-#[derive(Clone, Copy, Debug, PartialEq, Eq)]
+#[derive(Clone, Copy)]
 pub struct StoredBy {
     pub process: u8,
     pub point: u32,

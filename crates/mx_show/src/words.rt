@@ -16,15 +16,12 @@ const STACKS: u16 = 8;
 
 /// What the access list gives: `null`, or letters of `rew`.
 pub fn modes(desc: &Desc) -> &'static str {
-    match (desc.r(), desc.e(), desc.w()) {
-        (false, false, false) => "null",
-        (true, false, false) => "r",
-        (false, true, false) => "e",
-        (false, false, true) => "w",
-        (true, true, false) => "re",
-        (true, false, true) => "rw",
-        (false, true, true) => "ew",
-        (true, true, true) => "rew",
+    let w = desc.w();
+    match (desc.r(), desc.e()) {
+        (false, false) => if w { "w" } else { "null" },
+        (true, false) => if w { "rw" } else { "r" },
+        (false, true) => if w { "ew" } else { "e" },
+        (true, true) => if w { "rew" } else { "re" },
     }
 }
 
