@@ -88,20 +88,12 @@ impl Layout {
         let lanes = processes.min(MOST_PROCESSES) as u8;
         let mut columns = Vec::with_capacity(alloc, MOST_ENTRIES + 1)?;
         let mut placed = Vec::new(alloc);
-        let mut rest = accesses.judged.as_slice();
-        let mut x = LEFT;
-        for point in 0..=entries {
-            columns.push(x)?;
-            let behind = x.saturating_add(ENTRY_WIDTH);
-            let (hung, others) = rest.split_at(hanging(rest, point));
-            let most = place(hung, behind, lanes, &mut placed)?;
-            x = behind.saturating_add(most.saturating_mul(BOX_STEP));
-            rest = others;
-        }
+        let judged = accesses.judged.as_slice();
+        let end = add_columns(judged, entries, lanes, &mut columns, &mut placed)?;
         Ok(Layout {
             columns,
             placed,
-            width: x.saturating_add(200),
+            width: end.saturating_add(200),
             lanes,
         })
     }
@@ -121,6 +113,28 @@ impl Layout {
     pub(crate) fn bottom(&self) -> u32 {
         LANES + LANE_STEP * u32::from(self.lanes)
     }
+}
+
+// Adds the columns of so many entries and of what comes before the first, places the references behind them, and says where the
+// last one ends.
+fn add_columns(
+    judged: &[Judged],
+    entries: usize,
+    lanes: u8,
+    columns: &mut Vec<u32>,
+    placed: &mut Vec<Placed>,
+) -> Result<u32, AllocError> {
+    let mut rest = judged;
+    let mut x = LEFT;
+    for point in 0..=entries {
+        columns.push(x)?;
+        let behind = x.saturating_add(ENTRY_WIDTH);
+        let (hung, others) = rest.split_at(hanging(rest, point));
+        let most = place(hung, behind, lanes, placed)?;
+        x = behind.saturating_add(most.saturating_mul(BOX_STEP));
+        rest = others;
+    }
+    Ok(x)
 }
 
 // How many of these references, at the front, hang at this point.

@@ -68,15 +68,28 @@ fn draw(
     let processes = session.principals().items().len();
     let layout = Layout::new(alloc, accesses, journal.items().len(), processes)?;
     let mut out = String::new(alloc);
-    add_head(&mut out, layout.width.max(980), height(&layout))?;
-    add_title(alloc, &mut out, processes, journal, accesses, &layout)?;
-    add_rings(&mut out)?;
-    add_lanes(alloc, &mut out, session, &layout)?;
-    add_change_lines(&mut out, accesses, &layout)?;
-    add_entries(alloc, &mut out, journal, &layout)?;
-    add_tags(alloc, &mut out, accesses, &layout)?;
-    add_boxes(&mut out, &layout)?;
-    add_arrows(&mut out, &layout)?;
-    add_legend(&mut out, &layout)?;
+    add_marks(alloc, &mut out, session, journal, accesses, &layout)?;
     Ok(out)
+}
+
+// Adds the marks, those on which others are drawn first.
+fn add_marks(
+    alloc: Global,
+    out: &mut String,
+    session: &Session,
+    journal: &Journal,
+    accesses: &Accesses,
+    layout: &Layout,
+) -> Result<(), AllocError> {
+    let processes = session.principals().items().len();
+    add_head(out, layout.width.max(980), height(layout))?;
+    add_title(alloc, out, processes, journal, accesses, layout)?;
+    add_rings(out)?;
+    add_lanes(alloc, out, session, layout)?;
+    add_change_lines(out, accesses, layout)?;
+    add_entries(alloc, out, journal, layout)?;
+    add_tags(alloc, out, accesses, layout)?;
+    add_boxes(out, layout)?;
+    add_arrows(out, layout)?;
+    add_legend(out, layout)
 }

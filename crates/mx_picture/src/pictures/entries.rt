@@ -70,25 +70,41 @@ fn add_entry(
 ) -> Result<(), AllocError> {
     let inside = entry.ring.number();
     add_disc(out, at, 14, ring_colour(inside))?;
-    let style = format!(in alloc; "text-anchor=\"middle\" {}", ink_on(inside))?;
-    add_text(out, at.down(5), &style, &[Decimal(number)])?;
+    add_number(alloc, out, inside, number, at)?;
     let refused = matches!(entry.reply, Reply::Refused(_));
     let label = label(alloc, entry)?;
     add_rising(out, at.up(20), ink_of(refused), &[Text(&label)])
 }
 
-// The request of an entry, cut where it is long, and what it was answered where that says more than `ok`.
+// The number of an entry, in the middle of its disc, whose colour is that of a ring.
+fn add_number(
+    alloc: Global,
+    out: &mut String,
+    inside: u8,
+    number: u32,
+    at: Position,
+) -> Result<(), AllocError> {
+    let style = format!(in alloc; "text-anchor=\"middle\" {}", ink_on(inside))?;
+    add_text(out, at.down(5), &style, &[Decimal(number)])
+}
+
+// The request of an entry, and what it was answered where that says more than `ok`.
 fn label(alloc: Global, entry: &Entry) -> Result<String, AllocError> {
     let request = request_text(alloc, &entry.request)?;
     let answer = text_of(alloc, &answer(&entry.reply))?;
-    let most = MOST_LABEL.saturating_sub(answer.len());
     let mut label = String::new(alloc);
+    add_label(&mut label, &request, &answer)?;
+    Ok(label)
+}
+
+// Adds a request, cut where it is long, and what it was answered.
+fn add_label(label: &mut String, request: &str, answer: &str) -> Result<(), AllocError> {
+    let most = MOST_LABEL.saturating_sub(answer.len());
     for c in request.chars().take(most) {
         label.push(c)?;
     }
     let cut = if request.len() > most { ".." } else { "" };
-    add_parts(&mut label, &[Text(cut), Text(&answer)])?;
-    Ok(label)
+    add_parts(label, &[Text(cut), Text(answer)])
 }
 
 // A request as its line.

@@ -22,11 +22,7 @@ pub(super) fn add_title(
     let entries = journal.items().len();
     let references = accesses.judged.len();
     let drawn = layout.placed.len();
-    let title = format!(in alloc;
-        "A legal run: processes {processes}, journal entries {entries}, references {references}"
-    )?;
-    let style = "font-size=\"16\" font-weight=\"bold\"";
-    add_text(out, Position::new(12, 24), style, &[Text(&title)])?;
+    add_size(alloc, out, processes, entries, references)?;
     if entries <= MOST_ENTRIES && processes <= MOST_PROCESSES && references <= drawn {
         return Ok(());
     }
@@ -36,6 +32,21 @@ pub(super) fn add_title(
     )?;
     let style = "font-size=\"14\" fill=\"#b71c1c\"";
     add_text(out, Position::new(12, 44), style, &[Text(&note)])
+}
+
+// Adds how large the run is.
+fn add_size(
+    alloc: Global,
+    out: &mut String,
+    processes: usize,
+    entries: usize,
+    references: usize,
+) -> Result<(), AllocError> {
+    let title = format!(in alloc;
+        "A legal run: processes {processes}, journal entries {entries}, references {references}"
+    )?;
+    let style = "font-size=\"16\" font-weight=\"bold\"";
+    add_text(out, Position::new(12, 24), style, &[Text(&title)])
 }
 
 /// The width of a ring.
