@@ -4,16 +4,18 @@ ghost use Rattle.std.specs.Prelude.{◌≡◌, ◌≢◌, ◌⊎◌, ◌≤◌, 
 ghost use Rattle.std.specs.String.{string_bytes};
 ghost use Rattle.mx_io.specs.Bytes.{Appends, AppendsPart, TakesTooMany};
 ghost use Rattle.mx_io.specs.Faults.{Rose};
-ghost use Rattle.mx_explain.specs.Statuses.{IsCommand, IsShown, IsRefused, IsToldOf, IsCutOffOf, GainsFront, IsStopped, IsDueStatus};
+ghost use Rattle.mx_explain.specs.Statuses.{IsCommand, IsShown, IsRefused, IsRunOf, IsToldOf, IsCutOffOf, GainsFront, IsStopped, IsDueStatus};
 ghost use Rattle.mx_explain.specs.Views.{word_of, ShowsOf, Tells, CutsOff, TellsFront};
 
 use mx_io::{ReadError, Sink, Source, read_all, write_all};
+use mx_legal::Transcripts;
 use mx_lint::{Diagnosis, Finding, lint};
 use mx_picture::show_picture;
 use mx_proc::{NoGate, run};
 use mx_script::Session;
 use mx_show::{ShowError, show_lines};
-use std::alloc::Global;
+use mx_state::Journal;
+use std::alloc::{AllocError, Global};
 use std::sync::Wait;
 use std::thread::Threads;
 
@@ -39,7 +41,7 @@ const BAD_LINE: u8 = 5;
 const TOO_LONG: u8 = 6;
 
 /// What is shown of a session.
-#[derive(Clone, Copy, Debug, PartialEq, Eq)]
+#[derive(Clone, Copy)]
 enum View {
     Lint,
     Lines,
@@ -187,27 +189,26 @@ impl View {
                 Ok(())
             }
             View::Lines => {
-                let (journal, transcripts) = run(
-                    rt,
-                    alloc,
-                    session,
-                    &NoGate,
-                    &mut Vec::new(alloc),
-                )?;
+                let (journal, transcripts) = run_alone(rt, alloc, session)?;
                 show_lines(alloc, session, &journal, &transcripts, sink)
             }
             View::Picture => {
-                let (journal, transcripts) = run(
-                    rt,
-                    alloc,
-                    session,
-                    &NoGate,
-                    &mut Vec::new(alloc),
-                )?;
+                let (journal, transcripts) = run_alone(rt, alloc, session)?;
                 show_picture(alloc, session, &journal, &transcripts, sink)
             }
         }
     }
+}
+
+// Runs a session with no gate and no auditors.
+fn run_alone<R: Threads + Wait + Sync>(
+    rt: &R,
+    alloc: Global,
+    session: &Session,
+) -> Result<(Journal, Transcripts), AllocError>
+    ensures { IfOk result (λ ran. IsRunOf session.now ran.0 ran.1) }
+{
+    run(rt, alloc, session, &NoGate, &mut Vec::new(alloc))
 }
 
 // Explains the first bad line.
