@@ -62,11 +62,21 @@ fn name_words(request: &Request) -> &'static str {
         Request::CreateDir { path, .. }
         | Request::CreateSeg { path, .. }
         | Request::CreateObject { path, .. }
-        | Request::CreateLink { path, .. }
-            if is_root(path) => "this is the root",
+        | Request::CreateLink { path, .. } => making_words(path),
         Request::Rename { path, name } if is_last(path.bytes(), name.bytes()) =>
             "this is the name that it has",
         _ => "the name stands there already",
+    }
+}
+
+// The same where an entry is made. A pathname that goes up alone may lead to the root.
+fn making_words(path: &Pathname) -> &'static str {
+    if is_root(path) {
+        "this is the root"
+    } else if path.bytes().ends_with(b"<") {
+        "the name stands there already, or this is the root"
+    } else {
+        "the name stands there already"
     }
 }
 

@@ -306,12 +306,19 @@ fn add_beside(
 ) -> Result<(), AllocError> {
     match reason {
         Reason::NoRead | Reason::NoWrite | Reason::NoExecute => add_lack(alloc, out, judged),
-        Reason::NoGate { gate: 0, .. } => {
-            let way = Text("; the other way in is a call from within segment ");
-            add_parts(out, &[way, Octal(u64::from(judged.element.segno))])
-        }
+        Reason::NoGate { gate: 0, .. } => add_way_in(out, judged),
         _ => Ok(()),
     }
+}
+
+// Adds the other way in, which is open up to the second bracket.
+fn add_way_in(out: &mut String, judged: &Judged) -> Result<(), AllocError> {
+    let r2 = judged.desc.brackets().r2();
+    if judged.element.ring.number() > r2.number() {
+        return Ok(());
+    }
+    let way = Text("; the other way in is a call from within segment ");
+    add_parts(out, &[way, Octal(u64::from(judged.element.segno))])
 }
 
 // Adds the word read, whose store it is, and where it leads.

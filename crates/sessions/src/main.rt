@@ -16,54 +16,31 @@ mod showing;
 
 use items::{compare, store};
 use outcome::status_of;
-use std::alloc::{Alloc, Global};
 use std::process::ExitCode;
-use std::rt::Files;
-use std::sync::Wait;
-use std::thread::Threads;
 use std::{env, io};
 
 /// The status where nothing is named.
 const BAD_WORDS: u8 = 2;
 
 fn main(rt: HostRuntime) -> io::Result<ExitCode> {
-    let words = env::args(&rt)?.skip(1).collect::<Vec<String>>(rt.alloc())?;
-    let Some(first) = words.first() else {
-        eprintln!(rt;
-            "sessions [store] NAME ..: compares what NAME.session prints with what is stored beside it, or stores its lines and picture"
-        )?;
-        return Ok(ExitCode::from(BAD_WORDS));
+    let mut names = env::args(&rt)?.skip(1).peekable();
+    let stores = match names.peek() {
+        Some(word) => word.as_str() == "store",
+        None => {
+            eprintln!(rt;
+                "sessions [store] NAME ..: compares what NAME.session prints with what is stored beside it, or stores its lines and picture"
+            )?;
+            return Ok(ExitCode::from(BAD_WORDS));
+        }
     };
-    let status = if first.as_str() == "store" {
-        store_all(&rt, &words[1..])?
-    } else {
-        compare_all(&rt, &words)?
-    };
-    Ok(ExitCode::from(status))
-}
-
-// Compares the items of these names, prints what came of each, and answers the status.
-fn compare_all<R: Threads + Wait + Sync + Files + Print + Alloc<A = Global>>(
-    rt: &R,
-    names: &[String],
-) -> io::Result<u8> {
     let mut outcomes = Vec::new(rt.alloc());
-    for name in names {
-        let told = compare(rt, name, &mut outcomes)?;
+    for name in names.skip(if stores { 1 } else { 0 }) {
+        let told = if stores {
+            store(&rt, &name, &mut outcomes)?
+        } else {
+            compare(&rt, &name, &mut outcomes)?
+        };
         print!(rt; "{told}")?;
     }
-    Ok(status_of(&outcomes))
-}
-
-// Stores the lines and pictures of the sessions of these names, prints what came of each, and answers the status.
-fn store_all<R: Threads + Wait + Sync + Files + Print + Alloc<A = Global>>(
-    rt: &R,
-    names: &[String],
-) -> io::Result<u8> {
-    let mut outcomes = Vec::new(rt.alloc());
-    for name in names {
-        let told = store(rt, name, &mut outcomes)?;
-        print!(rt; "{told}")?;
-    }
-    Ok(status_of(&outcomes))
+    Ok(ExitCode::from(status_of(&outcomes)))
 }
