@@ -1,0 +1,3 @@
+pub mod SupersetLaws
+pub mod DominanceLaws
+pub mod TextLaws
