@@ -4,6 +4,8 @@ use Rattle.std.specs.Prelude.{ℕ, ◌-◌, ◌^◌, ◌<◌, ◌≤◌, nat_eq,
 use Rattle.std.specs.Int.{bit_at}
 use Rattle.std.specs.List.{list_all, range_with_len}
 use Rattle.std.specs.Option.{option_map}
+use Rattle.mx_sdw.specs.declared.descriptors.Aim.{Aim}
+use Rattle.mx_sdw.specs.declared.descriptors.Aim.TheVariants.{Equal, Dominates, Neither}
 use Rattle.mx_sdw.specs.Octal.{is_octal_digit, octal, octal_number}
 
 -- a level, and the categories as the bits of a number
@@ -34,6 +36,11 @@ dominates c other = nat_le other.level c.level && has_all_categories c other
 
 abbrev pub equals : PlainClass → PlainClass → Bool
 equals c other = nat_eq c.level other.level && nat_eq c.categories other.categories
+
+-- how an authorization stands to a class
+abbrev pub aim_of : PlainClass → PlainClass → Aim
+aim_of authorization class =
+    if equals authorization class then Equal else (if dominates authorization class then Dominates else Neither)
 
 -- the text of a class: its level, one digit, and its categories in octal
 abbrev pub class_text : PlainClass → List ℕ

@@ -1,9 +1,9 @@
 //! Classes of access isolation.
 
 ghost use Rattle.std.specs.Prelude.{◌≡◌, if◌then◌else◌, nat_le, nat_lt, ◌&&◌, ◌^◌, Some, None};
-ghost use Rattle.mx_aim.specs.Classes.{class_of_text, dominates, equals, lowest};
+ghost use Rattle.mx_aim.specs.Classes.{aim_of, class_of_text, dominates, equals, lowest};
 
-use mx_sdw::read_octal_number;
+use mx_sdw::{Aim, read_octal_number};
 use std::marker::Model;
 
 /// A class of access isolation (Multics Administrators' Manual): a level from 0 to 7 and a set of 18 categories, as bits.
@@ -92,5 +92,18 @@ impl Class {
         ensures { result ≡ equals self.now other.now }
     {
         self.level == other.level && self.categories == other.categories
+    }
+
+    /// How it stands, as the authorization of a process, to the class of a segment.
+    pub fn aim(&self, class: &Class) -> Aim
+        ensures { result ≡ aim_of self.now class.now }
+    {
+        if self.equals(class) {
+            Aim::Equal
+        } else if self.dominates(class) {
+            Aim::Dominates
+        } else {
+            Aim::Neither
+        }
     }
 }

@@ -1,6 +1,7 @@
 -- What a granted call and a granted return make of the registers.
-use Rattle.std.proofs.Common.{◌≡◌, ℕ, ◌<◌, ◌≤◌, ◌⊎◌, ◌↔◌, min, max, false, List, [], ◌∷◌, length, map, slice_get, slice_set, Some, Ok, Err, IsOk, refl, sym, ap, subst, arith, rules}
+use Rattle.std.proofs.Common.{◌≡◌, ℕ, ◌<◌, ◌≤◌, ◌⊎◌, inl, inr, ◌↔◌, min, max, nat_eq, Bool, false, if◌then◌else◌, List, [], ◌∷◌, length, map, slice_get, slice_set, Some, Ok, Err, IsOk, refl, sym, ap, subst, arith, rules}
 use Rattle.std.proofs.Math.Nat.{le_refl, le_trans}
+use Rattle.std.proofs.lemmas.Bool.{le-ltb}
 use Rattle.std.proofs.lemmas.List.{get_or-set_other, length-map}
 use Rattle.std.proofs.lemmas.Option.{slice_get-get_or}
 use Rattle.std.proofs.lemmas.List.Elements.{All-set, All-map}
@@ -10,8 +11,8 @@ use Rattle.mx_sdw.specs.declared.descriptors.Cell.{Cell}
 use Rattle.mx_sdw.specs.declared.denials.Denial.{Denial}
 use Rattle.mx_sdw.specs.declared.operations.Op.{Op}
 use Rattle.mx_sdw.specs.Descriptors.{Descriptor}
-use Rattle.mx_sdw.specs.Granting.{IsGranted}
-use Rattle.mx_sdw.specs.Judging.{judgement}
+use Rattle.mx_sdw.specs.Granting.{CanCall, CanEnter, CanGoUp, IsGranted}
+use Rattle.mx_sdw.specs.Judging.{judgement, ring_after}
 use Rattle.mx_sdw.proofs.JudgingLaws.{granted_is_allowed}
 use Rattle.mx_ptr.specs.Pointers.{PointerParts, IsPackable}
 use Rattle.mx_call.specs.Loading.{loaded}
@@ -26,11 +27,29 @@ pub granted : (before : Registers) (target : PointerParts) (d : Descriptor) → 
     → IsGranted d (calling before target) target.ring target.word
 granted before target d h = allowed d (calling before target) target.ring target.word (call_judgement before target d) refl h
 
+-- where upward calls are off, a granted call enters from within the brackets
+entered : (d : Descriptor) (ring word current : ℕ) (same : Bool) → CanCall d ring word current same false → CanEnter d ring word current same
+entered d ring word current same access = by_way access.way
+  where
+    by_way : CanEnter d ring word current same ⊎ CanGoUp d ring word false → CanEnter d ring word current same
+    by_way (inl enters) = enters
+    by_way (inr up) = cc (up.on)
+
+entering : (before : Registers) (target : PointerParts) (d : Descriptor) → IsOk (call_judgement before target d)
+    → CanEnter d target.ring target.word before.ring (nat_eq target.segno before.procedure.segno)
+entering before target d h = entered d target.ring target.word before.ring _ (granted before target d h).access
+
+pub goes_on_in : (before : Registers) (target : PointerParts) (d : Descriptor) → IsOk (call_judgement before target d)
+    → ring_after d (calling before target) target.ring ≡ min target.ring d.brackets.r2
+goes_on_in before target d h =
+    let above = (entering before target d h).above in
+    ap (λ (low : Bool). if low then d.brackets.r1 else min target.ring d.brackets.r2) (le-ltb target.ring d.brackets.r1 above)
+
 pub never_raised : (before after : Registers) (target : PointerParts) (d : Descriptor)
     → IsOk (call_judgement before target d) → IsCalled before target d after → after.ring ≤ before.ring
 never_raised before after target d h c =
-    let g = granted before target d h in
-    rw c.current g.access.no_higher
+    let g = entering before target d h in
+    rw c.current g.no_higher
 
 fell : (target bracket before after : ℕ) → after ≡ min target bracket → before ≤ target → after < before → (bracket < target) × (after ≡ bracket)
 fell target bracket before after c effective falls = search rules
@@ -42,12 +61,12 @@ pub through_a_gate : (before after : Registers) (target : PointerParts) (d : Des
     → IsOk (call_judgement before target d) → IsCalled before target d after
     → before.ring ≤ target.ring → after.ring < before.ring → IsGate target d × (after.ring ≡ d.brackets.r2)
 through_a_gate before after target d h c effective falls =
-    let g = granted before target d h in
+    let g = entering before target d h in
     let f = fell target.ring d.brackets.r2 before.ring after.ring c.current effective falls in
-    (record { word = by_word target.ring d.brackets.r2 g.access.entry f.0; above = f.0; within = g.access.within }, f.1)
+    (record { word = by_word target.ring d.brackets.r2 g.entry f.0; above = f.0; within = (granted before target d h).access.within }, f.1)
 
 -- the pointer registers of a call, where there are eight
-eight_called : (xs ys : List PointerParts) (stack back : PointerParts) → length xs ≡ 8 → length ys ≡ length xs
+pub eight_called : (xs ys : List PointerParts) (stack back : PointerParts) → length xs ≡ 8 → length ys ≡ length xs
     → slice_get ys 0 ≡ Some stack → slice_get ys 7 ≡ Some back → ((n : ℕ) → 1 ≤ n → n ≤ 6 → slice_get ys n ≡ slice_get xs n)
     → ys ≡ slice_set (slice_set xs 0 stack) 7 back
 eight_called (x0 ∷ x1 ∷ x2 ∷ x3 ∷ x4 ∷ x5 ∷ x6 ∷ x7 ∷ []) (y0 ∷ y1 ∷ y2 ∷ y3 ∷ y4 ∷ y5 ∷ y6 ∷ y7 ∷ []) stack back e f first last others =
@@ -60,7 +79,7 @@ eight_called (x0 ∷ x1 ∷ x2 ∷ x3 ∷ x4 ∷ x5 ∷ x6 ∷ x7 ∷ []) (y0 �
     cc
 eight_called xs ys stack back e f first last others = search rules
 
-same : (g h : Registers) → g.ring ≡ h.ring → g.procedure ≡ h.procedure → g.pr ≡ h.pr → g.a ≡ h.a → g ≡ h
+pub same : (g h : Registers) → g.ring ≡ h.ring → g.procedure ≡ h.procedure → g.pr ≡ h.pr → g.a ≡ h.a → g ≡ h
 same g h ring procedure pr a = search rules
 
 one_call : (before after : Registers) (target : PointerParts) (d : Descriptor) → length before.pr ≡ 8
@@ -76,15 +95,15 @@ chain : {X : Type 0} {x y z : X} → x ≡ y → y ≡ z → x ≡ z
 chain e f = cc
 
 -- the first, the last and the other registers of a call
-first_set : (xs : List PointerParts) (stack back : PointerParts) → length xs ≡ 8 → slice_get (slice_set (slice_set xs 0 stack) 7 back) 0 ≡ Some stack
+pub first_set : (xs : List PointerParts) (stack back : PointerParts) → length xs ≡ 8 → slice_get (slice_set (slice_set xs 0 stack) 7 back) 0 ≡ Some stack
 first_set (x0 ∷ x1 ∷ x2 ∷ x3 ∷ x4 ∷ x5 ∷ x6 ∷ x7 ∷ []) stack back e = refl
 first_set xs stack back e = search rules
 
-last_set : (xs : List PointerParts) (stack back : PointerParts) → length xs ≡ 8 → slice_get (slice_set (slice_set xs 0 stack) 7 back) 7 ≡ Some back
+pub last_set : (xs : List PointerParts) (stack back : PointerParts) → length xs ≡ 8 → slice_get (slice_set (slice_set xs 0 stack) 7 back) 7 ≡ Some back
 last_set (x0 ∷ x1 ∷ x2 ∷ x3 ∷ x4 ∷ x5 ∷ x6 ∷ x7 ∷ []) stack back e = refl
 last_set xs stack back e = search rules
 
-others_kept : (xs : List PointerParts) (stack back : PointerParts) → length xs ≡ 8 → (n : ℕ) → 1 ≤ n → n ≤ 6
+pub others_kept : (xs : List PointerParts) (stack back : PointerParts) → length xs ≡ 8 → (n : ℕ) → 1 ≤ n → n ≤ 6
     → slice_get (slice_set (slice_set xs 0 stack) 7 back) n ≡ slice_get xs n
 others_kept xs stack back e n low high =
     chain (slice_get-get_or (slice_set (slice_set xs 0 stack) 7 back) n stack (search rules))
@@ -115,10 +134,10 @@ one_return before after target r =
     same after (returned before target) r.current (chain r.procedure (ap (going_on target) r.current))
     (chain r.pointers (ap (λ n. map (raised_to n) before.pr) r.current)) r.accumulator
 
-not_below : (a b : ℕ) → a ≤ max a b
+pub not_below : (a b : ℕ) → a ≤ max a b
 not_below a b = search rules
 
-all_above : (ring lower : ℕ) (xs : List PointerParts) → ring ≤ lower → All (λ p. lower ≤ p.ring) xs → All (λ p. ring ≤ p.ring) xs
+pub all_above : (ring lower : ℕ) (xs : List PointerParts) → ring ≤ lower → All (λ p. lower ≤ p.ring) xs → All (λ p. ring ≤ p.ring) xs
 all_above ring lower xs h above = λ k d i. le_trans h (above k d i)
 
 sound_called : (before : Registers) (target : PointerParts) (d : Descriptor) → IsSound before
@@ -168,16 +187,16 @@ loaded_stays_packable before n target s h = record {
 }
 
 -- the pointers that a transfer puts into the registers
-base_packable : (ring : ℕ) → ring ≤ 7 → IsPackable (stack_base ring)
+pub base_packable : (ring : ℕ) → ring ≤ 7 → IsPackable (stack_base ring)
 base_packable ring h = record { ring = h; segno = omega arith; word = omega arith }
 
-going_on_packable : (target : PointerParts) (ring : ℕ) → IsPackable target → ring ≤ 7 → IsPackable (going_on target ring)
+pub going_on_packable : (target : PointerParts) (ring : ℕ) → IsPackable target → ring ≤ 7 → IsPackable (going_on target ring)
 going_on_packable target ring h low = record { ring = low; segno = h.segno; word = h.word }
 
 way_back_packable : (g : Registers) → ArePackable g → IsPackable (way_back g)
 way_back_packable g a = record { ring = a.ring; segno = a.procedure.segno; word = a.procedure.word }
 
-raised_packable : (ring : ℕ) (p : PointerParts) → ring ≤ 7 → IsPackable p → IsPackable (raised_to ring p)
+pub raised_packable : (ring : ℕ) (p : PointerParts) → ring ≤ 7 → IsPackable p → IsPackable (raised_to ring p)
 raised_packable ring p low h = record { ring = let high = h.ring in omega arith; segno = h.segno; word = h.word }
 
 pub called_packable : (before : Registers) (target : PointerParts) (d : Descriptor) → ArePackable before → IsPackable target

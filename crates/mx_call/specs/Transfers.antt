@@ -1,6 +1,6 @@
 -- What a call and a return make of the registers, after Schroeder and Saltzer. This model's own choice is that a call
 -- itself leaves the way back in pointer register 7. The target's ring is the effective ring.
-use Rattle.std.specs.Prelude.{◌≡◌, ℕ, ◌<◌, ◌≤◌, min, nat_eq, length, map, slice_get, slice_set, Some, Result}
+use Rattle.std.specs.Prelude.{◌≡◌, ℕ, ◌<◌, ◌≤◌, min, nat_eq, false, length, map, slice_get, slice_set, Some, Result}
 use Rattle.mx_sdw.specs.declared.descriptors.Cell.{Cell}
 use Rattle.mx_sdw.specs.declared.denials.Denial.{Denial}
 use Rattle.mx_sdw.specs.declared.operations.Op.{Op}
@@ -10,9 +10,9 @@ use Rattle.mx_sdw.specs.Judging.{judgement}
 use Rattle.mx_ptr.specs.Pointers.{PointerParts}
 use Rattle.mx_call.specs.Registers.{Registers, going_on, stack_base, way_back, raised_to}
 
--- a call of a target from these registers, which may stay within the segment that runs
+-- a call of a target from these registers, which may stay within the segment that runs; upward calls are off
 abbrev pub calling : Registers → PointerParts → Op
-calling g target = Call g.ring (nat_eq target.segno g.procedure.segno)
+calling g target = Call g.ring (nat_eq target.segno g.procedure.segno) false
 
 -- what the judging rule says of the call
 abbrev pub call_judgement : Registers → PointerParts → Descriptor → Result Cell Denial

@@ -63,7 +63,7 @@ impl Regs {
 }
 
 /// The word 0 of the stack of a ring.
-pub(crate) fn stack_base(ring: Ring) -> Pointer
+pub fn stack_base(ring: Ring) -> Pointer
     ensures { result ≡ stack_base ring }
 {
     Pointer {

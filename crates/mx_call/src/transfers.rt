@@ -1,6 +1,6 @@
 //! Calls and returns.
 
-ghost use Rattle.std.specs.Prelude.{◌≡◌, ◌↔◌, map, IsOk, IfOk, IfErr, Err};
+ghost use Rattle.std.specs.Prelude.{◌≡◌, ◌↔◌, min, map, IsOk, IfOk, IfErr, Err};
 ghost use Rattle.mx_call.specs.Registers.{going_on, way_back, raised_to};
 ghost use Rattle.mx_call.specs.Transfers.{calling, call_judgement, return_judgement, IsCalled, IsReturned};
 
@@ -9,7 +9,8 @@ use mx_ptr::Pointer;
 use mx_sdw::{Denial, Desc, Op, Ring, judge, new_ring};
 
 /// The registers after a call of `target`, a word of the segment that `desc` describes, where `target.ring` is the
-/// effective ring. Denied as the judging rule denies a call from the current ring (Schroeder and Saltzer).
+/// effective ring. Denied as the judging rule denies a call from the current ring where upward calls are off (Schroeder
+/// and Saltzer).
 pub fn call(regs: &Regs, target: &Pointer, desc: &Desc) -> Result<Regs, Denial>
     ensures granted { IsOk result ↔ IsOk (call_judgement regs.now target.now desc.now) }
     ensures ok { IfOk result (λ after. IsCalled regs.now target.now desc.now after) }
@@ -21,7 +22,7 @@ pub fn call(regs: &Regs, target: &Pointer, desc: &Desc) -> Result<Regs, Denial>
         target.ring,
         u32::from(target.word),
     )?;
-    let ring = new_ring(desc, calling(regs, target), target.ring);
+    let ring = called_ring(regs, target, desc);
     let procedure = going_on(target, ring);
     let [_, pr1, pr2, pr3, pr4, pr5, pr6, _] = regs.pr;
     Ok(Regs {
@@ -65,11 +66,21 @@ fn calling(regs: &Regs, target: &Pointer) -> Op
     Op::Call {
         current: regs.ring,
         same: target.segno == regs.procedure.segno,
+        upward: false,
     }
 }
 
+/// The ring in which a granted call goes on.
+#[tactic(auto, using(crate::proofs::RegisterLaws::goes_on_in))]
+fn called_ring(regs: &Regs, target: &Pointer, desc: &Desc) -> Ring
+    requires { IsOk (call_judgement regs.now target.now desc.now) }
+    ensures { result ≡ min target.now.ring desc.now.brackets.r2 }
+{
+    new_ring(desc, calling(regs, target), target.ring)
+}
+
 /// The procedure pointer of a process that goes on at `target` in a ring.
-fn going_on(target: &Pointer, ring: Ring) -> Pointer
+pub fn going_on(target: &Pointer, ring: Ring) -> Pointer
     ensures { result ≡ going_on target.now ring }
 {
     Pointer {
@@ -108,7 +119,7 @@ fn all_raised_to(ring: Ring, pr: &[Pointer; 8]) -> [Pointer; 8]
 }
 
 /// A pointer whose ring is at least `ring`.
-fn raised_to(ring: Ring, pointer: Pointer) -> Pointer
+pub fn raised_to(ring: Ring, pointer: Pointer) -> Pointer
     ensures { result ≡ raised_to ring pointer }
 {
     if pointer.ring.number() < ring.number() {

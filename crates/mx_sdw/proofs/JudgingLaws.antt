@@ -5,6 +5,7 @@ use Rattle.mx_sdw.proofs.Orders.{found_is_first, first_is_found}
 use Rattle.mx_sdw.specs.declared.denials.Denial.{Denial}
 use Rattle.mx_sdw.specs.declared.descriptors.Cell.{Cell}
 use Rattle.mx_sdw.specs.declared.operations.Op.{Op}
+use Rattle.mx_sdw.specs.declared.operations.Op.TheVariants.{Read, Indirect, Write, Fetch, Call, Return}
 use Rattle.mx_sdw.specs.Denials.{judging_order}
 use Rattle.mx_sdw.specs.Descriptors.{Descriptor}
 use Rattle.mx_sdw.specs.Granting.{IsGranted, IsFirst}
@@ -12,15 +13,29 @@ use Rattle.mx_sdw.specs.Judging.{applies, judgement, granted_unless, cell_of}
 
 pub granted_is_allowed : (d : Descriptor) (op : Op) (ring word : ℕ) (cell : Cell) → judgement d op ring word ≡ Ok cell → IsGranted d op ring word
 unfolding judgement
-granted_is_allowed d op ring word cell e = search rules
+granted_is_allowed d Read ring word cell e = search rules
+granted_is_allowed d Indirect ring word cell e = search rules
+granted_is_allowed d Write ring word cell e = search rules
+granted_is_allowed d Fetch ring word cell e = search rules
+granted_is_allowed d (Call current same upward) ring word cell e = search rules
+granted_is_allowed d Return ring word cell e = search rules
+
+of_granted : (o : Option Denial) (cell other : Cell) → granted_unless o cell ≡ Ok other → other ≡ cell
+of_granted None cell other e = cc
+of_granted (Some denial) cell other e = cc
 
 pub granted_has_cell : (d : Descriptor) (op : Op) (ring word : ℕ) (cell : Cell) → judgement d op ring word ≡ Ok cell → cell ≡ cell_of d word
 unfolding judgement
-granted_has_cell d op ring word cell e = search rules
+granted_has_cell d op ring word cell e = of_granted (find (λ denial. applies denial d op ring word) judging_order) (cell_of d word) cell e
 
 pub allowed_is_granted : (d : Descriptor) (op : Op) (ring word : ℕ) → IsGranted d op ring word → judgement d op ring word ≡ Ok (cell_of d word)
 unfolding judgement
-allowed_is_granted d op ring word g = search rules
+allowed_is_granted d Read ring word g = search rules
+allowed_is_granted d Indirect ring word g = search rules
+allowed_is_granted d Write ring word g = search rules
+allowed_is_granted d Fetch ring word g = search rules
+allowed_is_granted d (Call current same upward) ring word g = search rules
+allowed_is_granted d Return ring word g = search rules
 
 found : (o : Option Denial) (cell : Cell) (denial : Denial) → granted_unless o cell ≡ Err denial → o ≡ Some denial
 found None cell denial e = cc

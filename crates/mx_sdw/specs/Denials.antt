@@ -1,12 +1,13 @@
 -- The denials: their numbers, their names, and the order in which they are tried.
 use Rattle.std.specs.Prelude.{ℕ, List, [], ◌∷◌, codes}
 use Rattle.mx_sdw.specs.declared.denials.Denial.{Denial}
-use Rattle.mx_sdw.specs.declared.denials.Denial.TheVariants.{UnknownSegment, NoSegment, OutOfBounds, NotReadable, ReadBracket, NotWritable, WriteBracket, NotExecutable, ExecuteBracket, CallBracket, UpwardCall, Gate, RaisedRing, BadReturn, NotPointer, IndirectLimit}
+use Rattle.mx_sdw.specs.declared.denials.Denial.TheVariants.{UnknownSegment, NoSegment, OutOfBounds, AimRead, AimWrite, NotReadable, ReadBracket, NotWritable, WriteBracket, NotExecutable, ExecuteBracket, CallBracket, UpwardCall, Gate, RaisedRing, BadReturn, NotPointer, IndirectLimit}
 
 -- the denials of the judging rule, in the order in which they are tried
 abbrev pub judging_order : List Denial
 judging_order =
     UnknownSegment ∷ NoSegment ∷ OutOfBounds
+    ∷ AimRead ∷ AimWrite
     ∷ NotReadable ∷ ReadBracket
     ∷ NotWritable ∷ WriteBracket
     ∷ NotExecutable ∷ ExecuteBracket
@@ -30,6 +31,8 @@ denial_number RaisedRing = 13
 denial_number BadReturn = 14
 denial_number NotPointer = 15
 denial_number IndirectLimit = 16
+denial_number AimRead = 17
+denial_number AimWrite = 18
 
 abbrev pub denial_text : Denial → List ℕ
 denial_text UnknownSegment = codes "unknown_segment"
@@ -48,3 +51,5 @@ denial_text RaisedRing = codes "raised_ring"
 denial_text BadReturn = codes "bad_return"
 denial_text NotPointer = codes "not_pointer"
 denial_text IndirectLimit = codes "indirect_limit"
+denial_text AimRead = codes "aim_read"
+denial_text AimWrite = codes "aim_write"

@@ -1,20 +1,24 @@
 -- Descriptor words, of 64 bits: what a table says of a segment number, in one word of the memory that threads share.
 -- The layout is this model's own.
-use Rattle.std.specs.Prelude.{◌≡◌, ℕ, ◌+◌, ◌*◌, ◌^◌, ◌≤◌, nat_eq, if◌then◌else◌}
+use Rattle.std.specs.Prelude.{◌≡◌, ℕ, ◌+◌, ◌-◌, ◌*◌, ◌^◌, ◌≤◌, nat_eq, Bool, not, ◌&&◌, ◌||◌, if◌then◌else◌}
 use Rattle.mx_sdw.specs.declared.descriptor_words.DescView.{DescView}
 use Rattle.mx_sdw.specs.declared.descriptor_words.DescView.TheVariants.{Fault, Set, Unknown, Gone}
+use Rattle.mx_sdw.specs.declared.descriptors.Aim.{Aim}
+use Rattle.mx_sdw.specs.declared.descriptors.Aim.TheVariants.{Equal, Dominates, Neither}
 use Rattle.mx_sdw.specs.declared.descriptors.DescKind.TheVariants.{Segment}
 use Rattle.mx_sdw.specs.Admissible.{IsInRange}
 use Rattle.mx_sdw.specs.Bits.{bits, flag_bit, has_bit}
-use Rattle.mx_sdw.specs.Descriptors.{Descriptor, segment_desc}
+use Rattle.mx_sdw.specs.Descriptors.{Descriptor, is_equal, is_neither}
 use Rattle.mx_sdw.specs.Rings.{Bracketing}
 
--- bits 61 to 18: three brackets, flags r, e and w, number of gates, page, bound
+-- bits 61 to 18: three brackets, flags r, e and w, number of gates, page, whether the authorization is other than the
+-- class, and the bound less one. An authorization that does not even dominate the class is written by flag w, which such a
+-- segment has not
 abbrev pub segment_bits : Descriptor → ℕ
 segment_bits d =
     d.brackets.r1 * 2 ^ 59 + d.brackets.r2 * 2 ^ 56 + d.brackets.r3 * 2 ^ 53
-    + flag_bit d.r * 2 ^ 52 + flag_bit d.e * 2 ^ 51 + flag_bit d.w * 2 ^ 50
-    + d.gate * 2 ^ 39 + d.page * 2 ^ 29 + d.bound * 2 ^ 18
+    + flag_bit d.r * 2 ^ 52 + flag_bit d.e * 2 ^ 51 + flag_bit (d.w || is_neither d.aim) * 2 ^ 50
+    + d.gate * 2 ^ 39 + d.page * 2 ^ 29 + flag_bit (not (is_equal d.aim)) * 2 ^ 28 + (d.bound - 1) * 2 ^ 18
 
 -- bits 63 and 62 are the kind, bits 17 to 0 the number of a journal entry, all others zero but for a segment
 abbrev pub desc_word : DescView → ℕ
@@ -23,11 +27,25 @@ desc_word (Fault number) = 1 * 2 ^ 62 + number
 desc_word (Set number d) = 2 * 2 ^ 62 + segment_bits d + number
 desc_word (Gone number) = 3 * 2 ^ 62 + number
 
+-- how the authorization stands to the class, by bits 28 and 50
+abbrev pub aim_in : ℕ → Aim
+aim_in n = if has_bit n 28 then (if has_bit n 50 then Neither else Dominates) else Equal
+
 -- the segment's descriptor in the fields of a word
 abbrev pub desc_in : ℕ → Descriptor
 desc_in n =
     let brackets : Bracketing = record { r1 = bits n 59 3; r2 = bits n 56 3; r3 = bits n 53 3 } in
-    segment_desc brackets (has_bit n 52) (has_bit n 51) (has_bit n 50) (bits n 39 11) (bits n 29 10) (bits n 18 11)
+    record {
+      kind = Segment;
+      brackets = brackets;
+      r = has_bit n 52;
+      e = has_bit n 51;
+      w = has_bit n 50 && not (has_bit n 28);
+      gate = bits n 39 11;
+      page = bits n 29 10;
+      bound = bits n 18 10 + 1;
+      aim = aim_in n;
+    }
 
 -- what a word says
 abbrev pub desc_view : ℕ → DescView

@@ -1,19 +1,22 @@
 -- The judging rule: an operation is denied with the first denial whose condition holds, and else granted. The brackets
--- and gates are Schroeder and Saltzer's. This model's own choices are the order of the denials, that a call within the
--- running segment needs no gate word, and that a call may not raise the ring.
-use Rattle.std.specs.Prelude.{ℕ, ◌+◌, ◌*◌, min, nat_le, nat_lt, Bool, false, not, ◌&&◌, ◌||◌, find, Option, Some, None, Result, Ok, Err}
+-- and gates are Schroeder and Saltzer's, the rule of classes is that of the Multics Administrators' Manual. This model's
+-- own choices are the order of the denials, that a call within the running segment needs no gate word, and that only a
+-- call from below the first bracket raises the ring, where such calls are on.
+use Rattle.std.specs.Prelude.{ℕ, ◌+◌, ◌*◌, min, nat_le, nat_lt, Bool, false, not, ◌&&◌, ◌||◌, if◌then◌else◌, find, Option, Some, None, Result, Ok, Err}
 use Rattle.mx_sdw.specs.declared.descriptors.Cell.{Cell}
 use Rattle.mx_sdw.specs.declared.denials.Denial.{Denial}
-use Rattle.mx_sdw.specs.declared.denials.Denial.TheVariants.{UnknownSegment, NoSegment, OutOfBounds, NotReadable, ReadBracket, NotWritable, WriteBracket, NotExecutable, ExecuteBracket, CallBracket, UpwardCall, Gate, RaisedRing, BadReturn, NotPointer, IndirectLimit}
+use Rattle.mx_sdw.specs.declared.denials.Denial.TheVariants.{UnknownSegment, NoSegment, OutOfBounds, AimRead, AimWrite, NotReadable, ReadBracket, NotWritable, WriteBracket, NotExecutable, ExecuteBracket, CallBracket, UpwardCall, Gate, RaisedRing, BadReturn, NotPointer, IndirectLimit}
 use Rattle.mx_sdw.specs.declared.operations.Op.{Op}
 use Rattle.mx_sdw.specs.declared.operations.Op.TheVariants.{Call}
 use Rattle.mx_sdw.specs.Denials.{judging_order}
-use Rattle.mx_sdw.specs.Descriptors.{Descriptor, is_unknown, is_gone}
-use Rattle.mx_sdw.specs.Operations.{reads, writes, executes, fetches, calls, returns_to, is_within, raises_to}
+use Rattle.mx_sdw.specs.Descriptors.{Descriptor, is_unknown, is_gone, is_equal, is_neither}
+use Rattle.mx_sdw.specs.Operations.{reads, writes, executes, fetches, calls, returns_to, is_within, is_upward, raises_to}
 
--- the ring in which a call or return goes on: a call from above the second bracket enters at that bracket
+-- the ring in which a call or return goes on: a call from above the second bracket enters at that bracket, and one from
+-- below the first bracket at the first
 abbrev pub ring_after : Descriptor → Op → ℕ → ℕ
-ring_after d (Call current same) ring = min ring d.brackets.r2
+ring_after d (Call current same upward) ring =
+    if nat_lt ring d.brackets.r1 then d.brackets.r1 else min ring d.brackets.r2
 ring_after d _ ring = ring
 
 -- the condition of each denial by itself, given those before it
@@ -21,6 +24,8 @@ abbrev pub applies : Denial → Descriptor → Op → ℕ → ℕ → Bool
 applies UnknownSegment d op ring word = is_unknown d.kind
 applies NoSegment d op ring word = is_gone d.kind
 applies OutOfBounds d op ring word = nat_le d.bound word
+applies AimRead d op ring word = not (writes op) && is_neither d.aim
+applies AimWrite d op ring word = writes op && not (is_equal d.aim)
 applies NotReadable d op ring word = reads op && not d.r
 applies ReadBracket d op ring word = reads op && nat_lt d.brackets.r2 ring
 applies NotWritable d op ring word = writes op && not d.w
@@ -28,9 +33,11 @@ applies WriteBracket d op ring word = writes op && nat_lt d.brackets.r1 ring
 applies NotExecutable d op ring word = executes op && not d.e
 applies ExecuteBracket d op ring word = fetches op && (nat_lt ring d.brackets.r1 || nat_lt d.brackets.r2 ring)
 applies CallBracket d op ring word = calls op && nat_lt d.brackets.r3 ring
-applies UpwardCall d op ring word = calls op && nat_lt ring d.brackets.r1
-applies Gate d op ring word = calls op && nat_le d.gate word && (nat_lt d.brackets.r2 ring || not (is_within op))
-applies RaisedRing d op ring word = raises_to op (ring_after d op ring)
+applies UpwardCall d op ring word = calls op && nat_lt ring d.brackets.r1 && not (is_upward op)
+applies Gate d op ring word =
+    calls op && nat_le d.gate word
+    && (nat_lt ring d.brackets.r1 || nat_lt d.brackets.r2 ring || not (is_within op))
+applies RaisedRing d op ring word = nat_le d.brackets.r1 ring && raises_to op (ring_after d op ring)
 applies BadReturn d op ring word = returns_to op && (nat_lt ring d.brackets.r1 || nat_lt d.brackets.r2 ring)
 applies NotPointer d op ring word = false
 applies IndirectLimit d op ring word = false

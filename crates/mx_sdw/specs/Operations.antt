@@ -17,7 +17,7 @@ fetches Fetch = true
 fetches _ = false
 
 abbrev pub calls : Op → Bool
-calls (Call current same) = true
+calls (Call current same upward) = true
 calls _ = false
 
 abbrev pub returns_to : Op → Bool
@@ -34,10 +34,15 @@ executes op = fetches op || transfers op
 
 -- a call whose target segment is the one that runs
 abbrev pub is_within : Op → Bool
-is_within (Call current same) = same
+is_within (Call current same upward) = same
 is_within _ = false
+
+-- a call that may go up to a ring of less privilege
+abbrev pub is_upward : Op → Bool
+is_upward (Call current same upward) = upward
+is_upward _ = false
 
 -- a call from a ring below this one
 abbrev pub raises_to : Op → ℕ → Bool
-raises_to (Call current same) ring = nat_lt current ring
+raises_to (Call current same upward) ring = nat_lt current ring
 raises_to _ ring = false

@@ -3,8 +3,8 @@
 ghost use Rattle.std.specs.Prelude.{◌≡◌};
 ghost use Rattle.mx_sdw.specs.Denials.{denial_number, denial_text};
 
-/// Why a reference is denied. The first fourteen come from the judging rule, in the order in which it tries them, and
-/// the last two from the walk of an operand. Names, numbers and order are this model's own choice.
+/// Why a reference is denied. All but two come from the judging rule, in the order in which it tries them, and those two
+/// from the walk of an operand. Names, numbers and order are this model's own choice.
 #[derive(Clone, Copy, Debug, PartialEq, Eq)]
 pub enum Denial {
     /// The segment number is not known.
@@ -13,6 +13,10 @@ pub enum Denial {
     NoSegment,
     /// The word is not below the bound.
     OutOfBounds,
+    /// Another operation than a write, of a class that the authorization does not dominate.
+    AimRead,
+    /// A write of a class that the authorization does not equal.
+    AimWrite,
     /// A read without flag r.
     NotReadable,
     /// A read from above the second bracket.
@@ -27,11 +31,11 @@ pub enum Denial {
     ExecuteBracket,
     /// A call from above the third bracket.
     CallBracket,
-    /// A call from below the first bracket.
+    /// A call from below the first bracket, where such calls are off.
     UpwardCall,
-    /// A call at a word that is no gate, from above the second bracket or from another segment.
+    /// A call at a word that is no gate, from outside the first two brackets or from another segment.
     Gate,
-    /// A call that would raise the current ring.
+    /// A call from the first bracket or above that would raise the current ring.
     RaisedRing,
     /// A return from outside the first two brackets.
     BadReturn,
@@ -42,7 +46,7 @@ pub enum Denial {
 }
 
 impl Denial {
-    /// Its number, 1 to 16.
+    /// Its number, 1 to 18.
     pub fn number(&self) -> u8
         ensures { result ≡ denial_number self.now }
     {
@@ -63,6 +67,8 @@ impl Denial {
             Denial::BadReturn => 14,
             Denial::NotPointer => 15,
             Denial::IndirectLimit => 16,
+            Denial::AimRead => 17,
+            Denial::AimWrite => 18,
         }
     }
 
@@ -87,6 +93,8 @@ impl Denial {
             Denial::BadReturn => "bad_return",
             Denial::NotPointer => "not_pointer",
             Denial::IndirectLimit => "indirect_limit",
+            Denial::AimRead => "aim_read",
+            Denial::AimWrite => "aim_write",
         }
     }
 }

@@ -5,7 +5,7 @@ ghost use Rattle.mx_sdw.specs.Admissible.{IsInRange};
 ghost use Rattle.mx_sdw.specs.Bits.{bits, has_bit};
 ghost use Rattle.mx_sdw.specs.DescriptorWords.{desc_in, desc_view, desc_word, segment_bits, FitsWord, IsDescWord};
 
-use crate::descriptors::Desc;
+use crate::descriptors::{Aim, Desc};
 use crate::rings::{Brackets, Ring};
 use std::marker::Model;
 
@@ -44,7 +44,7 @@ impl Model for DescWord {
 
 impl DescWord {
     /// The word that says this, where numbers of entries are at most 262,143 and a segment has kind `Segment`, at most
-    /// 1,024 gates, a page of at most 1,023 and a bound of 1 to 1,024.
+    /// 1,024 gates, a page of at most 1,023, a bound of 1 to 1,024, and flags that its aim lets stand.
     pub fn of(view: &DescView) -> DescWord
         requires { FitsWord view.now }
         ensures { result ≡ desc_word view.now }
@@ -100,15 +100,21 @@ fn segment_bits(desc: &Desc) -> u64
     ensures bound { result < 2 ^ 62 - 2 ^ 18 }
 {
     let brackets = desc.brackets();
+    let (writes, other) = match desc.aim() {
+        Aim::Equal => (desc.w(), false),
+        Aim::Dominates => (desc.w(), true),
+        Aim::Neither => (true, true),
+    };
     u64::from(brackets.r1().number()) * (1 << 59)
         + u64::from(brackets.r2().number()) * (1 << 56)
         + u64::from(brackets.r3().number()) * (1 << 53)
         + u64::from(desc.r()) * (1 << 52)
         + u64::from(desc.e()) * (1 << 51)
-        + u64::from(desc.w()) * (1 << 50)
+        + u64::from(writes) * (1 << 50)
         + u64::from(desc.gate()) * (1 << 39)
         + u64::from(desc.page()) * (1 << 29)
-        + u64::from(desc.bound()) * (1 << 18)
+        + u64::from(other) * (1 << 28)
+        + u64::from(desc.bound() - 1) * (1 << 18)
 }
 
 fn view_of(number: u64) -> Option<DescView>
@@ -133,8 +139,8 @@ fn desc_in(number: u64) -> Option<Desc>
     )?;
     let gate = (number / (1 << 39) % (1 << 11)) as u16;
     let page = (number / (1 << 29) % (1 << 10)) as u16;
-    let bound = (number / (1 << 18) % (1 << 11)) as u16;
-    if gate > 1024 || bound == 0 || bound > 1024 {
+    let bound = (number / (1 << 18) % (1 << 10)) as u16 + 1;
+    if gate > 1024 {
         return None;
     }
     let (r, e, w) = (
@@ -142,7 +148,13 @@ fn desc_in(number: u64) -> Option<Desc>
         has_bit(number, 51),
         has_bit(number, 50),
     );
-    Some(Desc::segment(brackets, r, e, w, gate, page, bound))
+    let aim = match (has_bit(number, 28), w) {
+        (false, _) => Aim::Equal,
+        (true, false) => Aim::Dominates,
+        (true, true) if r || e => return None,
+        (true, true) => Aim::Neither,
+    };
+    Some(Desc::classed(aim, brackets, r, e, w, gate, page, bound))
 }
 
 fn ring_at(number: u64, first: u32) -> Ring

@@ -1,7 +1,7 @@
 //! Segment descriptors.
 
 ghost use Rattle.std.specs.Prelude.{◌≡◌, ◌↔◌, IsTrue};
-ghost use Rattle.mx_sdw.specs.Descriptors.{unknown_desc, gone_desc, segment_desc, empty_desc};
+ghost use Rattle.mx_sdw.specs.Descriptors.{unknown_desc, gone_desc, segment_desc, classed_desc, empty_desc};
 ghost use Rattle.mx_sdw.specs.Same.{same_desc};
 
 use crate::rings::Brackets;
@@ -22,10 +22,22 @@ pub enum DescKind {
     Segment,
 }
 
+/// How the authorization of a process stands to the class of a segment (Multics Administrators' Manual).
+#[derive(Clone, Copy, Debug, PartialEq, Eq)]
+pub enum Aim {
+    /// They are equal: nothing is closed.
+    Equal,
+    /// The authorization dominates the class and is not equal to it: writing is closed.
+    Dominates,
+    /// The authorization does not dominate the class: all is closed.
+    Neither,
+}
+
 /// A segment descriptor: the access that one process has to one segment, and where the segment lies.
 ///
 /// The flags say what the access control list gives, the brackets in which rings. Words 0 to `gate - 1` are the gates,
-/// words 0 to `bound - 1` are in the segment, and word 0 is the first of the page `page` of 64 words.
+/// words 0 to `bound - 1` are in the segment, and word 0 is the first of the page `page` of 64 words. `aim` says how the
+/// process's authorization stands to the segment's class.
 #[derive(Clone, Copy, Debug, PartialEq, Eq)]
 pub struct Desc {
     kind: DescKind,
@@ -36,6 +48,7 @@ pub struct Desc {
     gate: u16,
     page: u16,
     bound: u16,
+    aim: Aim,
 }
 
 impl Model for Desc {
@@ -52,6 +65,7 @@ impl Model for Desc {
       gate = d.gate;
       page = d.page;
       bound = d.bound;
+      aim = d.aim;
     } };
 
     ghost inverse = { λ d. record {
@@ -63,18 +77,19 @@ impl Model for Desc {
       gate = d.gate;
       page = d.page;
       bound = d.bound;
+      aim = d.aim;
     } };
 }
 
 impl Desc {
-    /// The descriptor of a number that is not known: zeros in all other fields.
+    /// The descriptor of a number that is not known: zeros in all other fields, and an authorization that equals the class.
     pub fn unknown() -> Desc
         ensures { result ≡ unknown_desc }
     {
         Desc::without_segment(DescKind::Unknown)
     }
 
-    /// The descriptor of a segment that was deleted: zeros in all other fields.
+    /// The descriptor of a segment that was deleted: zeros in all other fields, and an authorization that equals the class.
     pub fn gone() -> Desc
         ensures { result ≡ gone_desc }
     {
@@ -93,10 +108,11 @@ impl Desc {
             gate: 0,
             page: 0,
             bound: 0,
+            aim: Aim::Equal,
         }
     }
 
-    /// The descriptor of a segment that stands.
+    /// The descriptor of a segment that stands, whose class the authorization equals.
     pub fn segment(
         brackets: Brackets,
         r: bool,
@@ -108,15 +124,38 @@ impl Desc {
     ) -> Desc
         ensures { result ≡ segment_desc brackets r e w gate page bound }
     {
+        Desc::classed(Aim::Equal, brackets, r, e, w, gate, page, bound)
+    }
+
+    /// The descriptor of a segment that stands. Flags r and e stay on where the authorization dominates its class, and w
+    /// where it equals it.
+    pub fn classed(
+        aim: Aim,
+        brackets: Brackets,
+        r: bool,
+        e: bool,
+        w: bool,
+        gate: u16,
+        page: u16,
+        bound: u16,
+    ) -> Desc
+        ensures { result ≡ classed_desc aim brackets r e w gate page bound }
+    {
+        let (dominates, equal) = match aim {
+            Aim::Equal => (true, true),
+            Aim::Dominates => (true, false),
+            Aim::Neither => (false, false),
+        };
         Desc {
             kind: DescKind::Segment,
             brackets,
-            r,
-            e,
-            w,
+            r: dominates && r,
+            e: dominates && e,
+            w: equal && w,
             gate,
             page,
             bound,
+            aim,
         }
     }
 
@@ -174,6 +213,13 @@ impl Desc {
         ensures { result ≡ self.now.bound }
     {
         self.bound
+    }
+
+    /// How the authorization stands to the segment's class, `Equal` where there is no segment.
+    pub fn aim(&self) -> Aim
+        ensures { result ≡ self.now.aim }
+    {
+        self.aim
     }
 
     /// Whether the other is the same descriptor, in each field.

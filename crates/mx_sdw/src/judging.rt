@@ -5,15 +5,16 @@ ghost use Rattle.mx_sdw.specs.Judging.{judgement, ring_after};
 ghost use Rattle.mx_sdw.specs.Operations.{transfers};
 
 use crate::denials::Denial;
-use crate::descriptors::{Cell, Desc, DescKind};
+use crate::descriptors::{Aim, Cell, Desc, DescKind};
 use crate::operations::Op;
 use crate::rings::Ring;
 
 /// Judges an operation on a word of a segment at a ring: the effective ring, or for a fetch the current one. Grants it
 /// with the cell of the word, or answers the first denial whose condition holds.
 ///
-/// The brackets and gates are Schroeder and Saltzer's. This model's own choices are the order of the denials, that a
-/// call within the running segment needs no gate word, and that a call may not raise the current ring.
+/// The brackets and gates are Schroeder and Saltzer's, the rule of classes that of the Multics Administrators' Manual.
+/// This model's own choices are the order of the denials, that a call within the running segment needs no gate word, and
+/// that only a call from below the first bracket raises the current ring, where such calls are on.
 #[tactic(auto, unfolding(crate::specs::Judging::judgement))]
 pub fn judge(desc: &Desc, op: Op, ring: Ring, word: u32) -> Result<Cell, Denial>
     ensures { result ≡ judgement desc.now op ring word }
@@ -25,6 +26,11 @@ pub fn judge(desc: &Desc, op: Op, ring: Ring, word: u32) -> Result<Cell, Denial>
     }
     if word >= u32::from(desc.bound()) {
         return Err(Denial::OutOfBounds);
+    }
+    match (op, desc.aim()) {
+        (Op::Write, Aim::Dominates | Aim::Neither) => return Err(Denial::AimWrite),
+        (_, Aim::Neither) => return Err(Denial::AimRead),
+        _ => {},
     }
     let ring = ring.number();
     let brackets = desc.brackets();
@@ -59,20 +65,25 @@ pub fn judge(desc: &Desc, op: Op, ring: Ring, word: u32) -> Result<Cell, Denial>
                 return Err(Denial::ExecuteBracket);
             }
         },
-        Op::Call { current, same } => {
+        Op::Call {
+            current,
+            same,
+            upward,
+        } => {
             if !desc.e() {
                 return Err(Denial::NotExecutable);
             }
             if ring > r3 {
                 return Err(Denial::CallBracket);
             }
-            if ring < r1 {
+            let below = ring < r1;
+            if below && !upward {
                 return Err(Denial::UpwardCall);
             }
-            if word >= u32::from(desc.gate()) && (ring > r2 || !same) {
+            if word >= u32::from(desc.gate()) && (below || ring > r2 || !same) {
                 return Err(Denial::Gate);
             }
-            if ring.min(r2) > current.number() {
+            if !below && ring.min(r2) > current.number() {
                 return Err(Denial::RaisedRing);
             }
         },
@@ -89,13 +100,14 @@ pub fn judge(desc: &Desc, op: Op, ring: Ring, word: u32) -> Result<Cell, Denial>
 }
 
 /// The ring in which a granted call or return goes on: the effective ring, or for a call from above the second bracket
-/// that bracket (Schroeder and Saltzer).
+/// that bracket, and for one from below the first bracket that one (Schroeder and Saltzer).
 pub fn new_ring(desc: &Desc, op: Op, ring: Ring) -> Ring
     requires { transfers op ≡ true }
     ensures { result ≡ ring_after desc.now op ring }
 {
-    let r2 = desc.brackets().r2();
+    let (r1, r2) = (desc.brackets().r1(), desc.brackets().r2());
     match op {
+        Op::Call { .. } if ring.number() < r1.number() => r1,
         Op::Call { .. } if ring.number() > r2.number() => r2,
         _ => ring,
     }

@@ -22,7 +22,7 @@ mod words;
 pub use cell_words::CellWord;
 pub use denials::Denial;
 pub use descriptor_words::{DescView, DescWord};
-pub use descriptors::{Cell, Desc, DescKind};
+pub use descriptors::{Aim, Cell, Desc, DescKind};
 pub use judging::{judge, new_ring};
 pub use laws::{
     each_cell_word_has_one_cell, each_denial_has_its_own_text, each_descriptor_word_has_one_view,

@@ -13,8 +13,13 @@ pub enum Op {
     Write,
     /// Fetches the word as an instruction, at the current ring.
     Fetch,
-    /// Calls the word as a procedure, from the ring `current`; `same` says that the segment is the one that runs.
-    Call { current: Ring, same: bool },
+    /// Calls the word as a procedure, from the ring `current`; `same` says that the segment is the one that runs, and
+    /// `upward` that a call from below the first bracket is carried out.
+    Call {
+        current: Ring,
+        same: bool,
+        upward: bool,
+    },
     /// Returns to the word.
     Return,
 }

@@ -2,10 +2,10 @@
 
 ghost use Rattle.std.specs.Prelude.{◌≡◌, ◌↔◌, IsTrue};
 ghost use Rattle.mx_core.specs.Pages.{covers, covered_anew, gives};
-ghost use Rattle.mx_sdw.specs.Admissible.{IsAdmissible, IsSegment};
+ghost use Rattle.mx_sdw.specs.Admissible.{IsAdmissible, IsSegment, keeps_class};
 
 use mx_core::{Change, Run};
-use mx_sdw::{Desc, DescKind, Ring};
+use mx_sdw::{Aim, Desc, DescKind, Ring};
 
 /// Whether a descriptor covers a page.
 pub(crate) fn covers(desc: &Desc, page: u32) -> bool
@@ -57,5 +57,16 @@ fn is_segment(desc: &Desc) -> bool
     if desc.gate() > 1024 || desc.page() > 1023 || desc.bound() == 0 || desc.bound() > 1024 {
         return false;
     }
-    64 * u32::from(desc.page()) + u32::from(desc.bound()) <= 65_536
+    keeps_class(desc) && 64 * u32::from(desc.page()) + u32::from(desc.bound()) <= 65_536
+}
+
+/// Whether its flags are such as its class lets stand.
+fn keeps_class(desc: &Desc) -> bool
+    ensures { result ≡ keeps_class desc.now }
+{
+    match desc.aim() {
+        Aim::Equal => true,
+        Aim::Dominates => !desc.w(),
+        Aim::Neither => !desc.w() && !desc.r() && !desc.e(),
+    }
 }

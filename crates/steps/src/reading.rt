@@ -225,10 +225,12 @@ fn calling(words: &[&str]) -> Option<Op> {
         [current] => Some(Op::Call {
             current: ring(current)?,
             same: false,
+            upward: false,
         }),
         [current, "same"] => Some(Op::Call {
             current: ring(current)?,
             same: true,
+            upward: false,
         }),
         _ => None,
     }

@@ -1,9 +1,9 @@
 //! Judging on descriptors, the words in which they lie, and octal numbers.
 
-use super::{ring, segment};
+use super::{classed, ring, segment};
 use mx_sdw::{
-    Cell, CellWord, Denial, Desc, DescView, DescWord, Op, Word, judge, new_ring, read_octal_number,
-    write_octal,
+    Aim, Cell, CellWord, Denial, Desc, DescView, DescWord, Op, Word, judge, new_ring,
+    read_octal_number, write_octal,
 };
 use std::test::Fail;
 
@@ -40,6 +40,35 @@ fn judges_data(rt: HostRuntime) -> Result<(), Fail> {
     Ok(())
 }
 
+// Brackets 1, 4, 4 with all flags, of a class at which the authorization so stands.
+fn isolated(aim: Aim, op: Op) -> Option<Result<Cell, Denial>> {
+    let desc = classed(aim, (1, 4, 4), (true, true, true))?;
+    Some(judge(&desc, op, ring(1)?, 0))
+}
+
+#[test]
+fn judges_classes(rt: HostRuntime) {
+    let came = [
+        isolated(Aim::Equal, Op::Write),
+        isolated(Aim::Dominates, Op::Read),
+        isolated(Aim::Dominates, Op::Fetch),
+        isolated(Aim::Dominates, Op::Write),
+        isolated(Aim::Neither, Op::Read),
+        isolated(Aim::Neither, Op::Return),
+        isolated(Aim::Neither, Op::Write),
+    ];
+    let want = [
+        Some(Ok(Cell(512))),
+        Some(Ok(Cell(512))),
+        Some(Ok(Cell(512))),
+        Some(Err(Denial::AimWrite)),
+        Some(Err(Denial::AimRead)),
+        Some(Err(Denial::AimRead)),
+        Some(Err(Denial::AimWrite)),
+    ];
+    assert_eq!(rt; came, want);
+}
+
 // Brackets 1, 3, 5 with flag e and two gates.
 fn gates() -> Option<Desc> {
     segment((1, 3, 5), (false, true, false), 2)
@@ -47,8 +76,22 @@ fn gates() -> Option<Desc> {
 
 // A call from a ring at an effective one: the cell, and the ring in which it goes on.
 fn called(current: u8, same: bool, n: u8, word: u32) -> Option<Result<(Cell, u8), Denial>> {
+    entered(current, same, false, n, word)
+}
+
+fn entered(
+    current: u8,
+    same: bool,
+    upward: bool,
+    n: u8,
+    word: u32,
+) -> Option<Result<(Cell, u8), Denial>> {
     let (desc, current, ring) = (gates()?, ring(current)?, ring(n)?);
-    let op = Op::Call { current, same };
+    let op = Op::Call {
+        current,
+        same,
+        upward,
+    };
     match judge(&desc, op, ring, word) {
         Ok(cell) => Some(Ok((cell, new_ring(&desc, op, ring).number()))),
         Err(denial) => Some(Err(denial)),
@@ -64,6 +107,8 @@ fn judges_gates(rt: HostRuntime) {
         called(0, false, 0, 0),
         called(2, false, 3, 0),
         called(2, true, 2, 2),
+        entered(0, false, true, 0, 0),
+        entered(0, true, true, 0, 2),
     ];
     let want = [
         Some(Ok((Cell(513), 3))),
@@ -72,6 +117,8 @@ fn judges_gates(rt: HostRuntime) {
         Some(Err(Denial::UpwardCall)),
         Some(Err(Denial::RaisedRing)),
         Some(Ok((Cell(514), 2))),
+        Some(Ok((Cell(512), 1))),
+        Some(Err(Denial::Gate)),
     ];
     assert_eq!(rt; came, want);
 }
@@ -102,9 +149,14 @@ fn cell_word(value: u64) -> Option<u64> {
 
 #[test]
 fn lays_out_words(rt: HostRuntime) -> Result<(), Fail> {
-    let data = segment((4, 4, 4), (true, false, true), 0).ok_or("a segment")?;
+    let data = classed(Aim::Equal, (4, 4, 4), (true, false, true)).ok_or("a segment")?;
+    let below = classed(Aim::Dominates, (4, 4, 4), (true, false, false)).ok_or("a segment")?;
+    let closed = classed(Aim::Neither, (4, 4, 4), (true, false, false)).ok_or("a segment")?;
     let views = [
-        view(0xa494000101000003),
+        view(0xa494000100fc0003),
+        view(0xa490000110fc0003),
+        view(0xa484000110fc0003),
+        view(0xa494000110fc0003),
         view(0x4000000000000009),
         view(0x4000000000040009),
     ];
@@ -113,9 +165,14 @@ fn lays_out_words(rt: HostRuntime) -> Result<(), Fail> {
         cell_word(0o52),
     ];
     let set = Some(DescView::Set(3, data));
+    let below = Some(DescView::Set(3, below));
+    let closed = Some(DescView::Set(3, closed));
     let fault = Some(DescView::Fault(9));
     let words = [Some(0x4000000000000009), Some(0x004000300000002a)];
-    assert_eq!(rt; (views, numbers), ([set, fault, None], words));
+    assert_eq!(rt;
+        (views, numbers),
+        ([set, below, closed, None, fault, None], words)
+    );
     Ok(())
 }
 

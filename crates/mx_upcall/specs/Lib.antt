@@ -1,0 +1,4 @@
+pub mod Gates
+pub mod Histories
+pub mod Upcalls
+pub mod Soundness

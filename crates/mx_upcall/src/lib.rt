@@ -1,0 +1,21 @@
+//! Upward calls, and the return gates by which their callers are come back to.
+//!
+//! A call from below the first bracket of a segment goes on in that bracket and leaves a return gate, which alone leads
+//! back to the lower ring (Schroeder and Saltzer). [`upward`] and [`downward`] are relations between the registers before
+//! and after, one field a rule, as `mx_call` has them for calls and returns. [`ReturnGates`] is the stack of the gates of
+//! a process: laws say that it holds the gates that were pushed and not popped, the last first, that only its top gate can
+//! be used, and that no pointer register ever falls below the current ring. The crate stands on `mx_sdw`, `mx_ptr` and
+//! `mx_call`, and takes no memory.
+#![tactic(auto)]
+
+mod gates;
+mod laws;
+mod upcalls;
+
+pub use gates::{ReturnGate, ReturnGates};
+pub use laws::{
+    gates_are_those_pushed_and_not_popped, gates_stay_packable, gates_stay_sound,
+    only_the_top_gate_is_usable, registers_stay_packable, registers_stay_sound,
+    rings_rise_and_fall_through_gates, upward_calls_change_no_other, upward_calls_have_one_outcome,
+};
+pub use upcalls::{downward, upward};
