@@ -1,6 +1,6 @@
 -- The conditions of Append can be decided.
 use Rattle.std.proofs.Common.{◌≡◌, ◌⊎◌, inl, inr, ℕ, zero, suc, ◌+◌, ◌*◌, ◌<◌, ◌≤◌, List, [], ◌∷◌, length, refl, sym, ◌∙◌, subst, Option, Some, None, arith}
-use Rattle.std.specs.Prelude.{IsTrue, nat_le, nat_lt, ◌&&◌, ◌||◌}
+use Rattle.std.specs.Prelude.{IsTrue, true, false, nat_le, nat_lt, ◌&&◌, ◌||◌}
 use Rattle.std.specs.List.{slice_get}
 use Rattle.std.proofs.lemmas.Bool.{cases_eq, cases_lt, cases_Bool, both_ways, and_parts, or_cases, ltb-true}
 use Rattle.std.proofs.lemmas.Option.{slice_get_within}
@@ -8,7 +8,7 @@ use Rattle.mx_sdw.specs.Descriptors.{Descriptor, unknown_desc, gone_desc}
 use Rattle.mx_sdw.specs.declared.descriptors.DescKind.{DescKind}
 use Rattle.mx_sdw.specs.declared.descriptors.DescKind.TheVariants.{Unknown, Gone, Segment}
 use Rattle.mx_core.specs.Append.{IsGoodChange, IsEntryInRange, IsClearAt, IsCoveredAt}
-use Rattle.mx_sdw.specs.Admissible.{IsInRange, IsSegment, IsAdmissible}
+use Rattle.mx_sdw.specs.Admissible.{IsInRange, IsSegment, IsAdmissible, keeps_class}
 use Rattle.mx_core.specs.Pages.{page_of, covers, gives, covered_anew}
 use Rattle.mx_core.specs.World.{World}
 use Rattle.mx_core.specs.declared.changes.Change.{Change}
@@ -19,6 +19,9 @@ use Rattle.mx_core.proofs.OpeningLaw.{unknown_bare}
 
 order_dec : (a b : ℕ) → Dec (a ≤ b)
 order_dec a b = elim (cases_lt b a) [ inl l ↦ inr (λ m. absurd (omega arith)) | inr m ↦ inl m ]
+
+false_true : false ≡ true → ⊥
+false_true e = cc
 
 range_of_dec : (d : Descriptor) → Dec (IsInRange d)
 range_of_dec d = elim (order_dec d.brackets.r1 d.brackets.r2) [
@@ -35,14 +38,18 @@ range_of_dec d = elim (order_dec d.brackets.r1 d.brackets.r2) [
             | inr x ↦ inr (λ is. x is.some)
             | inl some ↦ elim (order_dec d.bound 1024) [
               | inr x ↦ inr (λ is. x is.most)
-              | inl most ↦ inl (record {
-                order = record { write_first = first; gate_last = last };
-                ring = ring;
-                gate = gate;
-                page = page;
-                some = some;
-                most = most;
-              })
+              | inl most ↦ elim (cases_Bool (keeps_class d)) [
+                | inr x ↦ inr (λ is. false_true (sym x ∙ is.class))
+                | inl class ↦ inl (record {
+                  order = record { write_first = first; gate_last = last };
+                  ring = ring;
+                  gate = gate;
+                  page = page;
+                  some = some;
+                  most = most;
+                  class = class;
+                })
+              ]
             ]
           ]
         ]

@@ -60,6 +60,7 @@ data_admissible writable page low = record {
       page = omega arith;
       some = omega arith;
       most = omega arith;
+      class = refl;
     };
     cells = omega arith;
   };

@@ -18,7 +18,7 @@ kind_of op.Read = kind.Read
 kind_of op.Indirect = kind.Ind
 kind_of op.Write = kind.Write
 kind_of op.Fetch = kind.Fetch
-kind_of (op.Call current same) = kind.Call
+kind_of (op.Call current same upward) = kind.Call
 kind_of op.Return = kind.Return
 
 -- the operations that read the cell

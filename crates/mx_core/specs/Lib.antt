@@ -29,5 +29,6 @@ pub mod Memory
 pub mod Shapes
 pub mod Invariant
 pub mod Sentences
+pub mod Revocation
 pub mod Laws
 pub mod Row

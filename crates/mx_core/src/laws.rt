@@ -1,5 +1,6 @@
 //! The laws of the core, over the definitions alone.
 
+ghost use Rattle.mx_core.specs.Revocation.{PrivateMemoryLaw, RevocationLaw};
 ghost use Rattle.mx_core.specs.Row.{RowLaw};
 ghost use Rattle.mx_core.specs.Laws.{OpeningLaw, AppendLaw, StrikeLaw, ConnectLaw, LookLaw, AcknowledgeLaw, AnswerLaw, SettleLaw, ClearLaw, SplitLaw, ReportLaw, EnterLaw, LoadConnectLaw, LoadDescLaw, RecallLaw, LoadCellLaw, StoreCellLaw, LeaveLaw, JoinLaw, StepLaw, RunLaw, HistoryLaw, UseLaw, CauseLaw, SentencesLaw, DecidedLaw};
 
@@ -61,4 +62,11 @@ pub fn causes_refuse()
 /// What the invariant says of the end of the history: of valid words, of faults, and of what processes keep.
 pub fn said_of_the_end()
     ensures { SentencesLaw }
+{}
+
+/// Once a change of access is answered, no reference rests on the older access, after every list of steps from every
+/// opening: also none that is judged on a private memory, and also where pages are used again.
+pub fn no_reference_rests_on_older_access()
+    ensures revocation { RevocationLaw }
+    ensures private_memory { PrivateMemoryLaw }
 {}

@@ -14,7 +14,7 @@ use Rattle.mx_rule.specs.Shown.{View, Pass, PassView, Super, SuperView}
 pub same_count : (a b : TableId) → a ≡ b → a.words ≡ b.words
 same_count a b e = ap (λ (x : TableId). x.words) e
 
-pub pass_writes : (S : Type 0) (y : Layout) (v v' : PassView) (x : Part) (me : Me S (View S)) (i n n' : ℕ)
+pub pass_writes : (S : Type 0) (y : Layout) (v v' : PassView S) (x : Part) (me : Me S (View S)) (i n n' : ℕ)
     → PassWrites S y v x n' v'
     → me ≡ (Pass v, []) → number_in y x ≡ i → n' ≡ n → (slots id : ℕ)
     → Allows {S = S} (Holds y) slots id me i (λ _. n) (λ _ after. after ≡ (Pass v', []))
@@ -23,8 +23,8 @@ pass_writes S y v v' x me i n n' may posed at is slots id =
     (λ _ after. after ≡ (Pass v', [])))
     (λ k. (sym posed k, at k, is k)) (may slots id)
 
-pub pass_reads : (S : Type 0) (y : Layout) (v : PassView) (v' : ℕ → PassView) (x : Part) (me : Me S (View S)) (i : ℕ)
-    → PassReads S y v x v'
+pub pass_reads : (S : Type 0) (y : Layout) (v : PassView S) (v' : ℕ → PassView S) (x : Part) (me : Me S (View S))
+    (i : ℕ) → PassReads S y v x v'
     → me ≡ (Pass v, []) → number_in y x ≡ i → (slots id : ℕ)
     → Allows {S = S} (Holds y) slots id me i (λ n. n) (λ n after. after ≡ (Pass (v' n), []))
 pass_reads S y v v' x me i may posed at slots id =
@@ -41,7 +41,7 @@ office_writes S y v v' x me i n n' may posed at is slots id =
     (λ _ after. after ≡ (Super v', [])))
     (λ k. (sym posed k, at k, is k)) (may slots id)
 
-pub pass_tells : (S : Type 0) (y : Layout) (v : PassView) (v' : ℕ → PassView) (T : ℕ → Type 0) (x : Part)
+pub pass_tells : (S : Type 0) (y : Layout) (v : PassView S) (v' : ℕ → PassView S) (T : ℕ → Type 0) (x : Part)
     (me : Me S (View S)) (i : ℕ) → PassTells S y v x v' T
     → me ≡ (Pass v, []) → number_in y x ≡ i → (slots id : ℕ)
     → Allows {S = S} (Holds y) slots id me i (λ n. n) (λ n after. (after ≡ (Pass (v' n), [])) × T n)

@@ -71,11 +71,11 @@ store_cell_allowed S y v u a value basis hold op small near slots id s r len at 
     let w' = cell_written w p u a value in
     let step = event_step w p o' event
     (record { connect = refl; look = refl; acknowledged = refl; floor = omega arith }) in
-    let floor : (w.process p).floor ≡ v.floor = ap (λ (x : PassView). x.floor) k.2.rest in (
+    let floor : (w.process p).floor ≡ v.floor = ap (λ (x : PassView S). x.floor) k.2.rest in (
       Pass (stored_view u a value v),
       keeps,
       tt,
-      pass_moves y s r id v (stored_view u a value v) w' _ at (refl, refl)
+      pass_moves y s r id v (stored_view u a value v) w' _ at (refl, refl, refl, refl)
           (record {
             office = step.office;
             process = step.process;
@@ -84,8 +84,8 @@ store_cell_allowed S y v u a value basis hold op small near slots id s r len at 
             longer = step.longer;
             higher = step.higher;
           })
-          (stored_good w p value u a r.good k.1 small (ap (λ (x : PassView). x.basis) k.2.rest ∙ basis)
-          (ap (λ (x : PassView). x.hold) k.2.rest ∙ hold) op)
+          (stored_good w p value u a r.good k.1 small (ap (λ (x : PassView S). x.basis) k.2.rest ∙ basis)
+          (ap (λ (x : PassView S). x.hold) k.2.rest ∙ hold) op)
           (own_here w p o' event (stored_view u a value v)
           (record { told = k.2.told; rest = ap (stored_view u a value) k.2.rest }))
           (λ d. put_all (λ j (x : Held). IsPlain x) w.cell c held
@@ -119,10 +119,10 @@ load_cell_allowed S y v u a basis hold op near slots id s r len at lt =
       Pass v',
       keeps,
       tt,
-      pass_moves y s r id v v' w' _ at (refl, refl)
+      pass_moves y s r id v v' w' _ at (refl, refl, refl, refl)
           (event_step w p o' event (record { connect = refl; look = refl; acknowledged = refl; floor = omega arith }))
-          (read_good w p u a r.good k.1 (ap (λ (x : PassView). x.basis) k.2.rest ∙ basis)
-          (ap (λ (x : PassView). x.hold) k.2.rest ∙ hold) op)
+          (read_good w p u a r.good k.1 (ap (λ (x : PassView S). x.basis) k.2.rest ∙ basis)
+          (ap (λ (x : PassView S). x.hold) k.2.rest ∙ hold) op)
           (own_here w p o' event v'
           (record {
             told = k.2.told;

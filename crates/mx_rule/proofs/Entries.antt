@@ -22,15 +22,15 @@ enter_allowed S y v outside slots id s r len at lt =
       Pass (entered_view v),
       keeps,
       tt,
-      pass_moves y s r id v (entered_view v) (after_enter w p) _ at (refl, refl)
+      pass_moves y s r id v (entered_view v) (after_enter w p) _ at (refl, refl, refl, refl)
           (plain_step w p o' (record { connect = refl; look = refl; acknowledged = refl; floor = omega arith }))
-          (enter_law w p r.good (record { range = k.1; outside = ap (λ (x : PassView). x.stage) k.2.rest ∙ outside }))
+          (enter_law w p r.good (record { range = k.1; outside = ap (λ (x : PassView S). x.stage) k.2.rest ∙ outside }))
           (subst (λ (o : Process). IsPassOf o (w.trace p) (entered_view v)) (sym (put_here w.process p o'))
           (record { told = k.2.told; rest = ap entered_view k.2.rest }))
           r.plain
           (set_words y w.processes w.numbers (content w) (content (after_enter w p)) s.words (Flag p)
           (next_turn v.turn) r.layout (k.1.low, k.1.high) r.words
-          (ap (λ (x : PassView). next_turn x.turn) (sym k.2.rest)
+          (ap (λ (x : PassView S). next_turn x.turn) (sym k.2.rest)
           ∙ sym (ap (λ (o : Process). o.flag) (put_here w.process p o'))) (but_flag y w p o' refl)),
       refl,
     )
@@ -44,12 +44,12 @@ leave_allowed S y v inside slots id s r len at lt =
       Pass (left_view v),
       keeps,
       tt,
-      pass_moves y s r id v (left_view v) (after_leave w p) _ at (refl, refl)
+      pass_moves y s r id v (left_view v) (after_leave w p) _ at (refl, refl, refl, refl)
           (plain_step w p o' (record { connect = refl; look = refl; acknowledged = refl; floor = omega arith }))
           (leave_law w p r.good (record {
             range = k.1;
             inside = λ e. inside
-                (sym (ap (λ (x : PassView). x.stage) k.2.rest) ∙ e);
+                (sym (ap (λ (x : PassView S). x.stage) k.2.rest) ∙ e);
           }))
           (subst (λ (o : Process). IsPassOf o (w.trace p) (left_view v)) (sym (put_here w.process p o'))
           (record { told = k.2.told; rest = ap left_view k.2.rest }))
@@ -71,11 +71,11 @@ load_connect_allowed S y v entering slots id s r len at lt =
       Pass (connected_view n v),
       keeps,
       tt,
-      pass_moves y s r id v (connected_view n v) (after_load_connect w p) _ at (refl, refl)
+      pass_moves y s r id v (connected_view n v) (after_load_connect w p) _ at (refl, refl, refl, refl)
           (plain_step w p o' (record { connect = refl; look = refl; acknowledged = refl; floor = omega arith }))
           (load_connect_law w p r.good (record {
             range = k.1;
-            entering = ap (λ (x : PassView). x.stage) k.2.rest
+            entering = ap (λ (x : PassView S). x.stage) k.2.rest
                 ∙ entering;
           }))
           (subst (λ (o : Process). IsPassOf o (w.trace p) (connected_view n v)) (sym (put_here w.process p o'))

@@ -14,32 +14,34 @@ use Rattle.mx_rule.specs.Shown.{PassView}
 pub same_some : (m n : ℕ) → Some m ≡ Some n → m ≡ n
 same_some m n e = cc
 
-pub record IsUnmoved (v v' : PassView) : Type 0 where
+pub record IsUnmoved {S : Type 0} (v v' : PassView S) : Type 0 where
   pub process : v'.process ≡ v.process
   pub start : v'.start ≡ v.start
   pub floor : v'.floor ≡ v.floor
   pub turn : v'.turn ≡ v.turn
   pub cleared : v'.cleared ≡ v.cleared
 
-pub judged_holds : (o : Option Outcome) (u : Triple) (a : Asked) (v : PassView)
+pub judged_holds : {S : Type 0} (o : Option Outcome) (u : Triple) (a : Asked) (v : PassView S)
     → held_at (judged_view o u a v).basis (judged_view o u a v).hold ≡ waiting_by o u.desc a
 judged_holds None u a v = refl
 judged_holds (Some o) u a v = refl
 
-pub judged_unmoved : (o : Option Outcome) (u : Triple) (a : Asked) (v : PassView) → IsUnmoved v (judged_view o u a v)
+pub judged_unmoved : {S : Type 0} (o : Option Outcome) (u : Triple) (a : Asked) (v : PassView S)
+    → IsUnmoved v (judged_view o u a v)
 judged_unmoved None u a v = record { process = refl; start = refl; floor = refl; turn = refl; cleared = refl }
 judged_unmoved (Some o) u a v = record { process = refl; start = refl; floor = refl; turn = refl; cleared = refl }
 
-pick_holds : (t : Bool) (b c : PassView) (x y : Option ℕ) → held_at b.basis b.hold ≡ x → held_at c.basis c.hold ≡ y
+pick_holds : {S : Type 0} (t : Bool) (b c : PassView S) (x y : Option ℕ) → held_at b.basis b.hold ≡ x
+    → held_at c.basis c.hold ≡ y
     → held_at (pick t b c).basis (pick t b c).hold ≡ pick t x y
 pick_holds true b c x y h k = h
 pick_holds false b c x y h k = k
 
-pick_unmoved : (t : Bool) (b c v : PassView) → IsUnmoved v b → IsUnmoved v c → IsUnmoved v (pick t b c)
+pick_unmoved : {S : Type 0} (t : Bool) (b c v : PassView S) → IsUnmoved v b → IsUnmoved v c → IsUnmoved v (pick t b c)
 pick_unmoved true b c v h k = h
 pick_unmoved false b c v h k = k
 
-pub loaded_holds : (numbers n : ℕ) (a : Asked) (word : DescriptorWord) (v : PassView)
+pub loaded_holds : {S : Type 0} (numbers n : ℕ) (a : Asked) (word : DescriptorWord) (v : PassView S)
     → held_at (loaded_view numbers n a word v).basis (loaded_view numbers n a word v).hold ≡ cell_on word v.floor a
 loaded_holds numbers n a (Fault number) v = refl
 loaded_holds numbers n a (Valid number desc) v =
@@ -48,7 +50,7 @@ loaded_holds numbers n a (Valid number desc) v =
     (missed_view n number v) (waiting_cell desc a) None
     (judged_holds (at_once desc a) u a (remembering_view numbers u v)) refl
 
-pub loaded_unmoved : (numbers n : ℕ) (a : Asked) (word : DescriptorWord) (v : PassView)
+pub loaded_unmoved : {S : Type 0} (numbers n : ℕ) (a : Asked) (word : DescriptorWord) (v : PassView S)
     → IsUnmoved v (loaded_view numbers n a word v)
 loaded_unmoved numbers n a (Fault number) v =
     record { process = refl; start = refl; floor = refl; turn = refl; cleared = refl }

@@ -1,5 +1,5 @@
 -- Settle, Clear and Recall keep the rule.
-use Rattle.std.proofs.Common.{◌≡◌, ◌≢◌, inr, ℕ, true, false, set, refl, sym, ap, ◌∙◌, subst, slice_index, Option, Some, arith}
+use Rattle.std.proofs.Common.{[], ◌≡◌, ◌≢◌, inr, ℕ, true, false, set, refl, sym, ap, ◌∙◌, subst, slice_index, Option, Some, arith}
 use Rattle.atomic_table.specs.Table.{keeps}
 use Rattle.mx_reads.specs.Held.{Held}
 use Rattle.mx_core.specs.AssociativeMemory.{recalled}
@@ -32,6 +32,7 @@ use Rattle.mx_rule.specs.Parts.{Answered, CellAt, ConnectWord, Count, Descriptor
 use Rattle.mx_rule.specs.Shown.{Super, Pass, PassView, Office, office}
 use Rattle.mx_rule.proofs.LoadDescs.{IsReading, judged_reading, judged_same}
 use Rattle.mx_rule.proofs.Moves.{pass_moves}
+use Rattle.mx_rule.proofs.Fronts.{no_marks}
 use Rattle.mx_rule.proofs.OfficeSteps.{pair_rises, office_moves}
 use Rattle.mx_rule.proofs.Words.{set_words, load_words, put_pair}
 
@@ -61,7 +62,7 @@ settle_allowed S y v p n by may slots id s r len at lt =
       Super (settled_view p n by v),
       keeps,
       tt,
-      office_moves y s r id v (settled_view p n by v) w' _ at
+      office_moves y s r id v (settled_view p n by v) w' [] _ at
           (record {
             processes = refl;
             start = refl;
@@ -71,7 +72,8 @@ settle_allowed S y v p n by may slots id s r len at lt =
             note = refl;
             rising = pair_rises w.word p n d (let a = ap number_of m.fault in omega arith);
           })
-          (refl, refl, refl, refl, refl)
+          (refl, refl, refl, refl, refl, refl)
+          (no_marks {S = S} w)
           (subst (λ (z : DescriptorWord). Good (settled w p n z)) m.fault
           (settle_law w p n r.good
           (record {
@@ -109,7 +111,7 @@ clear_allowed S y v c may slots id s r len at lt =
       Super (cleared_view c v),
       keeps,
       tt,
-      office_moves y s r id v (cleared_view c v) (after_clear w c) _ at
+      office_moves y s r id v (cleared_view c v) (after_clear w c) [] _ at
           (record {
             processes = refl;
             start = refl;
@@ -119,7 +121,8 @@ clear_allowed S y v c may slots id s r len at lt =
             note = refl;
             rising = λ q n. omega arith;
           })
-          (refl, refl, refl, refl, refl)
+          (refl, refl, refl, refl, refl, refl)
+          (no_marks {S = S} w)
           (clear_law w c r.good (record { range = m.range; rest = m.rest; bare = m.bare }))
           (ap (clearing c) k.1)
           (λ d. put_all (λ j (x : Held). IsPlain x) w.cell c zero_cell
@@ -144,7 +147,7 @@ recall_allowed S y v n a u ready has slots id s r len at lt =
     let w = r.world in
     let p = v.process in
     let k = r.views id (Pass v) at in
-    let has' : recalled n (w.process p).memory ≡ Some u = ap (λ (z : PassView). recalled n z.memory) k.2.rest ∙ has in
+    let has' : recalled n (w.process p).memory ≡ Some u = ap (λ (z : PassView S). recalled n z.memory) k.2.rest ∙ has in
     let w' = judged w p (w.process p) u a in
     let v' = judged_view (at_once u.desc a) u a v in
     let reading : IsReading y w w' p v' = judged_reading y w p (λ m. m) u a (at_once u.desc a) v k.2 in (
@@ -154,7 +157,7 @@ recall_allowed S y v n a u ready has slots id s r len at lt =
       pass_moves y s r id v v' w' _ at (judged_same (at_once u.desc a) u a v) reading.step
           (subst (λ (z : Option Triple). Good (recalling w p a z)) has' (recall_law w p n a r.good (record {
             range = k.1;
-            ready = ap (λ (z : PassView). z.stage) k.2.rest ∙ ready;
+            ready = ap (λ (z : PassView S). z.stage) k.2.rest ∙ ready;
             recall = record { triple = u; at = has' };
           })))
           reading.own
@@ -164,5 +167,5 @@ recall_allowed S y v n a u ready has slots id s r len at lt =
           (sym reading.step.office)
           (load_words y w.processes w.numbers (content w) (content w') s.words
           (number_in y (Flag p)) r.words reading.words)),
-      (refl, recalled_admissible w p n u r.good (ap (λ (z : PassView). z.stage) k.2.rest ∙ ready) has'),
+      (refl, recalled_admissible w p n u r.good (ap (λ (z : PassView S). z.stage) k.2.rest ∙ ready) has'),
     )

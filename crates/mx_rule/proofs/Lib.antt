@@ -1,6 +1,7 @@
 pub mod PartLaws
 pub mod CodeLaws
 pub mod Words
+pub mod Fronts
 pub mod Moves
 pub mod Entries
 pub mod CellSteps
@@ -11,6 +12,7 @@ pub mod NoteSteps
 pub mod Carries
 pub mod LastSteps
 pub mod Openings
+pub mod Dealt
 pub mod OpeningWords
 pub mod Granted
 pub mod Holdings

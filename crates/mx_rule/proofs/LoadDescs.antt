@@ -19,7 +19,7 @@ use Rattle.mx_core.specs.declared.words.DescriptorWord.{DescriptorWord}
 use Rattle.mx_core.specs.declared.words.DescriptorWord.TheVariants.{Valid, Fault}
 use Rattle.mx_core.proofs.JudgingLaws.{load_desc_law}
 use Rattle.mx_core.proofs.Puts.{put_here, pick_true, pick_false}
-use Rattle.mx_rule.specs.Loading.{missed_view, judged_view, remembering_view, loaded_view, LoadDescAllowed, LoadUnknownAllowed}
+use Rattle.mx_rule.specs.Loading.{missed_view, judged_view, remembering_view, loaded_view, IsNews, LoadDescAllowed, LoadUnknownAllowed}
 use Rattle.mx_rule.specs.Codes.{IsCodable, IsPlain, word_said}
 use Rattle.mx_rule.specs.Layout.{Layout, ShowsWords, content}
 use Rattle.mx_rule.specs.Parts.{DescriptorAt, Flag, Part, number_in}
@@ -31,15 +31,15 @@ use Rattle.mx_rule.proofs.Moves.{IsPassStep, IsSamePass, plain_step, event_step,
 use Rattle.std.proofs.lemmas.Bool.Decides.{nat_tests}
 
 -- a step of process p that changes no word
-pub record IsReading (y : Layout) (w w' : World) (p : ℕ) (v' : PassView) : Type 0 where
+pub record IsReading {S : Type 0} (y : Layout) (w w' : World) (p : ℕ) (v' : PassView S) : Type 0 where
   pub step : IsPassStep w w' p
   pub own : IsPassOf (w'.process p) (w'.trace p) v'
   pub words : (z : Part) → content w' z ≡ content w z
   pub cells : w'.cell ≡ w.cell
 
-missed_reading : (y : Layout) (w : World) (p n by : ℕ) (v : PassView) → IsPassOf (w.process p) (w.trace p) v
-    → IsReading y w (missed w p n by) p (missed_view n by v)
-missed_reading y w p n by v k =
+missed_reading : {S : Type 0} (y : Layout) (w : World) (p n by : ℕ) (v : PassView S)
+    → IsPassOf (w.process p) (w.trace p) v → IsReading y w (missed w p n by) p (missed_view n by v)
+missed_reading {S = S} y w p n by v k =
     let o' : Process = record (w.process p) { basis = None; hold = None } in record {
       step = event_step w p o' (Missed n by)
           (record { connect = refl; look = refl; acknowledged = refl; floor = omega arith });
@@ -49,45 +49,46 @@ missed_reading y w p n by v k =
       cells = refl;
     }
 
-pub judged_reading : (y : Layout) (w : World) (p : ℕ) (m : List Triple → List Triple) (u : Triple) (a : Asked)
-    (o : Option Outcome) (v : PassView) → IsPassOf (w.process p) (w.trace p) v
+pub judged_reading : {S : Type 0} (y : Layout) (w : World) (p : ℕ) (m : List Triple → List Triple) (u : Triple)
+    (a : Asked) (o : Option Outcome) (v : PassView S)
+    → IsPassOf (w.process p) (w.trace p) v
     → IsReading y w (judged_to w p (record (w.process p) { memory = m (w.process p).memory }) u a o) p
     (judged_view o u a (record v { memory = m v.memory }))
-judged_reading y w p m u a None v k =
+judged_reading {S = S} y w p m u a None v k =
     let o' : Process = record (w.process p) { memory = m (w.process p).memory; basis = Some u; hold = Some a } in
-    let f : PassView → PassView = λ x. judged_view None u a (record x { memory = m x.memory }) in record {
+    let f : PassView S → PassView S = λ x. judged_view None u a (record x { memory = m x.memory }) in record {
       step = plain_step w p o' (record { connect = refl; look = refl; acknowledged = refl; floor = omega arith });
       own = subst (λ (x : Process). IsPassOf x (w.trace p) (f v)) (sym (put_here w.process p o'))
           (record { told = k.told; rest = ap f k.rest });
       words = all_words y w p o' refl refl;
       cells = refl;
     }
-judged_reading y w p m u a (Some o) v k =
+judged_reading {S = S} y w p m u a (Some o) v k =
     let o' : Process = record (w.process p) { memory = m (w.process p).memory; basis = Some u; hold = None } in
     let e : Kept = Judged (element_of u.segno a (w.process p).floor o) a.op u.desc in
-    let f : PassView → PassView = λ x. judged_view (Some o) u a (record x { memory = m x.memory }) in record {
+    let f : PassView S → PassView S = λ x. judged_view (Some o) u a (record x { memory = m x.memory }) in record {
       step = event_step w p o' e (record { connect = refl; look = refl; acknowledged = refl; floor = omega arith });
       own = own_here w p o' e (f v) (record { told = k.told; rest = ap f k.rest });
       words = all_words y w p o' refl refl;
       cells = refl;
     }
 
-either_reading : (y : Layout) (w a b : World) (p : ℕ) (va vb : PassView) (t : Bool) → IsReading y w a p va
-    → IsReading y w b p vb → IsReading y w (pick t a b) p (pick t va vb)
+either_reading : {S : Type 0} (y : Layout) (w a b : World) (p : ℕ) (va vb : PassView S) (t : Bool)
+    → IsReading y w a p va → IsReading y w b p vb → IsReading y w (pick t a b) p (pick t va vb)
 either_reading y w a b p va vb true h k = h
 either_reading y w a b p va vb false h k = k
 
-loaded_reading : (y : Layout) (w : World) (p n : ℕ) (a : Asked) (word : DescriptorWord) (v : PassView)
+loaded_reading : {S : Type 0} (y : Layout) (w : World) (p n : ℕ) (a : Asked) (word : DescriptorWord) (v : PassView S)
     → IsPassOf (w.process p) (w.trace p) v
     → IsReading y w (loaded w p n a word) p (loaded_view w.numbers n a word v)
-loaded_reading y w p n a (Fault number) v k = missed_reading y w p n number v k
-loaded_reading y w p n a (Valid number desc) v k =
+loaded_reading {S = S} y w p n a (Fault number) v k = missed_reading y w p n number v k
+loaded_reading {S = S} y w p n a (Valid number desc) v k =
     let u : Triple = record { segno = n; number = number; desc = desc } in
     let m : List Triple → List Triple = λ memory. pick (nat_lt n w.numbers) (remembered u memory) memory in
     subst (λ (f : ℕ). IsReading y w (loaded w p n a (Valid number desc)) p
     (pick (nat_le number f) (judged_view (at_once desc a) u a (remembering_view w.numbers u v))
     (missed_view n number v)))
-    (ap (λ (x : PassView). x.floor) k.rest)
+    (ap (λ (x : PassView S). x.floor) k.rest)
     (either_reading y w _ _ p _ _ (nat_le number (w.process p).floor)
     (judged_reading y w p m u a (at_once desc a) v k) (missed_reading y w p n number v k))
 
@@ -98,21 +99,34 @@ codable w p n g (Valid number desc) is =
     (omega arith, subst IsAdmissible (is.stands w.answered c (omega arith)) (g.shape.admissible w.answered p n))
 codable w p n g (Fault number) is = let a = g.shape.limit in let c = is.high in omega arith
 
-pub judged_same : (o : Option Outcome) (u : Triple) (a : Asked) (v : PassView) → IsSamePass v (judged_view o u a v)
-judged_same None u a v = (refl, refl)
-judged_same (Some o) u a v = (refl, refl)
+pub judged_same : {S : Type 0} (o : Option Outcome) (u : Triple) (a : Asked) (v : PassView S)
+    → IsSamePass v (judged_view o u a v)
+judged_same None u a v = (refl, refl, refl, refl)
+judged_same (Some o) u a v = (refl, refl, refl, refl)
 
-either_same : (t : Bool) (b c v : PassView) → IsSamePass v b → IsSamePass v c → IsSamePass v (pick t b c)
+either_same : {S : Type 0} (t : Bool) (b c v : PassView S) → IsSamePass v b → IsSamePass v c → IsSamePass v (pick t b c)
 either_same true b c v h k = h
 either_same false b c v h k = k
 
-same_pass : (numbers n : ℕ) (a : Asked) (word : DescriptorWord) (v : PassView)
+same_pass : {S : Type 0} (numbers n : ℕ) (a : Asked) (word : DescriptorWord) (v : PassView S)
     → IsSamePass v (loaded_view numbers n a word v)
-same_pass numbers n a (Fault number) v = (refl, refl)
+same_pass numbers n a (Fault number) v = (refl, refl, refl, refl)
 same_pass numbers n a (Valid number desc) v =
     let u : Triple = record { segno = n; number = number; desc = desc } in
     either_same (nat_le number v.floor) _ _ v (judged_same (at_once desc a) u a (remembering_view numbers u v))
-    (refl, refl)
+    (refl, refl, refl, refl)
+
+-- nobody knows more settled than the supervisor, and a process nothing above its floor
+news : {S : Type 0} (w : World) (v : PassView S) (n : ℕ) → Good w
+    → IsPassOf (w.process v.process) (w.trace v.process) v → (word : DescriptorWord)
+    → IsWord w.start w.answered w.length (λ q. w.table q v.process n) (w.told v.process n) word → IsNews v n word
+news {S = S} w v n g k (Valid number desc) is =
+    let told = ap (λ (f : ℕ → ℕ → ℕ). f v.process n) k.told in
+    let floor = ap (λ (x : PassView S). x.floor) k.rest in
+    let a = (g.access.processes v.process).told v.process n in λ above. omega arith
+news w v n g k (Fault number) is =
+    let told = ap (λ (f : ℕ → ℕ → ℕ). f v.process n) k.told in
+    let a = g.access.tolds v.process v.process n in let b = is.known in omega arith
 
 pub load_desc_allowed : (S : Type 0) → LoadDescAllowed S
 load_desc_allowed S y v n a ready small slots id s r len at lt =
@@ -139,7 +153,7 @@ load_desc_allowed S y v n a ready small slots id s r len at lt =
           (subst (λ (z : DescriptorWord). Good (loaded w p n a z)) here
           (load_desc_law w p n a r.good (record {
             range = k.1;
-            ready = ap (λ (z : PassView). z.stage) k.2.rest
+            ready = ap (λ (z : PassView S). z.stage) k.2.rest
                 ∙ ready;
           })))
           reading.own
@@ -149,11 +163,14 @@ load_desc_allowed S y v n a ready small slots id s r len at lt =
           (load_words y w.processes w.numbers (content w) (content w') s.words (number_in y x) r.words reading.words)),
       (
         refl,
-        record {
-          word = word;
-          codable = codable w p n r.good word (r.good.access.words p n);
-          is = r.words.each x (k.1.low, k.1.high, small');
-        },
+        (
+          record {
+            word = word;
+            codable = codable w p n r.good word (r.good.access.words p n);
+            is = r.words.each x (k.1.low, k.1.high, small');
+          },
+          subst (IsNews v n) (sym is) (news w v n r.good k.2 word (r.good.access.words p n)),
+        ),
       ),
     )
 
@@ -179,7 +196,7 @@ load_unknown_allowed S y v n a ready past slots id s r len at lt =
           (subst (λ (z : DescriptorWord). Good (loaded w p n a z)) here
           (load_desc_law w p n a r.good (record {
             range = k.1;
-            ready = ap (λ (z : PassView). z.stage) k.2.rest ∙ ready;
+            ready = ap (λ (z : PassView S). z.stage) k.2.rest ∙ ready;
           })))
           reading.own
           (subst (λ (f : ℕ → _). (c : ℕ) → IsPlain (f c)) (sym reading.cells) r.plain)

@@ -1,5 +1,5 @@
 -- Acknowledge, Look and Append keep the rule.
-use Rattle.std.proofs.Common.{◌≡◌, ◌≢◌, ◌⊎◌, inl, inr, ℕ, ◌+◌, Bool, true, false, not, ◌&&◌, ◌||◌, List, set, refl, sym, ap, ◌∙◌, subst, slice_index, arith, ne_eqb, eq-eqb}
+use Rattle.std.proofs.Common.{◌≡◌, ◌≢◌, ◌⊎◌, inl, inr, ℕ, ◌+◌, Bool, true, false, not, ◌&&◌, ◌||◌, List, [], ◌∷◌, length, zero, suc, ◌≤◌, slice_get, Some, set, refl, sym, ap, ◌∙◌, subst, slice_index, arith, ne_eqb, eq-eqb}
 use Rattle.std.specs.Prelude.{◌==◌}
 use prog.Atomic.{either}
 use mathlib.Core.Logic.{dite}
@@ -22,10 +22,11 @@ use Rattle.mx_rule.specs.Acknowledging.{MayAcknowledge, has_left, acknowledged_v
 use Rattle.mx_rule.specs.Appending.{MayAppend, appended_view, AppendAllowed}
 use Rattle.mx_rule.specs.Layout.{Layout, content}
 use Rattle.mx_rule.specs.Parts.{Answered, CellAt, ConnectWord, Count, DescriptorAt, Flag, Part, number_in}
-use Rattle.mx_rule.specs.Rule.{Holds}
-use Rattle.mx_rule.specs.Shown.{View, Super, SuperView, Office, office, office_of, numbers_of}
+use Rattle.mx_rule.specs.Rule.{AreMarked, Holds}
+use Rattle.mx_rule.specs.Shown.{View, Super, SuperView, EntryView, Office, office, office_of, numbers_of, reported_of}
 use Rattle.mx_rule.proofs.Words.{set_words, load_words, all_words}
 use Rattle.mx_rule.proofs.Moves.{put_map}
+use Rattle.mx_rule.proofs.Fronts.{no_marks}
 use Rattle.mx_rule.proofs.OfficeSteps.{office_step, office_moves}
 
 same_put : {A : Type 0} (f : ℕ → A) (p : ℕ) → put f p (f p) ≡ f
@@ -97,9 +98,10 @@ module _ {S : Type 0} (y : Layout) (s : State S (View S)) (r : Holds y s) (id : 
   acknowledges left =
       let w = r.world in
       let o' : Process = record (w.process p) { acknowledged = true } in
-      office_moves y s r id v (acknowledged_view p v) (after_acknowledge w p) _ at
+      office_moves y s r id v (acknowledged_view p v) (after_acknowledge w p) [] _ at
       (office_step w p o' refl (λ u h. record { told = h.told; rest = h.rest }))
-      (refl, refl, refl, refl, refl)
+      (refl, refl, refl, refl, refl, refl)
+      (no_marks {S = S} w)
       (acknowledge_law w p r.good
       (record {
         range = record { low = m.low; high = m.high };
@@ -124,9 +126,10 @@ module _ {S : Type 0} (y : Layout) (s : State S (View S)) (r : Holds y s) (id : 
   looks inside =
       let w = r.world in
       let o' : Process = record (w.process p) { look = (w.process p).flag } in
-      office_moves y s r id v (looked_view p n v) (after_look w p) _ at
+      office_moves y s r id v (looked_view p n v) (after_look w p) [] _ at
       (office_step w p o' refl (λ u h. record { told = h.told; rest = h.rest }))
-      (refl, refl, refl, refl, refl)
+      (refl, refl, refl, refl, refl, refl)
+      (no_marks {S = S} w)
       (look_law w p r.good (record {
         range = record { low = m.low; high = m.high };
         pending = m.pending;
@@ -186,6 +189,17 @@ appended p changes given x = record x {
 exchanged : (n old new : ℕ) → n ≡ old → either (n == old) new n ≡ new
 exchanged n old new e = ap (λ (b : Bool). either b new n) (eq-eqb n old e)
 
+one_mark : {S : Type 0} (w : World) (new : EntryView S) → new.mark ≤ length (w.trace new.process)
+    → AreMarked w (new ∷ [])
+one_mark {S = S} w new le zero e at = subst (λ (x : EntryView S). x.mark ≤ length (w.trace x.process)) (is new e at) le
+  where
+    is : (a b : EntryView S) → Some a ≡ Some b → a ≡ b
+    is a b e = cc
+one_mark {S = S} w new le (suc i) e at = absurd (none i e at)
+  where
+    none : (i : ℕ) (e : EntryView S) → slice_get {X = EntryView S} [] i ≡ Some e → ⊥
+    none i e at = cc
+
 pub append_allowed : (S : Type 0) → AppendAllowed S
 append_allowed S y v p changes given entry may slots id s r len at lt =
     let w = r.world in
@@ -193,11 +207,21 @@ append_allowed S y v p changes given entry may slots id s r len at lt =
     let m : MayAppend (office w) p changes given =
     subst (λ (x : Office). MayAppend x p changes given) (sym k.1) may in
     let found : slice_index s.words (number_in y Count) ≡ v.length =
-    r.words.each Count tt ∙ ap (λ (x : Office). x.length) k.1 in (
+    r.words.each Count tt ∙ ap (λ (x : Office). x.length) k.1 in
+    let new : EntryView S = record {
+      before = v.length;
+      process = p;
+      mark = reported_of v.reported p;
+      changes = changes;
+      given = given;
+      entry = entry;
+    } in
+    let marks : AreMarked w (new ∷ []) = one_mark w new (subst (λ (x : Office). x.reported p ≤ length (w.trace p)) k.1
+    (r.good.shape.reported p)) in (
       Super (appended_view p changes given entry v),
       keeps,
       tt,
-      office_moves y s r id v (appended_view p changes given entry v) (after_append w p changes given) _ at
+      office_moves y s r id v (appended_view p changes given entry v) (after_append w p changes given) (new ∷ []) _ at
           (record {
             processes = refl;
             start = refl;
@@ -207,7 +231,8 @@ append_allowed S y v p changes given entry may slots id s r len at lt =
             note = refl;
             rising = λ q n. omega arith;
           })
-          (refl, refl, refl, refl, refl)
+          (refl, refl, refl, refl, refl, refl)
+          marks
           (append_law w p changes given r.good (record {
             range = record {
               process = record { low = m.low; high = m.high };

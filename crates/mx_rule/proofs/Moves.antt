@@ -13,9 +13,10 @@ use Rattle.mx_core.specs.World.{Process, World}
 use Rattle.mx_core.specs.declared.elements.Kept.{Kept}
 use Rattle.mx_core.proofs.Puts.{put_all, put_here, put_else}
 use Rattle.mx_rule.specs.Codes.{IsPlain}
+use Rattle.mx_rule.specs.Fronts.{IsFront}
 use Rattle.mx_rule.specs.Layout.{IsLayout, Layout, ShowsWords, content}
 use Rattle.mx_rule.specs.Rule.{Seats, IsPassOf, IsReported, Knows, Holds}
-use Rattle.mx_rule.specs.Shown.{View, Super, Pass, Noted, Report, Spent, PassView, ReportView, Office, office, fresh_view}
+use Rattle.mx_rule.specs.Shown.{View, Super, Pass, Noted, Report, Spent, PassView, EntryView, ReportView, Office, office, fresh_view}
 
 -- what a step of process p leaves
 pub record IsPassStep (w w' : World) (p : ℕ) : Type 0 where
@@ -78,17 +79,17 @@ reported_under w w' p u s k = (
 )
 
 -- what another seat knows stays true
-pub under_pass : {S : Type 0} (w w' : World) (seats : Seats) (p me j : ℕ) (v : View S) → IsPassStep w w' p
+pub under_pass : {S : Type 0} (w w' : World) (seats : Seats S) (p me j : ℕ) (v : View S) → IsPassStep w w' p
     → seats.owner p ≡ me
     → j ≢ me → Knows w seats j v → Knows w' seats j v
-under_pass w w' seats p me j (Super v) s mine n k = (
+under_pass {S = S} w w' seats p me j (Super v) s mine n k = (
   k.0,
   s.office ∙ k.1,
   λ q a b.
       let u = k.2 q a (subst (λ (x : Office). q ≤ x.processes) s.office b) in
       let other : q ≢ p = λ e. n (sym u.0 ∙ ap seats.owner e ∙ mine) in (
         u.0,
-        subst (λ (x : Process × List Kept). IsPassOf x.0 x.1 (fresh_view v.start q))
+        subst (λ (x : Process × List Kept). IsPassOf x.0 x.1 (fresh_view {E = S} v.start q))
             (λ i. (sym (s.process q other) i, sym (s.trace q other) i)) u.1,
       ),
   λ i x e. let u = k.3 i x e in let other : x.process ≢ p = λ e'. n (sym u.0 ∙ ap seats.owner e' ∙ mine) in (
@@ -96,20 +97,24 @@ under_pass w w' seats p me j (Super v) s mine n k = (
     u.1,
     subst (λ (z : Process × List Kept). IsPassOf z.0 z.1 x)
         (λ i. (sym (s.process x.process other) i, sym (s.trace x.process other) i)) u.2,
+    u.3,
   ),
   λ i x e. reported_under w w' p x s (k.4 i x e),
+  k.5,
 )
-under_pass w w' seats p me j (Pass v) s mine n k =
+under_pass {S = S} w w' seats p me j (Pass v) s mine n k =
     let other : v.process ≢ p = λ e. n (sym k.0 ∙ ap seats.owner e ∙ mine) in (
       k.0,
       record { low = k.1.low; high = subst (λ (x : Office). v.process ≤ x.processes) (sym s.office) k.1.high },
       subst (λ (x : Process × List Kept). IsPassOf x.0 x.1 v)
           (λ i. (sym (s.process v.process other) i, sym (s.trace v.process other) i)) k.2,
       k.3 ∙ sym (ap (λ (x : Office). x.start) s.office),
+      k.4,
+      k.5,
     )
-under_pass w w' seats p me j (Noted v) s mine n k = (k.0, ap (λ (f : ℕ → _). f v.number) s.note ∙ k.1)
-under_pass w w' seats p me j (Report v) s mine n k = reported_under w w' p v s k
-under_pass w w' seats p me j Spent s mine n k = k
+under_pass {S = S} w w' seats p me j (Noted v) s mine n k = (k.0, ap (λ (f : ℕ → _). f v.number) s.note ∙ k.1, k.2)
+under_pass {S = S} w w' seats p me j (Report v) s mine n k = reported_under w w' p v s k
+under_pass {S = S} w w' seats p me j Spent s mine n k = k
 
 -- views where one is replaced
 pub view_set : {S : Type 0} (K : ℕ → View S → Type 0) (views : List (View S)) (id : ℕ) (v : View S) → K id v
@@ -126,23 +131,24 @@ pub knows : {S : Type 0} (y : Layout) (s : State S (View S)) (r : Holds y s) (id
 knows y s r id v at = r.views id v at
 
 -- a pass stays that of its process
-abbrev pub IsSamePass : PassView → PassView → Type 0
-IsSamePass v v' = (v'.process ≡ v.process) × (v'.start ≡ v.start)
+abbrev pub IsSamePass : {S : Type 0} → PassView S → PassView S → Type 0
+IsSamePass v v' = (v'.process ≡ v.process) × (v'.start ≡ v.start) × (v'.history ≡ v.history) × (v'.earlier ≡ v.earlier)
 
 -- a step of a pass keeps the rule
-pub pass_moves : {S : Type 0} (y : Layout) (s : State S (View S)) (r : Holds y s) (id : ℕ) (v v' : PassView)
+pub pass_moves : {S : Type 0} (y : Layout) (s : State S (View S)) (r : Holds y s) (id : ℕ) (v v' : PassView S)
     (w' : World)
     (words : List ℕ)
     → get_elem? s.views id ≡ some (Pass v) → IsSamePass v v' → IsPassStep r.world w' v.process → Good w'
     → IsPassOf (w'.process v.process) (w'.trace v.process) v' → ((c : ℕ) → IsPlain (w'.cell c))
     → ShowsWords y w'.processes w'.numbers (content w') words
     → Holds y (record { words = words; homes = s.homes; views = set s.views id (Pass v') })
-pass_moves y s r id v v' w' words at same step good own plain shows =
+pass_moves {S = S} y s r id v v' w' words at same step good own plain shows =
     let k = r.views id (Pass v) at in record {
       world = w';
       seats = r.seats;
       layout = subst (λ (x : Office). IsLayout y x.processes x.numbers) (sym step.office) r.layout;
       good = good;
+      marks = λ i e at'. let a = r.marks i e at' in let b = step.longer e.process in omega arith;
       plain = plain;
       words = shows;
       views = view_set (Knows w' r.seats) s.views id (Pass v') (
@@ -154,12 +160,16 @@ pass_moves y s r id v v' w' words at same step good own plain shows =
         }),
         subst (λ (p : ℕ). IsPassOf (w'.process p) (w'.trace p) v') (sym same.0) own,
         same.1 ∙ k.3 ∙ sym (ap (λ (x : Office). x.start) step.office),
+        subst (λ (h : List (EntryView S)). IsFront h r.seats.history) (sym same.2) k.4,
+        subst (λ (z : List (EntryView S) × List (EntryView S)). IsFront z.0 z.1)
+            (λ i. (sym same.3 i, sym same.2 i)) k.5,
       )
           (λ j u n e. under_pass r.world w' r.seats v.process id j u step k.0 n (r.views j u e));
     }
 
 -- what a process step with an event leaves there
-pub own_here : (w : World) (p : ℕ) (o : Process) (e : Kept) (v : PassView) → IsPassOf o (w.trace p ++ e ∷ []) v
+pub own_here : {S : Type 0} (w : World) (p : ℕ) (o : Process) (e : Kept) (v : PassView S)
+    → IsPassOf o (w.trace p ++ e ∷ []) v
     → IsPassOf (put w.process p o p) (put w.trace p (w.trace p ++ e ∷ []) p) v
 own_here w p o e v is = subst (λ (x : Process × List Kept). IsPassOf x.0 x.1 v)
     (λ i. (sym (put_here w.process p o) i, sym (put_here w.trace p (w.trace p ++ e ∷ [])) i)) is

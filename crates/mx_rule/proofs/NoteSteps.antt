@@ -16,11 +16,13 @@ use Rattle.mx_core.specs.declared.elements.Kept.{Kept}
 use Rattle.mx_core.specs.declared.words.DescriptorWord.{DescriptorWord}
 use Rattle.mx_core.specs.declared.elements.Kept.TheVariants.{Judged, Missed}
 use Rattle.mx_rule.specs.Notes.{noting_view, noted_view, SplitAllowed, joined_view, JoinAllowed, report_of, MakesReportAllowed, reported_view, ReportAllowed, HasMiss, last_miss}
+use Rattle.mx_rule.specs.Fronts.{IsFront}
 use Rattle.mx_rule.specs.Layout.{Layout, content}
 use Rattle.mx_rule.specs.Parts.{Answered, CellAt, ConnectWord, Count, DescriptorAt, Flag, Part}
 use Rattle.mx_rule.specs.Rule.{Seats, IsPassOf, IsReported, AreReported, Knows}
 use Rattle.mx_rule.specs.Shown.{View, Super, Pass, Noted, Report, Spent, PassView, ReportView, Office, note_of}
 use Rattle.mx_rule.proofs.Words.{all_words}
+use Rattle.mx_rule.proofs.Fronts.{front_same, front_longer, front_old}
 use Rattle.mx_rule.proofs.Moves.{IsPassStep, plain_step, under_pass, view_set}
 use Rattle.mx_rule.proofs.OfficeSteps.{IsOfficeStep, reported_on, under_office}
 
@@ -53,7 +55,7 @@ split_allowed S y v id rest s r at =
     let k = r.views id (Super v) at in
     let w' = after_split w in
     let new : Note = record { floor = w.answered; told = w.told } in
-    let seats' : Seats = record r.seats { noter = put r.seats.noter w.made (length s.views) } in
+    let seats' : Seats S = record r.seats { noter = put r.seats.noter w.made (length s.views) } in
     let fresh = r.good.shape.notes w.made (omega arith) in
     let known : (j : ℕ) (u : View S) → j ≢ r.seats.chief → Knows w r.seats j u → Knows w' seats' j u =
     still w r.seats (length s.views) new fresh in
@@ -65,6 +67,7 @@ split_allowed S y v id rest s r at =
         rest = (let a = ap (λ (x : Office). x.length) k.1 in let b = ap
             (λ (x : Office). x.answered) k.1 in omega arith);
       });
+      marks = r.marks;
       plain = r.plain;
       words = r.words;
       views = λ j u e. ⊎_elim
@@ -75,6 +78,7 @@ split_allowed S y v id rest s r at =
             k.2,
             k.3,
             λ i x e. same_report w w' x refl refl refl refl (k.4 i x e),
+            k.5,
           )
           (λ j u n e. known j u (λ c. n (c ∙ sym k.0)) (r.views j u e)) j u t)
           (λ (t : (Noted (noted_view v) ≡ u) × (j ≡ length (set s.views id (Super (noting_view v))))).
@@ -84,6 +88,7 @@ split_allowed S y v id rest s r at =
                 ∙ sym (t.1 ∙ length_set s.views id (Super (noting_view v))),
             ap (put w.note w.made (Some new)) (sym made_is) ∙ put_here w.note w.made (Some new)
                 ∙ ap (λ (x : Office). note_at x) k.1,
+            subst (IsFront v.history) k.5 (front_same v.history),
           ))
           (at_snoc_index (set s.views id (Super (noting_view v))) (Noted (noted_view v)) u j e);
     }
@@ -91,14 +96,14 @@ split_allowed S y v id rest s r at =
     length_set : (l : List (View S)) (i : ℕ) (a : View S) → length (set l i a) ≡ length l
     length_set l i a = length-set l i a
 
-    still : (w : World) (seats : Seats) (seat : ℕ) (new : Note) → w.note w.made ≡ None → (j : ℕ) (u : View S)
+    still : (w : World) (seats : Seats S) (seat : ℕ) (new : Note) → w.note w.made ≡ None → (j : ℕ) (u : View S)
         → j ≢ seats.chief
         → Knows w seats j u → Knows (after_split w) (record seats { noter = put seats.noter w.made seat }) j u
     still w seats seat new none j (Super u) n k = absurd (n k.0)
-    still w seats seat new none j (Pass u) n k = (k.0, record { low = k.1.low; high = k.1.high }, k.2, k.3)
+    still w seats seat new none j (Pass u) n k = (k.0, record { low = k.1.low; high = k.1.high }, k.2, k.3, k.4, k.5)
     still w seats seat new none j (Noted u) n k =
         let other : u.number ≢ w.made = λ e. some_note (note_of u) (sym none ∙ ap w.note (sym e) ∙ k.1) in
-        (put_else seats.noter w.made seat u.number other ∙ k.0, put_else w.note w.made _ u.number other ∙ k.1)
+        (put_else seats.noter w.made seat u.number other ∙ k.0, put_else w.note w.made _ u.number other ∙ k.1, k.2)
     still w seats seat new none j (Report u) n k = same_report w (after_split w) u refl refl refl refl k
     still w seats seat new none j Spent n k = k
 
@@ -128,6 +133,7 @@ join_allowed S y v u id other s r at apart at' =
       layout = r.layout;
       good = subst (λ (z : Option Note). Good (joined w p u.number z)) l.1
           (join_law w p u.number r.good (record { range = k.1.high; note = record { note = note; at = l.1 } }));
+      marks = r.marks;
       plain = r.plain;
       words = record {
         wide = r.words.wide;
@@ -142,6 +148,8 @@ join_allowed S y v u id other s r at apart at' =
             subst (λ (o : Process). IsPassOf o (w.trace p) (joined_view u v)) (sym (put_here w.process p o'))
                 (record { told = (λ i p n. max (k.2.told i p n) (note.told p n)); rest = ap (joined_view u) k.2.rest }),
             k.3,
+            front_longer v.history u.history r.seats.history k.4 l.2,
+            front_old v.history u.history r.seats.history k.4 l.2,
           ))
           (λ i a m e' ne. but_note w p u.number note r.seats id other i a step k.0 l.0 m ne (r.views i a e'))
           j x e n);
@@ -156,7 +164,7 @@ join_allowed S y v u id other s r at apart at' =
     same_words y w p note notes (DescriptorAt q m) = refl
     same_words y w p note notes (CellAt c) = refl
 
-    but_note : (w : World) (p i : ℕ) (note : Note) (seats : Seats) (me other j : ℕ) (a : View S)
+    but_note : (w : World) (p i : ℕ) (note : Note) (seats : Seats S) (me other j : ℕ) (a : View S)
         → IsPassStep w (with_process w p (told_by (w.process p) note)) p
         → seats.owner p ≡ me → seats.noter i ≡ other → j ≢ me → j ≢ other → Knows w seats j a
         → Knows (record w {
@@ -166,12 +174,12 @@ join_allowed S y v u id other s r at apart at' =
         }) seats j a
     but_note w p i note seats me other j (Super a) step mine its n n' k =
         let q = under_pass {S = S} w _ seats p me j (Super a) step mine n k in
-        (q.0, q.1, q.2, q.3, λ i x e. same_report _ _ x refl refl refl refl (q.4 i x e))
+        (q.0, q.1, q.2, q.3, λ i x e. same_report _ _ x refl refl refl refl (q.4 i x e), q.5)
     but_note w p i note seats me other j (Pass a) step mine its n n' k =
         let q = under_pass {S = S} w _ seats p me j (Pass a) step mine n k in
-        (q.0, record { low = q.1.low; high = q.1.high }, q.2, q.3)
+        (q.0, record { low = q.1.low; high = q.1.high }, q.2, q.3, q.4, q.5)
     but_note w p i note seats me other j (Noted a) step mine its n n' k =
-        (k.0, put_else w.note i None a.number (λ e. n' (sym k.0 ∙ ap seats.noter e ∙ its)) ∙ k.1)
+        (k.0, put_else w.note i None a.number (λ e. n' (sym k.0 ∙ ap seats.noter e ∙ its)) ∙ k.1, k.2)
     but_note w p i note seats me other j (Report a) step mine its n n' k =
         same_report _ _ a refl refl refl refl (under_pass {S = S} w _ seats p me j (Report a) step mine n k)
     but_note w p i note seats me other j Spent step mine its n n' k = k
@@ -183,12 +191,13 @@ makes_report_allowed S y v id n by has s r at =
     let miss : by ≤ number_of (w.word v.process n) = elim has [
       | inl none ↦ omega arith
       | inr at ↦ ((r.good.traces v.process).misses at.place n by
-          (ap (λ (x : PassView). slice_get x.trace at.place) k.2.rest ∙ at.at)).most
+          (ap (λ (x : PassView S). slice_get x.trace at.place) k.2.rest ∙ at.at)).most
     ] in record {
       world = w;
       seats = r.seats;
       layout = r.layout;
       good = r.good;
+      marks = r.marks;
       plain = r.plain;
       words = r.words;
       views = λ j u e. ⊎_elim
@@ -197,8 +206,8 @@ makes_report_allowed S y v id n by has s r at =
           (λ (t : (Report (report_of n by v) ≡ u) × (j ≡ length (set s.views id (Pass v)))). subst
           (Knows w r.seats j) t.0 (
             k.1,
-            (let a = ap (λ (x : PassView). length x.trace) k.2.rest in omega arith),
-            (let a = ap (λ (x : PassView). x.floor) k.2.rest in omega arith),
+            (let a = ap (λ (x : PassView S). length x.trace) k.2.rest in omega arith),
+            (let a = ap (λ (x : PassView S). x.floor) k.2.rest in omega arith),
             miss,
           ))
           (at_snoc_index (set s.views id (Pass v)) (Report (report_of n by v)) u j e);
@@ -212,7 +221,7 @@ report_allowed S y v u id other s r at apart at' =
     sym (set_else s.views id other (Super (reported_view u v)) apart) ∙ at' in
     let l = r.views other (Report u) there in
     let w' = after_report w u.process u.length in
-    let step : IsOfficeStep w w' =
+    let step : IsOfficeStep S w w' =
     record {
       processes = refl;
       start = refl;
@@ -226,6 +235,7 @@ report_allowed S y v u id other s r at apart at' =
       seats = r.seats;
       layout = r.layout;
       good = report_law w u.process u.length r.good (record { range = l.0; within = l.1 });
+      marks = r.marks;
       plain = r.plain;
       words = record {
         wide = r.words.wide;
@@ -241,9 +251,11 @@ report_allowed S y v u id other s r at apart at' =
             }) k.1,
             k.2,
             k.3,
-            one_more w' u v.reported (reported_on w w' u step l) (λ i x e. reported_on w w' x step (k.4 i x e)),
+            one_more w' u v.reported (reported_on {S = S} w w' u step l)
+                (λ i x e. reported_on {S = S} w w' x step (k.4 i x e)),
+            k.5,
           )
-          (λ i a m e'. under_office w w' r.seats i a step (λ c. m (c ∙ sym k.0)) (r.views i a e'))
+          (λ i a m e'. under_office w w' r.seats [] i a step (λ c. m (c ∙ sym k.0)) (r.views i a e'))
           j x e);
     }
   where
@@ -278,7 +290,7 @@ last_found (Judged e op d ∷ next ∷ rest) = elim (last_found (next ∷ rest))
   | inr at ↦ inr (suc at.0, at.1)
 ]
 
-pub last_is_missed : (v : PassView) → ((last_miss v.trace).1 ≡ 0)
+pub last_is_missed : {S : Type 0} (v : PassView S) → ((last_miss v.trace).1 ≡ 0)
     ⊎ HasMiss v (last_miss v.trace).0 (last_miss v.trace).1
 last_is_missed v = elim (last_found v.trace) [
   | inl none ↦ inl none

@@ -1,5 +1,5 @@
 -- Strike, Connect and Answer keep the rule.
-use Rattle.std.proofs.Common.{◌≡◌, ◌≢◌, ℕ, ◌≤◌, Bool, false, List, length, set, refl, sym, ap, ◌∙◌, subst, arith}
+use Rattle.std.proofs.Common.{◌≡◌, ◌≢◌, ℕ, ◌≤◌, Bool, false, List, [], ◌++◌, length, set, refl, sym, ap, ◌∙◌, subst, arith}
 use mathlib.Core.Option.{some}
 use lib.ListN.{get_elem?}
 use Rattle.atomic_table.specs.Table.{State, keeps}
@@ -21,23 +21,24 @@ use Rattle.mx_rule.specs.Acknowledging.{MayConnect, connecting_view, ConnectAllo
 use Rattle.mx_rule.specs.Codes.{IsPlain, word_code}
 use Rattle.mx_rule.specs.Layout.{IsLayout, Layout, ShowsWords, content}
 use Rattle.mx_rule.specs.Parts.{Answered, CellAt, ConnectWord, Count, DescriptorAt, Flag, Part}
-use Rattle.mx_rule.specs.Rule.{Seats, IsPassOf, Undealt, AreRetired, IsReported, AreReported, Knows, Holds}
-use Rattle.mx_rule.specs.Shown.{View, Super, Pass, Noted, Report, Spent, PassView, ReportView, SuperView, Office, office, office_of, fresh_view}
+use Rattle.mx_rule.specs.Rule.{Seats, IsPassOf, Undealt, AreRetired, IsReported, AreReported, AreMarked, Knows, Holds}
+use Rattle.mx_rule.specs.Shown.{View, Super, Pass, Noted, Report, Spent, PassView, EntryView, ReportView, SuperView, Office, office, office_of, fresh_view}
 use Rattle.mx_rule.proofs.Words.{set_words, put_pair}
+use Rattle.mx_rule.proofs.Fronts.{front_more, no_marks, more_marks}
 use Rattle.mx_rule.proofs.Moves.{put_map, view_set}
 
 -- what a step of the supervisor leaves
-pub record IsOfficeStep (w w' : World) : Type 0 where
+pub record IsOfficeStep (S : Type 0) (w w' : World) : Type 0 where
   pub processes : w'.processes ≡ w.processes
   pub start : w'.start ≡ w.start
-  pub passes : (q : ℕ) (v : PassView) → IsPassOf (w.process q) (w.trace q) v → IsPassOf (w'.process q) (w'.trace q) v
+  pub passes : (q : ℕ) (v : PassView S) → IsPassOf (w.process q) (w.trace q) v → IsPassOf (w'.process q) (w'.trace q) v
   pub longer : (q : ℕ) → length (w.trace q) ≤ length (w'.trace q)
   pub higher : (q : ℕ) → (w.process q).floor ≤ (w'.process q).floor
   pub note : w'.note ≡ w.note
   pub rising : (q n : ℕ) → number_of (w.word q n) ≤ number_of (w'.word q n)
 
 -- what was reported stays so
-pub reported_on : (w w' : World) (u : ReportView) → IsOfficeStep w w' → IsReported w u → IsReported w' u
+pub reported_on : {S : Type 0} (w w' : World) (u : ReportView) → IsOfficeStep S w w' → IsReported w u → IsReported w' u
 reported_on w w' u s k = (
   record { low = k.0.low; high = subst (λ (x : ℕ). u.process ≤ x) (sym s.processes) k.0.high },
   (let a = s.longer u.process in let b = k.1 in omega arith),
@@ -45,11 +46,16 @@ reported_on w w' u s k = (
   (let a = s.rising u.process u.segno in let b = k.3 in omega arith),
 )
 
-pub under_office : {S : Type 0} (w w' : World) (seats : Seats) (j : ℕ) (v : View S) → IsOfficeStep w w'
+-- the seats after more entries
+abbrev pub after_entries : {S : Type 0} → List (EntryView S) → Seats S → Seats S
+after_entries more seats = record seats { history = more ++ seats.history }
+
+pub under_office : {S : Type 0} (w w' : World) (seats : Seats S) (more : List (EntryView S)) (j : ℕ) (v : View S)
+    → IsOfficeStep S w w'
     → j ≢ seats.chief
-    → Knows w seats j v → Knows w' seats j v
-under_office w w' seats j (Super v) s n k = absurd (n k.0)
-under_office w w' seats j (Pass v) s n k = (
+    → Knows w seats j v → Knows w' (after_entries more seats) j v
+under_office w w' seats more j (Super v) s n k = absurd (n k.0)
+under_office w w' seats more j (Pass v) s n k = (
   k.0,
   record {
     low = k.1.low;
@@ -58,44 +64,53 @@ under_office w w' seats j (Pass v) s n k = (
   },
   s.passes v.process v k.2,
   k.3 ∙ sym s.start,
+  front_more more v.history seats.history k.4,
+  k.5,
 )
-under_office w w' seats j (Noted v) s n k = (k.0, ap (λ (f : ℕ → _). f v.number) s.note ∙ k.1)
-under_office w w' seats j (Report v) s n k = reported_on w w' v s k
-under_office w w' seats j Spent s n k = k
+under_office w w' seats more j (Noted v) s n k =
+    (k.0, ap (λ (f : ℕ → _). f v.number) s.note ∙ k.1, front_more more v.history seats.history k.2)
+under_office w w' seats more j (Report v) s n k = reported_on w w' v s k
+under_office w w' seats more j Spent s n k = k
 
 pub office_moves : {S : Type 0} (y : Layout) (s : State S (View S)) (r : Holds y s) (id : ℕ) (v v' : SuperView S)
-    (w' : World) (words : List ℕ)
-    → get_elem? s.views id ≡ some (Super v) → IsOfficeStep r.world w' → (w'.numbers ≡ r.world.numbers)
+    (w' : World) (more : List (EntryView S)) (words : List ℕ)
+    → get_elem? s.views id ≡ some (Super v) → IsOfficeStep S r.world w' → (w'.numbers ≡ r.world.numbers)
     × (v'.next ≡ v.next) × (v'.start ≡ v.start) × (v'.retired ≡ v.retired)
-    × (v'.reported ≡ v.reported) → Good w' → office w' ≡ office_of v'
+    × (v'.reported ≡ v.reported) × (v'.history ≡ more ++ v.history) → AreMarked r.world more → Good w'
+    → office w' ≡ office_of v'
     → ((c : ℕ) → IsPlain (w'.cell c))
     → ShowsWords y w'.processes w'.numbers (content w') words
     → Holds y (record { words = words; homes = s.homes; views = set s.views id (Super v') })
-office_moves y s r id v v' w' words at step numbers good own plain shows =
-    let k = r.views id (Super v) at in record {
+office_moves {S = S} y s r id v v' w' more words at step numbers marks good own plain shows =
+    let k = r.views id (Super v) at in let seats' = after_entries more r.seats in record {
       world = w';
-      seats = r.seats;
+      seats = seats';
       layout = subst (λ (x : ℕ × ℕ). IsLayout y x.0 x.1) (λ i. (sym step.processes i, sym numbers.0 i)) r.layout;
       good = good;
+      marks = more_marks w' more r.seats.history
+          (λ i e at'. let a = marks i e at' in let b = step.longer e.process in omega arith)
+          (λ i e at'. let a = r.marks i e at' in let b = step.longer e.process in omega arith);
       plain = plain;
       words = shows;
-      views = view_set (Knows w' r.seats) s.views id (Super v') (
+      views = view_set (Knows w' seats') s.views id (Super v') (
         k.0,
         own,
-        subst (λ (z : ℕ × ℕ). Undealt w' r.seats id z.0 z.1) (λ i. (sym numbers.1 i, sym numbers.2 i))
+        subst (λ (z : ℕ × ℕ). Undealt w' seats' id z.0 z.1) (λ i. (sym numbers.1 i, sym numbers.2 i))
             (λ q a b. let u = k.2 q a (subst (λ (x : ℕ). q ≤ x) step.processes b) in
             (u.0, step.passes q (fresh_view v.start q) u.1)),
-        subst (λ (z : ℕ × List PassView). AreRetired w' r.seats id z.0 z.1) (λ i. (sym numbers.1 i, sym numbers.3 i))
-            (λ i x e. let u = k.3 i x e in (u.0, u.1, step.passes x.process x u.2)),
+        subst (λ (z : ℕ × List (PassView S)). AreRetired w' seats' id z.0 z.1) (λ i. (sym numbers.1 i, sym numbers.3 i))
+            (λ i x e. let u = k.3 i x e in
+            (u.0, u.1, step.passes x.process x u.2, front_more more x.history r.seats.history u.3)),
         subst (AreReported w') (sym numbers.4) (λ i x e. reported_on r.world w' x step (k.4 i x e)),
+        numbers.5 ∙ ap (λ xs. more ++ xs) k.5,
       )
-          (λ j u n e. under_office r.world w' r.seats j u step (λ e'. n (e' ∙ sym k.0)) (r.views j u e));
+          (λ j u n e. under_office r.world w' r.seats more j u step (λ e'. n (e' ∙ sym k.0)) (r.views j u e));
     }
 
 -- the supervisor's part of a process changes
-pub office_step : (w : World) (p : ℕ) (o : Process) → o.floor ≡ (w.process p).floor
-    → ((v : PassView) → IsPassOf (w.process p) (w.trace p) v → IsPassOf o (w.trace p) v)
-    → IsOfficeStep w (with_process w p o)
+pub office_step : {S : Type 0} (w : World) (p : ℕ) (o : Process) → o.floor ≡ (w.process p).floor
+    → ((v : PassView S) → IsPassOf (w.process p) (w.trace p) v → IsPassOf o (w.trace p) v)
+    → IsOfficeStep S w (with_process w p o)
 office_step w p o floor own = record {
   processes = refl;
   start = refl;
@@ -142,7 +157,7 @@ strike_allowed S y v p n may slots id s r len at lt =
       Super (struck_view p n v),
       keeps,
       tt,
-      office_moves y s r id v (struck_view p n v) (after_strike w p n) _ at
+      office_moves y s r id v (struck_view p n v) (after_strike w p n) [] _ at
           (record {
             processes = refl;
             start = refl;
@@ -154,7 +169,8 @@ strike_allowed S y v p n may slots id s r len at lt =
                 (λ q. w.table q p n) (w.told p n) (w.word p n) r.good.access.answered_low
                 (r.good.access.words p n));
           })
-          (refl, refl, refl, refl, refl)
+          (refl, refl, refl, refl, refl, refl)
+          (no_marks {S = S} w)
           (strike_law w p n r.good
           (record {
             range = record { process = record { low = m.low; high = m.high }; number = m.number };
@@ -199,9 +215,10 @@ connect_allowed S y v p may slots id s r len at lt =
       Super (connecting_view p v),
       keeps,
       tt,
-      office_moves y s r id v (connecting_view p v) (after_connect w p) _ at
+      office_moves y s r id v (connecting_view p v) (after_connect w p) [] _ at
           (office_step w p o' refl (λ u h. record { told = h.told; rest = h.rest }))
-          (refl, refl, refl, refl, refl)
+          (refl, refl, refl, refl, refl, refl)
+          (no_marks {S = S} w)
           (connect_law w p r.good
           (record {
             range = record { low = m.low; high = m.high };
@@ -240,7 +257,7 @@ answer_allowed S y v may slots id s r len at lt =
       Super (answered_view v),
       keeps,
       tt,
-      office_moves y s r id v (answered_view v) (after_answer w) _ at
+      office_moves y s r id v (answered_view v) (after_answer w) [] _ at
           (record {
             processes = refl;
             start = refl;
@@ -250,7 +267,8 @@ answer_allowed S y v may slots id s r len at lt =
             note = refl;
             rising = λ q n. omega arith;
           })
-          (refl, refl, refl, refl, refl)
+          (refl, refl, refl, refl, refl, refl)
+          (no_marks {S = S} w)
           (answer_law w r.good (record { pending = m.pending; struck = m.struck; acknowledged = m.acknowledged }))
           (ap answering k.1)
           r.plain

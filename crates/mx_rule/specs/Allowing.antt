@@ -9,16 +9,16 @@ use Rattle.mx_rule.specs.Rule.{Holds}
 use Rattle.mx_rule.specs.Shown.{PassView, Pass, Super, SuperView}
 
 -- a pass writes a number into a part, or reads it
-abbrev pub PassWrites : Type 0 → Layout → PassView → Part → ℕ → PassView → Type 0
+abbrev pub PassWrites : (S : Type 0) → Layout → PassView S → Part → ℕ → PassView S → Type 0
 PassWrites S y v x n v' = (slots id : ℕ) → Allows {S = S} (Holds y) slots id (Pass v, []) (number_in y x) (λ _. n)
     (λ _ me. me ≡ (Pass v', []))
 
-abbrev pub PassReads : Type 0 → Layout → PassView → Part → (ℕ → PassView) → Type 0
+abbrev pub PassReads : (S : Type 0) → Layout → PassView S → Part → (ℕ → PassView S) → Type 0
 PassReads S y v x v' = (slots id : ℕ) → Allows {S = S} (Holds y) slots id (Pass v, []) (number_in y x) (λ n. n)
     (λ n me. me ≡ (Pass (v' n), []))
 
 -- what is read tells more
-abbrev pub PassTells : Type 0 → Layout → PassView → Part → (ℕ → PassView) → (ℕ → Type 0) → Type 0
+abbrev pub PassTells : (S : Type 0) → Layout → PassView S → Part → (ℕ → PassView S) → (ℕ → Type 0) → Type 0
 PassTells S y v x v' T = (slots id : ℕ) → Allows {S = S} (Holds y) slots id (Pass v, []) (number_in y x) (λ n. n)
     (λ n me. (me ≡ (Pass (v' n), [])) × T n)
 

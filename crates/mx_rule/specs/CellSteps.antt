@@ -15,19 +15,19 @@ use Rattle.mx_rule.specs.Parts.{CellAt}
 use Rattle.mx_rule.specs.Shown.{PassView}
 use Rattle.mx_rule.specs.Allowing.{PassWrites, PassTells}
 
-abbrev pub stored_view : Triple → Asked → ℕ → PassView → PassView
+abbrev pub stored_view : {E : Type 0} → Triple → Asked → ℕ → PassView E → PassView E
 stored_view u a value v = record v {
   hold = None;
   trace = v.trace ++ Judged (element_of u.segno a v.floor (outcome.Written value)) a.op u.desc ∷ [];
 }
 
 abbrev pub StoreCellAllowed : Type 0 → Type 0
-StoreCellAllowed S = (y : Layout) (v : PassView) (u : Triple) (a : Asked) (value : ℕ)
+StoreCellAllowed S = (y : Layout) (v : PassView S) (u : Triple) (a : Asked) (value : ℕ)
     → v.basis ≡ Some u → v.hold ≡ Some a → writes a.op ≡ true → value < 2 ^ 36 → cell_at u.desc a.word < 65536
     → PassWrites S y v (CellAt (cell_at u.desc a.word))
     (cell_code (record { value = value; writer = v.process; stamp = v.floor })) (stored_view u a value v)
 
-abbrev pub read_view : Triple → Asked → Held → PassView → PassView
+abbrev pub read_view : {E : Type 0} → Triple → Asked → Held → PassView E → PassView E
 read_view u a held v = record v {
   floor = max v.floor held.stamp;
   hold = None;
@@ -37,6 +37,6 @@ read_view u a held v = record v {
 }
 
 abbrev pub LoadCellAllowed : Type 0 → Type 0
-LoadCellAllowed S = (y : Layout) (v : PassView) (u : Triple) (a : Asked)
+LoadCellAllowed S = (y : Layout) (v : PassView S) (u : Triple) (a : Asked)
     → v.basis ≡ Some u → v.hold ≡ Some a → loads a.op ≡ true → cell_at u.desc a.word < 65536
     → PassTells S y v (CellAt (cell_at u.desc a.word)) (λ n. read_view u a (cell_said n) v) IsCellCode

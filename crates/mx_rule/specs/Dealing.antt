@@ -44,9 +44,9 @@ DealAllowed S = (y : Layout) (v : SuperView S) (id : ℕ) → 1 ≤ v.next → v
     → Splits {S = S} (Holds y) id (Super v) (Super (dealing_view v)) (Pass (fresh_view v.start v.next))
 
 -- a pass's seat goes to the supervisor
-abbrev pub retired_view : {E : Type 0} → PassView → SuperView E → SuperView E
+abbrev pub retired_view : {E : Type 0} → PassView E → SuperView E → SuperView E
 retired_view u v = record v { retired = u ∷ v.retired }
 
 abbrev pub RetireAllowed : Type 0 → Type 0
-RetireAllowed S = (y : Layout) (v : SuperView S) (u : PassView) (id other : ℕ)
+RetireAllowed S = (y : Layout) (v : SuperView S) (u : PassView S) (id other : ℕ)
     → Joins {S = S} (Holds y) id (Super v) other (Pass u) (Super (retired_view u v)) Spent

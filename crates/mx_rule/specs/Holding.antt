@@ -34,7 +34,7 @@ cell_on (Valid number desc) floor a = pick (nat_le number floor) (waiting_cell d
 cell_on (Fault number) floor a = None
 
 -- a reference of such an operation is held
-pub record IsHeld (v : PassView) (asks : Op → Bool) : Type 0 where
+pub record IsHeld {E : Type 0} (v : PassView E) (asks : Op → Bool) : Type 0 where
   pub on : Triple
   pub asked : Asked
   pub basis : v.basis ≡ Some on
@@ -42,19 +42,19 @@ pub record IsHeld (v : PassView) (asks : Op → Bool) : Type 0 where
   pub operation : asks asked.op ≡ true
 
 -- the word of the cell is read
-abbrev pub read_by : Option Triple → Option Asked → ℕ → PassView → PassView
+abbrev pub read_by : {E : Type 0} → Option Triple → Option Asked → ℕ → PassView E → PassView E
 read_by (Some u) (Some a) n v = read_view u a (cell_said n) v
 read_by (Some u) None n v = v
 read_by None hold n v = v
 
-abbrev pub read_held : ℕ → PassView → PassView
+abbrev pub read_held : {E : Type 0} → ℕ → PassView E → PassView E
 read_held n v = read_by v.basis v.hold n v
 
 -- a value is stored in it
-abbrev pub stored_by : Option Triple → Option Asked → ℕ → PassView → PassView
+abbrev pub stored_by : {E : Type 0} → Option Triple → Option Asked → ℕ → PassView E → PassView E
 stored_by (Some u) (Some a) value v = stored_view u a value v
 stored_by (Some u) None value v = v
 stored_by None hold value v = v
 
-abbrev pub stored_held : ℕ → PassView → PassView
+abbrev pub stored_held : {E : Type 0} → ℕ → PassView E → PassView E
 stored_held value v = stored_by v.basis v.hold value v

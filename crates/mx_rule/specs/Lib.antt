@@ -2,6 +2,7 @@ pub mod Parts
 pub mod Codes
 pub mod Layout
 pub mod Shown
+pub mod Fronts
 pub mod Rule
 pub mod Allowing
 pub mod Entering
@@ -13,6 +14,7 @@ pub mod Appending
 pub mod Clearing
 pub mod Notes
 pub mod Dealing
+pub mod Dealt
 pub mod Seats
 pub mod Openings
 pub mod Holding

@@ -29,10 +29,10 @@ abbrev pub told_of : ℕ → List Told → ℕ → ℕ → ℕ
 told_of start [] = λ p n. start
 told_of start (x ∷ xs) = put (told_of start xs) x.process (put (told_of start xs x.process) x.segno x.number)
 
-abbrev pub note_of : NoteView → Note
+abbrev pub note_of : {E : Type 0} → NoteView E → Note
 note_of v = record { floor = v.floor; told = told_of v.start v.told }
 
-abbrev pub all_told : ℕ → List NoteView → ℕ → ℕ → ℕ
+abbrev pub all_told : {E : Type 0} → ℕ → List (NoteView E) → ℕ → ℕ → ℕ
 all_told start [] = λ p n. start
 all_told start (x ∷ xs) = λ p n. max (all_told start xs p n) ((note_of x).told p n)
 
@@ -145,7 +145,7 @@ office_of v = record {
 }
 
 -- a pass's view with what the world has of its process
-abbrev pub shown : PassView → Process → List Kept → PassView
+abbrev pub shown : {E : Type 0} → PassView E → Process → List Kept → PassView E
 shown v o trace = record v {
   floor = o.floor;
   stage = o.stage;
@@ -159,7 +159,7 @@ shown v o trace = record v {
 }
 
 -- a process that did nothing yet
-abbrev pub fresh_view : ℕ → ℕ → PassView
+abbrev pub fresh_view : {E : Type 0} → ℕ → ℕ → PassView E
 fresh_view start p = record {
   process = p;
   start = start;
@@ -173,4 +173,6 @@ fresh_view start p = record {
   basis = None;
   hold = None;
   trace = [];
+  history = [];
+  earlier = [];
 }

@@ -7,7 +7,7 @@ ghost use Rattle.mx_rule.specs.Seats.{super_of};
 use crate::office::SuperSeat;
 use crate::opening::Words;
 
-/// Gives the words back. What processes did whose seats came back is right.
+/// Gives the words back. What processes did whose seats came back is right, and each was told of a front of the history.
 pub fn close<E>(words: Words<E>, seat: SuperSeat<E>)
     requires fits { seat.seat.table_id ≡ words.shared.table_id }
     requires slots { words.shared.table_id.slots ≡ 0 }

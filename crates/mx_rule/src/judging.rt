@@ -8,7 +8,7 @@ ghost use Rattle.mx_core.specs.declared.words.DescriptorWord.TheVariants.{Valid}
 ghost use Rattle.mx_core.specs.declared.words.Stage.TheVariants.{Ready};
 ghost use Rattle.mx_core.specs.declared.words.Triple.{Triple as TripleValue};
 ghost use Rattle.mx_rule.specs.Codes.{IsCodable, IsWordCode, word_by, word_said};
-ghost use Rattle.mx_rule.specs.Loading.{judged_view, loaded_view};
+ghost use Rattle.mx_rule.specs.Loading.{IsNews, judged_view, loaded_view};
 ghost use Rattle.mx_rule.specs.Seats.{pass_of};
 ghost use Rattle.mx_rule.specs.declared.views.View.TheVariants.{Pass};
 ghost use Rattle.mx_sdw.specs.Admissible.{IsAdmissible};
@@ -50,7 +50,8 @@ pub struct Loads<J: Asking> {
 
 impl<E, J: Asking> Play<E, View<E>> for Loads<J> {
     ghost then = { λ st me n after. (after
-        ≡ (Pass (loaded_view J.numbers J.on.segno J.asked (word_said n) (pass_of me.0)), [])) × IsWordCode n };
+        ≡ (Pass (loaded_view J.numbers J.on.segno J.asked (word_said n) (pass_of me.0)), []))
+        × (IsWordCode n × IsNews (pass_of me.0) J.on.segno (word_said n)) };
 }
 
 /// A number that the table has not: the process reads its own flag, and judges on the unknown descriptor.
@@ -77,8 +78,8 @@ impl<E, J: Asking> Play<E, View<E>> for Recalls<J> {
 }
 
 impl<E> PassSeat<E> {
-    /// Reads the descriptor word of a number, and judges on it: what the word says. A number that the table has not is
-    /// unknown since the opening. Condition: the process is ready.
+    /// Reads the descriptor word of a number, and judges on it: what the word says. A word that is missed is news to the
+    /// process. A number that the table has not is unknown since the opening. Condition: the process is ready.
     pub fn load_desc(
         &mut self,
         shared: &Board<E>,
@@ -93,6 +94,8 @@ impl<E> PassSeat<E> {
         ensures view { pass_of self.new.seat.me.0 ≡ loaded_view self.old.layout.numbers segno
             (record { op = op; ring = ring; word = word }) (word_by result) (pass_of self.old.seat.me.0) }
         ensures says { IsCodable (word_by result) }
+        ensures news { segno < self.old.layout.numbers
+            → IsNews (pass_of self.old.seat.me.0) segno (word_by result) }
         ensures past { self.old.layout.numbers ≤ segno → result ≡ Unknown (pass_of self.old.seat.me.0).start }
         ensures place { self.new.seat.table_id ≡ self.old.seat.table_id }
         ensures layout { self.new.layout ≡ self.old.layout }
@@ -114,6 +117,7 @@ impl<E> PassSeat<E> {
         ensures view { pass_of self.new.seat.me.0
             ≡ loaded_view self.old.layout.numbers segno asked.now (word_by result) (pass_of self.old.seat.me.0) }
         ensures says { IsCodable (word_by result) }
+        ensures news { IsNews (pass_of self.old.seat.me.0) segno (word_by result) }
         ensures place { self.new.seat.table_id ≡ self.old.seat.table_id }
         ensures layout { self.new.layout ≡ self.old.layout }
     {

@@ -10,7 +10,7 @@ ghost use Rattle.mx_rule.specs.Entering.{EnterAllowed, LoadConnectAllowed, Leave
 ghost use Rattle.mx_rule.specs.Loading.{LoadDescAllowed, LoadUnknownAllowed, RecallAllowed};
 ghost use Rattle.mx_rule.specs.Notes.{SplitAllowed, JoinAllowed, MakesReportAllowed, ReportAllowed};
 ghost use Rattle.mx_rule.specs.Striking.{StrikeAllowed, SettleAllowed};
-ghost use Rattle.mx_rule.specs.Telling.{HearAllowed};
+ghost use Rattle.mx_rule.specs.Telling.{HearAllowed, ListenAllowed};
 
 /// A step of the supervisor keeps the rule, whichever its kind; Look and Acknowledge are one load of the flag.
 pub fn office_keeps<E>()
@@ -46,5 +46,6 @@ pub fn seats_keep<E>()
     ensures makes_report { MakesReportAllowed E }
     ensures retire { RetireAllowed E }
     ensures hear { HearAllowed E }
+    ensures listen { ListenAllowed E }
     ensures end { EndIsRight E }
 {}

@@ -29,7 +29,7 @@ pub use notes::{
     Dealing, Hearing, Hears, NoteSeat, Noting, ReportSeat, Reported, Reporting, Retiring,
 };
 pub use office::{Aim, Answers, Clears, Notices, Settles, Strikes, SuperSeat, Tells};
-pub use opening::{Words, open};
+pub use opening::{PassSeats, Words, open, open_with_seats};
 pub use passes::{Connects, Enters, Leaves, PassSeat};
 pub use rule::{Board, Key, Law};
 pub use views::{

@@ -1,11 +1,12 @@
 //! Seats that are split off another and joined to one: notes, reports, and the processes' own seats.
 
 ghost use Rattle.std.specs.Prelude.{◌≡◌, ◌≤◌, []};
+ghost use Rattle.mx_rule.specs.Fronts.{IsFront};
 ghost use Rattle.mx_rule.specs.Dealing.{dealing_view, retired_view};
 ghost use Rattle.mx_rule.specs.Notes.{noting_view, noted_view, joined_view, reporting_view, reported_view};
 ghost use Rattle.mx_rule.specs.Seats.{pass_of, super_of, note_seen, report_seen};
 ghost use Rattle.mx_rule.specs.Shown.{fresh_view};
-ghost use Rattle.mx_rule.specs.Telling.{IsTold};
+ghost use Rattle.mx_rule.specs.Telling.{AreOwnMarks, IsTold};
 ghost use Rattle.mx_rule.specs.declared.views.View.TheVariants.{Super, Pass, Note as Noted, Report, Spent};
 
 use crate::office::SuperSeat;
@@ -75,7 +76,16 @@ impl<E> Play<E, View<E>> for Hears {
     ghost then = { λ st me n after. (after ≡ (Super (super_of me.0), [])) × IsTold (super_of me.0) };
 }
 
+/// A process hears what the rule says of what it was told.
+pub struct Listens;
+
+impl<E> Play<E, View<E>> for Listens {
+    ghost then = { λ st me n after. (after ≡ (Pass (pass_of me.0), []))
+        × (AreOwnMarks (pass_of me.0) × IsFront (pass_of me.0).earlier (pass_of me.0).history) };
+}
+
 /// A note that waits to be taken by a process.
+#[derive(Drop)]
 pub struct NoteSeat<E> {
     pub seat: Seat<E, View<E>>,
     /// How many entries were answered when it was made.
@@ -86,6 +96,7 @@ pub struct NoteSeat<E> {
 }
 
 /// A report that waits to be taken by the supervisor.
+#[derive(Drop)]
 pub struct ReportSeat<E> {
     pub seat: Seat<E, View<E>>,
     pub ghost posed: { seat.me ≡ (Report (report_seen seat.me.0), []) },
@@ -194,19 +205,37 @@ impl<E> SuperSeat<E> {
 }
 
 impl<E> PassSeat<E> {
-    /// Takes a note.
+    /// Takes a note. The history that the process was told of has then grown at its end, and no own entry of it has a
+    /// mark beyond the trace.
     pub fn join(&mut self, shared: &Board<E>, note: NoteSeat<E>)
         requires fits { self.old.seat.table_id ≡ shared.now.table_id }
         requires also { note.seat.table_id ≡ shared.now.table_id }
         requires layout { shared.now.key.layout ≡ self.old.layout }
         ensures view { pass_of self.new.seat.me.0
             ≡ joined_view (note_seen note.seat.me.0) (pass_of self.old.seat.me.0) }
+        ensures marks { AreOwnMarks (pass_of self.new.seat.me.0) }
+        ensures longer { IsFront (pass_of self.new.seat.me.0).earlier (pass_of self.new.seat.me.0).history }
         ensures place { self.new.seat.table_id ≡ self.old.seat.table_id }
         ensures layout { self.new.layout ≡ self.old.layout }
     {
         let NoteSeat { seat, floor } = note;
         shared.join_seat::<Hearing>(&mut self.seat, seat);
         self.floor = self.floor.max(floor);
+        self.listen(shared);
+    }
+
+    /// Hears what the rule says of what the process was told: a load of the count, which changes nothing.
+    fn listen(&mut self, shared: &Board<E>)
+        requires fits { self.old.seat.table_id ≡ shared.now.table_id }
+        requires layout { shared.now.key.layout ≡ self.old.layout }
+        ensures view { pass_of self.new.seat.me.0 ≡ pass_of self.old.seat.me.0 }
+        ensures marks { AreOwnMarks (pass_of self.new.seat.me.0) }
+        ensures longer { IsFront (pass_of self.new.seat.me.0).earlier (pass_of self.new.seat.me.0).history }
+        ensures place { self.new.seat.table_id ≡ self.old.seat.table_id }
+        ensures layout { self.new.layout ≡ self.old.layout }
+    {
+        let word = self.layout.count();
+        shared.load::<Listens>(&mut self.seat, word);
     }
 
     /// Makes a report: how far it was told, how long its trace is, and the miss that it ends with.

@@ -89,6 +89,7 @@ impl<E, J: Aim> Play<E, View<E>> for Clears<J> {
 }
 
 /// The supervisor's seat: its place at the shared table, with the numbers that its calls need.
+#[derive(Drop)]
 pub struct SuperSeat<E> {
     pub seat: Seat<E, View<E>>,
     /// Which word is which.
@@ -288,8 +289,8 @@ impl<E> SuperSeat<E> {
         self.looks[usize::from(process)] = 0;
     }
 
-    /// Makes a cell zero. Condition: nothing is pending, and no descriptor covers the page of the cell.
-    pub fn clear(&mut self, shared: &Board<E>, cell: u16)
+    /// Makes a cell zero. Condition: the cell is below 65,536, nothing is pending, and no descriptor covers its page.
+    pub fn clear(&mut self, shared: &Board<E>, cell: u32)
         requires fits { self.old.seat.table_id ≡ shared.now.table_id }
         requires layout { shared.now.key.layout ≡ self.old.layout }
         requires may { MayClear (office_of (super_of self.old.seat.me.0)) cell }
@@ -300,7 +301,7 @@ impl<E> SuperSeat<E> {
         self.clear_for::<Brand>(shared, cell);
     }
 
-    fn clear_for<J: Aim>(&mut self, shared: &Board<E>, cell: u16)
+    fn clear_for<J: Aim>(&mut self, shared: &Board<E>, cell: u32)
         requires fits { self.old.seat.table_id ≡ shared.now.table_id }
         requires layout { shared.now.key.layout ≡ self.old.layout }
         requires aim { J.number ≡ cell }
@@ -309,7 +310,7 @@ impl<E> SuperSeat<E> {
         ensures place { self.new.seat.table_id ≡ self.old.seat.table_id }
         ensures layout { self.new.layout ≡ self.old.layout }
     {
-        let word = self.layout.cell(cell);
+        let word = self.layout.cell(cell as u16);
         shared.store::<Clears<J>>(&mut self.seat, word, 0);
     }
 }

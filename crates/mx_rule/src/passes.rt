@@ -36,6 +36,7 @@ impl<E> Play<E, View<E>> for Leaves {
 }
 
 /// The seat of a process: its place at the shared table, with what its calls need.
+#[derive(Drop)]
 pub struct PassSeat<E> {
     pub seat: Seat<E, View<E>>,
     /// Which word is which.

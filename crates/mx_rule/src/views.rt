@@ -58,7 +58,7 @@ pub enum Cleaning {
 }
 
 /// What the seat of a process knows: all of the process but its connect word, and its trace.
-pub struct PassView {
+pub struct PassView<E> {
     /// The process.
     pub process: u8,
     /// How many entries came before the opening.
@@ -66,7 +66,7 @@ pub struct PassView {
     /// Of how many entries it was told.
     pub floor: u32,
     /// The notes that it took.
-    pub told: LinkedList<NoteView>,
+    pub told: LinkedList<NoteView<E>>,
     /// Where it stands.
     pub stage: Stage,
     /// The turn that it took last.
@@ -83,10 +83,14 @@ pub struct PassView {
     pub hold: Option<Asked>,
     /// What it did.
     pub trace: LinkedList<Kept>,
+    /// The entries since the opening that it was told of.
+    pub history: LinkedList<EntryView<E>>,
+    /// Those that it was told of before it took its last note.
+    pub earlier: LinkedList<EntryView<E>>,
 }
 
 /// What the seat of a note knows: what the supervisor tells a process.
-pub struct NoteView {
+pub struct NoteView<E> {
     /// The number of the note.
     pub number: u32,
     /// How many entries came before the opening.
@@ -95,6 +99,8 @@ pub struct NoteView {
     pub floor: u32,
     /// What was settled.
     pub told: LinkedList<Told>,
+    /// The entries since the opening.
+    pub history: LinkedList<EntryView<E>>,
 }
 
 /// What the seat of a report knows: what a process tells the supervisor.
@@ -146,7 +152,7 @@ pub struct SuperView<E> {
     /// The first process whose seat was not dealt yet.
     pub next: u8,
     /// The last views of processes whose seats came back.
-    pub retired: LinkedList<PassView>,
+    pub retired: LinkedList<PassView<E>>,
 }
 
 /// What a seat knows, by whose seat it is.
@@ -154,9 +160,9 @@ pub enum View<E> {
     /// The supervisor's.
     Super(SuperView<E>),
     /// A process's.
-    Pass(PassView),
+    Pass(PassView<E>),
     /// That of a note that waits to be joined.
-    Note(NoteView),
+    Note(NoteView<E>),
     /// That of a report that waits to be joined.
     Report(ReportView),
     /// That of a seat which was joined to another.

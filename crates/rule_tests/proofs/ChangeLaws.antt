@@ -1,9 +1,8 @@
 -- A change of one pair goes on a step at a time.
-use Rattle.std.proofs.Common.{◌≡◌, ◌≢◌, inl, inr, ⊎_elim, ℕ, zero, suc, ◌+◌, ◌<◌, ◌≤◌, IsTrue, Bool, List, [], ◌∷◌, refl, ap, sym, ◌∙◌, subst, slice_get, Some, true, arith}
+use Rattle.std.proofs.Common.{◌≡◌, ◌≢◌, inl, inr, ℕ, zero, suc, ◌+◌, ◌<◌, ◌≤◌, IsTrue, Bool, List, [], ◌∷◌, refl, ap, sym, ◌∙◌, subst, slice_get, Some, true, arith}
 use Rattle.std.proofs.lemmas.Bool.{cases_eq}
 use Rattle.mx_sdw.specs.Admissible.{IsAdmissible}
 use Rattle.mx_sdw.specs.Descriptors.{Descriptor}
-use Rattle.mx_core.specs.Append.{with_changes}
 use Rattle.mx_core.specs.Put.{put}
 use Rattle.mx_core.specs.declared.changes.Change.{Change}
 use Rattle.mx_core.specs.declared.changes.Run.{Run}
@@ -14,10 +13,11 @@ use Rattle.mx_rule.specs.Acknowledging.{MayConnect, connecting_view, MayAcknowle
 use Rattle.mx_rule.specs.Appending.{MayAppend, appended_view}
 use Rattle.mx_rule.specs.Dealing.{opening_view, dealing_view}
 use Rattle.mx_rule.specs.Notes.{noting_view, reported_view}
-use Rattle.mx_rule.specs.Shown.{Office, office_of, tables_of, base_of, words_of, numbers_of, marked}
-use Rattle.mx_rule.specs.Striking.{Changes, MayStrike, struck_view, MaySettle, settled_view}
+use Rattle.mx_rule.specs.Shown.{Office, office_of}
+use Rattle.mx_rule.specs.Striking.{MayStrike, struck_view, MaySettle, settled_view}
 use Rattle.mx_rule.specs.declared.views.SuperView.{SuperView}
 use Rattle.mx_rule.specs.declared.views.ReportView.{ReportView}
+use Rattle.mx_desc.specs.Supers.{IsWaiting}
 use Rattle.rule_tests.specs.Turning.{AreTurned}
 use Rattle.rule_tests.specs.Changing.{HasPair, IsAtRest, IsChanging, IsStruck, IsConnected, HasLeft, IsUnsettled, present}
 
@@ -217,3 +217,23 @@ pub opens_at_rest : (E : Type 0) (processes numbers start : ℕ) (base : List Ch
     → IsAtRest (office_of {E = E} (opening_view processes numbers start base))
 opens_at_rest E processes numbers start base =
     record { low = omega arith; rest = omega arith; ready = λ page. refl }
+
+-- while the supervisor waits, what is connected stays so
+pub waited : {E : Type 0} (v v' : SuperView E) (p n : ℕ) → IsConnected (office_of v) p n → IsWaiting v v'
+    → IsTrue ((office_of v').acknowledged p) → HasLeft (office_of v') p n
+waited v v' p n c w acknowledged = let k = c.struck.changing in record {
+  connected = subst (λ (u : SuperView _). IsConnected (office_of u) p n) (sym w.after) (record {
+    struck = record {
+      changing = record {
+        pair = record { low = k.pair.low; high = k.pair.high; number = k.pair.number };
+        pending = k.pending;
+        changed = k.changed;
+        only = k.only;
+        ready = k.ready;
+      };
+      struck = c.struck.struck;
+    };
+    connect = c.connect;
+  });
+  acknowledged = acknowledged;
+}

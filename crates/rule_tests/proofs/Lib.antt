@@ -1,3 +1,4 @@
 pub mod ChangeLaws
 pub mod ReferLaws
 pub mod TurnLaws
+pub mod CamLaws

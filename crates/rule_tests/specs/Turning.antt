@@ -13,7 +13,7 @@ pub record Fits (place : TableId) (layout : Layout) (table : TableId) (key : Lay
   pub same_layout : key ≡ layout
 
 -- a pass of it is outside
-pub record Stands (place : TableId) (layout : Layout) (table : TableId) (key : Layout) (v : PassView) : Type 0 where
+pub record Stands (place : TableId) (layout : Layout) (table : TableId) (key : Layout) (v : PassView ℕ) : Type 0 where
   pub fits : Fits place layout table key
   pub outside : v.stage ≡ Outside
 

@@ -9,6 +9,7 @@ ghost use Rattle.mx_rule.specs.Shown.{base_of};
 ghost use Rattle.rule_tests.specs.Changing.{IsAtRest, present, seen};
 ghost use Rattle.mx_sdw.specs.Admissible.{IsAdmissible};
 
+mod cams;
 mod changing;
 mod greatest;
 mod memories;

@@ -1,7 +1,7 @@
 use Rattle.mx_rule.proofs.Endings.{end_is_right}
 use Rattle.mx_rule.proofs.NoteSteps.{makes_report_allowed}
 use Rattle.mx_rule.proofs.Openings.{opening_allowed, deal_allowed, retire_allowed}
-use Rattle.mx_rule.proofs.Tellings.{hear_allowed}
+use Rattle.mx_rule.proofs.Tellings.{hear_allowed, listen_allowed}
 use Rattle.mx_rule.proofs.laws.seats_keep.Goals as goal
 
 pub returns : goal.returns
@@ -11,5 +11,6 @@ returns g c = record {
   makes_report = makes_report_allowed g.row.E.Denot;
   retire = retire_allowed g.row.E.Denot;
   hear = hear_allowed g.row.E.Denot;
+  listen = listen_allowed g.row.E.Denot;
   end = end_is_right g.row.E.Denot;
 }

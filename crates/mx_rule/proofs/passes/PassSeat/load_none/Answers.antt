@@ -50,13 +50,13 @@ invariant_of-self g c =
     let is = c.load.ensures.2 in
     let me : pass_of c.load.new.seat.me.0 ≡ x = ap (λ m. pass_of m.0) is in
     let u = loaded_unmoved g.J.Asking.numbers g.J.Asking.on.segno g.J.Asking.asked word v in record {
-      posed = is ∙ sym (ap (λ (z : PassView). (Pass z, [])) me);
-      process_is = ap (λ (z : PassView). z.process) me ∙ u.process ∙ seat.process_is;
-      turn_is = ap (λ (z : PassView). z.turn) me ∙ u.turn ∙ seat.turn_is;
-      cleared_is = ap (λ (z : PassView). z.cleared) me ∙ u.cleared ∙ seat.cleared_is;
-      start_is = ap (λ (z : PassView). z.start) me ∙ u.start ∙ seat.start_is;
-      floor_is = ap (λ (z : PassView). z.floor) me ∙ u.floor ∙ seat.floor_is;
-      cell_is = ap (λ (z : PassView). held_at z.basis z.hold) me
+      posed = is ∙ sym (ap (λ (z : PassView g.row.E.Denot). (Pass z, [])) me);
+      process_is = ap (λ (z : PassView g.row.E.Denot). z.process) me ∙ u.process ∙ seat.process_is;
+      turn_is = ap (λ (z : PassView g.row.E.Denot). z.turn) me ∙ u.turn ∙ seat.turn_is;
+      cleared_is = ap (λ (z : PassView g.row.E.Denot). z.cleared) me ∙ u.cleared ∙ seat.cleared_is;
+      start_is = ap (λ (z : PassView g.row.E.Denot). z.start) me ∙ u.start ∙ seat.start_is;
+      floor_is = ap (λ (z : PassView g.row.E.Denot). z.floor) me ∙ u.floor ∙ seat.floor_is;
+      cell_is = ap (λ (z : PassView g.row.E.Denot). held_at z.basis z.hold) me
           ∙ loaded_holds g.J.Asking.numbers g.J.Asking.on.segno g.J.Asking.asked word v
           ∙ (λ i. cell_on (ap (λ (k : ℕ). Valid k unknown_desc) seat.start_is i) (seat.floor_is i)
           (c.requires.asking.2 i))

@@ -4,7 +4,7 @@ use Rattle.mx_rule.specs.Allowing.{PassTells}
 use Rattle.mx_rule.specs.Codes.{IsWordCode, word_said}
 use Rattle.mx_rule.specs.Holding.{held_at, cell_on}
 use Rattle.mx_rule.specs.Layout.{Layout}
-use Rattle.mx_rule.specs.Loading.{loaded_view}
+use Rattle.mx_rule.specs.Loading.{IsNews, loaded_view}
 use Rattle.mx_rule.specs.Parts.{DescriptorAt, number_in}
 use Rattle.mx_rule.specs.Seats.{pass_of}
 use Rattle.mx_rule.specs.Shown.{Pass, PassView}
@@ -31,10 +31,11 @@ load-found-requires g c =
     let place = c.descriptor-word.ensures in (
       c.requires.fits,
       omega arith,
-      pass_tells g.row.E.Denot y v (λ m. loaded_view g.J.Asking.numbers n a (word_said m) v) IsWordCode
+      pass_tells g.row.E.Denot y v (λ m. loaded_view g.J.Asking.numbers n a (word_said m) v)
+          (λ m. IsWordCode m × IsNews v n (word_said m))
           (DescriptorAt v.process n) _ _
           (subst (λ (k : ℕ). PassTells g.row.E.Denot y v (DescriptorAt v.process n)
-          (λ m. loaded_view k n a (word_said m) v) IsWordCode) (same ∙ sym is.0)
+          (λ m. loaded_view k n a (word_said m) v) (λ m. IsWordCode m × IsNews v n (word_said m))) (same ∙ sym is.0)
           (load_desc_allowed g.row.E.Denot y v n a c.requires.ready (omega arith)))
           seat.posed
           ((λ i. number_in (c.requires.layout i) (DescriptorAt (seat.process_is i) (segno i))) ∙ sym place) _ _,
@@ -49,13 +50,13 @@ invariant_of-self g c =
     let is = c.load-found.ensures.2.0 in
     let me : pass_of c.load-found.new.seat.me.0 ≡ x = ap (λ m. pass_of m.0) is in
     let u = loaded_unmoved g.J.Asking.numbers g.J.Asking.on.segno g.J.Asking.asked word v in record {
-      posed = is ∙ sym (ap (λ (z : PassView). (Pass z, [])) me);
-      process_is = ap (λ (z : PassView). z.process) me ∙ u.process ∙ seat.process_is;
-      turn_is = ap (λ (z : PassView). z.turn) me ∙ u.turn ∙ seat.turn_is;
-      cleared_is = ap (λ (z : PassView). z.cleared) me ∙ u.cleared ∙ seat.cleared_is;
-      start_is = ap (λ (z : PassView). z.start) me ∙ u.start ∙ seat.start_is;
-      floor_is = ap (λ (z : PassView). z.floor) me ∙ u.floor ∙ seat.floor_is;
-      cell_is = ap (λ (z : PassView). held_at z.basis z.hold) me
+      posed = is ∙ sym (ap (λ (z : PassView g.row.E.Denot). (Pass z, [])) me);
+      process_is = ap (λ (z : PassView g.row.E.Denot). z.process) me ∙ u.process ∙ seat.process_is;
+      turn_is = ap (λ (z : PassView g.row.E.Denot). z.turn) me ∙ u.turn ∙ seat.turn_is;
+      cleared_is = ap (λ (z : PassView g.row.E.Denot). z.cleared) me ∙ u.cleared ∙ seat.cleared_is;
+      start_is = ap (λ (z : PassView g.row.E.Denot). z.start) me ∙ u.start ∙ seat.start_is;
+      floor_is = ap (λ (z : PassView g.row.E.Denot). z.floor) me ∙ u.floor ∙ seat.floor_is;
+      cell_is = ap (λ (z : PassView g.row.E.Denot). held_at z.basis z.hold) me
           ∙ loaded_holds g.J.Asking.numbers g.J.Asking.on.segno g.J.Asking.asked word v
           ∙ (λ i. cell_on (sym c.said-view.ensures.word i) (seat.floor_is i) (c.requires.asking.2 i))
           ∙ sym c.found_cell-self.ensures;

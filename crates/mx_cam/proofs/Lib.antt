@@ -1,0 +1,3 @@
+mod Recalling
+mod PlaceLaws
+mod CamLaws
