@@ -1,9 +1,9 @@
 -- The laws of entries, at identifiers in their order.
-use Rattle.std.proofs.Common.{◌≡◌, Bool, true, false, cond, not, List, None, Some, refl, ap, sym, ◌∙◌}
+use Rattle.std.proofs.Common.{suc, ◌≡◌, ◌≤◌, Bool, true, false, cond, not, List, [], ◌∷◌, length, None, Some, refl, ap, sym, ◌∙◌, arith}
 use Rattle.std.specs.Ordering.{eq_by_cmp, is_eq}
 use Rattle.std.specs.declared.cmp.Ordering.{Ordering}
 use Rattle.std.proofs.lemmas.Cmp.{alike_right, eq_by_cmp_equiv}
-use Rattle.std.specs.Prelude.{T}
+use Rattle.std.specs.Prelude.{T, Result, Ok, Err, OnOk, OnErr}
 use Rattle.std.specs.List.{IsDistinct}
 use Rattle.std.specs.List.Sorted.{IsSorted}
 use Rattle.std.specs.Map.{keys_of, lookup, remove_entry}
@@ -12,6 +12,7 @@ use Rattle.mx_name.specs.Identifiers.{PlainAclId}
 use Rattle.mx_name.specs.IdentifierOrder.{id_cmp}
 use Rattle.mx_name.specs.OrderLaws.{id_total, id_equal}
 use Rattle.mx_acl.specs.declared.modes.Modes.{Modes}
+use Rattle.mx_acl.specs.Access.{Access, same_id, without_entry}
 use Rattle.mx_acl.proofs.EntryLaws.{lookup_is_find, strict, rising, put_is, removed_is}
 
 pub found : (id : PlainAclId) (es : List (PlainAclId × Modes)) → lookup (eq_by_cmp id_cmp id) es ≡ find id_cmp id es
@@ -45,3 +46,17 @@ entry_taken es id other =
     (λ x tied. ap (λ (o : Ordering). not (is_eq o)) (sym (alike_right id_total other x id tied))) es
     ∙ not_then (eq_by_cmp id_cmp id other) (find id_cmp other es) None
     ∙ ap (λ (b : Bool). cond b None (find id_cmp other es)) ((eq_by_cmp_equiv id_total).symm id other)
+
+fewer : (test : PlainAclId → Bool) (es : List (PlainAclId × Modes)) → length (where_key id_cmp test es) ≤ length es
+fewer test [] = omega arith
+fewer test (e ∷ es) =
+    elim (test e.0) as (λ b. length (cond b (e ∷ where_key id_cmp test es) (where_key id_cmp test es)) ≤ suc (length es)) [
+      | true ↦ omega (arith, fewer test es)
+      | false ↦ omega (arith, fewer test es)
+    ]
+
+-- a removal, refused or not, leaves no more entries than there were
+pub no_more : {A E : Type 0} (result : Result A E) (old new : Access) (id : PlainAclId)
+    → OnOk result (new ≡ without_entry old id) → OnErr result (new ≡ old) → length new.entries ≤ length old.entries
+no_more (Ok value) old new id ok err = rw ok (fewer (λ other. not (same_id id other)) old.entries)
+no_more (Err e) old new id ok err = rw err (omega arith)

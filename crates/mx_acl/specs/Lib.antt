@@ -1,3 +1,4 @@
 pub mod Modes
 pub mod Access
 pub mod Deciding
+pub mod InitialLists

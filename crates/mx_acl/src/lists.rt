@@ -121,17 +121,32 @@ impl Acl {
     }
 
     /// The same where so many entries fill the list.
-    fn set_within(&mut self, limit: usize, id: AclId, modes: Modes) -> Result<(), AclError>
+    pub(crate) fn set_within(
+        &mut self,
+        limit: usize,
+        id: AclId,
+        modes: Modes,
+    ) -> Result<(), AclError>
         requires { limit ≤ 64 }
         ensures answer { Answers AclError.Memory (unless (fault_within limit self.old id modes) tt) result }
         ensures ok { OnOk result (self.new ≡ with_entry self.old id modes) }
         ensures entries { OnOk result ((other : PlainAclId)
             → entry_of self.new other ≡ (if same_id other id then Some modes else entry_of self.old other)) }
         ensures err { OnErr result (self.new ≡ self.old) }
+        ensures within { length self.old.entries ≤ limit → length self.new.entries ≤ limit }
     {
         if let Some(fault) = self.fault_within(limit, &id, modes) {
             return Err(fault);
         }
+        put_entry(&mut self.entries, id, modes)?;
+        Ok(())
+    }
+
+    /// Sets an entry where there is room for one more, whatever its modes.
+    pub(crate) fn put(&mut self, id: AclId, modes: Modes) -> Result<(), AllocError>
+        requires { length self.old.entries ≤ 63 }
+        ensures { OnOk result (self.new ≡ with_entry self.old id modes) }
+    {
         put_entry(&mut self.entries, id, modes)?;
         Ok(())
     }

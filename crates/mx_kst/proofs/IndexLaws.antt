@@ -131,34 +131,34 @@ terminated_index by_uid after lots new segno uid index own e is =
 
 -- there is room for the number of a segment that gets one
 pub room_for : (k : KnownSegments) (uid : ℕ) (section : Option PlainSection) → is_full k uid (is_some section) ≡ false
-    → (known_as k.lots uid section).fresh ≡ true → 0 < numbers_left k.lots
+    → (known_as k.lots uid section).fresh ≡ true → 0 < numbers_left k.last k.lots
 room_for k uid section room fresh = by_number (number_of k.lots uid) room fresh
   where
     needed : (b : Bool) → 0 < numbers_needed b
     needed true = omega arith
     needed false = omega arith
 
-    by_number : (o : Option ℕ) → (is_none o && ltb (numbers_left k.lots) (numbers_needed (is_some section))) ≡ false
-        → (known_by o (length k.lots) section).fresh ≡ true → 0 < numbers_left k.lots
+    by_number : (o : Option ℕ) → (is_none o && ltb (numbers_left k.last k.lots) (numbers_needed (is_some section))) ≡ false
+        → (known_by o (length k.lots) section).fresh ≡ true → 0 < numbers_left k.last k.lots
     by_number (Some own) room fresh = absurd (cc)
     by_number None room fresh =
-        omega (arith, ltb-false (numbers_left k.lots) (numbers_needed (is_some section)) room, needed (is_some section))
+        omega (arith, ltb-false (numbers_left k.last k.lots) (numbers_needed (is_some section)) room, needed (is_some section))
 
 -- and for those that are left
-pub room_after : (lots : List Lot) (known : Known) (uid : ℕ) (section : Option PlainSection) (old new : ℕ) → numbers_left lots ≤ old
-    → old ≤ new + cond known.fresh 1 0 → numbers_left (lots_with lots known uid section) ≤ new
-room_after lots known uid section old new room less = by_test known.fresh less
+pub room_after : (last : ℕ) (lots : List Lot) (known : Known) (uid : ℕ) (section : Option PlainSection) (old new : ℕ)
+    → numbers_left last lots ≤ old → old ≤ new + cond known.fresh 1 0 → numbers_left last (lots_with lots known uid section) ≤ new
+room_after last lots known uid section old new room less = by_test known.fresh less
   where
     some : (section : Option PlainSection) → 1 ≤ length (lots_given known.segno uid section)
     some None = omega arith
     some (Some s) = omega arith
 
-    by_test : (b : Bool) → old ≤ new + cond b 1 0 → numbers_left (cond b (lots ++ lots_given known.segno uid section) lots) ≤ new
+    by_test : (b : Bool) → old ≤ new + cond b 1 0 → numbers_left last (cond b (lots ++ lots_given known.segno uid section) lots) ≤ new
     by_test true less = omega (arith, some section, length-append lots (lots_given known.segno uid section))
     by_test false less = omega arith
 
-pub room_left : (lots new : List Lot) (segno old spare : ℕ) → new ≡ lots_without segno lots → numbers_left lots ≤ old → old ≤ spare
-    → numbers_left new ≤ spare
-room_left lots new segno old spare e room more =
+pub room_left : (last : ℕ) (lots new : List Lot) (segno old spare : ℕ) → new ≡ lots_without segno lots → numbers_left last lots ≤ old → old ≤ spare
+    → numbers_left last new ≤ spare
+room_left last lots new segno old spare e room more =
     let same : length new ≡ length lots = ap length e ∙ length-map (slice_set lots segno Free) (lot_without segno) ∙ length-set lots segno Free in
     omega arith

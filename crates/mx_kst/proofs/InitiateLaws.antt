@@ -34,10 +34,11 @@ length_given segno uid None = refl
 length_given segno uid (Some section) = refl
 
 known_sound : (k : KnownSegments) (uid ring own : ℕ) (name : Option (List ℕ)) → IsSound k → number_of k.lots uid ≡ Some own
-    → IsSound (record { lots = k.lots; names = with_name k.names ring name own })
+    → IsSound (record k { names = with_name k.names ring name own })
 known_sound k uid ring own name sound e = record {
   stacks_first = sound.stacks_first;
   within = sound.within;
+  most = sound.most;
   rings = length_with k.names ring own name ∙ sound.rings;
   one_number = sound.one_number;
   one_entry = λ r. apart_with k.names ring own r name sound.one_entry;
@@ -47,11 +48,12 @@ known_sound k uid ring own name sound e = record {
 }
 
 fresh_sound : (k : KnownSegments) (uid ring : ℕ) (name : Option (List ℕ)) (section : Option PlainSection) → IsSound k → number_of k.lots uid ≡ None
-    → numbers_needed (is_some section) ≤ numbers_left k.lots → IfSome section (λ s. IsWithinPage s.page s.words)
-    → IsSound (record { lots = k.lots ++ lots_given (length k.lots) uid section; names = with_name k.names ring name (length k.lots) })
+    → numbers_needed (is_some section) ≤ numbers_left k.last k.lots → IfSome section (λ s. IsWithinPage s.page s.words)
+    → IsSound (record k { lots = k.lots ++ lots_given (length k.lots) uid section; names = with_name k.names ring name (length k.lots) })
 fresh_sound k uid ring name section sound e room fits = record {
   stacks_first = take-append-le 8 k.lots given (eight k.lots sound.stacks_first) ∙ sound.stacks_first;
   within = omega (arith, length-append k.lots given, length_given (length k.lots) uid section, sound.within);
+  most = sound.most;
   rings = length_with k.names ring (length k.lots) name ∙ sound.rings;
   one_number = λ m n v p q. elim (where_branch k.lots (length k.lots) uid m v section p) [
     | inl old ↦ elim (where_branch k.lots (length k.lots) uid n v section q) [
@@ -86,20 +88,20 @@ fresh_sound k uid ring name section sound e room fits = record {
 
 initiated_sound : (k : KnownSegments) (uid ring : ℕ) (name : Option (List ℕ)) (section : Option PlainSection) → IsSound k → is_full k uid (is_some section) ≡ false
     → ((known_as k.lots uid section).fresh ≡ true → IfSome section (λ s. IsWithinPage s.page s.words))
-    → IsSound (record {
+    → IsSound (record k {
       lots = lots_with k.lots (known_as k.lots uid section) uid section;
       names = with_name k.names ring name (known_as k.lots uid section).segno;
     })
 initiated_sound k uid ring name section sound room fits = by_number (number_of k.lots uid) refl room fits
   where
-    by_number : (o : Option ℕ) → number_of k.lots uid ≡ o → (is_none o && ltb (numbers_left k.lots) (numbers_needed (is_some section))) ≡ false
+    by_number : (o : Option ℕ) → number_of k.lots uid ≡ o → (is_none o && ltb (numbers_left k.last k.lots) (numbers_needed (is_some section))) ≡ false
         → ((known_by o (length k.lots) section).fresh ≡ true → IfSome section (λ s. IsWithinPage s.page s.words))
-        → IsSound (record {
+        → IsSound (record k {
           lots = lots_with k.lots (known_by o (length k.lots) section) uid section;
           names = with_name k.names ring name (known_by o (length k.lots) section).segno;
         })
     by_number (Some own) e room fits = known_sound k uid ring own name sound e
-    by_number None e room fits = fresh_sound k uid ring name section sound e (ltb-false (numbers_left k.lots) (numbers_needed (is_some section)) room) (fits refl)
+    by_number None e room fits = fresh_sound k uid ring name section sound e (ltb-false (numbers_left k.last k.lots) (numbers_needed (is_some section)) room) (fits refl)
 
 -- a segment that is not refused has numbers
 pub not_full : (k : KnownSegments) (uid ring : ℕ) (name : Option (List ℕ)) (wanted : Bool) → refusal k uid ring name wanted ≡ None
@@ -115,10 +117,10 @@ not_full k uid ring name wanted e = by_test (is_taken k uid ring name) (is_full 
 pub sound_after : (k : KnownSegments) (uid ring : ℕ) (name : Option (List ℕ)) (section : Option PlainSection) (lots : List Lot) (names : List RingNames)
     → IsSound k → is_full k uid (is_some section) ≡ false
     → ((known_as k.lots uid section).fresh ≡ true → IfSome section (λ s. IsWithinPage s.page s.words)) → lots ≡ lots_with k.lots (known_as k.lots uid section) uid section
-    → names ≡ with_name k.names ring name (known_as k.lots uid section).segno → IsSound (record { lots = lots; names = names })
+    → names ≡ with_name k.names ring name (known_as k.lots uid section).segno → IsSound (record k { lots = lots; names = names })
 sound_after k uid ring name section lots names sound room fits p q =
-    subst (λ (xs : List Lot). IsSound (record { lots = xs; names = names })) (sym p)
-    (subst (λ (xs : List RingNames). IsSound (record { lots = lots_with k.lots (known_as k.lots uid section) uid section; names = xs })) (sym q)
+    subst (λ (xs : List Lot). IsSound (record k { lots = xs; names = names })) (sym p)
+    (subst (λ (xs : List RingNames). IsSound (record k { lots = lots_with k.lots (known_as k.lots uid section) uid section; names = xs })) (sym q)
     (initiated_sound k uid ring name section sound room fits))
 
 -- a name that is not taken stands for the number that the segment has
@@ -155,7 +157,7 @@ name_fresh k uid ring segno (Some text) within e free = own_with k.names ring se
 
 initiated_known : (k : KnownSegments) (uid ring own : ℕ) (name : Option (List ℕ)) (section : Option PlainSection) → ring < length k.names
     → number_of k.lots uid ≡ Some own → is_taken k uid ring name ≡ false
-    → IsInitiated k uid ring name section (record { segno = own; fresh = false; linkage = None }) (record { lots = k.lots; names = with_name k.names ring name own })
+    → IsInitiated k uid ring name section (record { segno = own; fresh = false; linkage = None }) (record k { names = with_name k.names ring name own })
 initiated_known k uid ring own name section within e free = record {
   number = e;
   lot = stands k.lots uid own e;
@@ -165,6 +167,7 @@ initiated_known k uid ring own name section within e free = record {
   linkage = λ n t. absurd (cc);
   given = omega arith;
   lots = λ n below. refl;
+  last = refl;
   own_name = name_known k uid ring own name within e free;
   other_names = λ r other apart. others_with k.names ring own r name other apart;
 }
@@ -172,7 +175,7 @@ initiated_known k uid ring own name section within e free = record {
 initiated_fresh : (k : KnownSegments) (uid ring : ℕ) (name : Option (List ℕ)) (section : Option PlainSection) → ring < length k.names
     → number_of k.lots uid ≡ None → is_taken k uid ring name ≡ false
     → IsInitiated k uid ring name section (record { segno = length k.lots; fresh = true; linkage = option_map (λ _. length k.lots + 1) section })
-    (record { lots = k.lots ++ lots_given (length k.lots) uid section; names = with_name k.names ring name (length k.lots) })
+    (record k { lots = k.lots ++ lots_given (length k.lots) uid section; names = with_name k.names ring name (length k.lots) })
 initiated_fresh k uid ring name section within e free = record {
   number = first_place (k.lots ++ lots_given (length k.lots) uid section) uid (length k.lots) (given_stands k.lots (length k.lots) uid section) only;
   lot = given_stands k.lots (length k.lots) uid section;
@@ -182,6 +185,7 @@ initiated_fresh k uid ring name section within e free = record {
   linkage = linkage section;
   given = length-append k.lots (lots_given (length k.lots) uid section) ∙ ap (λ n. length k.lots + n) (length_given (length k.lots) uid section);
   lots = λ n below. get_or_append_left k.lots (lots_given (length k.lots) uid section) Free n below;
+  last = refl;
   own_name = name_fresh k uid ring (length k.lots) name within e free;
   other_names = λ r other apart. others_with k.names ring (length k.lots) r name other apart;
 }
@@ -202,7 +206,7 @@ module _ (k : KnownSegments) (uid ring : ℕ) (name : Option (List ℕ)) (sectio
   abbrev left : Initiated
   left = record {
     known = known_as k.lots uid section;
-    after = record {
+    after = record k {
       lots = lots_with k.lots (known_as k.lots uid section) uid section;
       names = with_name k.names ring name (known_as k.lots uid section).segno;
     };
@@ -212,7 +216,7 @@ module _ (k : KnownSegments) (uid ring : ℕ) (name : Option (List ℕ)) (sectio
   in_words within free = by_number (number_of k.lots uid) refl
     where
       by_number : (o : Option ℕ) → number_of k.lots uid ≡ o
-          → IsInitiated k uid ring name section (known_by o (length k.lots) section) (record {
+          → IsInitiated k uid ring name section (known_by o (length k.lots) section) (record k {
             lots = lots_with k.lots (known_by o (length k.lots) section) uid section;
             names = with_name k.names ring name (known_by o (length k.lots) section).segno;
           })

@@ -1,5 +1,5 @@
 -- What is sound at first, and what a segment's number is where all is sound.
-use Rattle.std.proofs.Common.{ℕ, zero, suc, ◌≡◌, ◌↔◌, List, [], ◌∷◌, get_or, map, replicate, None, Some, refl, ap, sym, subst, ◌∙◌, arith}
+use Rattle.std.proofs.Common.{ℕ, zero, suc, ◌≡◌, ◌↔◌, ◌≤◌, List, [], ◌∷◌, get_or, map, replicate, None, Some, refl, ap, sym, subst, ◌∙◌, arith}
 use Rattle.std.specs.List.{IsDistinct, range_with_len}
 use Rattle.std.specs.Map.{keys_of, lookup}
 use Rattle.mx_sdw.specs.Rings.{Bracketing}
@@ -26,11 +26,12 @@ no_name zero n = refl
 no_name (suc rings) zero = refl
 no_name (suc rings) (suc n) = no_name rings n
 
-first_sound : IsSound at_first
+first_sound : (last : ℕ) → 7 ≤ last → last ≤ 255 → IsSound (at_first last)
 unfolding IsDistinct
-first_sound = record {
+first_sound last some most = record {
   stacks_first = refl;
-  within = omega arith;
+  within = omega (arith, some);
+  most = most;
   rings = refl;
   one_number = λ m n uid p q. absurd (no_segment (range_with_len 0 8) m uid p);
   one_entry = λ ring. subst (λ (es : RingNames). IsDistinct same_name (keys_of es)) (sym (no_name 8 ring)) tt;
@@ -42,10 +43,11 @@ first_sound = record {
     none_some : (segno : ℕ) → None ≡ Some segno → ⊥
     none_some segno e = cc
 
-pub sound_first : (lots : List Lot) (names : List RingNames) → lots ≡ stacks → names ≡ no_names → IsSound (record { lots = lots; names = names })
-sound_first lots names p q =
-    subst (λ (xs : List Lot). IsSound (record { lots = xs; names = names })) (sym p)
-    (subst (λ (xs : List RingNames). IsSound (record { lots = stacks; names = xs })) (sym q) first_sound)
+pub sound_first : (last : ℕ) (lots : List Lot) (names : List RingNames) → 7 ≤ last → last ≤ 255 → lots ≡ stacks → names ≡ no_names
+    → IsSound (record { last = last; lots = lots; names = names })
+sound_first last lots names some most p q =
+    subst (λ (xs : List Lot). IsSound (record { last = last; lots = xs; names = names })) (sym p)
+    (subst (λ (xs : List RingNames). IsSound (record { last = last; lots = stacks; names = xs })) (sym q) (first_sound last some most))
 
 -- the number of a segment is the one that stands for it
 pub number_is : (k : KnownSegments) → IsSound k → (uid n : ℕ) → (number_of k.lots uid ≡ Some n) ↔ (lot_of k.lots n ≡ Branch uid)

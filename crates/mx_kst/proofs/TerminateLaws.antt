@@ -62,10 +62,11 @@ first_stay lots segno first above =
     ∙ ap (map (lot_without segno)) (take-set-le 8 lots segno Free above ∙ first)
 
 pub terminated_sound : (k : KnownSegments) (segno : ℕ) → IsSound k → is_branch (lot_of k.lots segno) ≡ true
-    → IsSound (record { lots = lots_without segno k.lots; names = map (names_without segno) k.names })
+    → IsSound (record k { lots = lots_without segno k.lots; names = map (names_without segno) k.names })
 terminated_sound k segno sound branch = record {
   stacks_first = first_stay k.lots segno sound.stacks_first (from_eight k.lots segno sound.stacks_first branch);
   within = simp (length-map, length-set) sound.within;
+  most = sound.most;
   rings = length-map k.names (names_without segno) ∙ sound.rings;
   one_number = λ m n uid p q. sound.one_number m n uid (was m uid p) (was n uid q);
   one_entry = λ ring. still_apart k.names segno ring (sound.one_entry ring);
@@ -87,20 +88,21 @@ terminated_sound k segno sound branch = record {
 
 -- the same of lots and names that are those
 pub sound_after : (k : KnownSegments) (segno : ℕ) (lots : List Lot) (names : List RingNames) → IsSound k → is_branch (lot_of k.lots segno) ≡ true
-    → lots ≡ lots_without segno k.lots → names ≡ map (names_without segno) k.names → IsSound (record { lots = lots; names = names })
+    → lots ≡ lots_without segno k.lots → names ≡ map (names_without segno) k.names → IsSound (record k { lots = lots; names = names })
 sound_after k segno lots names sound branch p q =
-    subst (λ (xs : List Lot). IsSound (record { lots = xs; names = names })) (sym p)
-    (subst (λ (xs : List RingNames). IsSound (record { lots = lots_without segno k.lots; names = xs })) (sym q) (terminated_sound k segno sound branch))
+    subst (λ (xs : List Lot). IsSound (record k { lots = xs; names = names })) (sym p)
+    (subst (λ (xs : List RingNames). IsSound (record k { lots = lots_without segno k.lots; names = xs })) (sym q) (terminated_sound k segno sound branch))
 
 module _ (k after : KnownSegments) (segno : ℕ) (sound : IsSound k) where
   abbrev left : KnownSegments
-  left = record { lots = lots_without segno k.lots; names = map (names_without segno) k.names }
+  left = record k { lots = lots_without segno k.lots; names = map (names_without segno) k.names }
 
   in_words : IsTerminated k segno left
   in_words = record {
     lots = freed k.lots segno;
     names = λ ring name. unnamed k.names segno ring name (sound.one_entry ring);
     given = simp (length-map, length-set);
+    last = refl;
   }
 
   -- and in words of the numbers and names alone

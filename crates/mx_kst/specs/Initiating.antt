@@ -30,7 +30,7 @@ numbers_needed true = 2
 
 -- the segment is not known, and too few numbers are left
 abbrev pub is_full : KnownSegments → ℕ → Bool → Bool
-is_full k uid wanted = is_none (number_of k.lots uid) && nat_lt (numbers_left k.lots) (numbers_needed wanted)
+is_full k uid wanted = is_none (number_of k.lots uid) && nat_lt (numbers_left k.last k.lots) (numbers_needed wanted)
 
 -- why a segment is not initiated: its name is taken; else there is no number for it
 abbrev pub refusal : KnownSegments → ℕ → ℕ → Option (List ℕ) → Bool → Option KstError
@@ -71,7 +71,10 @@ initiated k uid ring name section =
     let known : Known = known_as k.lots uid section in
     record {
       known = known;
-      after = record { lots = lots_with k.lots known uid section; names = with_name k.names ring name known.segno };
+      after = record k {
+        lots = lots_with k.lots known uid section;
+        names = with_name k.names ring name known.segno;
+      };
     }
 
 abbrev pub initiate : KnownSegments → ℕ → ℕ → Option (List ℕ) → Option PlainSection → Result Initiated KstError
@@ -97,9 +100,10 @@ pub record IsInitiated (before : KnownSegments) (uid ring : ℕ) (name : Option 
   pub made : is_some known.linkage ≡ (known.fresh && is_some section)
   pub linkage : (n : ℕ) → known.linkage ≡ Some n → (n ≡ known.segno + 1)
       × IfSome section (λ s. lot_of after.lots n ≡ Linkage known.segno s.page s.brackets s.words)
-  -- so many numbers are given, and what was given stays
+  -- so many numbers are given, what was given stays, and so does the last number
   pub given : length after.lots ≡ length before.lots + (if known.fresh then numbers_needed (is_some section) else 0)
   pub lots : (n : ℕ) → n < length before.lots → lot_of after.lots n ≡ lot_of before.lots n
+  pub last : after.last ≡ before.last
   -- the name stands for the number, and every other name for what it stood for
   pub own_name : IfSome name (λ text. named after.names ring text ≡ Some known.segno)
   pub other_names : (r : ℕ) (other : List ℕ) → (r ≡ ring → name ≡ Some other → ⊥)

@@ -1,4 +1,4 @@
--- What a process knows: what each number given so far stands for, and its reference names.
+-- What a process knows: its last number, what each number given so far stands for, and its reference names.
 -- And what is true of it at every moment.
 use Rattle.std.specs.Prelude.{◌≡◌, ℕ, ◌+◌, ◌≤◌, true, List, take, length, Some}
 use Rattle.std.specs.List.{IsDistinct}
@@ -6,22 +6,25 @@ use Rattle.std.specs.Map.{keys_of}
 use Rattle.mx_sdw.specs.Rings.{Bracketing}
 use Rattle.mx_kst.specs.declared.lots.Lot.{Lot}
 use Rattle.mx_kst.specs.declared.lots.Lot.TheVariants.{Branch, Linkage}
-use Rattle.mx_kst.specs.Lots.{last_number, stacks, lot_of, is_branch}
+use Rattle.mx_kst.specs.Lots.{stacks, lot_of, is_branch}
 use Rattle.mx_name.specs.Names.{same_name}
 use Rattle.mx_kst.specs.Sections.{IsWithinPage}
 use Rattle.mx_kst.specs.Names.{RingNames, no_names, names_in, named}
 
 pub record KnownSegments : Type 0 where
+  pub last : ℕ
   pub lots : List Lot
   pub names : List RingNames
 
 -- at first it knows its stacks
-abbrev pub at_first : KnownSegments
-at_first = record { lots = stacks; names = no_names }
+abbrev pub at_first : ℕ → KnownSegments
+at_first last = record { last = last; lots = stacks; names = no_names }
 
 pub record IsSound (k : KnownSegments) : Type 0 where
   pub stacks_first : take 8 k.lots ≡ stacks
-  pub within : length k.lots ≤ last_number + 1
+  -- no number beyond the last is given, and that is 255 at most
+  pub within : length k.lots ≤ k.last + 1
+  pub most : k.last ≤ 255
   pub rings : length k.names ≡ 8
   -- no segment has two numbers
   pub one_number : (m n uid : ℕ) → lot_of k.lots m ≡ Branch uid → lot_of k.lots n ≡ Branch uid → m ≡ n

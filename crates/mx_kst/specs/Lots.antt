@@ -4,10 +4,6 @@ use Rattle.std.specs.List.{range_with_len}
 use Rattle.mx_kst.specs.declared.lots.Lot.{Lot}
 use Rattle.mx_kst.specs.declared.lots.Lot.TheVariants.{Free, Stack, Branch, Linkage}
 
--- the last number that a process has
-abbrev pub last_number : ℕ
-last_number = 127
-
 -- numbers 0 to 7 are the stacks of rings 0 to 7
 abbrev pub stacks : List Lot
 stacks = map Stack (range_with_len 0 8)
@@ -16,9 +12,9 @@ stacks = map Stack (range_with_len 0 8)
 abbrev pub lot_of : List Lot → ℕ → Lot
 lot_of lots segno = slice_index_or lots segno Free
 
--- how many numbers are not given yet
-abbrev pub numbers_left : List Lot → ℕ
-numbers_left lots = last_number + 1 - length lots
+-- how many numbers, up to the last, are not given yet
+abbrev pub numbers_left : ℕ → List Lot → ℕ
+numbers_left last lots = last + 1 - length lots
 
 -- a segment of the hierarchy
 abbrev pub is_branch : Lot → Bool

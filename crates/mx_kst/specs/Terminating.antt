@@ -21,7 +21,7 @@ names_without segno names = filter (λ entry. not (entry.1 == segno)) names
 abbrev pub terminate : KnownSegments → ℕ → Option KnownSegments
 terminate k segno =
     if is_branch (lot_of k.lots segno)
-    then Some (record { lots = lots_without segno k.lots; names = map (names_without segno) k.names })
+    then Some (record k { lots = lots_without segno k.lots; names = map (names_without segno) k.names })
     else None
 
 -- the number that a name stands for, unless it is this one
@@ -29,9 +29,10 @@ abbrev pub other_than : ℕ → Option ℕ → Option ℕ
 other_than segno None = None
 other_than segno (Some number) = if number == segno then None else Some number
 
--- what is left of it in words of the numbers and names alone; all numbers given stay given
+-- what is left of it in words of the numbers and names alone; all numbers given stay given, and the last number stays
 pub record IsTerminated (before : KnownSegments) (segno : ℕ) (after : KnownSegments) : Type 0 where
   pub lots : (n : ℕ) → lot_of after.lots n
       ≡ (if n == segno || is_section_of segno (lot_of before.lots n) then Free else lot_of before.lots n)
   pub names : (ring : ℕ) (name : List ℕ) → named after.names ring name ≡ other_than segno (named before.names ring name)
   pub given : length after.lots ≡ length before.lots
+  pub last : after.last ≡ before.last

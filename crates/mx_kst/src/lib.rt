@@ -1,10 +1,10 @@
 //! The known segment table of a process: its segment numbers and what they stand for, and its reference names by ring.
 //!
-//! A contract sees the list of the lots of the numbers given so far, and for each ring the list of its names with their
-//! numbers. `initiate` and `terminate` are one definition each over these lists, refusals in their order; what stays
-//! true of every table, and what the two calls leave, is said once more in words of the numbers and names alone.
-//! Numbers are given in order and never used again. Stands on entry names, on rings and brackets, and on an ordered
-//! map.
+//! A contract sees the last number that the process has, the list of the lots of the numbers given so far, and for each
+//! ring the list of its names with their numbers. `initiate` and `terminate` are one definition each over these,
+//! refusals in their order; what stays true of every table, and what the two calls leave, is said once more in words of
+//! the numbers and names alone. Numbers are given in order and never used again. Stands on entry names, on rings and
+//! brackets, and on an ordered map.
 #![tactic(auto)]
 
 mod laws;
@@ -15,6 +15,6 @@ mod sections;
 mod segments;
 
 pub use laws::{known_segments_after_initiate, known_segments_after_terminate};
-pub use lots::{LAST_NUMBER, Lot};
+pub use lots::Lot;
 pub use sections::Section;
 pub use segments::{Known, Kst, KstError, UnknownSegno};

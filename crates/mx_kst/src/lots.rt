@@ -1,7 +1,7 @@
 //! What a segment number stands for.
 ghost use Rattle.std.specs.Prelude.{◌≡◌, ◌+◌, ◌≤◌, ◌<◌, true, length, is_some, IfOk, IfSome};
 ghost use Rattle.std.specs.Vec.{vec_len, vec_capacity};
-ghost use Rattle.mx_kst.specs.Lots.{last_number, stacks, lot_of, is_section_of};
+ghost use Rattle.mx_kst.specs.Lots.{stacks, lot_of, is_section_of};
 ghost use Rattle.mx_kst.specs.Sections.{IsWithinPage};
 ghost use Rattle.mx_kst.specs.Initiating.{numbers_needed, lots_with};
 ghost use Rattle.mx_kst.specs.Terminating.{lot_without, lots_without};
@@ -10,9 +10,6 @@ use crate::sections::Section;
 use crate::segments::Known;
 use mx_sdw::{Brackets, Ring};
 use std::alloc::{AllocError, Global};
-
-/// The last segment number of a process (this model's limit).
-pub const LAST_NUMBER: u16 = 127;
 
 /// What a segment number of a process stands for. (In the manuals LOT is the Linkage Offset Table, which is something
 /// else.)
@@ -59,12 +56,12 @@ impl Lot {
     }
 }
 
-/// The lots of a process at first, with room for those of all numbers.
-pub(crate) fn first_lots(alloc: Global) -> Result<Vec<Lot>, AllocError>
+/// The lots of a process at first, with room for those of all numbers up to the last.
+pub(crate) fn first_lots(alloc: Global, last: u16) -> Result<Vec<Lot>, AllocError>
     ensures lots { IfOk result (λ lots. lots.items ≡ stacks) }
-    ensures room { IfOk result (λ lots. last_number < vec_capacity lots) }
+    ensures room { IfOk result (λ lots. last < vec_capacity lots) }
 {
-    let mut lots = Vec::with_capacity(alloc, usize::from(LAST_NUMBER) + 1)?;
+    let mut lots = Vec::with_capacity(alloc, usize::from(last) + 1)?;
     for n in 0..8 {
         lots.push(stack_of(n))?;
     }
@@ -94,9 +91,8 @@ pub(crate) fn lot_of(lots: &[Lot], segno: u16) -> Lot
 
 /// Adds the lots of a segment that gets its number now, and of its linkage section. Takes no memory.
 pub(crate) fn add_lots(lots: &mut Vec<Lot>, known: &Known, uid: u32, section: Option<Section>)
-    requires within { known.now.fresh ≡ true
-        → length lots.old.items + numbers_needed (is_some section) ≤ last_number + 1 }
-    requires room { last_number < vec_capacity lots.old }
+    requires { known.now.fresh ≡ true
+        → length lots.old.items + numbers_needed (is_some section) ≤ vec_capacity lots.old }
     ensures lots { lots.new.items ≡ lots_with lots.old.items known.now uid section }
     ensures room { vec_capacity lots.old ≤ vec_capacity lots.new }
     ensures section { known.now.fresh ≡ true → IfSome section (λ s. IsWithinPage s.page s.words) }

@@ -1,11 +1,11 @@
 //! The known segment table.
-ghost use Rattle.std.specs.Prelude.{◌≡◌, ◌↔◌, ◌+◌, ◌≤◌, ◌<◌, ◌==◌, ◌||◌, if◌then◌else◌, ℕ, true, List, length, Some, None, IfOk, OnOk, OnErr, IfSome};
+ghost use Rattle.std.specs.Prelude.{◌≡◌, ◌↔◌, ◌⊎◌, ◌+◌, ◌≤◌, ◌<◌, ◌==◌, ◌||◌, if◌then◌else◌, ℕ, true, List, length, Some, None, IfOk, OnOk, OnErr, IfSome};
 ghost use Rattle.std.specs.Option.{option_copied};
 ghost use Rattle.mx_name.specs.Answers.{Answers};
 ghost use Rattle.mx_kst.specs.Lots.{numbers_left, lot_of, number_of, is_branch, is_section_of};
 ghost use Rattle.mx_kst.specs.Names.{named};
 
-use crate::lots::{self, LAST_NUMBER, Lot};
+use crate::lots::{self, Lot};
 use crate::names::{self, Names};
 use crate::numbers;
 use crate::sections::Section;
@@ -57,10 +57,12 @@ impl From<AllocError> for KstError {
 pub struct UnknownSegno;
 
 /// The known segment table of a process. Numbers 0 to 7 are its stacks; segments and their linkage sections get the
-/// numbers from 8 to [`LAST_NUMBER`] in order, and no number is used again (linkage sections with numbers of their own
-/// are this model's choice).
+/// numbers from 8 to the last in order, and no number is used again (linkage sections with numbers of their own are this
+/// model's choice).
 #[derive(Debug, Drop)]
 pub struct Kst {
+    /// The last number, at most 255.
+    last: u16,
     /// By number, those given so far; with room for all.
     lots: Vec<Lot>,
     /// By ring.
@@ -74,16 +76,16 @@ impl Model for Kst {
     ghost use Rattle.std.specs.Vec.{vec_capacity};
     ghost use Rattle.indexmap.specs.IndexMap.{get, spare};
     ghost use Rattle.mx_kst.specs.Index.{Indexes};
-    ghost use Rattle.mx_kst.specs.Lots.{last_number, numbers_left};
+    ghost use Rattle.mx_kst.specs.Lots.{numbers_left};
     ghost use Rattle.mx_kst.specs.KnownSegments.{KnownSegments, IsSound};
 
     ghost Value = { KnownSegments };
 
-    ghost view = { λ a. record { lots = a.lots.items; names = a.names.items } };
+    ghost view = { λ a. record { last = a.last; lots = a.lots.items; names = a.names.items } };
 
-    ghost invariant = { λ a. IsSound (record { lots = a.lots.items; names = a.names.items })
-        × (last_number < vec_capacity a.lots)
-        × Indexes (get ◌==◌ a.numbers) a.lots.items × (numbers_left a.lots.items ≤ spare a.numbers) };
+    ghost invariant = { λ a. IsSound (record { last = a.last; lots = a.lots.items; names = a.names.items })
+        × (a.last < vec_capacity a.lots)
+        × Indexes (get ◌==◌ a.numbers) a.lots.items × (numbers_left a.last a.lots.items ≤ spare a.numbers) };
 }
 
 impl Kst {
@@ -91,14 +93,17 @@ impl Kst {
     ghost use Rattle.mx_kst.specs.Initiating.{is_taken, is_full, refusal, known_as, initiate, outcome};
     ghost use Rattle.mx_kst.specs.Terminating.{terminate};
 
-    /// The stacks, and no names. Takes the memory for all numbers here.
-    pub fn new(alloc: Global) -> Result<Kst, AllocError>
-        ensures { IfOk result (λ kst. kst ≡ at_first) }
+    /// The stacks, and no names. The last number is 127 or 255 (this model's limits). Takes the memory for all numbers
+    /// here.
+    pub fn new(alloc: Global, last: u16) -> Result<Kst, AllocError>
+        requires { (last ≡ 127) ⊎ (last ≡ 255) }
+        ensures { IfOk result (λ kst. kst ≡ at_first last) }
     {
-        let lots = lots::first_lots(alloc)?;
+        let lots = lots::first_lots(alloc, last)?;
         let names = names::no_names(alloc)?;
-        let numbers = IndexMap::with_capacity(alloc, usize::from(LAST_NUMBER) + 1)?;
+        let numbers = IndexMap::with_capacity(alloc, usize::from(last) + 1)?;
         Ok(Kst {
+            last,
             lots,
             names,
             numbers,
@@ -129,8 +134,8 @@ impl Kst {
     /// Makes a segment known, and gives it a reference name in a ring where one is given. A segment that is known keeps
     /// its number and gets no linkage section; else it gets the next number, and the linkage section, where one is
     /// wanted, the number after that. `NameDup` exactly where the name stands in the ring for another number than the
-    /// segment's; then `Full` exactly where the segment is not known and too few numbers are left. A refusal, and want
-    /// of memory, change nothing.
+    /// segment's; then `Full` exactly where the segment is not known and too few numbers are left up to the last. A
+    /// refusal, and want of memory, change nothing.
     pub fn initiate(
         &mut self,
         uid: u32,
@@ -194,12 +199,20 @@ impl Kst {
         lots::lot_of(&self.lots, segno)
     }
 
-    /// How many numbers have not been given yet. Takes no memory.
-    pub fn left(&self) -> u16
-        ensures value { result ≡ numbers_left self.now.lots }
+    /// The last number that may be given. Takes no memory.
+    pub fn last(&self) -> u16
+        ensures value { result ≡ self.now.last }
         ensures sound { IsSound self.now }
     {
-        LAST_NUMBER + 1 - self.lots.len() as u16
+        self.last
+    }
+
+    /// How many numbers have not been given yet. Takes no memory.
+    pub fn left(&self) -> u16
+        ensures value { result ≡ numbers_left self.now.last self.now.lots }
+        ensures sound { IsSound self.now }
+    {
+        self.last + 1 - self.lots.len() as u16
     }
 
     fn is_taken(&self, uid: u32, ring: Ring, name: Option<&EntryName>) -> bool

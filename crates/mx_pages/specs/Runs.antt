@@ -1,20 +1,32 @@
 -- Which pages of memory are free, and which run of them is given out next.
-use Rattle.std.specs.Prelude.{ℕ, ◌+◌, ◌/◌, ◌<◌, ◌≤◌, nat_le, if◌then◌else◌, Option, Some, None}
+use Rattle.std.specs.Prelude.{ℕ, ◌+◌, ◌/◌, ◌<◌, ◌≤◌, nat_le, nat_lt, Bool, true, false, ◌&&◌, if◌then◌else◌, List, map, slice_index_or, Option, Some, None, ◌≡◌, find}
+use Rattle.std.specs.List.{list_all, range_with_len}
 
 -- memory is 1,024 pages of 64 words each, numbered from 0: this model's own choice
 abbrev pub page_count : ℕ
 page_count = 1024
 
+-- all of them, in order
+unfoldable pub every_page : List ℕ
+every_page = range_with_len 0 page_count
+
 -- how many pages so many words need
 abbrev pub pages_for : ℕ → ℕ
 pages_for words = (words + 63) / 64
 
--- each page from `unused` on is free, and no other
+-- which pages are free, by page
 pub record PageMap : Type 0 where
-  pub unused : ℕ
+  pub free : List Bool
+
+abbrev pub is_free : PageMap → ℕ → Bool
+is_free pages page = slice_index_or pages.free page false
 
 abbrev pub IsFree : PageMap → ℕ → Type 0
-IsFree pages page = (pages.unused ≤ page) × (page < page_count)
+IsFree pages page = is_free pages page ≡ true
+
+-- each page from this one on is free, and no other
+abbrev pub free_from : ℕ → PageMap
+free_from first = record { free = map (nat_le first) every_page }
 
 -- the n pages from this one on are free
 abbrev pub IsFreeRun : PageMap → ℕ → ℕ → Type 0
@@ -29,15 +41,31 @@ pub record IsLowestRun (pages : PageMap) (n page : ℕ) : Type 0 where
 abbrev pub IsInRun : ℕ → ℕ → ℕ → Type 0
 IsInRun n first page = (first ≤ page) × (page < first + n)
 
+abbrev pub is_in_run : ℕ → ℕ → ℕ → Bool
+is_in_run n first page = nat_le first page && nat_lt page (first + n)
+
 -- the run of n pages from `first` on and that of m pages from `other` on share no page
 abbrev pub AreApart : ℕ → ℕ → ℕ → ℕ → Type 0
 AreApart n first m other = (page : ℕ) → IsInRun n first page → IsInRun m other page → ⊥
 
+-- whether the n pages from this one on are free
+abbrev pub run_at : PageMap → ℕ → ℕ → Bool
+run_at pages n first = list_all (is_free pages) (range_with_len first n)
+
 -- the first page of the run that is given out: the one place that says which run that is
 abbrev pub run_given : PageMap → ℕ → Option ℕ
-run_given pages n = if nat_le (pages.unused + n) page_count then Some pages.unused else None
+run_given pages n = find (run_at pages n) every_page
+
+-- the pages with those of the run of n pages from `first` on free, or not free
+abbrev pub with_run : Bool → PageMap → ℕ → ℕ → PageMap
+with_run value pages first n =
+    record { free = map (λ page. if is_in_run n first page then value else is_free pages page) every_page }
 
 -- the pages after a run was given out, or refused
 abbrev pub after_run : PageMap → ℕ → Option ℕ → PageMap
-after_run pages n (Some first) = record { unused = first + n }
+after_run pages n (Some first) = with_run false pages first n
 after_run pages n None = pages
+
+-- the pages after a run was freed
+abbrev pub with_free : PageMap → ℕ → ℕ → PageMap
+with_free pages first n = with_run true pages first n

@@ -1,6 +1,6 @@
 //! What segment numbers stand for.
 
-use mx_kst::{Kst, Lot, Section};
+use mx_kst::{Kst, KstError, Lot, Section};
 use mx_sdw::{Brackets, Ring};
 use std::alloc::Global;
 use std::test::Fail;
@@ -17,7 +17,7 @@ fn brackets() -> Result<Brackets, Fail> {
 // A table that knows the object of uid 7 as 10, with its linkage section.
 fn with_object(alloc: Global) -> Result<Kst, Fail> {
     let section = Section::new(40, brackets()?, 2).ok_or("a section")?;
-    let mut kst = Kst::new(alloc)?;
+    let mut kst = Kst::new(alloc, 127)?;
     kst.initiate(7, ring(4)?, None, Some(section))?;
     Ok(kst)
 }
@@ -58,7 +58,7 @@ fn a_linkage_section_goes_with_its_object(rt: HostRuntime) -> Result<(), Fail> {
 
 // How many numbers are left, of how many with an object, and what the object's is before it is terminated and after.
 fn numbers(alloc: Global) -> Result<[Option<u16>; 4], Fail> {
-    let fresh = Kst::new(alloc)?.left();
+    let fresh = Kst::new(alloc, 127)?.left();
     let kst = with_object(alloc)?;
     let [left, own] = [Some(kst.left() as u16), kst.by_uid(7)];
     let kst = terminated(kst)?;
@@ -70,6 +70,32 @@ fn a_segment_has_its_number_until_it_is_terminated(rt: HostRuntime) -> Result<()
     assert_eq!(rt;
         numbers(rt.alloc())?,
         [Some(120), Some(118), Some(0o10), None]
+    );
+    Ok(())
+}
+
+// How many new segments get a number, the last of the numbers, and why the next segment gets none.
+fn given(mut kst: Kst) -> Result<(u32, Option<u16>, Option<KstError>), Fail> {
+    let ring = ring(4)?;
+    let mut last = None;
+    for uid in 0..256 {
+        match kst.initiate(uid, ring, None, None) {
+            Ok(known) => last = Some(known.segno),
+            Err(error) => return Ok((uid, last, Some(error))),
+        }
+    }
+    Ok((256, last, None))
+}
+
+#[test]
+fn the_last_number_is_given_and_none_after_it(rt: HostRuntime) -> Result<(), Fail> {
+    let alloc = rt.alloc();
+    assert_eq!(rt;
+        [given(Kst::new(alloc, 127)?)?, given(Kst::new(alloc, 255)?)?],
+        [
+            (120, Some(0o177), Some(KstError::Full)),
+            (248, Some(0o377), Some(KstError::Full))
+        ]
     );
     Ok(())
 }

@@ -8,7 +8,7 @@ use Rattle.mx_kst.proofs.segments.Kst.by_uid.Goals as goal
 
 is : (c : goal.After-copied) → c.copied.result ≡ number_of c.args.self.now.lots c.args.uid
 is c =
-    let k : KnownSegments = record { lots = c.self.inside.lots.items; names = c.self.inside.names.items } in
+    let k : KnownSegments = record { last = c.self.inside.last; lots = c.self.inside.lots.items; names = c.self.inside.names.items } in
     c.copied.ensures ∙ c.get.ensures.value
     ∙ number_by k (get ◌==◌ c.self.inside.numbers) c.args.uid c.self.invariant.0 c.self.invariant.2
     ∙ ap (λ (s : KnownSegments). number_of s.lots c.args.uid) c.self.view_is

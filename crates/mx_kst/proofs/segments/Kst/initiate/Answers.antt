@@ -14,7 +14,7 @@ use Rattle.mx_kst.proofs.segments.Kst.initiate.Goals as goal
 
 pub invariant_of-self-2 : goal.invariant_of-self-2
 invariant_of-self-2 c =
-    let k : KnownSegments = record { lots = c.self.inside.lots.items; names = c.self.inside.names.items } in
+    let k : KnownSegments = record { last = c.self.inside.last; lots = c.self.inside.lots.items; names = c.self.inside.names.items } in
     let name = option_copied c.args.name in
     let none : c.refusal.result ≡ None = search rules in
     let room = not_full k c.args.uid c.args.ring name (is_some c.args.section) (ap (λ (s : KnownSegments). refusal s c.args.uid c.args.ring name (is_some c.args.section)) c.self.view_is ∙ ap (refusal c.args.self.now c.args.uid c.args.ring name) (sym c.is_some.ensures) ∙ sym c.refusal.ensures ∙ none) in
@@ -29,6 +29,6 @@ invariant_of-self-2 c =
       sound_after k c.args.uid c.args.ring name c.args.section _ _ c.self.invariant.0 room fits lots names,
       omega (arith, c.add_lots.ensures.room),
       initiated_index (get ◌==◌ c.self.inside.numbers) _ k.lots _ c.args.uid c.args.section c.known_as-known.result c.self.invariant.2 known lots c.add_number.ensures.numbers,
-      subst (λ (xs : List Lot). numbers_left xs ≤ spare c.add_number.new.numbers) (sym c.add_lots.ensures.lots)
-          (room_after k.lots c.known_as-known.result c.args.uid c.args.section (spare c.self.inside.numbers) _ c.self.invariant.3 c.add_number.ensures.room),
+      subst (λ (xs : List Lot). numbers_left c.self.inside.last xs ≤ spare c.add_number.new.numbers) (sym c.add_lots.ensures.lots)
+          (room_after k.last k.lots c.known_as-known.result c.args.uid c.args.section (spare c.self.inside.numbers) _ c.self.invariant.3 c.add_number.ensures.room),
     )

@@ -1,4 +1,4 @@
-use Rattle.std.proofs.Common.{◌≡◌, ◌==◌, ◌≤◌, List, ap, sym, subst, arith}
+use Rattle.std.proofs.Common.{◌≡◌, ◌⊎◌, ◌==◌, ◌≤◌, List, inl, inr, ap, sym, subst, arith}
 use Rattle.std.specs.Map.{lookup}
 use Rattle.indexmap.specs.IndexMap.{get, spare}
 use Rattle.mx_kst.specs.declared.lots.Lot.{Lot}
@@ -9,9 +9,17 @@ use Rattle.mx_kst.proofs.segments.Kst.new.Goals as goal
 
 pub invariant_of-result : goal.invariant_of-result
 invariant_of-result c = (
-  sound_first _ _ c.in_ok-lots.ensures.lots c.in_ok-names.ensures,
+  sound_first c.args.last _ _ (some c.requires) (most c.requires) c.in_ok-lots.ensures.lots c.in_ok-names.ensures,
   c.in_ok-lots.ensures.room,
   indexed_first (get ◌==◌ c.in_ok-numbers.numbers) _ (λ q. ap (lookup (◌==◌ q)) c.in_ok-numbers.ensures.empty) c.in_ok-lots.ensures.lots,
-  subst (λ (xs : List Lot). numbers_left xs ≤ spare c.in_ok-numbers.numbers) (sym c.in_ok-lots.ensures.lots)
+  subst (λ (xs : List Lot). numbers_left c.args.last xs ≤ spare c.in_ok-numbers.numbers) (sym c.in_ok-lots.ensures.lots)
       (omega (arith, c.in_ok-numbers.ensures.spare)),
 )
+  where
+    some : (c.args.last ≡ 127) ⊎ (c.args.last ≡ 255) → 7 ≤ c.args.last
+    some (inl few) = omega arith
+    some (inr many) = omega arith
+
+    most : (c.args.last ≡ 127) ⊎ (c.args.last ≡ 255) → c.args.last ≤ 255
+    most (inl few) = omega arith
+    most (inr many) = omega arith
