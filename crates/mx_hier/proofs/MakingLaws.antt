@@ -3,10 +3,11 @@ use Rattle.std.proofs.Common.{◌≡◌, ◌==◌, ◌≤◌, ◌<◌, leb, ◌|
 use Rattle.std.proofs.lemmas.Bool.{or_parts}
 use Rattle.std.specs.List.{list_any}
 use Rattle.std.specs.Map.{lookup}
+use Rattle.std.specs.Option.{option_map}
 use Rattle.mx_name.specs.Names.{same_name}
 use Rattle.mx_object.specs.Objects.{PlainObjectMap}
 use Rattle.mx_hier.specs.declared.branches.Directory.{Directory}
-use Rattle.mx_acl.specs.declared.modes.AclKind.TheVariants.{Segment as OfSegment}
+use Rattle.mx_acl.specs.Access.{Access}
 use Rattle.mx_acl.specs.declared.modes.Modes.{Modes}
 use Rattle.mx_hier.specs.declared.branches.Node.TheVariants.{Directory as IsDirectory}
 use Rattle.mx_hier.specs.declared.branches.Node.{Node}
@@ -26,7 +27,7 @@ use Rattle.mx_hier.specs.CreateDirectory.{create_dir_refusals, new_directory, cr
 use Rattle.mx_hier.specs.Making.{entry_refusals, making_refusals, made, added, created_at, first_acl}
 use Rattle.mx_hier.specs.Rules.{first_of, say, onward, required, unless, Answers, Tells, TellsFirst}
 
-first_again : (rules own : List (Bool × Refusal)) (why : Refusal) → first_of rules ≡ Some why → first_of (rules ++ own) ≡ Some why
+pub first_again : (rules own : List (Bool × Refusal)) (why : Refusal) → first_of rules ≡ Some why → first_of (rules ++ own) ≡ Some why
 first_again [] own why is = absurd (cc)
 first_again (rule ∷ rules) own why is = by rule.0 is (first_again rules own why)
   where
@@ -88,7 +89,7 @@ segment_refused h who at wanted why is =
     (λ parent.
     onward (required BadBrackets (settable who.ring wanted.rings)) (λ brackets.
     onward (required NoPages (run_given h.pages (pages_for wanted.words))) (λ page.
-    Ok (segment_added h at (new_segment parent who wanted brackets page) wanted.object))))
+    Ok (segment_added h at (new_segment parent who wanted.words brackets wanted.modes page) wanted.object))))
     why
     (first_again (making_refusals h who at)
     ((is_bad_length wanted.words wanted.object, BadLength) ∷ (is_none (settable who.ring wanted.rings), BadBrackets)
@@ -110,7 +111,7 @@ module _ (h : Hierarchy) (who : Subject) (at : Place) (wanted : Wanted) (is_free
   make parent =
       onward (required BadBrackets (settable who.ring wanted.rings)) (λ brackets.
       onward (required NoPages (run_given h.pages (pages_for wanted.words))) (λ page.
-      Ok (segment_added h at (new_segment parent who wanted brackets page) wanted.object)))
+      Ok (segment_added h at (new_segment parent who wanted.words brackets wanted.modes page) wanted.object)))
 
   pub segment_unfit : is_bad_length wanted.words wanted.object ≡ true → make_segment_at h who at wanted ≡ Err BadLength
   unfolding own_refusals page make
@@ -140,7 +141,7 @@ module _ (h : Hierarchy) (who : Subject) (at : Place) (wanted : Wanted) (is_free
 
   segment_made : (brackets : Bracketing) (first : ℕ) (parent : Directory) → is_bad_length wanted.words wanted.object ≡ false
       → settable who.ring wanted.rings ≡ Some brackets → run_given h.pages (pages_for wanted.words) ≡ Some first → directory_at h at.dir ≡ Some parent
-      → make_segment_at h who at wanted ≡ Ok (segment_added h at (new_segment parent who wanted brackets first) wanted.object)
+      → make_segment_at h who at wanted ≡ Ok (segment_added h at (new_segment parent who wanted.words brackets wanted.modes first) wanted.object)
   unfolding own_refusals page make
   segment_made brackets first parent fit good some is =
       made_all h at (make_segment_refusals h who at wanted) make parent
@@ -152,9 +153,9 @@ module _ (h : Hierarchy) (who : Subject) (at : Place) (wanted : Wanted) (is_free
       ∙ ap (λ (o : Option Bracketing).
       onward (required BadBrackets o) (λ brackets.
       onward (required NoPages (run_given h.pages (pages_for wanted.words))) (λ page.
-      Ok (segment_added h at (new_segment parent who wanted brackets page) wanted.object)))) good
+      Ok (segment_added h at (new_segment parent who wanted.words brackets wanted.modes page) wanted.object)))) good
       ∙ ap (λ (o : Option ℕ).
-      onward (required NoPages o) (λ page. Ok (segment_added h at (new_segment parent who wanted brackets page) wanted.object))) some
+      onward (required NoPages o) (λ page. Ok (segment_added h at (new_segment parent who wanted.words brackets wanted.modes page) wanted.object))) some
 
   pub segment_left : (brackets : Bracketing) → is_bad_length wanted.words wanted.object ≡ false → settable who.ring wanted.rings ≡ Some brackets
       → make_segment_at h who at wanted ≡ segment_on_pages h who at wanted.words brackets wanted.modes wanted.object
@@ -163,21 +164,41 @@ module _ (h : Hierarchy) (who : Subject) (at : Place) (wanted : Wanted) (is_free
       by : (o : Option ℕ) → run_given h.pages (pages_for wanted.words) ≡ o
           → make_segment_at h who at wanted
           ≡ onward (required NoPages o) (λ page.
-          Ok (segment_added h at (record { acl = first_acl OfSegment who wanted.modes; brackets = brackets; words = wanted.words; page = page }) wanted.object))
+          onward (required NotADir (directory_at h at.dir)) (λ parent.
+          Ok (segment_added h at (new_segment parent who wanted.words brackets wanted.modes page) wanted.object)))
       by None is = segment_unpaged brackets fit good is
       by (Some first) is =
           let found = parent_of h who at none in
           segment_made brackets first found.parent fit good is found.is
+          ∙ sym (ap (λ (found : Option Directory). onward (required NotADir found) (λ parent.
+          Ok (segment_added h at (new_segment parent who wanted.words brackets wanted.modes first) wanted.object))) found.is)
+
+-- the access list of what is made is that which its directory gives
+record IsGiven (found : Option Directory) (list : Directory → Access) (acl : Access) : Type 0 where
+  parent : Directory
+  is : found ≡ Some parent
+  gives : list parent ≡ acl
+
+is_given : (found : Option Directory) (list : Directory → Access) (acl : Access) → option_map list found ≡ Some acl → IsGiven found list acl
+is_given None list acl e = absurd (cc)
+is_given (Some parent) list acl e = record { parent = parent; is = refl; gives = cc }
 
 -- a segment that has its pages
-pub pages_there : (h : Hierarchy) (who : Subject) (at : Place) (words first : ℕ) (brackets : Bracketing) (modes : Modes) (object : Option PlainObjectMap)
+pub pages_there : (h : Hierarchy) (who : Subject) (at : Place) (words first : ℕ) (brackets : Bracketing) (modes : Modes) (object : Option PlainObjectMap) (acl : Access)
     → run_given h.pages (pages_for words) ≡ Some first
+    → option_map (λ (parent : Directory). first_acl parent.initial.segments who modes) (directory_at h at.dir) ≡ Some acl
     → segment_on_pages h who at words brackets modes object
-    ≡ Ok (segment_added h at (record { acl = first_acl OfSegment who modes; brackets = brackets; words = words; page = first }) object)
-pages_there h who at words first brackets modes object there =
+    ≡ Ok (segment_added h at (record { acl = acl; class = who.authorization; brackets = brackets; words = words; page = first }) object)
+pages_there h who at words first brackets modes object acl there given =
+    let g = is_given (directory_at h at.dir) (λ (parent : Directory). first_acl parent.initial.segments who modes) acl given in
     ap (λ (o : Option ℕ).
     onward (required NoPages o) (λ page.
-    Ok (segment_added h at (record { acl = first_acl OfSegment who modes; brackets = brackets; words = words; page = page }) object))) there
+    onward (required NotADir (directory_at h at.dir)) (λ parent.
+    Ok (segment_added h at (new_segment parent who words brackets modes page) object)))) there
+    ∙ ap (λ (o : Option Directory).
+    onward (required NotADir o) (λ parent. Ok (segment_added h at (new_segment parent who words brackets modes first) object))) g.is
+    ∙ ap (λ (acl : Access).
+    Ok (segment_added h at (record { acl = acl; class = who.authorization; brackets = brackets; words = words; page = first }) object)) g.gives
 
 -- what a call answers is what an equal definition says
 pub answers_as : {meant same : Result Hierarchy Refusal} (h : Hierarchy) (result : Result (Unit {0}) HierError) (new : Hierarchy) → same ≡ meant

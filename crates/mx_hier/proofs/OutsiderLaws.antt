@@ -3,13 +3,16 @@ use Rattle.std.proofs.Common.{◌≡◌, ◌≢◌, ◌∙◌, inr, ℕ, ◌-◌
 use Rattle.std.proofs.lemmas.Option.{slice_get-get_or}
 use Rattle.std.specs.Option.{option_and_then}
 use Rattle.mx_name.specs.Identifiers.{PlainAclId}
+use Rattle.mx_acl.specs.Access.{with_entry, without_entry}
+use Rattle.mx_acl.specs.declared.modes.AclKind.{AclKind}
 use Rattle.mx_acl.specs.declared.modes.Modes.{Modes}
+use Rattle.mx_aim.specs.Classes.{PlainClass}
 use Rattle.mx_acl.specs.declared.modes.Modes.TheVariants.{Rw, Re}
 use Rattle.mx_object.specs.Objects.{PlainObjectMap}
 use Rattle.mx_hier.specs.declared.branches.Directory.{Directory}
 use Rattle.mx_hier.specs.declared.making.Place.{Place}
 use Rattle.mx_hier.specs.declared.refusals.Refusal.{Refusal}
-use Rattle.mx_hier.specs.declared.refusals.Refusal.TheVariants.{NoInfo, NotADir, IncorrectAccess, NameDup, DirFull, BadBrackets}
+use Rattle.mx_hier.specs.declared.refusals.Refusal.TheVariants.{NoInfo, NotADir, IncorrectAccess, NameDup, DirFull, BadBrackets, NoAclEntry}
 use Rattle.mx_hier.specs.Branches.{Hierarchy, entries_of, uid_in, directory_at, holder, holding}
 use Rattle.mx_hier.specs.Brackets.{settable}
 use Rattle.mx_hier.specs.Callers.{Subject, Caller, has_status, has_modify, has_append, has_any, on}
@@ -20,12 +23,15 @@ use Rattle.mx_hier.specs.CreateObject.{create_object}
 use Rattle.mx_hier.specs.CreateSegment.{create_seg}
 use Rattle.mx_hier.specs.Delete.{delete, delete_at}
 use Rattle.mx_hier.specs.DeleteAclEntry.{del_acl, del_acl_at}
+use Rattle.mx_hier.specs.InitialLists.{initial_refusals, with_initial, set_iacl, set_iacl_at, del_iacl, del_iacl_at}
+use Rattle.mx_hier.specs.Listed.{iacl_refusals, iacl_lacks}
 use Rattle.mx_hier.specs.Making.{making_refusals, made, place, last_name, parent_path}
 use Rattle.mx_hier.specs.MakeSegment.{Wanted, make_segment, make_segment_at}
 use Rattle.mx_hier.specs.Rename.{rename, rename_at}
 use Rattle.mx_hier.specs.Rules.{say, first_of, onward, required, unless}
 use Rattle.mx_hier.specs.SetAcl.{set_acl, set_acl_at}
 use Rattle.mx_hier.specs.SetBrackets.{set_brackets, set_brackets_at, set_brackets_refusals, with_brackets}
+use Rattle.mx_hier.specs.SetClass.{set_class, set_class_at}
 use Rattle.mx_hier.specs.SetDirectoryBrackets.{set_dir_brackets, set_dir_brackets_at}
 use Rattle.mx_hier.specs.Strangers.{IsStranger, IsReticent, IsOutsider, IsTurnedAway}
 use Rattle.mx_hier.specs.Walks.{entry, resolved, reached}
@@ -116,6 +122,16 @@ module _ (h : Hierarchy) (who : Subject) (outsider : IsOutsider h who) where
       (ap not (no_modify who (holding h uid) (left_holding uid)))
       (told_nothing IncorrectAccess (holding h uid) (left_holding uid))
 
+  -- each request that changes an initial list
+  initial_turned : {A : Type 0} (uid : ℕ) (more : List (Bool × Refusal)) (value : A)
+      → IsTurnedAway (unless (first_of (initial_refusals h who uid ++ more)) value)
+  initial_turned uid more value =
+      second_turned (is_none (directory_at h uid)) (not (on (has_modify who) (directory_at h uid)))
+      (say who NotADir (holding h uid)) (say who IncorrectAccess (holding h uid)) more value
+      (told_nothing NotADir (holding h uid) (left_holding uid))
+      (ap not (no_modify who (directory_at h uid) (outsider uid)))
+      (told_nothing IncorrectAccess (holding h uid) (left_holding uid))
+
   -- each request that makes one
   making_turned : (at : Place) (more : List (Bool × Refusal)) (make : Directory → Result Hierarchy Refusal)
       → IsTurnedAway (made h at (making_refusals h who at ++ more) make)
@@ -182,6 +198,23 @@ module _ (h : Hierarchy) (who : Caller) (path : List ℕ) (outsider : IsOutsider
   dir_brackets_turned d1 d2 =
       entry_turned true (λ uid. set_dir_brackets_at h who.subject uid d1 d2)
       (λ uid. search (change_turned h who.subject outsider {A = Hierarchy}))
+
+  pub set_class_turned : (class : PlainClass) → IsTurnedAway (set_class h who path class)
+  set_class_turned class =
+      entry_turned true (λ uid. set_class_at h who.subject uid class)
+      (λ uid. search (change_turned h who.subject outsider {A = Hierarchy}))
+
+  pub set_iacl_turned : (kind : AclKind) (id : PlainAclId) (modes : Modes) → IsTurnedAway (set_iacl h who path kind id modes)
+  set_iacl_turned kind id modes =
+      entry_turned true (λ uid. set_iacl_at h who.subject uid kind id modes)
+      (λ uid. initial_turned h who.subject outsider uid (iacl_refusals kind id modes (directory_at h uid))
+      (with_initial h uid kind (λ initial. with_entry initial id modes)))
+
+  pub del_iacl_turned : (kind : AclKind) (id : PlainAclId) → IsTurnedAway (del_iacl h who path kind id)
+  del_iacl_turned kind id =
+      entry_turned true (λ uid. del_iacl_at h who.subject uid kind id)
+      (λ uid. initial_turned h who.subject outsider uid ((iacl_lacks kind id (directory_at h uid), NoAclEntry) ∷ [])
+      (with_initial h uid kind (λ initial. without_entry initial id)))
 
   pub rename_turned : (name : List ℕ) → IsTurnedAway (rename h who path name)
   rename_turned name =

@@ -1,23 +1,22 @@
 -- What a request does to the branches leaves every segment on pages of its own.
-use Rattle.std.proofs.Common.{◌≡◌, ◌≢◌, ◌⊎◌, inl, inr, ℕ, ◌+◌, ◌-◌, ◌<◌, ◌≤◌, eqb, cond, not, nat_le, Bool, true, false, List, [], ◌∷◌, ◌++◌, Option, Some, None, refl, sym, ap, subst, ◌∙◌, arith}
+use Rattle.std.proofs.Common.{◌≡◌, ◌≢◌, ◌⊎◌, inl, inr, ℕ, ◌+◌, ◌-◌, ◌<◌, ◌≤◌, eqb, cond, not, Bool, true, false, List, [], ◌∷◌, ◌++◌, Option, Some, None, refl, sym, ap, subst, ◌∙◌, arith}
 use Rattle.std.proofs.lemmas.Bool.{eqb-true, ne_eqb}
 use Rattle.std.specs.Option.{option_and_then}
 use Rattle.mx_acl.specs.Access.{Access}
 use Rattle.mx_object.specs.Objects.{PlainObjectMap}
-use Rattle.mx_pages.specs.Runs.{PageMap, page_count, pages_for, IsFreeRun, IsFree, run_given, after_run}
-use Rattle.mx_sdw.specs.Rings.{Bracketing}
+use Rattle.mx_pages.specs.Runs.{PageMap, pages_for, IsFreeRun, IsFree, run_given, after_run}
 use Rattle.mx_hier.specs.declared.branches.Branch.{Branch}
+use Rattle.mx_hier.specs.declared.branches.Directory.{Directory}
 use Rattle.mx_hier.specs.declared.branches.Segment.{Segment}
 use Rattle.mx_hier.specs.declared.branches.Node.{Node}
 use Rattle.mx_hier.specs.declared.branches.Node.TheVariants.{Directory as IsDirectory, Segment as IsSegment, Link as IsLink}
 use Rattle.mx_hier.specs.Branches.{Hierarchy, branch_of, as_segment, segment_in, segment_at}
-use Rattle.mx_hier.specs.Changing.{changed, with_node, acl_changed}
+use Rattle.mx_hier.specs.Changing.{changed, with_node, acl_changed, segment_changed, directory_changed}
 use Rattle.mx_hier.specs.Delete.{without}
-use Rattle.mx_hier.specs.SetBrackets.{bracketed}
-use Rattle.mx_hier.specs.SetDirectoryBrackets.{dir_bracketed}
 use Rattle.mx_hier.specs.Objects.{Objects, with_object, gate_of, defined_in}
 use Rattle.mx_hier.specs.Sound.{IsStored, HasPage, AreObjects, IsSound}
 use Rattle.mx_hier.specs.Listed.{Listed}
+use Rattle.mx_pages.proofs.RunLaws.{taken, was_free, was_free_before}
 use Rattle.mx_hier.proofs.ObjectLaws.{objects_later, objects_with}
 
 -- a segment stood there before, on the same pages
@@ -95,17 +94,18 @@ acl_keeps f (IsSegment was) segment is =
     record { was = was; there = refl; words = ap (λ (s : Segment). s.words) (sym same); page = ap (λ (s : Segment). s.page) (sym same) }
 acl_keeps f (IsLink target) segment is = absurd (cc)
 
-brackets_keep : (brackets : Bracketing) (node : Node) (segment : Segment) → as_segment (bracketed brackets node) ≡ Some segment → WasOn (as_segment node) segment
-brackets_keep brackets (IsDirectory directory) segment is = absurd (cc)
-brackets_keep brackets (IsSegment was) segment is =
-    let same : record was { brackets = brackets } ≡ segment = cc in
-    record { was = was; there = refl; words = ap (λ (s : Segment). s.words) (sym same); page = ap (λ (s : Segment). s.page) (sym same) }
-brackets_keep brackets (IsLink target) segment is = absurd (cc)
+segment_keeps : (f : Segment → Segment) (words : (s : Segment) → (f s).words ≡ s.words) (page : (s : Segment) → (f s).page ≡ s.page) (node : Node) (segment : Segment)
+    → as_segment (segment_changed f node) ≡ Some segment → WasOn (as_segment node) segment
+segment_keeps f words page (IsDirectory directory) segment is = absurd (cc)
+segment_keeps f words page (IsSegment was) segment is =
+    let same : f was ≡ segment = cc in
+    record { was = was; there = refl; words = ap (λ (s : Segment). s.words) (sym same) ∙ words was; page = ap (λ (s : Segment). s.page) (sym same) ∙ page was }
+segment_keeps f words page (IsLink target) segment is = absurd (cc)
 
-dir_brackets_keep : (d1 d2 : ℕ) (node : Node) (segment : Segment) → as_segment (dir_bracketed d1 d2 node) ≡ Some segment → WasOn (as_segment node) segment
-dir_brackets_keep d1 d2 (IsDirectory directory) segment is = absurd (cc)
-dir_brackets_keep d1 d2 (IsSegment was) segment is = was_itself (Some was) segment is
-dir_brackets_keep d1 d2 (IsLink target) segment is = absurd (cc)
+directory_keeps : (f : Directory → Directory) (node : Node) (segment : Segment) → as_segment (directory_changed f node) ≡ Some segment → WasOn (as_segment node) segment
+directory_keeps f (IsDirectory directory) segment is = absurd (cc)
+directory_keeps f (IsSegment was) segment is = was_itself (Some was) segment is
+directory_keeps f (IsLink target) segment is = absurd (cc)
 
 pub sound_acl : (uid : ℕ) (f : Access → Access) (pages : PageMap) (objects : Objects) (old new : Listed)
     → new ≡ record old { branches = changed uid (λ branch. with_node (acl_changed f branch.node) branch) old.branches }
@@ -113,17 +113,18 @@ pub sound_acl : (uid : ℕ) (f : Access → Access) (pages : PageMap) (objects :
 sound_acl uid f pages objects old new e sound =
     sound_changed (λ branch. with_node (acl_changed f branch.node) branch) (λ x. refl) (λ x segment is. acl_keeps f x.node segment is) uid pages objects old new e sound
 
-pub sound_brackets : (uid : ℕ) (brackets : Bracketing) (pages : PageMap) (objects : Objects) (old new : Listed)
-    → new ≡ record old { branches = changed uid (λ branch. with_node (bracketed brackets branch.node) branch) old.branches }
+pub sound_segment : (uid : ℕ) (f : Segment → Segment) (words : (s : Segment) → (f s).words ≡ s.words) (page : (s : Segment) → (f s).page ≡ s.page)
+    (pages : PageMap) (objects : Objects) (old new : Listed)
+    → new ≡ record old { branches = changed uid (λ branch. with_node (segment_changed f branch.node) branch) old.branches }
     → IsSound old.branches old.next pages objects → IsSound new.branches new.next pages objects
-sound_brackets uid brackets pages objects old new e sound =
-    sound_changed (λ branch. with_node (bracketed brackets branch.node) branch) (λ x. refl) (λ x segment is. brackets_keep brackets x.node segment is) uid pages objects old new e sound
+sound_segment uid f words page pages objects old new e sound =
+    sound_changed (λ branch. with_node (segment_changed f branch.node) branch) (λ x. refl) (λ x segment is. segment_keeps f words page x.node segment is) uid pages objects old new e sound
 
-pub sound_dir_brackets : (uid d1 d2 : ℕ) (pages : PageMap) (objects : Objects) (old new : Listed)
-    → new ≡ record old { branches = changed uid (λ branch. with_node (dir_bracketed d1 d2 branch.node) branch) old.branches }
+pub sound_directory : (uid : ℕ) (f : Directory → Directory) (pages : PageMap) (objects : Objects) (old new : Listed)
+    → new ≡ record old { branches = changed uid (λ branch. with_node (directory_changed f branch.node) branch) old.branches }
     → IsSound old.branches old.next pages objects → IsSound new.branches new.next pages objects
-sound_dir_brackets uid d1 d2 pages objects old new e sound =
-    sound_changed (λ branch. with_node (dir_bracketed d1 d2 branch.node) branch) (λ x. refl) (λ x segment is. dir_brackets_keep d1 d2 x.node segment is) uid pages objects old new e sound
+sound_directory uid f pages objects old new e sound =
+    sound_changed (λ branch. with_node (directory_changed f branch.node) branch) (λ x. refl) (λ x segment is. directory_keeps f x.node segment is) uid pages objects old new e sound
 
 pub sound_renamed : (uid : ℕ) (name : List ℕ) (pages : PageMap) (objects : Objects) (old new : Listed)
     → new ≡ record old { branches = changed uid (λ branch. record branch { name = name }) old.branches }
@@ -212,11 +213,11 @@ in_free_run pages segment page run has =
 pub sound_made : (pages after : PageMap) (objects with : Objects) (object : Option PlainObjectMap) (old new : Listed) (branch : Branch) (made : Segment)
     → new ≡ record { branches = old.branches ++ branch ∷ []; next = 1 + old.next }
     → as_segment branch.node ≡ Some made → 1 ≤ made.words → made.words ≤ 1024 → old.next < 4294967295
-    → IsFreeRun pages (pages_for made.words) made.page → after ≡ after_run pages (pages_for made.words) (Some made.page)
+    → IsFreeRun pages (pages_for made.words) made.page → made.page + pages_for made.words ≤ 1024 → after ≡ after_run pages (pages_for made.words) (Some made.page)
     → with ≡ with_object objects old.next object → gate_of object ≤ 1024
     → ((word : ℕ) (symbol : List ℕ) → defined_in object symbol ≡ Some word → word < 1024)
     → IsSound old.branches old.next pages objects → IsSound new.branches new.next after with
-sound_made pages after objects with object old new branch made e node some most left run given kept gates words sound =
+sound_made pages after objects with object old new branch made e node some most left run within given kept gates words sound =
     subst (λ (t : Listed). IsSound t.branches t.next after with) (sym e) (subst (λ (map : PageMap). IsSound (old.branches ++ branch ∷ []) (1 + old.next) map with) (sym given) (record {
       first = omega arith;
       last = omega arith;
@@ -225,8 +226,8 @@ sound_made pages after objects with object old new branch made e node some most 
         | inr new ↦ let same : made ≡ segment = cc in subst IsStored same is_stored
       ];
       taken = λ uid page segment is has free. elim (added_was old.branches branch uid segment is) [
-        | inl before ↦ sound.taken uid page segment before has (was_free page free)
-        | inr new ↦ let same : segment ≡ made = cc in still_free page (subst (λ s. HasPage s page) same has) free
+        | inl before ↦ sound.taken uid page segment before has (was_free pages made.page (pages_for made.words) page free)
+        | inr new ↦ let same : segment ≡ made = cc in taken pages made.page (pages_for made.words) page (subst (λ s. HasPage s page) same has) free
       ];
       apart = λ uid other a b is also differ page has too. elim (added_was old.branches branch uid a is) [
         | inl before ↦ elim (added_was old.branches branch other b also) [
@@ -241,17 +242,8 @@ sound_made pages after objects with object old new branch made e node some most 
       maps = subst (λ (o : Objects). AreObjects o (1 + old.next)) (sym kept) (objects_with objects old.next object gates words sound.maps);
     }))
   where
-    count : 1 ≤ pages_for made.words
-    count = grind arith
-
     is_stored : IsStored made
-    is_stored = record { some = some; most = most; pages = omega (arith, count, (run (pages_for made.words - 1) (omega (arith, count))).1) }
-
-    was_free : (page : ℕ) → IsFree (after_run pages (pages_for made.words) (Some made.page)) page → IsFree pages page
-    was_free page free = let start = in_free_run pages made made.page run (omega arith, omega (arith, count)) in (omega (arith, start.0, free.0), free.1)
-
-    still_free : (page : ℕ) → HasPage made page → IsFree (after_run pages (pages_for made.words) (Some made.page)) page → ⊥
-    still_free page has free = omega (arith, has.1, free.0)
+    is_stored = record { some = some; most = most; pages = within }
 
 -- what is found at a uid
 pub stored_at : (branches : List Branch) (next uid : ℕ) (pages : PageMap) (objects : Objects) (branch : Branch) (segment : Segment) → branch_of branches uid ≡ Some branch
@@ -266,14 +258,10 @@ sound_paged branches next pages after objects given sound = rw given (record {
   first = sound.first;
   last = sound.last;
   stored = sound.stored;
-  taken = λ uid page segment is has free. sound.taken uid page segment is has (was_free page (nat_le (pages.unused + 1) page_count) free);
+  taken = λ uid page segment is has free. sound.taken uid page segment is has (was_free_before pages 1 page (run_given pages 1) free);
   apart = sound.apart;
   maps = sound.maps;
 })
-  where
-    was_free : (page : ℕ) (b : Bool) → IsFree (after_run pages 1 (cond b (Some pages.unused) None)) page → IsFree pages page
-    was_free page true free = (omega (arith, free.0), free.1)
-    was_free page false free = free
 
 -- a page that is free is that of no segment
 pub page_apart : (h : Hierarchy) (page uid : ℕ) (segment : Segment) → IsSound h.branches h.next h.pages h.objects → IsFreeRun h.pages 1 page

@@ -1,9 +1,11 @@
--- Changing an entry: what `set_acl`, `del_acl`, `set_brackets`, `set_dir_brackets`, `rename` and `delete` have in
--- common.
+-- Changing an entry: what `set_acl`, `del_acl`, `set_brackets`, `set_dir_brackets`, `set_class`, `rename` and `delete`
+-- have in common.
 use Rattle.std.specs.Prelude.{ℕ, ◌==◌, Bool, not, List, [], ◌∷◌, map, Option, Some, None, if◌then◌else◌}
 use Rattle.std.specs.Option.{option_and_then}
 use Rattle.mx_acl.specs.Access.{Access}
 use Rattle.mx_hier.specs.declared.branches.Branch.{Branch}
+use Rattle.mx_hier.specs.declared.branches.Directory.{Directory}
+use Rattle.mx_hier.specs.declared.branches.Segment.{Segment}
 use Rattle.mx_hier.specs.declared.branches.Node.{Node}
 use Rattle.mx_hier.specs.declared.branches.Node.TheVariants.{Directory as IsDirectory, Segment as IsSegment, Link as IsLink}
 use Rattle.mx_hier.specs.declared.refusals.Refusal.{Refusal}
@@ -25,6 +27,30 @@ with_branch h uid f = record h { branches = changed uid f h.branches }
 
 abbrev pub with_node : Node → Branch → Branch
 with_node node branch = record branch { node = node }
+
+-- the segment that stands at a uid changed, and the directory
+abbrev pub segment_changed : (Segment → Segment) → Node → Node
+segment_changed f (IsSegment segment) = IsSegment (f segment)
+segment_changed f (IsDirectory directory) = IsDirectory directory
+segment_changed f (IsLink target) = IsLink target
+
+abbrev pub branch_with_segment : (Segment → Segment) → Branch → Branch
+branch_with_segment f branch = with_node (segment_changed f branch.node) branch
+
+abbrev pub with_segment : Hierarchy → ℕ → (Segment → Segment) → Hierarchy
+with_segment h uid f = with_branch h uid (branch_with_segment f)
+
+abbrev pub directory_changed : (Directory → Directory) → Node → Node
+directory_changed f (IsDirectory directory) = IsDirectory (f directory)
+directory_changed f (IsSegment segment) = IsSegment segment
+directory_changed f (IsLink target) = IsLink target
+
+abbrev pub branch_with_directory : (Directory → Directory) → Branch → Branch
+branch_with_directory f branch = with_node (directory_changed f branch.node) branch
+
+abbrev pub with_directory : Hierarchy → ℕ → (Directory → Directory) → Hierarchy
+with_directory h uid f =
+    if uid == 0 then record h { root = f h.root } else with_branch h uid (branch_with_directory f)
 
 -- the access list of what stands at a uid: a link has none
 abbrev pub acl_in : Node → Option Access

@@ -1,7 +1,6 @@
 -- `create_dir PATH D1 D2`
 use Rattle.std.specs.Prelude.{ℕ, nat_lt, Bool, ◌||◌, List, [], ◌∷◌, ◌++◌, Result, Ok}
 use Rattle.mx_acl.specs.declared.modes.Modes.TheVariants.{Sma}
-use Rattle.mx_acl.specs.declared.modes.AclKind.TheVariants.{Directory as OfDirectory}
 use Rattle.mx_hier.specs.declared.branches.Directory.{Directory}
 use Rattle.mx_hier.specs.declared.branches.Node.TheVariants.{Directory as IsDirectory}
 use Rattle.mx_hier.specs.declared.making.Place.{Place}
@@ -9,6 +8,7 @@ use Rattle.mx_hier.specs.declared.refusals.Refusal.{Refusal}
 use Rattle.mx_hier.specs.declared.refusals.Refusal.TheVariants.{BadBrackets}
 use Rattle.mx_hier.specs.Branches.{Hierarchy}
 use Rattle.mx_hier.specs.Callers.{Subject, Caller}
+use Rattle.mx_hier.specs.InitialAccess.{no_initial}
 use Rattle.mx_hier.specs.Making.{place, making_refusals, made, added, first_acl}
 use Rattle.mx_hier.specs.Rules.{onward}
 use Rattle.mx_hier.specs.Walks.{resolved}
@@ -16,9 +16,10 @@ use Rattle.mx_hier.specs.Walks.{resolved}
 abbrev pub create_dir_refusals : Hierarchy → Subject → Place → ℕ → ℕ → List (Bool × Refusal)
 create_dir_refusals h who at d1 d2 = making_refusals h who at ++ (nat_lt d2 d1 || nat_lt d1 who.ring, BadBrackets) ∷ []
 
--- the parent gives it nothing: this model has no initial access lists
+-- its own initial access lists are empty: those of the parent are not handed down
 abbrev pub new_directory : Directory → Subject → ℕ → ℕ → Directory
-new_directory parent who d1 d2 = record { acl = first_acl OfDirectory who Sma; d1 = d1; d2 = d2 }
+new_directory parent who d1 d2 =
+    record { acl = first_acl parent.initial.directories who Sma; initial = no_initial; d1 = d1; d2 = d2 }
 
 abbrev pub create_dir_at : Hierarchy → Subject → Place → ℕ → ℕ → Result Hierarchy Refusal
 create_dir_at h who at d1 d2 =

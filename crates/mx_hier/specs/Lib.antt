@@ -1,5 +1,6 @@
 pub mod Refusals
 pub mod Objects
+pub mod InitialAccess
 pub mod Branches
 pub mod Opening
 pub mod Callers
@@ -17,6 +18,8 @@ pub mod SetAcl
 pub mod DeleteAclEntry
 pub mod SetBrackets
 pub mod SetDirectoryBrackets
+pub mod SetClass
+pub mod InitialLists
 pub mod Rename
 pub mod Delete
 pub mod Status

@@ -1,21 +1,25 @@
 -- Helpers: the branches with the next uid, as what finds them keeps them.
-use Rattle.std.specs.Prelude.{◌≡◌, ℕ, ◌==◌, ◌+◌, ◌-◌, ◌<◌, Bool, not, List, [], ◌∷◌, ◌++◌, length, map, Option, Some, None, Result, Ok, Err, if◌then◌else◌}
+use Rattle.std.specs.Prelude.{◌≡◌, ℕ, ◌==◌, ◌+◌, ◌-◌, ◌<◌, Bool, not, List, [], ◌∷◌, ◌++◌, length, map, Option, Some, None, Result, Ok, Err, is_none, if◌then◌else◌}
 use Rattle.std.specs.Cmp.Lexicographic.{pointwise}
 use Rattle.std.specs.List.{slice_index_or, slice_set}
 use Rattle.std.specs.Option.{option_map, option_and_then}
 use Rattle.mx_name.specs.Identifiers.{PlainAclId}
-use Rattle.mx_acl.specs.Access.{Access, most_entries}
+use Rattle.mx_acl.specs.Access.{Access, most_entries, entry_of}
+use Rattle.mx_acl.specs.InitialLists.{most_initial_entries, initial_fault}
 use Rattle.mx_acl.specs.Modes.{suits}
+use Rattle.mx_acl.specs.declared.modes.AclKind.{AclKind}
 use Rattle.mx_acl.specs.declared.modes.Modes.{Modes}
 use Rattle.mx_acl.specs.declared.lists.AclError.{AclError}
 use Rattle.mx_acl.specs.declared.lists.AclError.TheVariants.{InvalidMode, Full, Memory}
 use Rattle.mx_hier.specs.declared.branches.Branch.{Branch}
+use Rattle.mx_hier.specs.declared.branches.Directory.{Directory}
 use Rattle.mx_hier.specs.declared.branches.Node.{Node}
 use Rattle.mx_hier.specs.declared.refusals.Refusal.{Refusal}
 use Rattle.mx_hier.specs.declared.refusals.Refusal.TheVariants as refusal
-use Rattle.mx_hier.specs.Branches.{branch_of, entries_of}
+use Rattle.mx_hier.specs.Branches.{branch_of, entries_of, as_directory}
 use Rattle.mx_hier.specs.Callers.{on}
 use Rattle.mx_hier.specs.Changing.{acl_in, changed}
+use Rattle.mx_hier.specs.InitialAccess.{initial_for}
 use Rattle.mx_hier.specs.SetAcl.{is_full}
 
 pub record Listed : Type 0 where
@@ -59,6 +63,23 @@ acl_in_slot slot = option_and_then (λ branch. acl_in branch.node) slot
 abbrev pub acl_of : List Branch → ℕ → Option Access
 acl_of branches uid = acl_in_slot (branch_of branches uid)
 
+-- the directory that a slot holds
+abbrev pub directory_in_slot : Option Branch → Option Directory
+directory_in_slot slot = option_and_then (λ branch. as_directory branch.node) slot
+
+-- and that stands at a uid
+abbrev pub directory_of : List Branch → ℕ → Option Directory
+directory_of branches uid = directory_in_slot (branch_of branches uid)
+
+-- why an entry of its initial list for what is made of a kind is not set
+abbrev pub iacl_fault : AclKind → PlainAclId → Modes → Option Directory → Option AclError
+iacl_fault kind id modes directory =
+    option_and_then (λ directory. initial_fault (initial_for kind directory.initial) id modes) directory
+
+-- and whether that list lacks an entry
+abbrev pub iacl_lacks : AclKind → PlainAclId → Option Directory → Bool
+iacl_lacks kind id directory = on (λ directory. is_none (entry_of (initial_for kind directory.initial) id)) directory
+
 -- An entry is set only where there is no fault, and refused only for its fault; memory may be wanting where there is
 -- none.
 abbrev pub AclAnswers : Option AclError → Result (Unit {0}) AclError → Type 0
@@ -72,6 +93,15 @@ abbrev pub acl_refusals : PlainAclId → Modes → Option Access → List (Bool 
 acl_refusals id modes acl =
     (on (λ acl. not (suits acl.kind modes)) acl, refusal.InvalidMode)
     ∷ (on (is_full most_entries id) acl, refusal.AclFull) ∷ []
+
+-- and of those of `set_iacl_seg` and `set_iacl_dir`
+abbrev pub iacl_refusals : AclKind → PlainAclId → Modes → Option Directory → List (Bool × Refusal)
+iacl_refusals kind id modes directory =
+    (on (λ directory. not (suits (initial_for kind directory.initial).kind modes)) directory, refusal.InvalidMode)
+    ∷ (
+      on (λ directory. is_full most_initial_entries id (initial_for kind directory.initial)) directory,
+      refusal.AclFull,
+    ) ∷ []
 
 abbrev pub AclTells : Option Refusal → Result (Unit {0}) AclError → Type 0
 AclTells why (Ok done) = why ≡ None

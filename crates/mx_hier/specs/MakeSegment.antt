@@ -2,7 +2,6 @@
 use Rattle.std.specs.Prelude.{ℕ, ◌==◌, nat_lt, nat_le, Bool, ◌||◌, List, [], ◌∷◌, ◌++◌, Option, Some, Result, Ok, is_none}
 use Rattle.std.specs.List.{list_any}
 use Rattle.mx_acl.specs.declared.modes.Modes.{Modes}
-use Rattle.mx_acl.specs.declared.modes.AclKind.TheVariants.{Segment as OfSegment}
 use Rattle.mx_object.specs.Objects.{PlainObjectMap}
 use Rattle.mx_pages.specs.Runs.{pages_for, run_given, after_run}
 use Rattle.mx_sdw.specs.Rings.{Bracketing}
@@ -11,8 +10,8 @@ use Rattle.mx_hier.specs.declared.branches.Segment.{Segment}
 use Rattle.mx_hier.specs.declared.branches.Node.TheVariants.{Segment as IsSegment}
 use Rattle.mx_hier.specs.declared.making.Place.{Place}
 use Rattle.mx_hier.specs.declared.refusals.Refusal.{Refusal}
-use Rattle.mx_hier.specs.declared.refusals.Refusal.TheVariants.{BadLength, BadBrackets, NoPages}
-use Rattle.mx_hier.specs.Branches.{Hierarchy}
+use Rattle.mx_hier.specs.declared.refusals.Refusal.TheVariants.{NotADir, BadLength, BadBrackets, NoPages}
+use Rattle.mx_hier.specs.Branches.{Hierarchy, directory_at}
 use Rattle.mx_hier.specs.Brackets.{settable}
 use Rattle.mx_hier.specs.Callers.{Subject, Caller, on}
 use Rattle.mx_hier.specs.Making.{place, making_refusals, made, added, first_acl}
@@ -41,12 +40,13 @@ make_segment_refusals h who at wanted = making_refusals h who at ++
     ∷ (is_none (settable who.ring wanted.rings), BadBrackets)
     ∷ (is_none (run_given h.pages (pages_for wanted.words)), NoPages) ∷ []
 
--- the parent gives it nothing: this model has no initial access lists
-abbrev pub new_segment : Directory → Subject → Wanted → Bracketing → ℕ → Segment
-new_segment parent who wanted brackets page = record {
-  acl = first_acl OfSegment who wanted.modes;
+-- its class is its maker's authorization
+abbrev pub new_segment : Directory → Subject → ℕ → Bracketing → Modes → ℕ → Segment
+new_segment parent who words brackets modes page = record {
+  acl = first_acl parent.initial.segments who modes;
+  class = who.authorization;
   brackets = brackets;
-  words = wanted.words;
+  words = words;
   page = page;
 }
 
@@ -62,15 +62,15 @@ make_segment_at h who at wanted =
     made h at (make_segment_refusals h who at wanted) (λ parent.
     onward (required BadBrackets (settable who.ring wanted.rings)) (λ brackets.
     onward (required NoPages (run_given h.pages (pages_for wanted.words))) (λ page.
-    Ok (segment_added h at (new_segment parent who wanted brackets page) wanted.object))))
+    Ok (segment_added h at (new_segment parent who wanted.words brackets wanted.modes page) wanted.object))))
 
 -- what it comes to where nothing but the want of pages refuses it
 abbrev pub segment_on_pages : Hierarchy → Subject → Place → ℕ → Bracketing → Modes → Option PlainObjectMap
     → Result Hierarchy Refusal
 segment_on_pages h who at words brackets modes object =
     onward (required NoPages (run_given h.pages (pages_for words))) (λ page.
-    Ok (segment_added h at
-    (record { acl = first_acl OfSegment who modes; brackets = brackets; words = words; page = page }) object))
+    onward (required NotADir (directory_at h at.dir)) (λ parent.
+    Ok (segment_added h at (new_segment parent who words brackets modes page) object)))
 
 abbrev pub make_segment : Hierarchy → Caller → List ℕ → Wanted → Result Hierarchy Refusal
 make_segment h who pathname wanted =

@@ -2,8 +2,8 @@
 use Rattle.std.specs.Prelude.{ℕ, ◌+◌, ◌-◌, nat_le, Bool, true, not, List, [], ◌∷◌, ◌++◌, length, take, slice_get, Option, Result, Ok, is_none, is_some}
 use Rattle.mx_name.specs.Identifiers.{maker_id}
 use Rattle.mx_acl.specs.Access.{Access}
+use Rattle.mx_acl.specs.InitialLists.{acl_for}
 use Rattle.mx_acl.specs.declared.modes.Modes.{Modes}
-use Rattle.mx_acl.specs.declared.modes.AclKind.{AclKind}
 use Rattle.mx_hier.specs.declared.branches.Directory.{Directory}
 use Rattle.mx_hier.specs.declared.branches.Node.{Node}
 use Rattle.mx_hier.specs.declared.making.Place.{Place}
@@ -58,6 +58,7 @@ added h at node = record h {
 abbrev pub created_at : Hierarchy → Subject → Place → Node → Result Hierarchy Refusal
 created_at h who at node = made h at (making_refusals h who at) (λ parent. Ok (added h at node))
 
--- its access list: the one entry `Person.Project.*` of its maker
-abbrev pub first_acl : AclKind → Subject → Modes → Access
-first_acl kind who modes = record { kind = kind; entries = (maker_id who.principal, modes) ∷ [] }
+-- its access list: what its directory gives, and the entry `Person.Project.*` of its maker, which comes last and so
+-- replaces one of the same identifier
+abbrev pub first_acl : Access → Subject → Modes → Access
+first_acl given who modes = acl_for given (maker_id who.principal) modes

@@ -1,7 +1,7 @@
 -- The table of refusals: their numbers, and their names as replies print them (this model's own).
 use Rattle.std.specs.Prelude.{ℕ, List, codes}
 use Rattle.mx_hier.specs.declared.refusals.Refusal.{Refusal}
-use Rattle.mx_hier.specs.declared.refusals.Refusal.TheVariants.{BadPath, NoEntry, NoInfo, NotADir, LinkLoop, IncorrectAccess, NameDup, NotASeg, DirNotEmpty, DirFull, BadLength, BadBrackets, InvalidMode, AclFull, NoAclEntry, NoPages, KstFull, UnknownSegno, NotLinkage, SegmentNotFound, NotObject, NoDefinition, NoProcess, MailFull, Ended}
+use Rattle.mx_hier.specs.declared.refusals.Refusal.TheVariants.{BadPath, NoEntry, NoInfo, NotADir, LinkLoop, IncorrectAccess, NameDup, NotASeg, DirNotEmpty, DirFull, BadLength, BadBrackets, InvalidMode, AclFull, NoAclEntry, NoPages, KstFull, UnknownSegno, NotLinkage, SegmentNotFound, NotObject, NoDefinition, NoProcess, MailFull, Ended, BadClass}
 
 abbrev pub refusal_number : Refusal → ℕ
 refusal_number BadPath = 1
@@ -29,6 +29,7 @@ refusal_number NoDefinition = 22
 refusal_number NoProcess = 23
 refusal_number MailFull = 24
 refusal_number Ended = 25
+refusal_number BadClass = 26
 
 abbrev pub refusal_text : Refusal → List ℕ
 refusal_text BadPath = codes "bad_path"
@@ -56,3 +57,4 @@ refusal_text NoDefinition = codes "no_definition"
 refusal_text NoProcess = codes "no_process"
 refusal_text MailFull = codes "mail_full"
 refusal_text Ended = codes "ended"
+refusal_text BadClass = codes "bad_class"

@@ -1,15 +1,13 @@
 -- `set_brackets PATH R1 R2 R3`
 use Rattle.std.specs.Prelude.{ℕ, nat_lt, Bool, true, ◌||◌, List, [], ◌∷◌, ◌++◌, Result, Ok, is_none}
 use Rattle.mx_sdw.specs.Rings.{Bracketing}
-use Rattle.mx_hier.specs.declared.branches.Branch.{Branch}
-use Rattle.mx_hier.specs.declared.branches.Node.{Node}
-use Rattle.mx_hier.specs.declared.branches.Node.TheVariants.{Directory as IsDirectory, Segment as IsSegment, Link as IsLink}
+use Rattle.mx_hier.specs.declared.branches.Segment.{Segment}
 use Rattle.mx_hier.specs.declared.refusals.Refusal.{Refusal}
 use Rattle.mx_hier.specs.declared.refusals.Refusal.TheVariants.{NotASeg, BadBrackets}
 use Rattle.mx_hier.specs.Branches.{Hierarchy, segment_at}
 use Rattle.mx_hier.specs.Brackets.{settable}
 use Rattle.mx_hier.specs.Callers.{Subject, Caller, on}
-use Rattle.mx_hier.specs.Changing.{changing_refusals, with_branch, with_node}
+use Rattle.mx_hier.specs.Changing.{changing_refusals, with_segment}
 use Rattle.mx_hier.specs.Rules.{first_of, required, onward, unless}
 use Rattle.mx_hier.specs.Walks.{entry}
 
@@ -23,16 +21,11 @@ set_brackets_refusals h who uid rings = changing_refusals h who uid ++
       BadBrackets,
     ) ∷ []
 
-abbrev pub bracketed : Bracketing → Node → Node
-bracketed brackets (IsSegment segment) = IsSegment (record segment { brackets = brackets })
-bracketed brackets (IsDirectory directory) = IsDirectory directory
-bracketed brackets (IsLink target) = IsLink target
-
-abbrev pub branch_bracketed : Bracketing → Branch → Branch
-branch_bracketed brackets branch = with_node (bracketed brackets branch.node) branch
+abbrev pub bracketed : Bracketing → Segment → Segment
+bracketed brackets segment = record segment { brackets = brackets }
 
 abbrev pub with_brackets : Hierarchy → ℕ → Bracketing → Hierarchy
-with_brackets h uid brackets = with_branch h uid (branch_bracketed brackets)
+with_brackets h uid brackets = with_segment h uid (bracketed brackets)
 
 abbrev pub set_brackets_at : Hierarchy → Subject → ℕ → List ℕ → Result Hierarchy Refusal
 set_brackets_at h who uid rings =

@@ -1,13 +1,11 @@
 -- `set_dir_brackets PATH D1 D2`
-use Rattle.std.specs.Prelude.{ℕ, ◌==◌, nat_lt, Bool, true, ◌||◌, List, [], ◌∷◌, ◌++◌, Result, is_none, if◌then◌else◌}
-use Rattle.mx_hier.specs.declared.branches.Branch.{Branch}
-use Rattle.mx_hier.specs.declared.branches.Node.{Node}
-use Rattle.mx_hier.specs.declared.branches.Node.TheVariants.{Directory as IsDirectory, Segment as IsSegment, Link as IsLink}
+use Rattle.std.specs.Prelude.{ℕ, nat_lt, Bool, true, ◌||◌, List, [], ◌∷◌, ◌++◌, Result, is_none}
+use Rattle.mx_hier.specs.declared.branches.Directory.{Directory}
 use Rattle.mx_hier.specs.declared.refusals.Refusal.{Refusal}
 use Rattle.mx_hier.specs.declared.refusals.Refusal.TheVariants.{NotADir, BadBrackets}
 use Rattle.mx_hier.specs.Branches.{Hierarchy, directory_at}
 use Rattle.mx_hier.specs.Callers.{Subject, Caller, on}
-use Rattle.mx_hier.specs.Changing.{changing_refusals, with_branch, with_node}
+use Rattle.mx_hier.specs.Changing.{changing_refusals, with_directory}
 use Rattle.mx_hier.specs.Rules.{first_of, onward, unless}
 use Rattle.mx_hier.specs.Walks.{entry}
 
@@ -21,18 +19,11 @@ set_dir_brackets_refusals h who uid d1 d2 = changing_refusals h who uid ++
       BadBrackets,
     ) ∷ []
 
-abbrev pub dir_bracketed : ℕ → ℕ → Node → Node
-dir_bracketed d1 d2 (IsDirectory directory) = IsDirectory (record directory { d1 = d1; d2 = d2 })
-dir_bracketed d1 d2 (IsSegment segment) = IsSegment segment
-dir_bracketed d1 d2 (IsLink target) = IsLink target
-
-abbrev pub branch_dir_bracketed : ℕ → ℕ → Branch → Branch
-branch_dir_bracketed d1 d2 branch = with_node (dir_bracketed d1 d2 branch.node) branch
+abbrev pub dir_bracketed : ℕ → ℕ → Directory → Directory
+dir_bracketed d1 d2 directory = record directory { d1 = d1; d2 = d2 }
 
 abbrev pub with_dir_brackets : Hierarchy → ℕ → ℕ → ℕ → Hierarchy
-with_dir_brackets h uid d1 d2 =
-    if uid == 0 then record h { root = record h.root { d1 = d1; d2 = d2 } }
-    else with_branch h uid (branch_dir_bracketed d1 d2)
+with_dir_brackets h uid d1 d2 = with_directory h uid (dir_bracketed d1 d2)
 
 abbrev pub set_dir_brackets_at : Hierarchy → Subject → ℕ → ℕ → ℕ → Result Hierarchy Refusal
 set_dir_brackets_at h who uid d1 d2 =

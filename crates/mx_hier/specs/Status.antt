@@ -20,13 +20,14 @@ abbrev pub directory_status : Subject → Directory → Status
 directory_status who directory =
     DirectoryStatus directory.d1 directory.d2 (modes_for directory.acl who.principal)
 
--- of a segment; of an object segment also its gates, and how many definitions and links it has
+-- of a segment, with its class; of an object segment also its gates, and how many definitions and links it has
 abbrev pub segment_status : Subject → Segment → Option PlainObjectMap → Status
 segment_status who segment None =
-    SegmentStatus segment.words segment.brackets (modes_for segment.acl who.principal)
+    SegmentStatus segment.words segment.brackets (modes_for segment.acl who.principal) (Some segment.class)
 segment_status who segment (Some object) =
     ObjectStatus segment.words segment.brackets
     object.gate (length object.definitions) (length object.links) (modes_for segment.acl who.principal)
+    (Some segment.class)
 
 -- the modes are those that its access list gives the caller, in any ring
 abbrev pub status_of : Subject → Option PlainObjectMap → Node → Status

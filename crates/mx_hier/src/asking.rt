@@ -1,6 +1,7 @@
 //! Asking.
 
 ghost use Rattle.std.specs.Prelude.{◌≡◌, ◌<◌, ◌≤◌, Some, IfOk, IfNone};
+ghost use Rattle.mx_aim.specs.Classes.{PlainClass};
 ghost use Rattle.mx_sdw.specs.Admissible.{IsAdmissible};
 ghost use Rattle.std.specs.Option.{option_copied, option_map};
 ghost use Rattle.mx_hier.specs.Branches.{object_at};
@@ -23,19 +24,21 @@ use crate::names::Names;
 use crate::refusals::{HierError, Refusal};
 use crate::walks::resolved;
 use mx_acl::Modes;
+use mx_aim::Class;
 use mx_name::{AclId, EntryName, Path, Pathname, Principal};
 use mx_object::ObjectMap;
 use mx_sdw::{Brackets, Desc, Ring};
 use std::alloc::{AllocError, Global};
 
 /// What `status` says of an entry: the modes are those that its access list gives the caller, in whatever ring. An
-/// object segment has gates, definitions and links.
+/// object segment has gates, definitions and links. The class of a segment is there where classes are told.
 #[derive(Drop)]
 pub enum Status {
     Segment {
         words: u16,
         brackets: Brackets,
         modes: Modes,
+        class: Option<Class>,
     },
     Object {
         words: u16,
@@ -44,6 +47,7 @@ pub enum Status {
         definitions: u16,
         links: u16,
         modes: Modes,
+        class: Option<Class>,
     },
     Directory {
         d1: Ring,
@@ -56,8 +60,8 @@ pub enum Status {
 }
 
 impl Hier {
-    /// What is said of an entry; of a link itself, and not of what it leads to. `NoInfo` where the caller has no s on
-    /// the directory that holds it.
+    /// What is said of an entry, of a segment with its class; of a link itself, and not of what it leads to. `NoInfo`
+    /// where the caller has no s on the directory that holds it.
     pub fn status(&self, alloc: Global, who: &Who, path: &Pathname) -> Result<Status, HierError>
         ensures answer { Tells (status self.now (caller who.now) path.now) result }
         ensures told { TellsFirst (resolved (caller who.now) path.now) result }
@@ -182,26 +186,28 @@ impl Hier {
         }
     }
 
-    /// The descriptor that a principal has of the segment of a uid: its flags are what the access list gives, and its
+    /// The descriptor that a principal with an authorization has of the segment of a uid: its aim is that of the
+    /// authorization at the segment's class, its flags are what the access list gives and the aim lets stand, and its
     /// gates those of its object map. Gone where the segment was deleted. Takes no memory.
     #[tactic(auto, using(crate::proofs::DescriptorLaws::gone_admissible))]
-    pub fn desc_of(&self, uid: u32, who: &Principal) -> Desc
-        ensures value { result ≡ desc_of self.now uid who.now }
+    pub fn desc_of(&self, uid: u32, who: &Principal, authorization: Class) -> Desc
+        ensures value { result ≡ desc_of self.now uid who.now authorization }
         ensures admissible { IsAdmissible result }
     {
         match self.segment_at(uid) {
             None => Desc::gone(),
-            Some(segment) => segment_desc(segment, self.gate_at(uid), who),
+            Some(segment) => segment_desc(segment, self.gate_at(uid), who, authorization),
         }
     }
 
     /// The entry of the access list of the segment of a uid that decides for a principal, with its modes: it explains
-    /// the flags of the descriptor. None where no entry matches, where the segment was deleted, and where the uid is of
-    /// no segment. Takes no memory.
+    /// the flags of the descriptor, whatever the authorization. None where no entry matches, where the segment was
+    /// deleted, and where the uid is of no segment. Takes no memory.
     #[tactic(auto, using(crate::proofs::EntryLaws::flags_of_entry))]
     pub fn deciding_entry(&self, uid: u32, who: &Principal) -> Option<(&AclId, Modes)>
         ensures value { option_map (λ pair. (pair.0.now, pair.1)) result ≡ deciding_entry self.now uid who.now }
-        ensures flags { AreFlagsOf (deciding_entry self.now uid who.now) (desc_of self.now uid who.now) }
+        ensures flags { (authorization : PlainClass)
+            → AreFlagsOf (deciding_entry self.now uid who.now) (desc_of self.now uid who.now authorization) }
     {
         self.segment_at(uid)?.acl.deciding(who)
     }
@@ -226,6 +232,7 @@ fn segment_status(who: &Who, segment: &Segment, object: Option<&ObjectMap>) -> S
             words: segment.words,
             brackets: segment.brackets,
             modes,
+            class: Some(segment.class),
         },
         Some(object) => Status::Object {
             words: segment.words,
@@ -234,6 +241,7 @@ fn segment_status(who: &Who, segment: &Segment, object: Option<&ObjectMap>) -> S
             definitions: object.definitions().len() as u16,
             links: object.links().len() as u16,
             modes,
+            class: Some(segment.class),
         },
     }
 }
@@ -252,16 +260,17 @@ fn status_of(who: &Who, object: Option<&ObjectMap>, node: &Node) -> Result<Statu
 }
 
 #[tactic(auto, using(crate::proofs::DescriptorLaws::segment_admissible))]
-fn segment_desc(segment: &Segment, gate: u16, who: &Principal) -> Desc
+fn segment_desc(segment: &Segment, gate: u16, who: &Principal, authorization: Class) -> Desc
     requires stored { IsStored segment.now }
     requires gates { gate ≤ 1024 }
-    ensures value { result ≡ desc_for who.now gate (Some segment.now) }
+    ensures value { result ≡ desc_for who.now authorization gate (Some segment.now) }
     ensures admissible { IsAdmissible result }
 {
     // These are called for their clauses: the brackets are in order, and the last is at most 7.
     let (_order, _last) = (segment.brackets.r2(), segment.brackets.r3().number());
     let modes = segment.acl.modes_of(who);
-    Desc::segment(
+    Desc::classed(
+        authorization.aim(&segment.class),
         segment.brackets,
         modes.r(),
         modes.e(),

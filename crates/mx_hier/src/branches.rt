@@ -1,23 +1,28 @@
 //! What a directory's entries are.
 
+use crate::initial::InitialAcls;
 use mx_acl::Acl;
+use mx_aim::Class;
 use mx_name::{EntryName, Path};
 use mx_sdw::{Brackets, Ring};
 
-/// What is said of a directory: its access list and its brackets `d1 <= d2`. A caller in ring v has m or a on it only
-/// where v is at most `d1`, and s only where v is at most `d2` (Multics Programmers' Manual).
+/// What is said of a directory: its access list, the initial access lists of what is made in it, and its brackets
+/// `d1 <= d2`. A caller in ring v has m or a on it only where v is at most `d1`, and s only where v is at most `d2`
+/// (Multics Programmers' Manual).
 #[derive(Drop)]
 pub struct Directory {
     pub acl: Acl,
+    pub initial: InitialAcls,
     pub d1: Ring,
     pub d2: Ring,
 }
 
-/// What is said of a segment: its access list, its brackets, its length of 1 to 1,024 words, and its first page of 64
-/// words.
+/// What is said of a segment: its access list, its class, its brackets, its length of 1 to 1,024 words, and its first
+/// page of 64 words.
 #[derive(Drop)]
 pub struct Segment {
     pub acl: Acl,
+    pub class: Class,
     pub brackets: Brackets,
     pub words: u16,
     pub page: u16,

@@ -1,7 +1,8 @@
 //! Who asks, and what access is left to him.
 
-ghost use Rattle.std.specs.Prelude.{◌≡◌};
+ghost use Rattle.std.specs.Prelude.{◌≡◌, not};
 ghost use Rattle.std.specs.Option.{option_map};
+ghost use Rattle.mx_sdw.specs.Descriptors.{is_equal, is_neither};
 ghost use Rattle.mx_hier.specs.Callers.{has_status, has_modify, has_append, has_any, has_access, keeps_any};
 ghost use Rattle.mx_hier.specs.Rules.{say};
 ghost use Rattle.mx_hier.specs.Who.{subject};
@@ -9,13 +10,16 @@ ghost use Rattle.mx_hier.specs.Who.{subject};
 use crate::branches::{Directory, Segment};
 use crate::refusals::Refusal;
 use mx_acl::Modes;
+use mx_aim::Class;
 use mx_name::{Path, Principal};
-use mx_sdw::Ring;
+use mx_sdw::{Aim, Ring};
 
-/// Who makes a request: a principal in a ring, with the working directory from which its pathnames are resolved.
+/// Who makes a request: a principal with an authorization, in a ring, with the working directory from which its
+/// pathnames are resolved.
 #[derive(Drop)]
 pub struct Who<'a> {
     pub principal: &'a Principal,
+    pub authorization: Class,
     pub ring: Ring,
     pub base: &'a Path,
 }
@@ -53,7 +57,13 @@ impl Who<'_> {
     pub(crate) fn has_access(&self, segment: &Segment) -> bool
         ensures { result ≡ has_access (subject self.now) segment.now }
     {
-        keeps_any(segment.acl.modes_of(self.principal), segment, self.ring)
+        let aim = self.authorization.aim(&segment.class);
+        keeps_any(
+            segment.acl.modes_of(self.principal),
+            aim,
+            segment,
+            self.ring,
+        )
     }
 
     /// A refusal as he is told it of a directory: `NoInfo` in its place where no s on the directory is left to him.
@@ -67,8 +77,8 @@ impl Who<'_> {
     }
 }
 
-fn keeps_any(modes: Modes, segment: &Segment, ring: Ring) -> bool
-    ensures { result ≡ keeps_any modes segment.now ring }
+fn keeps_any(modes: Modes, aim: Aim, segment: &Segment, ring: Ring) -> bool
+    ensures { result ≡ keeps_any modes aim segment.now ring }
 {
     let ring = ring.number();
     let [r1, r2, r3] = [
@@ -76,5 +86,27 @@ fn keeps_any(modes: Modes, segment: &Segment, ring: Ring) -> bool
         segment.brackets.r2().number(),
         segment.brackets.r3().number(),
     ];
-    modes.r() && ring <= r2 || modes.w() && ring <= r1 || modes.e() && r1 <= ring && ring <= r3
+    opens(aim) && modes.r() && ring <= r2
+        || opens_all(aim) && modes.w() && ring <= r1
+        || opens(aim) && modes.e() && r1 <= ring && ring <= r3
+}
+
+/// Whether an aim lets reading and executing stand.
+fn opens(aim: Aim) -> bool
+    ensures { result ≡ not (is_neither aim) }
+{
+    match aim {
+        Aim::Equal | Aim::Dominates => true,
+        Aim::Neither => false,
+    }
+}
+
+/// Whether it lets writing stand too.
+fn opens_all(aim: Aim) -> bool
+    ensures { result ≡ is_equal aim }
+{
+    match aim {
+        Aim::Equal => true,
+        Aim::Dominates | Aim::Neither => false,
+    }
 }

@@ -16,6 +16,7 @@ ghost use Rattle.mx_hier.specs.Rename.{rename_refusals, rename_at};
 ghost use Rattle.mx_hier.specs.Rules.{first_of, Answers, TellsFirst};
 ghost use Rattle.mx_hier.specs.SetAcl.{set_acl_at};
 ghost use Rattle.mx_hier.specs.SetBrackets.{set_brackets_refusals, set_brackets_at, with_brackets};
+ghost use Rattle.mx_hier.specs.SetClass.{set_class_refusals, set_class_at, with_class};
 ghost use Rattle.mx_hier.specs.SetDirectoryBrackets.{set_dir_brackets_refusals, set_dir_brackets_at, with_dir_brackets};
 ghost use Rattle.mx_hier.specs.Who.{subject};
 
@@ -24,6 +25,7 @@ use crate::hier::Hier;
 use crate::making::settable;
 use crate::refusals::{HierError, Refusal};
 use mx_acl::{AclError, Modes, NoEntry};
+use mx_aim::Class;
 use mx_name::{AclId, EntryName};
 use mx_sdw::{Brackets, Ring};
 use std::alloc::AllocError;
@@ -87,6 +89,20 @@ impl Hier {
             return Err(HierError::Refused(Refusal::BadBrackets));
         };
         self.put_brackets(uid, brackets);
+        Ok(())
+    }
+
+    /// Sets the class of a segment. After the refusal of every change (above): `NotASeg` on a directory, then
+    /// `BadClass` where the caller is in ring 2 or above and the class does not dominate the one that stands. Takes no
+    /// memory.
+    pub fn set_class(&mut self, who: &Who, uid: u32, class: Class) -> Result<(), HierError>
+        ensures answer { Answers (set_class_at self.old (subject who.now) uid class) self.old result self.new }
+        ensures told { TellsFirst (set_class_at self.old (subject who.now) uid class) result }
+    {
+        if let Some(why) = self.set_class_refusal(who, uid, class) {
+            return Err(HierError::Refused(why));
+        }
+        self.put_class(uid, class);
         Ok(())
     }
 
@@ -157,6 +173,21 @@ impl Hier {
         };
         if settable(who.ring, rings).is_none() || is_below(segment.brackets.r1(), who.ring) {
             return Some(Refusal::BadBrackets);
+        }
+        None
+    }
+
+    fn set_class_refusal(&self, who: &Who, uid: u32, class: Class) -> Option<Refusal>
+        ensures { result ≡ first_of (set_class_refusals self.now (subject who.now) uid class) }
+    {
+        if let Some(why) = self.changing_refusal(who, uid) {
+            return Some(why);
+        }
+        let Some(segment) = self.segment_at(uid) else {
+            return Some(Refusal::NotASeg);
+        };
+        if who.ring.number() >= 2 && !class.dominates(&segment.class) {
+            return Some(Refusal::BadClass);
         }
         None
     }
@@ -237,14 +268,21 @@ impl Hier {
         Ok(())
     }
 
-    #[tactic(auto, using(crate::proofs::SoundLaws::sound_brackets))]
+    #[tactic(auto, using(crate::proofs::SoundLaws::sound_segment))]
     fn put_brackets(&mut self, uid: u32, brackets: Brackets)
         ensures { self.new ≡ with_brackets self.old uid brackets }
     {
         self.tables.set_brackets(uid, brackets);
     }
 
-    #[tactic(auto, using(crate::proofs::SoundLaws::sound_dir_brackets))]
+    #[tactic(auto, using(crate::proofs::SoundLaws::sound_segment))]
+    fn put_class(&mut self, uid: u32, class: Class)
+        ensures { self.new ≡ with_class self.old uid class }
+    {
+        self.tables.set_class(uid, class);
+    }
+
+    #[tactic(auto, using(crate::proofs::SoundLaws::sound_directory))]
     fn put_dir_brackets(&mut self, uid: u32, d1: Ring, d2: Ring)
         ensures { self.new ≡ with_dir_brackets self.old uid d1 d2 }
     {

@@ -8,6 +8,7 @@ ghost use Rattle.mx_hier.specs.Opening.{root, opening};
 ghost use Rattle.mx_hier.specs.Sound.{IsStored};
 
 use crate::branches::{Directory, Node, Segment};
+use crate::initial::InitialAcls;
 use crate::objects::object_in;
 use crate::tables::Tables;
 use indexmap::IndexMap;
@@ -47,8 +48,8 @@ impl Model for Hier {
 }
 
 impl Hier {
-    /// The root directory alone, with brackets 7, 7 and the one access list entry `*.SysDaemon.*` sma; each page from
-    /// `first_page` on is free.
+    /// The root directory alone, with brackets 7, 7, the one access list entry `*.SysDaemon.*` sma and empty initial
+    /// access lists; each page from `first_page` on is free.
     pub fn new(alloc: Global, first_page: u32) -> Result<Hier, AllocError>
         ensures { IfOk result (λ hier. hier ≡ opening first_page) }
     {
@@ -150,18 +151,14 @@ fn root(alloc: Global) -> Result<Directory, AllocError>
     };
     Ok(Directory {
         acl,
+        initial: InitialAcls::new(alloc),
         d1: seven,
         d2: seven,
     })
 }
 
 /// An access list with one entry.
-pub(crate) fn acl_of_one(
-    alloc: Global,
-    kind: AclKind,
-    id: AclId,
-    modes: Modes,
-) -> Result<Acl, AllocError>
+fn acl_of_one(alloc: Global, kind: AclKind, id: AclId, modes: Modes) -> Result<Acl, AllocError>
     ensures { IfOk result (λ acl. acl ≡ record { kind = kind; entries = (id, modes) ∷ [] }) }
 {
     let mut acl = Acl::new(alloc, kind);

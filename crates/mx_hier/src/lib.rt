@@ -5,7 +5,7 @@
 //! with its refusals in the order of the table, and each call has the exact answer and the exact hierarchy that its
 //! definition gives; a refusal, and the want of memory, change nothing. Behind it stand a table of branches by uid and a
 //! map of names for each directory. What linkage sections are made of, an object's links and brackets and a page, is
-//! asked for by uid. Stands on names, access lists, brackets, pages and object maps.
+//! asked for by uid. Stands on names, access lists, brackets, classes, pages and object maps.
 #![tactic(auto)]
 
 mod asking;
@@ -15,6 +15,8 @@ mod changing;
 mod children;
 mod finding;
 mod hier;
+mod initial;
+mod initial_lists;
 mod laws;
 mod linkage;
 mod making;
@@ -30,6 +32,7 @@ pub use asking::Status;
 pub use branches::{Branch, Directory, Node, Segment};
 pub use callers::Who;
 pub use hier::Hier;
+pub use initial::InitialAcls;
 pub use laws::{
     a_followed_walk_ends_at_no_link, a_stranger_learns_nothing, a_walk_ends_alike_for_all,
     listed_names_ascend, segments_have_pages_of_their_own,

@@ -42,7 +42,7 @@ impl Hier {
         Some(page as u16)
     }
 
-    /// Gives out the page that is left first, for good. Where none is left, nothing changes.
+    /// Gives out the lowest free page. Where none is free, nothing changes.
     pub fn take_page(&mut self)
         ensures { self.new ≡ with_page_given self.old }
     {

@@ -7,10 +7,12 @@
 //! `NoInfo` instead. An error, the want of memory too, leaves the hierarchy as it was. A request at a place that is
 //! found takes memory only once it is not refused.
 
-ghost use Rattle.std.specs.Prelude.{◌≡◌, ◌+◌, ◌<◌, ◌≤◌, [], ◌∷◌, ◌++◌, Some, None, IfNone, IfOk, OnOk, OnErr, false, nat_le, nat_lt, ◌||◌};
+ghost use Rattle.std.specs.Prelude.{◌≡◌, ◌+◌, ◌<◌, ◌≤◌, [], ◌∷◌, ◌++◌, Some, None, IfNone, IfOk, IsSome, true, OnOk, OnErr, false, nat_le, nat_lt, ◌||◌};
 ghost use Rattle.std.specs.List.{list_any};
 ghost use Rattle.std.specs.Option.{option_map, option_copied};
-ghost use Rattle.mx_hier.specs.Branches.{uid_in, as_segment};
+ghost use Rattle.mx_acl.specs.Modes.{suits};
+ghost use Rattle.mx_hier.specs.Branches.{uid_in, as_segment, directory_at};
+ghost use Rattle.mx_hier.specs.InitialAccess.{initial_for};
 ghost use Rattle.mx_hier.specs.Brackets.{bracketing, settable};
 ghost use Rattle.mx_hier.specs.CreateDirectory.{create_dir_at, create_dir};
 ghost use Rattle.mx_hier.specs.CreateSegment.{create_seg};
@@ -27,7 +29,8 @@ ghost use Rattle.mx_pages.specs.Runs.{IsFreeRun, pages_for, run_given};
 
 use crate::branches::{Directory, Node, Segment};
 use crate::callers::Who;
-use crate::hier::{Hier, acl_of_one};
+use crate::hier::Hier;
+use crate::initial::InitialAcls;
 use crate::objects::{add_object, copy_with_room};
 use crate::refusals::{HierError, Refusal};
 use crate::tables::Tables;
@@ -48,8 +51,9 @@ pub struct Place {
 }
 
 impl Hier {
-    /// Makes a directory with brackets `d1 <= d2`, to which its maker has sma. After the refusals of every making
-    /// (above): `BadBrackets` where they are not in order or `d1` is below his ring.
+    /// Makes a directory with brackets `d1 <= d2`, to which its maker has sma beside what the initial list of its
+    /// directory gives; its own initial lists are empty. After the refusals of every making (above): `BadBrackets` where
+    /// they are not in order or `d1` is below his ring.
     pub fn create_dir(
         &mut self,
         alloc: Global,
@@ -84,14 +88,21 @@ impl Hier {
         if is_bad_pair(who.ring, d1, d2) {
             return Err(HierError::Refused(Refusal::BadBrackets));
         }
-        let acl = first_acl(alloc, AclKind::Directory, who, Modes::Sma)?;
-        self.add_entry(alloc, at, Node::Directory(Directory { acl, d1, d2 }))?;
+        let acl = self.first_acl(at.dir, AclKind::Directory, who, Modes::Sma)?;
+        let initial = InitialAcls::new(alloc);
+        let directory = Directory {
+            acl,
+            initial,
+            d1,
+            d2,
+        };
+        self.add_entry(alloc, at, Node::Directory(directory))?;
         Ok(())
     }
 
-    /// Makes a segment of 1 to 1,024 words on whole pages, to which its maker has rw. After the refusals of every
-    /// making (above): `BadLength`, then `BadBrackets` where the brackets are not in order or the first is below his
-    /// ring, then `NoPages`.
+    /// Makes a segment of 1 to 1,024 words on whole pages, to which its maker has rw beside what the initial list of its
+    /// directory gives; its class is its maker's authorization. After the refusals of every making (above): `BadLength`,
+    /// then `BadBrackets` where the brackets are not in order or the first is below his ring, then `NoPages`.
     pub fn create_seg(
         &mut self,
         alloc: Global,
@@ -136,6 +147,7 @@ impl Hier {
         modes: Modes,
         object: Option<&ObjectMap>,
     ) -> Result<(), HierError>
+        requires suit { suits AclKind.Segment modes ≡ true }
         ensures answer { Answers (make_segment self.old (caller who.now) path.now
             (record { words = words; rings = rings.now; modes = modes; object = option_copied object.entry }))
             self.old result self.new }
@@ -157,6 +169,7 @@ impl Hier {
         modes: Modes,
         object: Option<&ObjectMap>,
     ) -> Result<(), HierError>
+        requires suit { suits AclKind.Segment modes ≡ true }
         ensures answer { Answers (make_segment_at self.old (subject who.now) at.now
             (record { words = words; rings = rings.now; modes = modes; object = option_copied object.entry }))
             self.old result self.new }
@@ -189,6 +202,8 @@ impl Hier {
         requires free { uid_in self.old.branches at.now.dir at.now.name ≡ None }
         requires below { at.now.dir < self.old.next }
         requires fit { is_bad_length words (option_copied object) ≡ false }
+        requires suit { suits AclKind.Segment modes ≡ true }
+        requires there { IsSome (directory_at self.old at.now.dir) }
         ensures answer { Answers (segment_on_pages self.old (subject who.now) at.now words brackets modes
             (option_copied object.entry)) self.old result self.new }
         ensures told { TellsFirst (segment_on_pages self.old (subject who.now) at.now words brackets modes
@@ -197,9 +212,10 @@ impl Hier {
         let Some(page) = self.pages.next(pages_for(words)) else {
             return Err(HierError::Refused(Refusal::NoPages));
         };
-        let acl = first_acl(alloc, AclKind::Segment, who, modes)?;
+        let acl = self.first_acl(at.dir, AclKind::Segment, who, modes)?;
         let segment = Segment {
             acl,
+            class: who.authorization,
             brackets,
             words: words as u16,
             page: page as u16,
@@ -221,6 +237,7 @@ impl Hier {
         requires fit { is_bad_length segment.words (option_copied object) ≡ false }
         requires page { run_given self.old.pages (pages_for segment.words) ≡ Some segment.page }
         requires run { IsFreeRun self.old.pages (pages_for segment.words) segment.page }
+        requires within { segment.page + pages_for segment.words ≤ 1024 }
         ensures ok { OnOk result (self.new ≡ segment_added self.old at.now segment (option_copied object.entry)) }
         ensures err { OnErr result (self.new ≡ self.old) }
     {
@@ -313,6 +330,7 @@ impl Hier {
         ensures value { result ≡ first_of (making_refusals self.now (subject who.now) at.now) }
         ensures free { IfNone result (uid_in self.now.branches at.now.dir at.now.name ≡ None) }
         ensures below { IfNone result (at.now.dir < self.now.next) }
+        ensures there { IfNone result (IsSome (directory_at self.now at.now.dir)) }
     {
         match self.directory_at(at.dir) {
             Some(parent) if who.has_append(parent) => self.entry_refusal(at),
@@ -333,6 +351,22 @@ impl Hier {
             return Some(Refusal::DirFull);
         }
         None
+    }
+
+    /// The access list of what is made of a kind in a directory that there is.
+    fn first_acl(&self, dir: u32, kind: AclKind, who: &Who, modes: Modes) -> Result<Acl, AllocError>
+        requires suit { suits kind modes ≡ true }
+        requires there { IsSome (directory_at self.now dir) }
+        ensures { IfOk result (λ acl. option_map
+            (λ parent. first_acl (initial_for kind parent.initial) (subject who.now) modes) (directory_at self.now dir)
+            ≡ Some acl) }
+    {
+        let Some(parent) = self.directory_at(dir) else {
+            unreachable!();
+        };
+        let maker = AclId::of_maker(who.principal);
+        let acl = parent.initial.acl_for(kind, maker, modes)?;
+        Ok(acl)
     }
 
     /// Adds an entry that is no segment. Where memory is wanting, nothing changes.
@@ -461,13 +495,4 @@ pub(crate) fn settable(ring: Ring, rings: &[Ring; 3]) -> Option<Brackets>
         Some(brackets) if ring.number() <= brackets.r1().number() => Some(brackets),
         Some(_) | None => None,
     }
-}
-
-/// The access list of a new branch.
-fn first_acl(alloc: Global, kind: AclKind, who: &Who, modes: Modes) -> Result<Acl, AllocError>
-    ensures { IfOk result (λ acl. acl ≡ first_acl kind (subject who.now) modes) }
-{
-    let id = AclId::of_maker(who.principal);
-    let acl = acl_of_one(alloc, kind, id, modes)?;
-    Ok(acl)
 }

@@ -2,7 +2,9 @@
 
 ghost use Rattle.std.specs.Prelude.{◌≢◌, ℕ, List, [], Ok};
 ghost use Rattle.mx_name.specs.Identifiers.{PlainAclId};
+ghost use Rattle.mx_acl.specs.declared.modes.AclKind.{AclKind};
 ghost use Rattle.mx_acl.specs.declared.modes.Modes.{Modes};
+ghost use Rattle.mx_aim.specs.Classes.{PlainClass};
 ghost use Rattle.mx_object.specs.Objects.{PlainObjectMap};
 ghost use Rattle.mx_hier.specs.CreateDirectory.{create_dir};
 ghost use Rattle.mx_hier.specs.CreateLink.{create_link};
@@ -10,9 +12,11 @@ ghost use Rattle.mx_hier.specs.CreateObject.{create_object};
 ghost use Rattle.mx_hier.specs.CreateSegment.{create_seg};
 ghost use Rattle.mx_hier.specs.Delete.{delete};
 ghost use Rattle.mx_hier.specs.DeleteAclEntry.{del_acl};
+ghost use Rattle.mx_hier.specs.InitialLists.{set_iacl, del_iacl};
 ghost use Rattle.mx_hier.specs.Rename.{rename};
 ghost use Rattle.mx_hier.specs.SetAcl.{set_acl};
 ghost use Rattle.mx_hier.specs.SetBrackets.{set_brackets};
+ghost use Rattle.mx_hier.specs.SetClass.{set_class};
 ghost use Rattle.mx_hier.specs.SetDirectoryBrackets.{set_dir_brackets};
 ghost use Rattle.mx_hier.specs.Strangers.{IsOutsider, IsTurnedAway};
 ghost use Rattle.mx_hier.specs.Walks.{resolved};
@@ -33,6 +37,11 @@ pub fn an_outsider_is_turned_away(hier: &Hier, who: &Who, path: &Pathname)
     ensures set_brackets { (rings : List ℕ) → IsTurnedAway (set_brackets hier.now (caller who.now) path.now rings) }
     ensures set_dir_brackets { (d1 d2 : ℕ)
         → IsTurnedAway (set_dir_brackets hier.now (caller who.now) path.now d1 d2) }
+    ensures set_class { (class : PlainClass) → IsTurnedAway (set_class hier.now (caller who.now) path.now class) }
+    ensures set_iacl { (kind : AclKind) (id : PlainAclId) (modes : Modes)
+        → IsTurnedAway (set_iacl hier.now (caller who.now) path.now kind id modes) }
+    ensures del_iacl { (kind : AclKind) (id : PlainAclId)
+        → IsTurnedAway (del_iacl hier.now (caller who.now) path.now kind id) }
     ensures rename { (name : List ℕ) → IsTurnedAway (rename hier.now (caller who.now) path.now name) }
     ensures delete { IsTurnedAway (delete hier.now (caller who.now) path.now) }
     ensures create_dir { (d1 d2 : ℕ) → resolved (caller who.now) path.now ≢ Ok []

@@ -34,6 +34,7 @@ pub enum Refusal {
     NoProcess,
     MailFull,
     Ended,
+    BadClass,
 }
 
 impl Refusal {
@@ -67,6 +68,7 @@ impl Refusal {
             Refusal::NoProcess => 23,
             Refusal::MailFull => 24,
             Refusal::Ended => 25,
+            Refusal::BadClass => 26,
         }
     }
 
@@ -100,6 +102,7 @@ impl Refusal {
             Refusal::NoProcess => "no_process",
             Refusal::MailFull => "mail_full",
             Refusal::Ended => "ended",
+            Refusal::BadClass => "bad_class",
         }
     }
 }

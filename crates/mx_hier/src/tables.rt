@@ -9,21 +9,24 @@ ghost use Rattle.mx_acl.specs.Access.{entry_of, with_entry, without_entry, set_f
 ghost use Rattle.mx_hier.specs.Callers.{on};
 ghost use Rattle.mx_hier.specs.declared.branches.Branch.{Branch as BranchValue};
 ghost use Rattle.mx_hier.specs.Branches.{branch_of, entries_of, uid_in};
-ghost use Rattle.mx_hier.specs.Changing.{branch_with_acl};
+ghost use Rattle.mx_hier.specs.Changing.{branch_with_acl, branch_with_segment, branch_with_directory};
 ghost use Rattle.mx_hier.specs.Delete.{without};
-ghost use Rattle.mx_hier.specs.SetBrackets.{branch_bracketed};
-ghost use Rattle.mx_hier.specs.SetDirectoryBrackets.{branch_dir_bracketed};
+ghost use Rattle.mx_hier.specs.InitialLists.{initial_changed};
+ghost use Rattle.mx_hier.specs.SetBrackets.{bracketed};
+ghost use Rattle.mx_hier.specs.SetClass.{classed};
+ghost use Rattle.mx_hier.specs.SetDirectoryBrackets.{dir_bracketed};
 ghost use Rattle.mx_hier.specs.List.{in_byte_order};
-ghost use Rattle.mx_hier.specs.Listed.{listed_added, listed_changed, present, slot_of, changed_at, acl_of, AclAnswers, kept_for, with_name, renamed, AreKept};
+ghost use Rattle.mx_hier.specs.Listed.{listed_added, listed_changed, present, slot_of, changed_at, acl_of, directory_of, iacl_fault, iacl_lacks, AclAnswers, kept_for, with_name, renamed, AreKept};
 
 use crate::branches::{Branch, Node};
 use crate::children::Children;
 use crate::names::Names;
 use crate::slots::{
-    branch_at, put_name, remove_acl_at, set_acl_at, set_brackets_at, set_dir_brackets_at,
-    take_branch,
+    branch_at, put_name, remove_acl_at, remove_iacl_at, set_acl_at, set_brackets_at, set_class_at,
+    set_dir_brackets_at, set_iacl_at, take_branch,
 };
-use mx_acl::{AclError, Modes, NoEntry};
+use mx_acl::{AclError, AclKind, Modes, NoEntry};
+use mx_aim::Class;
 use mx_name::{AclId, EntryName};
 use mx_sdw::{Brackets, Ring};
 use std::alloc::{AllocError, Global};
@@ -168,16 +171,51 @@ impl Tables {
 
     /// Sets the brackets of a segment; nothing changes where none stands at the uid.
     pub(crate) fn set_brackets(&mut self, uid: u32, brackets: Brackets)
-        ensures { self.new ≡ listed_changed self.old uid (branch_bracketed brackets) }
+        ensures { self.new ≡ listed_changed self.old uid (branch_with_segment (bracketed brackets)) }
     {
         set_brackets_at(&mut self.slots, uid, brackets);
     }
 
+    /// Sets the class of a segment; nothing changes where none stands at the uid.
+    pub(crate) fn set_class(&mut self, uid: u32, class: Class)
+        ensures { self.new ≡ listed_changed self.old uid (branch_with_segment (classed class)) }
+    {
+        set_class_at(&mut self.slots, uid, class);
+    }
+
     /// Sets the brackets of a directory; nothing changes where none stands at the uid.
     pub(crate) fn set_dir_brackets(&mut self, uid: u32, d1: Ring, d2: Ring)
-        ensures { self.new ≡ listed_changed self.old uid (branch_dir_bracketed d1 d2) }
+        ensures { self.new ≡ listed_changed self.old uid (branch_with_directory (dir_bracketed d1 d2)) }
     {
         set_dir_brackets_at(&mut self.slots, uid, d1, d2);
+    }
+
+    /// Sets the modes of an identifier in the initial access list of the directory of a uid for what is made of a kind,
+    /// as `InitialAcl::set` does. Nothing changes on an error, nor where no directory stands at the uid.
+    pub(crate) fn set_iacl(
+        &mut self,
+        uid: u32,
+        kind: AclKind,
+        id: &AclId,
+        modes: Modes,
+    ) -> Result<(), AclError>
+        ensures answer { AclAnswers (iacl_fault kind id.now modes (directory_of self.old.branches uid)) result }
+        ensures ok { OnOk result (self.new ≡ listed_changed self.old uid
+            (branch_with_directory (initial_changed kind (λ initial. with_entry initial id.now modes)))) }
+        ensures err { OnErr result (self.new ≡ self.old) }
+    {
+        set_iacl_at(&mut self.slots, uid, kind, id, modes)
+    }
+
+    /// Removes the entry of an identifier from that list. `NoEntry` exactly where it has none; nothing changes then,
+    /// nor where no directory stands at the uid. Takes no memory.
+    pub(crate) fn remove_iacl(&mut self, uid: u32, kind: AclKind, id: &AclId) -> Result<(), NoEntry>
+        ensures found { is_ok result ≡ not (iacl_lacks kind id.now (directory_of self.old.branches uid)) }
+        ensures ok { OnOk result (self.new ≡ listed_changed self.old uid
+            (branch_with_directory (initial_changed kind (λ initial. without_entry initial id.now)))) }
+        ensures err { OnErr result (self.new ≡ self.old) }
+    {
+        remove_iacl_at(&mut self.slots, uid, kind, id)
     }
 
     /// Gives the branch of a uid another name, which no entry of its directory has; it keeps its place. Nothing

@@ -14,6 +14,15 @@ returns-clause-set_brackets c = law.brackets_turned c.args.hier.now (caller c.ar
 pub returns-clause-set_dir_brackets : goal.returns-clause-set_dir_brackets
 returns-clause-set_dir_brackets c = law.dir_brackets_turned c.args.hier.now (caller c.args.who.now) c.args.path.now c.requires
 
+pub returns-clause-set_class : goal.returns-clause-set_class
+returns-clause-set_class c class = law.set_class_turned c.args.hier.now (caller c.args.who.now) c.args.path.now c.requires class
+
+pub returns-clause-set_iacl : goal.returns-clause-set_iacl
+returns-clause-set_iacl c kind id modes = law.set_iacl_turned c.args.hier.now (caller c.args.who.now) c.args.path.now c.requires kind id modes
+
+pub returns-clause-del_iacl : goal.returns-clause-del_iacl
+returns-clause-del_iacl c kind id = law.del_iacl_turned c.args.hier.now (caller c.args.who.now) c.args.path.now c.requires kind id
+
 pub returns-clause-rename : goal.returns-clause-rename
 returns-clause-rename c = law.rename_turned c.args.hier.now (caller c.args.who.now) c.args.path.now c.requires
 

@@ -16,7 +16,7 @@ invariant_of-self-2 c =
     let length = good_length segment.words object c.requires.fit in
     sound_made c.self.inside.pages c.allot-first.new.self c.self.inside.objects.entries c.add_with_map.new.objects.entries object c.self.inside.tables c.add_with_map.new.tables _ segment
     c.in_ok-add_with_map.ensures.ok refl length.some length.few c.in_ok-add_with_map.ensures.left
-    (subst (λ (h : Hierarchy). IsFreeRun h.pages (pages_for segment.words) segment.page) (sym c.self.view_is) c.requires.run)
+    (subst (λ (h : Hierarchy). IsFreeRun h.pages (pages_for segment.words) segment.page) (sym c.self.view_is) c.requires.run) c.requires.within
     (c.allot-first.ensures.after ∙ ap (λ n. after_run c.self.inside.pages n (run_given c.self.inside.pages n)) pages
     ∙ ap (after_run c.self.inside.pages (pages_for segment.words)) first)
     c.in_ok-add_with_map.ensures.map

@@ -1,13 +1,13 @@
-use Rattle.mx_hier.specs.Changing.{with_node}
+use Rattle.mx_hier.specs.Changing.{with_node, directory_changed}
 use Rattle.mx_hier.specs.SetDirectoryBrackets.{dir_bracketed}
 use Rattle.mx_hier.proofs.KeptLaws.{node_kept, listed_changed}
 use Rattle.mx_hier.proofs.tables.Tables.set_dir_brackets.Goals as goal
 
 pub invariant_of-self : goal.invariant_of-self
 invariant_of-self c =
-    node_kept (dir_bracketed c.args.d1 c.args.d2) c.self.inside.slots.items c.set_dir_brackets_at.new.slots.items c.self.inside.names.items c.args.uid c.self.invariant c.set_dir_brackets_at.ensures
+    node_kept (directory_changed (dir_bracketed c.args.d1 c.args.d2)) c.self.inside.slots.items c.set_dir_brackets_at.new.slots.items c.self.inside.names.items c.args.uid c.self.invariant c.set_dir_brackets_at.ensures
 
 pub returns : goal.returns
 returns c =
-    listed_changed c.self.inside.slots.items c.set_dir_brackets_at.new.slots.items c.args.self.now c.args.uid (λ branch. with_node (dir_bracketed c.args.d1 c.args.d2 branch.node) branch)
+    listed_changed c.self.inside.slots.items c.set_dir_brackets_at.new.slots.items c.args.self.now c.args.uid (λ branch. with_node (directory_changed (dir_bracketed c.args.d1 c.args.d2) branch.node) branch)
     c.self.invariant.keyed c.self.view_is c.set_dir_brackets_at.ensures
