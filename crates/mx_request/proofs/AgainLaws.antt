@@ -6,21 +6,25 @@ use Rattle.std.specs.List.{list_all}
 use Rattle.mx_name.proofs.TextLaws.{all_free, name_again}
 use Rattle.mx_name.specs.Identifiers.{PlainAclId, acl_id_text}
 use Rattle.mx_name.specs.Names.{is_name_byte, name_fault}
+use Rattle.mx_aim.proofs.TextLaws.{class_of_text-class_text}
+use Rattle.mx_aim.specs.Classes.{PlainClass, class_text}
 use Rattle.mx_acl.proofs.ModesLaws.{modes_again}
 use Rattle.mx_acl.specs.Modes.{modes_text}
 use Rattle.mx_acl.specs.declared.modes.Modes.{Modes}
+use Rattle.mx_acl.specs.declared.modes.AclKind.{AclKind}
+use Rattle.mx_acl.specs.declared.modes.AclKind.TheVariants.{Segment as OfSegment, Directory as OfDirectory}
 use Rattle.mx_sdw.specs.Octal.{octal}
 use Rattle.mx_object.specs.Objects.{PlainObjectMap}
 use Rattle.mx_search.specs.declared.rules.Rule.{Rule}
 use Rattle.mx_request.specs.declared.requests.Request.{Request}
-use Rattle.mx_request.specs.declared.requests.Request.TheVariants.{CreateDir, CreateSeg, CreateObject, CreateLink, Rename, Delete, SetAcl, DelAcl, SetBrackets, SetDirBrackets, Status, List as ListNames, ChangeWdir, SetRules, Initiate, Terminate, Wakeup, Block, Link, Resume, Logout}
+use Rattle.mx_request.specs.declared.requests.Request.TheVariants.{CreateDir, CreateSeg, CreateObject, CreateLink, Rename, Delete, SetAcl, DelAcl, SetIacl, DelIacl, SetBrackets, SetDirBrackets, SetClass, Status, List as ListNames, ChangeWdir, SetRules, Initiate, Terminate, Wakeup, Block, Link, Resume, Logout}
 use Rattle.mx_request.specs.declared.reading.kinds.Kind.{Kind}
-use Rattle.mx_request.specs.declared.reading.kinds.Kind.TheVariants.{CreateDir as OfCreateDir, CreateSeg as OfCreateSeg, CreateObject as OfCreateObject, CreateLink as OfCreateLink, Rename as OfRename, Delete as OfDelete, SetAcl as OfSetAcl, DelAcl as OfDelAcl, SetBrackets as OfSetBrackets, SetDirBrackets as OfSetDirBrackets, Status as OfStatus, List as OfList, ChangeWdir as OfChangeWdir, SetRules as OfSetRules, Initiate as OfInitiate, Terminate as OfTerminate, Wakeup as OfWakeup, Link as OfLink}
+use Rattle.mx_request.specs.declared.reading.kinds.Kind.TheVariants.{CreateDir as OfCreateDir, CreateSeg as OfCreateSeg, CreateObject as OfCreateObject, CreateLink as OfCreateLink, Rename as OfRename, Delete as OfDelete, SetAcl as OfSetAcl, DelAcl as OfDelAcl, SetIaclSeg as OfSetIaclSeg, SetIaclDir as OfSetIaclDir, DelIaclSeg as OfDelIaclSeg, DelIaclDir as OfDelIaclDir, SetBrackets as OfSetBrackets, SetDirBrackets as OfSetDirBrackets, SetClass as OfSetClass, Status as OfStatus, List as OfList, ChangeWdir as OfChangeWdir, SetRules as OfSetRules, Initiate as OfInitiate, Terminate as OfTerminate, Wakeup as OfWakeup, Link as OfLink}
 use Rattle.mx_request.specs.Fields.{line_of, ring_text, is_name}
 use Rattle.mx_request.specs.Kinds.{kind_word}
-use Rattle.mx_request.specs.Reading.{create_dir_at, create_seg_at, create_object_at, create_link_at, rename_at, set_acl_at, del_acl_at, set_brackets_at, set_dir_brackets_at, fields_at, request_at}
+use Rattle.mx_request.specs.Reading.{create_dir_at, create_seg_at, create_object_at, create_link_at, rename_at, set_acl_at, del_acl_at, set_iacl_at, del_iacl_at, set_brackets_at, set_dir_brackets_at, set_class_at, fields_at, request_at}
 use Rattle.mx_request.specs.ObjectTexts.{object_fields, fits_object}
-use Rattle.mx_request.specs.RequestTexts.{request_text, rule_text, is_pathname, is_identifier, is_ring, is_rule, are_brackets, fits_request}
+use Rattle.mx_request.specs.RequestTexts.{request_text, rule_text, is_pathname, is_identifier, is_class, is_ring, is_rule, are_brackets, fits_request}
 use Rattle.mx_request.proofs.StepLaws.{both, faultless, some_is}
 use Rattle.mx_name.proofs.CutLaws.{cut_again}
 use Rattle.mx_request.proofs.FieldLaws.{words_again, words_free, ring_again, ring_free, brackets_again, brackets_behind, before_again, before_behind, segno_again}
@@ -29,6 +33,7 @@ use Rattle.mx_request.proofs.RuleLaws.{cut_none, rules_again, rules_behind}
 use Rattle.mx_request.proofs.AddressLaws.{link_again}
 use Rattle.mx_request.proofs.MessageLaws.{wakeup_again}
 use Rattle.mx_request.proofs.KindLaws.{kind_again, kind_bytes, kind_not_bare}
+use Rattle.mx_request.proofs.ClassTexts.{class_is}
 use Rattle.mx_request.proofs.TakenLaws.{path_again, path_free, id_again, id_free, request_takes}
 
 -- the word of a line says how its fields are read
@@ -114,6 +119,24 @@ del_acl_again path id e =
     let f = both (is_pathname path) (is_identifier id) e in
     rw (cut_again 32 path (acl_id_text id) (path_free path f.0), id_again id f.1, path_again path f.0) refl
 
+set_iacl_again : (path : List ℕ) (kind : AclKind) (id : PlainAclId) (modes : Modes) → fits_request (SetIacl path kind id modes) ≡ true
+    → set_iacl_at kind (path ++ 32 ∷ (acl_id_text id ++ 32 ∷ modes_text modes)) ≡ Some (SetIacl path kind id modes)
+set_iacl_again path kind id modes e =
+    let f = both (is_pathname path) (is_identifier id) e in
+    rw (
+      cut_again 32 path (acl_id_text id ++ 32 ∷ modes_text modes) (path_free path f.0),
+      cut_again 32 (acl_id_text id) (modes_text modes) (id_free id f.1),
+      modes_again modes,
+      id_again id f.1,
+      path_again path f.0,
+    ) refl
+
+del_iacl_again : (path : List ℕ) (kind : AclKind) (id : PlainAclId) → fits_request (DelIacl path kind id) ≡ true
+    → del_iacl_at kind (path ++ 32 ∷ acl_id_text id) ≡ Some (DelIacl path kind id)
+del_iacl_again path kind id e =
+    let f = both (is_pathname path) (is_identifier id) e in
+    rw (cut_again 32 path (acl_id_text id) (path_free path f.0), id_again id f.1, path_again path f.0) refl
+
 set_brackets_again : (path brackets : List ℕ) → fits_request (SetBrackets path brackets) ≡ true
     → set_brackets_at (line_of (path ∷ map ring_text brackets)) ≡ Some (SetBrackets path brackets)
 set_brackets_again path brackets e =
@@ -135,6 +158,16 @@ set_dir_brackets_again path d1 d2 e =
       cut_again 32 (ring_text d1) (ring_text d2) (ring_free 32 d1 refl g.0),
       ring_again d1 g.0,
       ring_again d2 g.1,
+      path_again path f.0,
+    ) refl
+
+set_class_again : (path : List ℕ) (class : PlainClass) → fits_request (SetClass path class) ≡ true
+    → set_class_at (path ++ 32 ∷ class_text class) ≡ Some (SetClass path class)
+set_class_again path class e =
+    let f = both (is_pathname path) (is_class class) e in
+    rw (
+      cut_again 32 path (class_text class) (path_free path f.0),
+      class_of_text-class_text class (class_is class f.1),
       path_again path f.0,
     ) refl
 
@@ -182,8 +215,13 @@ request_again (Rename path name) e = by_kind OfRename _ ∙ rename_again path na
 request_again (Delete path) e = by_kind OfDelete path ∙ rw (path_again path e) refl
 request_again (SetAcl path id modes) e = by_kind OfSetAcl _ ∙ set_acl_again path id modes e
 request_again (DelAcl path id) e = by_kind OfDelAcl _ ∙ del_acl_again path id e
+request_again (SetIacl path OfSegment id modes) e = by_kind OfSetIaclSeg _ ∙ set_iacl_again path OfSegment id modes e
+request_again (SetIacl path OfDirectory id modes) e = by_kind OfSetIaclDir _ ∙ set_iacl_again path OfDirectory id modes e
+request_again (DelIacl path OfSegment id) e = by_kind OfDelIaclSeg _ ∙ del_iacl_again path OfSegment id e
+request_again (DelIacl path OfDirectory id) e = by_kind OfDelIaclDir _ ∙ del_iacl_again path OfDirectory id e
 request_again (SetBrackets path brackets) e = by_kind OfSetBrackets _ ∙ set_brackets_again path brackets e
 request_again (SetDirBrackets path d1 d2) e = by_kind OfSetDirBrackets _ ∙ set_dir_brackets_again path d1 d2 e
+request_again (SetClass path class) e = by_kind OfSetClass _ ∙ set_class_again path class e
 request_again (Status path) e = by_kind OfStatus path ∙ rw (path_again path e) refl
 request_again (ListNames path) e = by_kind OfList path ∙ rw (path_again path e) refl
 request_again (ChangeWdir path) e = by_kind OfChangeWdir path ∙ rw (path_again path e) refl

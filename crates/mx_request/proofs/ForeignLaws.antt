@@ -8,17 +8,19 @@ use Rattle.mx_name.specs.Names.{is_free, is_name_byte, name_fault}
 use Rattle.mx_name.specs.Pathnames.{pathname_fault, is_pathname_byte}
 use Rattle.mx_name.specs.Principals.{is_principal_byte}
 use Rattle.mx_acl.proofs.ModesLaws.{modes_is_free}
+use Rattle.mx_acl.specs.declared.modes.AclKind.{AclKind}
+use Rattle.mx_acl.specs.declared.modes.AclKind.TheVariants.{Segment as OfSegment, Directory as OfDirectory}
 use Rattle.mx_search.specs.declared.rules.Rule.{Rule}
 use Rattle.mx_request.specs.declared.requests.Request.{Request}
-use Rattle.mx_request.specs.declared.requests.Request.TheVariants.{CreateDir, CreateSeg, CreateObject, CreateLink, Rename, Delete, SetAcl, DelAcl, SetBrackets, SetDirBrackets, Status, List as ListNames, ChangeWdir, SetRules, Initiate, Terminate, Wakeup, Block, Link, Resume, Logout}
+use Rattle.mx_request.specs.declared.requests.Request.TheVariants.{CreateDir, CreateSeg, CreateObject, CreateLink, Rename, Delete, SetAcl, DelAcl, SetIacl, DelIacl, SetBrackets, SetDirBrackets, SetClass, Status, List as ListNames, ChangeWdir, SetRules, Initiate, Terminate, Wakeup, Block, Link, Resume, Logout}
 use Rattle.mx_request.specs.declared.reading.kinds.Kind.{Kind}
-use Rattle.mx_request.specs.declared.reading.kinds.Kind.TheVariants.{CreateDir as OfCreateDir, CreateSeg as OfCreateSeg, CreateObject as OfCreateObject, CreateLink as OfCreateLink, Rename as OfRename, Delete as OfDelete, SetAcl as OfSetAcl, DelAcl as OfDelAcl, SetBrackets as OfSetBrackets, SetDirBrackets as OfSetDirBrackets, Status as OfStatus, List as OfList, ChangeWdir as OfChangeWdir, SetRules as OfSetRules, Initiate as OfInitiate, Terminate as OfTerminate, Wakeup as OfWakeup, Link as OfLink}
+use Rattle.mx_request.specs.declared.reading.kinds.Kind.TheVariants.{CreateDir as OfCreateDir, CreateSeg as OfCreateSeg, CreateObject as OfCreateObject, CreateLink as OfCreateLink, Rename as OfRename, Delete as OfDelete, SetAcl as OfSetAcl, DelAcl as OfDelAcl, SetIaclSeg as OfSetIaclSeg, SetIaclDir as OfSetIaclDir, DelIaclSeg as OfDelIaclSeg, DelIaclDir as OfDelIaclDir, SetBrackets as OfSetBrackets, SetDirBrackets as OfSetDirBrackets, SetClass as OfSetClass, Status as OfStatus, List as OfList, ChangeWdir as OfChangeWdir, SetRules as OfSetRules, Initiate as OfInitiate, Terminate as OfTerminate, Wakeup as OfWakeup, Link as OfLink}
 use Rattle.mx_sdw.specs.Octal.{is_octal_digit}
 use Rattle.mx_request.specs.Fields.{line_of, ring_text, is_name}
 use Rattle.mx_request.specs.Kinds.{kind_word}
 use Rattle.mx_request.specs.Decimals.{is_digit}
 use Rattle.mx_request.specs.ObjectTexts.{object_fields, fits_object}
-use Rattle.mx_request.specs.RequestTexts.{request_text, request_fields, rule_text, name_fields, is_pathname, is_name_or_none, is_identifier, is_ring, is_rule, are_brackets, fits_request}
+use Rattle.mx_request.specs.RequestTexts.{set_iacl_word, del_iacl_word, request_text, request_fields, rule_text, name_fields, is_pathname, is_name_or_none, is_identifier, is_class, is_ring, is_rule, are_brackets, fits_request}
 use Rattle.mx_request.proofs.StepLaws.{both, both_hold, faultless}
 use Rattle.mx_request.proofs.FieldLaws.{words_free, ring_free, segno_free}
 use Rattle.mx_request.proofs.RuleLaws.{rule_free}
@@ -26,6 +28,7 @@ use Rattle.mx_request.proofs.AddressLaws.{address_free}
 use Rattle.mx_request.proofs.ObjectLaws.{object_free}
 use Rattle.mx_request.proofs.MessageLaws.{message_free}
 use Rattle.mx_request.proofs.KindLaws.{kind_bytes}
+use Rattle.mx_request.proofs.ClassTexts.{class_free}
 
 -- bytes that no line has: those of no field, and not the blank
 pub record IsForeign (byte : ℕ) : Type 0 where
@@ -81,6 +84,14 @@ name_free : (byte : ℕ) → IsForeign byte → (name : Option (List ℕ)) → i
 name_free byte foreign None e = refl
 name_free byte foreign (Some name) e = both_hold _ _ (name_is_free byte name foreign.no_name (faultless (name_fault name) e)) refl
 
+set_word_free : (byte : ℕ) → IsForeign byte → (kind : AclKind) → is_free byte (set_iacl_word kind) ≡ true
+set_word_free byte foreign OfSegment = word_free byte foreign OfSetIaclSeg
+set_word_free byte foreign OfDirectory = word_free byte foreign OfSetIaclDir
+
+del_word_free : (byte : ℕ) → IsForeign byte → (kind : AclKind) → is_free byte (del_iacl_word kind) ≡ true
+del_word_free byte foreign OfSegment = word_free byte foreign OfDelIaclSeg
+del_word_free byte foreign OfDirectory = word_free byte foreign OfDelIaclDir
+
 fields_free : (byte : ℕ) → IsForeign byte → (request : Request) → fits_request request ≡ true → list_all (is_free byte) (request_fields request) ≡ true
 fields_free byte foreign (CreateDir path d1 d2) e =
     let f = both (is_pathname path) (is_ring d1 && is_ring d2) e in
@@ -118,6 +129,14 @@ fields_free byte foreign (DelAcl path id) e =
     let f = both (is_pathname path) (is_identifier id) e in
     both_hold _ _ (word_free byte foreign OfDelAcl) (both_hold _ _ (path_fields byte foreign path f.0)
     (both_hold _ _ (id_fields byte foreign id f.1) refl))
+fields_free byte foreign (SetIacl path kind id modes) e =
+    let f = both (is_pathname path) (is_identifier id) e in
+    both_hold _ _ (set_word_free byte foreign kind) (both_hold _ _ (path_fields byte foreign path f.0)
+    (both_hold _ _ (id_fields byte foreign id f.1) (both_hold _ _ (modes_is_free byte modes foreign.no_letter) refl)))
+fields_free byte foreign (DelIacl path kind id) e =
+    let f = both (is_pathname path) (is_identifier id) e in
+    both_hold _ _ (del_word_free byte foreign kind) (both_hold _ _ (path_fields byte foreign path f.0)
+    (both_hold _ _ (id_fields byte foreign id f.1) refl))
 fields_free byte foreign (SetBrackets path brackets) e =
     let f = both (is_pathname path) (are_brackets brackets) e in
     both_hold _ _ (word_free byte foreign OfSetBrackets) (both_hold _ _ (path_fields byte foreign path f.0)
@@ -127,6 +146,10 @@ fields_free byte foreign (SetDirBrackets path d1 d2) e =
     let g = both (is_ring d1) (is_ring d2) f.1 in
     both_hold _ _ (word_free byte foreign OfSetDirBrackets) (both_hold _ _ (path_fields byte foreign path f.0)
     (both_hold _ _ (ring_free byte d1 foreign.no_digit g.0) (both_hold _ _ (ring_free byte d2 foreign.no_digit g.1) refl)))
+fields_free byte foreign (SetClass path class) e =
+    let f = both (is_pathname path) (is_class class) e in
+    both_hold _ _ (word_free byte foreign OfSetClass) (both_hold _ _ (path_fields byte foreign path f.0)
+    (both_hold _ _ (class_free byte class foreign.no_octal_digit foreign.no_colon) refl))
 fields_free byte foreign (Status path) e = both_hold _ _ (word_free byte foreign OfStatus) (both_hold _ _ (path_fields byte foreign path e) refl)
 fields_free byte foreign (ListNames path) e = both_hold _ _ (word_free byte foreign OfList) (both_hold _ _ (path_fields byte foreign path e) refl)
 fields_free byte foreign (ChangeWdir path) e = both_hold _ _ (word_free byte foreign OfChangeWdir) (both_hold _ _ (path_fields byte foreign path e) refl)

@@ -4,7 +4,7 @@ use Rattle.std.specs.List.{find, list_all}
 use Rattle.std.specs.Cmp.Lexicographic.{pointwise, same_text}
 use Rattle.mx_name.specs.Names.{is_name_byte}
 use Rattle.mx_request.specs.declared.reading.kinds.Kind.{Kind}
-use Rattle.mx_request.specs.declared.reading.kinds.Kind.TheVariants.{CreateDir, CreateSeg, CreateObject, CreateLink, Rename, Delete, SetAcl, DelAcl, SetBrackets, SetDirBrackets, Status, List as ListNames, ChangeWdir, SetRules, Initiate, Terminate, Wakeup, Link}
+use Rattle.mx_request.specs.declared.reading.kinds.Kind.TheVariants.{CreateDir, CreateSeg, CreateObject, CreateLink, Rename, Delete, SetAcl, DelAcl, SetIaclSeg, SetIaclDir, DelIaclSeg, DelIaclDir, SetBrackets, SetDirBrackets, SetClass, Status, List as ListNames, ChangeWdir, SetRules, Initiate, Terminate, Wakeup, Link}
 use Rattle.mx_request.specs.Kinds.{kind_of, kind_word, all_kinds}
 use Rattle.mx_request.specs.Reading.{bare_at}
 use Rattle.mx_request.proofs.StepLaws.{some_is}
@@ -30,8 +30,13 @@ kind_again Rename = refl
 kind_again Delete = refl
 kind_again SetAcl = refl
 kind_again DelAcl = refl
+kind_again SetIaclSeg = refl
+kind_again SetIaclDir = refl
+kind_again DelIaclSeg = refl
+kind_again DelIaclDir = refl
 kind_again SetBrackets = refl
 kind_again SetDirBrackets = refl
+kind_again SetClass = refl
 kind_again Status = refl
 kind_again ListNames = refl
 kind_again ChangeWdir = refl
@@ -50,8 +55,13 @@ kind_bytes Rename = refl
 kind_bytes Delete = refl
 kind_bytes SetAcl = refl
 kind_bytes DelAcl = refl
+kind_bytes SetIaclSeg = refl
+kind_bytes SetIaclDir = refl
+kind_bytes DelIaclSeg = refl
+kind_bytes DelIaclDir = refl
 kind_bytes SetBrackets = refl
 kind_bytes SetDirBrackets = refl
+kind_bytes SetClass = refl
 kind_bytes Status = refl
 kind_bytes ListNames = refl
 kind_bytes ChangeWdir = refl
@@ -71,8 +81,13 @@ kind_not_bare Rename text = refl
 kind_not_bare Delete text = refl
 kind_not_bare SetAcl text = refl
 kind_not_bare DelAcl text = refl
+kind_not_bare SetIaclSeg text = refl
+kind_not_bare SetIaclDir text = refl
+kind_not_bare DelIaclSeg text = refl
+kind_not_bare DelIaclDir text = refl
 kind_not_bare SetBrackets text = refl
 kind_not_bare SetDirBrackets text = refl
+kind_not_bare SetClass text = refl
 kind_not_bare Status text = refl
 kind_not_bare ListNames text = refl
 kind_not_bare ChangeWdir text = refl

@@ -6,6 +6,7 @@ pub mod ObjectLaws
 pub mod MessageLaws
 pub mod KindLaws
 pub mod ClassLaws
+pub mod ClassTexts
 pub mod TakenLaws
 pub mod AgainLaws
 pub mod ForeignLaws

@@ -1,5 +1,5 @@
 -- Laws of replies: a reply that fits is found again in its fields, so that no two have one text.
-use Rattle.std.proofs.Common.{◌≡◌, ℕ, ◌==◌, ◌-◌, ◌<◌, ◌≤◌, ◌^◌, nat_lt, ltb, Bool, true, false, if◌then◌else◌, not, List, [], ◌∷◌, ◌++◌, length, Option, Some, None, codes, refl, ap, sym, ◌∙◌, arith, append-nil, append_assoc}
+use Rattle.std.proofs.Common.{◌≡◌, ℕ, ◌==◌, ◌-◌, ◌<◌, ◌≤◌, ◌^◌, nat_le, nat_lt, ltb, Bool, true, false, if◌then◌else◌, not, List, [], ◌∷◌, ◌++◌, length, Option, Some, None, codes, refl, ap, sym, ◌∙◌, arith, append-nil, append_assoc}
 use Rattle.std.proofs.lemmas.Bool.Decides.{nat_tests}
 use Rattle.std.proofs.lemmas.Fmt.{digits_value-decimal, digits_decimal}
 use Rattle.std.proofs.lemmas.List.Elements.{All-cons, All-nil}
@@ -12,14 +12,16 @@ use Rattle.mx_name.specs.Names.{is_free, is_name_byte, name_fault}
 use Rattle.mx_name.specs.Paths.{names_text, path_text}
 use Rattle.mx_sdw.proofs.OctalLaws.{octal_has_digits, octal_value-octal}
 use Rattle.mx_sdw.specs.Octal.{is_octal_digit, octal, octal_value}
+use Rattle.mx_aim.proofs.TextLaws.{class_of_text-class_text}
+use Rattle.mx_aim.specs.Classes.{PlainClass, IsClass, class_text, class_of_text}
 use Rattle.mx_acl.proofs.ModesLaws.{modes_again, modes_is_free}
 use Rattle.mx_acl.specs.Modes.{modes_of_text}
 use Rattle.mx_hier.specs.Refusals.{refusal_number, refusal_text}
 use Rattle.mx_hier.specs.declared.asking.Status as said
 use Rattle.mx_hier.specs.declared.asking.Status.TheVariants.{Segment, Object, Directory, Link}
 use Rattle.mx_hier.specs.declared.refusals.Refusal.{Refusal}
-use Rattle.mx_hier.specs.declared.refusals.Refusal.TheVariants.{BadPath, NoEntry, NoInfo, NotADir, LinkLoop, IncorrectAccess, NameDup, NotASeg, DirNotEmpty, DirFull, BadLength, BadBrackets, InvalidMode, AclFull, NoAclEntry, NoPages, KstFull, UnknownSegno, NotLinkage, SegmentNotFound, NotObject, NoDefinition, NoProcess, MailFull, Ended}
-use Rattle.mx_request.proofs.FieldLaws.{own, ring_free}
+use Rattle.mx_hier.specs.declared.refusals.Refusal.TheVariants.{BadPath, NoEntry, NoInfo, NotADir, LinkLoop, IncorrectAccess, NameDup, NotASeg, DirNotEmpty, DirFull, BadLength, BadBrackets, InvalidMode, AclFull, NoAclEntry, NoPages, KstFull, UnknownSegno, NotLinkage, SegmentNotFound, NotObject, NoDefinition, NoProcess, MailFull, Ended, BadClass}
+use Rattle.mx_request.proofs.FieldLaws.{at_most, own, ring_free}
 use Rattle.mx_name.proofs.CutLaws.{cut_again}
 use Rattle.mx_name.specs.Cuts.{cut_at}
 use Rattle.mx_request.proofs.AddressLaws.{address_free}
@@ -30,7 +32,7 @@ use Rattle.mx_request.specs.declared.replies.Reply.{Reply}
 use Rattle.mx_request.specs.declared.replies.Reply.TheVariants.{Done, Refused, Status, Names, Segno, Linked, Sent, Message, Nobody, Waiting}
 use Rattle.mx_request.specs.Fields.{ring_text, is_name}
 use Rattle.mx_request.specs.Decimals.{decimal_after, is_digit}
-use Rattle.mx_request.specs.ReplyTexts.{fits_reply, fits_status, fresh_text, linkage_fields, reply_fields, reply_text, status_fields}
+use Rattle.mx_request.specs.ReplyTexts.{class_fields, fits_class, fits_reply, fits_status, fresh_text, linkage_fields, reply_fields, reply_text, status_fields}
 use Rattle.mx_request.specs.RequestTexts.{is_ring}
 use Rattle.mx_request.specs.Steps.{◌>>=◌}
 
@@ -54,12 +56,21 @@ digit_at (c ∷ cs) = c - 48
 digit_again : (r : ℕ) → digit_at (ring_text r) ≡ r
 digit_again r = omega arith
 
+-- classes
+class_below : (n : ℕ) → nat_lt n (2 ^ 18) ≡ true → n < 2 ^ 18
+class_below n e = grind (arith, nat_tests)
+
+is_class : (class : PlainClass) → fits_class (Some class) ≡ true → IsClass class
+is_class class e =
+    let f = both (nat_le class.level 7) (nat_lt class.categories (2 ^ 18)) e in
+    record { level = at_most class.level 7 f.0; categories = class_below class.categories f.1 }
+
 -- refusals, by their names
 abbrev all_refusals : List Refusal
 all_refusals =
     BadPath ∷ NoEntry ∷ NoInfo ∷ NotADir ∷ LinkLoop ∷ IncorrectAccess ∷ NameDup ∷ NotASeg ∷ DirNotEmpty ∷ DirFull ∷ BadLength
     ∷ BadBrackets ∷ InvalidMode ∷ AclFull ∷ NoAclEntry ∷ NoPages ∷ KstFull ∷ UnknownSegno ∷ NotLinkage ∷ SegmentNotFound
-    ∷ NotObject ∷ NoDefinition ∷ NoProcess ∷ MailFull ∷ Ended ∷ []
+    ∷ NotObject ∷ NoDefinition ∷ NoProcess ∷ MailFull ∷ Ended ∷ BadClass ∷ []
 
 abbrev refusal_at : List ℕ → Option Refusal
 refusal_at text = find (λ why. pointwise ◌==◌ text (refusal_text why)) all_refusals
@@ -90,6 +101,7 @@ refusal_again NoDefinition = refl
 refusal_again NoProcess = refl
 refusal_again MailFull = refl
 refusal_again Ended = refl
+refusal_again BadClass = refl
 
 refusal_bytes : (why : Refusal) → list_all is_name_byte (refusal_text why) ≡ true
 refusal_bytes BadPath = refl
@@ -117,6 +129,7 @@ refusal_bytes NoDefinition = refl
 refusal_bytes NoProcess = refl
 refusal_bytes MailFull = refl
 refusal_bytes Ended = refl
+refusal_bytes BadClass = refl
 
 -- paths, by their parts
 abbrev path_of_parts : List (List ℕ) → List (List ℕ)
@@ -178,17 +191,24 @@ abbrev refused_at : List (List ℕ) → Option Reply
 refused_at (number ∷ text ∷ []) = refusal_at text >>= λ why. Some (Refused why)
 refused_at _ = None
 
+abbrev class_at : List (List ℕ) → Option (Option PlainClass)
+class_at [] = Some None
+class_at (word ∷ class ∷ []) = class_of_text class >>= λ class. Some (Some class)
+class_at _ = None
+
 abbrev segment_at : List (List ℕ) → Option Reply
-segment_at (w ∷ words ∷ b ∷ r1 ∷ r2 ∷ r3 ∷ m ∷ modes ∷ []) =
+segment_at (w ∷ words ∷ b ∷ r1 ∷ r2 ∷ r3 ∷ m ∷ modes ∷ last) =
     modes_of_text modes >>= λ modes.
-    Some (Status (Segment (decimal_after 0 words) (record { r1 = digit_at r1; r2 = digit_at r2; r3 = digit_at r3 }) modes))
+    class_at last >>= λ class.
+    Some (Status (Segment (decimal_after 0 words) (record { r1 = digit_at r1; r2 = digit_at r2; r3 = digit_at r3 }) modes class))
 segment_at _ = None
 
 abbrev object_at : List (List ℕ) → Option Reply
-object_at (w ∷ words ∷ b ∷ r1 ∷ r2 ∷ r3 ∷ g ∷ gate ∷ d ∷ definitions ∷ l ∷ links ∷ m ∷ modes ∷ []) =
+object_at (w ∷ words ∷ b ∷ r1 ∷ r2 ∷ r3 ∷ g ∷ gate ∷ d ∷ definitions ∷ l ∷ links ∷ m ∷ modes ∷ last) =
     modes_of_text modes >>= λ modes.
+    class_at last >>= λ class.
     Some (Status (Object (decimal_after 0 words) (record { r1 = digit_at r1; r2 = digit_at r2; r3 = digit_at r3 })
-    (decimal_after 0 gate) (decimal_after 0 definitions) (decimal_after 0 links) modes))
+    (decimal_after 0 gate) (decimal_after 0 definitions) (decimal_after 0 links) modes class))
 object_at _ = None
 
 abbrev directory_at : List (List ℕ) → Option Reply
@@ -251,23 +271,35 @@ linkage_again : (linkage : Option ℕ) → linkage_at (linkage_fields linkage) �
 linkage_again None = refl
 linkage_again (Some segno) = rw (octal_value-octal segno) refl
 
+class_again : (class : Option PlainClass) → fits_class class ≡ true → class_at (class_fields class) ≡ Some class
+class_again None e = refl
+class_again (Some class) e = rw (class_of_text-class_text class (is_class class e)) refl
+
 status_again : (status : said.Status) → fits_status status ≡ true → reply_at (status_fields status) ≡ Some (Status status)
-status_again (Segment words brackets modes) e =
+status_again (Segment words brackets modes class) e =
     let f = both (nat_lt words (2 ^ 64)) _ e in
+    let g = both (is_ring brackets.r1) _ f.1 in
+    let h = both (is_ring brackets.r2) _ g.1 in
+    let i = both (is_ring brackets.r3) (fits_class class) h.1 in
     rw (
       modes_again modes,
+      class_again class i.1,
       decimal_again words f.0,
       digit_again brackets.r1,
       digit_again brackets.r2,
       digit_again brackets.r3,
     ) refl
-status_again (Object words brackets gate definitions links modes) e =
+status_again (Object words brackets gate definitions links modes class) e =
     let f = both (nat_lt words (2 ^ 64)) _ e in
     let g = both (nat_lt gate (2 ^ 64)) _ f.1 in
     let h = both (nat_lt definitions (2 ^ 64)) _ g.1 in
     let i = both (nat_lt links (2 ^ 64)) _ h.1 in
+    let j = both (is_ring brackets.r1) _ i.1 in
+    let k = both (is_ring brackets.r2) _ j.1 in
+    let l = both (is_ring brackets.r3) (fits_class class) k.1 in
     rw (
       modes_again modes,
+      class_again class l.1,
       decimal_again words f.0,
       decimal_again gate g.0,
       decimal_again definitions h.0,
@@ -309,6 +341,7 @@ pub record IsApart (byte : ℕ) : Type 0 where
   pub no_letter : ltb 96 byte ≡ false
   pub no_mark : (62 == byte) ≡ false
   pub no_bar : (124 == byte) ≡ false
+  pub no_colon : (58 == byte) ≡ false
 
 fresh_bytes : (fresh : Bool) → list_all is_name_byte (fresh_text fresh) ≡ true
 fresh_bytes true = refl
@@ -344,35 +377,49 @@ module _ (byte : ℕ) (apart : IsApart byte) where
   small_number NoProcess = refl
   small_number MailFull = refl
   small_number Ended = refl
+  small_number BadClass = refl
+
+  class_text_free : (class : PlainClass) → is_free byte (class_text class) ≡ true
+  class_text_free class =
+      free_append byte (octal class.level ++ codes ":") (octal class.categories)
+      (free_append byte (octal class.level) (codes ":") (octal_free byte class.level apart.no_octal) (rw apart.no_colon refl))
+      (octal_free byte class.categories apart.no_octal)
+
+  class_free : (class : Option PlainClass) → list_all (is_free byte) (class_fields class) ≡ true
+  class_free None = refl
+  class_free (Some class) =
+      both_hold _ _ (word_free (codes "class") refl) (both_hold _ _ (class_text_free class) refl)
 
   status_free : (status : said.Status) → fits_status status ≡ true → list_all (is_free byte) (status_fields status) ≡ true
-  status_free (Segment words brackets modes) e =
+  status_free (Segment words brackets modes class) e =
       let f = both (nat_lt words (2 ^ 64)) _ e in
       let g = both (is_ring brackets.r1) _ f.1 in
-      let h = both (is_ring brackets.r2) (is_ring brackets.r3) g.1 in
+      let h = both (is_ring brackets.r2) _ g.1 in
+      let i = both (is_ring brackets.r3) (fits_class class) h.1 in
       both_hold _ _ (word_free (codes "segment") refl)
       (both_hold _ _ (word_free (codes "words") refl)
       (both_hold _ _ (decimal_free byte words apart.no_digit f.0)
       (both_hold _ _ (word_free (codes "brackets") refl)
       (both_hold _ _ (ring_free byte brackets.r1 apart.no_digit g.0)
       (both_hold _ _ (ring_free byte brackets.r2 apart.no_digit h.0)
-      (both_hold _ _ (ring_free byte brackets.r3 apart.no_digit h.1)
+      (both_hold _ _ (ring_free byte brackets.r3 apart.no_digit i.0)
       (both_hold _ _ (word_free (codes "modes") refl)
-      (both_hold _ _ (modes_is_free byte modes apart.no_letter) refl))))))))
-  status_free (Object words brackets gate definitions links modes) e =
+      (both_hold _ _ (modes_is_free byte modes apart.no_letter) (class_free class)))))))))
+  status_free (Object words brackets gate definitions links modes class) e =
       let f = both (nat_lt words (2 ^ 64)) _ e in
       let g = both (nat_lt gate (2 ^ 64)) _ f.1 in
       let h = both (nat_lt definitions (2 ^ 64)) _ g.1 in
       let i = both (nat_lt links (2 ^ 64)) _ h.1 in
       let j = both (is_ring brackets.r1) _ i.1 in
-      let k = both (is_ring brackets.r2) (is_ring brackets.r3) j.1 in
+      let k = both (is_ring brackets.r2) _ j.1 in
+      let l = both (is_ring brackets.r3) (fits_class class) k.1 in
       both_hold _ _ (word_free (codes "object") refl)
       (both_hold _ _ (word_free (codes "words") refl)
       (both_hold _ _ (decimal_free byte words apart.no_digit f.0)
       (both_hold _ _ (word_free (codes "brackets") refl)
       (both_hold _ _ (ring_free byte brackets.r1 apart.no_digit j.0)
       (both_hold _ _ (ring_free byte brackets.r2 apart.no_digit k.0)
-      (both_hold _ _ (ring_free byte brackets.r3 apart.no_digit k.1)
+      (both_hold _ _ (ring_free byte brackets.r3 apart.no_digit l.0)
       (both_hold _ _ (word_free (codes "gate") refl)
       (both_hold _ _ (decimal_free byte gate apart.no_digit g.0)
       (both_hold _ _ (word_free (codes "definitions") refl)
@@ -380,7 +427,7 @@ module _ (byte : ℕ) (apart : IsApart byte) where
       (both_hold _ _ (word_free (codes "links") refl)
       (both_hold _ _ (decimal_free byte links apart.no_digit i.0)
       (both_hold _ _ (word_free (codes "modes") refl)
-      (both_hold _ _ (modes_is_free byte modes apart.no_letter) refl))))))))))))))
+      (both_hold _ _ (modes_is_free byte modes apart.no_letter) (class_free class)))))))))))))))
   status_free (Directory d1 d2 modes) e =
       let f = both (is_ring d1) (is_ring d2) e in
       both_hold _ _ (word_free (codes "directory") refl)
@@ -429,10 +476,10 @@ module _ (byte : ℕ) (apart : IsApart byte) where
   fields_free Waiting e = both_hold _ _ (word_free (codes "waiting") refl) refl
 
 blank : IsApart 32
-blank = record { no_name = refl; no_digit = refl; no_octal = refl; no_letter = refl; no_mark = refl; no_bar = refl }
+blank = record { no_name = refl; no_digit = refl; no_octal = refl; no_letter = refl; no_mark = refl; no_bar = refl; no_colon = refl }
 
 newline : IsApart 10
-newline = record { no_name = refl; no_digit = refl; no_octal = refl; no_letter = refl; no_mark = refl; no_bar = refl }
+newline = record { no_name = refl; no_digit = refl; no_octal = refl; no_letter = refl; no_mark = refl; no_bar = refl; no_colon = refl }
 
 pub reply_newline_free : (reply : Reply) → fits_reply reply ≡ true → is_free 10 (reply_text reply) ≡ true
 reply_newline_free reply e = line_free 10 (reply_fields reply) refl (fields_free 10 newline reply e)
@@ -440,8 +487,8 @@ reply_newline_free reply e = line_free 10 (reply_fields reply) refl (fields_free
 some_field : (reply : Reply) → 1 ≤ length (reply_fields reply)
 some_field Done = omega arith
 some_field (Refused why) = omega arith
-some_field (Status (Segment words brackets modes)) = omega arith
-some_field (Status (Object words brackets gate definitions links modes)) = omega arith
+some_field (Status (Segment words brackets modes class)) = omega arith
+some_field (Status (Object words brackets gate definitions links modes class)) = omega arith
 some_field (Status (Directory d1 d2 modes)) = omega arith
 some_field (Status (Link target)) = omega arith
 some_field (Names names) = omega arith

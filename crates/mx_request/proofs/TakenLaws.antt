@@ -8,21 +8,25 @@ use Rattle.mx_name.specs.Identifiers.{PlainAclId, acl_id_of, acl_id_text, id_fau
 use Rattle.mx_name.specs.Names.{is_free, name_fault, name_of}
 use Rattle.mx_name.specs.Pathnames.{pathname_fault, pathname_of}
 use Rattle.mx_sdw.specs.Octal.{octal_number}
+use Rattle.mx_aim.proofs.TextLaws.{class_text-class_of_text}
+use Rattle.mx_aim.specs.Classes.{class_text, class_of_text}
 use Rattle.mx_acl.proofs.ModesLaws.{modes_takes}
 use Rattle.mx_acl.specs.Modes.{modes_text, modes_of_text}
+use Rattle.mx_acl.specs.declared.modes.AclKind.{AclKind}
+use Rattle.mx_acl.specs.declared.modes.AclKind.TheVariants.{Segment as OfSegment, Directory as OfDirectory}
 use Rattle.mx_search.specs.Rules.{rules_of}
 use Rattle.mx_search.specs.declared.rules.Rule.{Rule}
 use Rattle.mx_request.specs.declared.requests.Request.{Request}
 use Rattle.mx_request.specs.declared.requests.Request.TheVariants.{Delete, Status, List as ListNames, ChangeWdir, SetRules, Initiate, Block, Resume, Logout}
 use Rattle.mx_request.specs.declared.reading.kinds.Kind.{Kind}
-use Rattle.mx_request.specs.declared.reading.kinds.Kind.TheVariants.{CreateDir as OfCreateDir, CreateSeg as OfCreateSeg, CreateObject as OfCreateObject, CreateLink as OfCreateLink, Rename as OfRename, Delete as OfDelete, SetAcl as OfSetAcl, DelAcl as OfDelAcl, SetBrackets as OfSetBrackets, SetDirBrackets as OfSetDirBrackets, Status as OfStatus, List as OfList, ChangeWdir as OfChangeWdir, SetRules as OfSetRules, Initiate as OfInitiate, Terminate as OfTerminate, Wakeup as OfWakeup, Link as OfLink}
+use Rattle.mx_request.specs.declared.reading.kinds.Kind.TheVariants.{CreateDir as OfCreateDir, CreateSeg as OfCreateSeg, CreateObject as OfCreateObject, CreateLink as OfCreateLink, Rename as OfRename, Delete as OfDelete, SetAcl as OfSetAcl, DelAcl as OfDelAcl, SetIaclSeg as OfSetIaclSeg, SetIaclDir as OfSetIaclDir, DelIaclSeg as OfDelIaclSeg, DelIaclDir as OfDelIaclDir, SetBrackets as OfSetBrackets, SetDirBrackets as OfSetDirBrackets, SetClass as OfSetClass, Status as OfStatus, List as OfList, ChangeWdir as OfChangeWdir, SetRules as OfSetRules, Initiate as OfInitiate, Terminate as OfTerminate, Wakeup as OfWakeup, Link as OfLink}
 use Rattle.mx_name.specs.Cuts.{cut_at}
 use Rattle.mx_request.specs.Fields.{line_of, ring_text}
 use Rattle.mx_request.specs.Kinds.{kind_of, kind_word}
 use Rattle.mx_request.specs.Decimals.{decimal_number}
-use Rattle.mx_request.specs.Reading.{ring_at, brackets_at, brackets_before, create_dir_at, create_seg_at, create_object_at, create_link_at, rename_at, delete_at, set_acl_at, del_acl_at, set_brackets_at, set_dir_brackets_at, status_at, list_at, change_wdir_at, rules_at, set_rules_at, initiate_by, initiate_at, terminate_at, wakeup_at, link_at, fields_at, bare_at, bare_or_worded, request_at}
+use Rattle.mx_request.specs.Reading.{ring_at, brackets_at, brackets_before, create_dir_at, create_seg_at, create_object_at, create_link_at, rename_at, delete_at, set_acl_at, del_acl_at, set_iacl_at, del_iacl_at, set_brackets_at, set_dir_brackets_at, set_class_at, status_at, list_at, change_wdir_at, rules_at, set_rules_at, initiate_by, initiate_at, terminate_at, wakeup_at, link_at, fields_at, bare_at, bare_or_worded, request_at}
 use Rattle.mx_request.specs.ReadingObjects.{object_at}
-use Rattle.mx_request.specs.RequestTexts.{request_text, is_pathname, is_identifier, is_rule, fits_request}
+use Rattle.mx_request.specs.RequestTexts.{set_iacl_word, del_iacl_word, request_text, is_pathname, is_identifier, is_rule, fits_request}
 use Rattle.mx_request.proofs.StepLaws.{both, both_hold, no_fault, faultless, some_is, bind_some, when_some}
 use Rattle.mx_name.proofs.CutLaws.{cut_takes}
 use Rattle.mx_request.proofs.FieldLaws.{words_takes, ring_takes, brackets_takes, before_takes, segno_takes}
@@ -31,6 +35,7 @@ use Rattle.mx_request.proofs.RuleLaws.{AreText, rules_take}
 use Rattle.mx_request.proofs.AddressLaws.{link_reads}
 use Rattle.mx_request.proofs.MessageLaws.{wakeup_reads}
 use Rattle.mx_request.proofs.KindLaws.{kind_takes}
+use Rattle.mx_request.proofs.ClassTexts.{class_fits}
 
 -- a line spells a request that fits
 pub record IsLine (line : List ℕ) (request : Request) : Type 0 where
@@ -176,6 +181,37 @@ del_acl_takes text request e =
       fits = both_hold _ _ a.1 b.1;
     })
 
+set_iacl_takes : (kind : AclKind) (text : List ℕ) (request : Request) → set_iacl_at kind text ≡ Some request
+    → IsLine (set_iacl_word kind ++ 32 ∷ text) request
+set_iacl_takes kind text request e =
+    let p = bind_some (cut_at 32 text) _ request e in
+    let q = bind_some (cut_at 32 p.0.1) _ request p.2 in
+    let modes = bind_some (modes_of_text q.0.1) _ request q.2 in
+    let id = bind_some (acl_id_of q.0.0) _ request modes.2 in
+    let path = bind_some (pathname_of p.0.0) _ request id.2 in
+    let a = path_takes p.0.0 path.0 path.1 in
+    let b = id_takes q.0.0 id.0 id.1 in
+    subst (IsLine (set_iacl_word kind ++ 32 ∷ text)) (some_is _ _ path.2)
+    (record {
+      spelled = three_parts (set_iacl_word kind) path.0 (acl_id_text id.0) (modes_text modes.0) text p.0.0 p.0.1 q.0.0 q.0.1
+          (cut_takes 32 text p.0 p.1).0 (cut_takes 32 p.0.1 q.0 q.1).0 a.0 b.0 (modes_takes q.0.1 modes.0 modes.1);
+      fits = both_hold _ _ a.1 b.1;
+    })
+
+del_iacl_takes : (kind : AclKind) (text : List ℕ) (request : Request) → del_iacl_at kind text ≡ Some request
+    → IsLine (del_iacl_word kind ++ 32 ∷ text) request
+del_iacl_takes kind text request e =
+    let p = bind_some (cut_at 32 text) _ request e in
+    let id = bind_some (acl_id_of p.0.1) _ request p.2 in
+    let path = bind_some (pathname_of p.0.0) _ request id.2 in
+    let a = path_takes p.0.0 path.0 path.1 in
+    let b = id_takes p.0.1 id.0 id.1 in
+    subst (IsLine (del_iacl_word kind ++ 32 ∷ text)) (some_is _ _ path.2)
+    (record {
+      spelled = two_parts (del_iacl_word kind) path.0 (acl_id_text id.0) text p.0.0 p.0.1 (cut_takes 32 text p.0 p.1).0 a.0 b.0;
+      fits = both_hold _ _ a.1 b.1;
+    })
+
 set_brackets_takes : (text : List ℕ) (request : Request) → set_brackets_at text ≡ Some request → IsLine (codes "set_brackets" ++ 32 ∷ text) request
 set_brackets_takes text request e =
     let p = bind_some (cut_at 32 text) _ request e in
@@ -207,6 +243,19 @@ set_dir_brackets_takes text request e =
       spelled = three_parts (codes "set_dir_brackets") path.0 (ring_text d1.0) (ring_text d2.0) text p.0.0 p.0.1 q.0.0 q.0.1
           (cut_takes 32 text p.0 p.1).0 (cut_takes 32 p.0.1 q.0 q.1).0 a.0 b.0 c.0;
       fits = both_hold _ _ a.1 (both_hold _ _ b.1 c.1);
+    })
+
+set_class_takes : (text : List ℕ) (request : Request) → set_class_at text ≡ Some request → IsLine (codes "set_class" ++ 32 ∷ text) request
+set_class_takes text request e =
+    let p = bind_some (cut_at 32 text) _ request e in
+    let class = bind_some (class_of_text p.0.1) _ request p.2 in
+    let path = bind_some (pathname_of p.0.0) _ request class.2 in
+    let a = path_takes p.0.0 path.0 path.1 in
+    subst (IsLine (codes "set_class" ++ 32 ∷ text)) (some_is _ _ path.2)
+    (record {
+      spelled = two_parts (codes "set_class") path.0 (class_text class.0) text p.0.0 p.0.1 (cut_takes 32 text p.0 p.1).0 a.0
+          (class_text-class_of_text p.0.1 class.0 class.1);
+      fits = both_hold _ _ a.1 (class_fits p.0.1 class.0 class.1);
     })
 
 -- a kind that has a pathname alone
@@ -299,8 +348,13 @@ fields_takes OfRename text request e = rename_takes text request e
 fields_takes OfDelete text request e = delete_takes text request e
 fields_takes OfSetAcl text request e = set_acl_takes text request e
 fields_takes OfDelAcl text request e = del_acl_takes text request e
+fields_takes OfSetIaclSeg text request e = set_iacl_takes OfSegment text request e
+fields_takes OfSetIaclDir text request e = set_iacl_takes OfDirectory text request e
+fields_takes OfDelIaclSeg text request e = del_iacl_takes OfSegment text request e
+fields_takes OfDelIaclDir text request e = del_iacl_takes OfDirectory text request e
 fields_takes OfSetBrackets text request e = set_brackets_takes text request e
 fields_takes OfSetDirBrackets text request e = set_dir_brackets_takes text request e
+fields_takes OfSetClass text request e = set_class_takes text request e
 fields_takes OfStatus text request e = status_takes text request e
 fields_takes OfList text request e = list_takes text request e
 fields_takes OfChangeWdir text request e = change_wdir_takes text request e

@@ -3,7 +3,7 @@ use Rattle.std.specs.Prelude.{ℕ, ◌==◌, List, [], ◌∷◌, Option, codes}
 use Rattle.std.specs.List.{find}
 use Rattle.std.specs.Cmp.Lexicographic.{pointwise}
 use Rattle.mx_request.specs.declared.reading.kinds.Kind.{Kind}
-use Rattle.mx_request.specs.declared.reading.kinds.Kind.TheVariants.{CreateDir, CreateSeg, CreateObject, CreateLink, Rename, Delete, SetAcl, DelAcl, SetBrackets, SetDirBrackets, Status, List as ListNames, ChangeWdir, SetRules, Initiate, Terminate, Wakeup, Link}
+use Rattle.mx_request.specs.declared.reading.kinds.Kind.TheVariants.{CreateDir, CreateSeg, CreateObject, CreateLink, Rename, Delete, SetAcl, DelAcl, SetIaclSeg, SetIaclDir, DelIaclSeg, DelIaclDir, SetBrackets, SetDirBrackets, SetClass, Status, List as ListNames, ChangeWdir, SetRules, Initiate, Terminate, Wakeup, Link}
 
 abbrev pub kind_word : Kind → List ℕ
 kind_word CreateDir = codes "create_dir"
@@ -14,8 +14,13 @@ kind_word Rename = codes "rename"
 kind_word Delete = codes "delete"
 kind_word SetAcl = codes "set_acl"
 kind_word DelAcl = codes "del_acl"
+kind_word SetIaclSeg = codes "set_iacl_seg"
+kind_word SetIaclDir = codes "set_iacl_dir"
+kind_word DelIaclSeg = codes "del_iacl_seg"
+kind_word DelIaclDir = codes "del_iacl_dir"
 kind_word SetBrackets = codes "set_brackets"
 kind_word SetDirBrackets = codes "set_dir_brackets"
+kind_word SetClass = codes "set_class"
 kind_word Status = codes "status"
 kind_word ListNames = codes "list"
 kind_word ChangeWdir = codes "change_wdir"
@@ -27,8 +32,9 @@ kind_word Link = codes "link"
 
 abbrev pub all_kinds : List Kind
 all_kinds =
-    CreateDir ∷ CreateSeg ∷ CreateObject ∷ CreateLink ∷ Rename ∷ Delete ∷ SetAcl ∷ DelAcl ∷ SetBrackets
-    ∷ SetDirBrackets ∷ Status ∷ ListNames ∷ ChangeWdir ∷ SetRules ∷ Initiate ∷ Terminate ∷ Wakeup ∷ Link ∷ []
+    CreateDir ∷ CreateSeg ∷ CreateObject ∷ CreateLink ∷ Rename ∷ Delete ∷ SetAcl ∷ DelAcl ∷ SetIaclSeg ∷ SetIaclDir
+    ∷ DelIaclSeg ∷ DelIaclDir ∷ SetBrackets ∷ SetDirBrackets ∷ SetClass ∷ Status ∷ ListNames ∷ ChangeWdir ∷ SetRules
+    ∷ Initiate ∷ Terminate ∷ Wakeup ∷ Link ∷ []
 
 -- the kind that a word names
 abbrev pub kind_of : List ℕ → Option Kind

@@ -2,6 +2,7 @@ pub mod Fields
 pub mod Decimals
 pub mod WordNumbers
 pub mod Classes
+pub mod Versions
 pub mod ObjectTexts
 pub mod RequestTexts
 pub mod ReplyTexts

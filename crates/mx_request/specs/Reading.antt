@@ -8,14 +8,17 @@ use Rattle.mx_name.specs.Pathnames.{is_absolute, pathname_of}
 use Rattle.mx_name.specs.Paths.{resolution}
 use Rattle.mx_name.specs.Identifiers.{acl_id_of}
 use Rattle.mx_sdw.specs.Octal.{is_octal_digit, octal_number}
+use Rattle.mx_aim.specs.Classes.{class_of_text}
 use Rattle.mx_acl.specs.Modes.{modes_of_text}
+use Rattle.mx_acl.specs.declared.modes.AclKind.{AclKind}
+use Rattle.mx_acl.specs.declared.modes.AclKind.TheVariants.{Segment as OfSegment, Directory as OfDirectory}
 use Rattle.mx_search.specs.Rules.{rules_of}
 use Rattle.mx_search.specs.declared.rules.Rule.{Rule}
 use Rattle.mx_search.specs.declared.rules.Rule.TheVariants.{InitiatedSegments, ReferencingDir, WorkingDir, Directory}
 use Rattle.mx_request.specs.declared.requests.Request.{Request}
-use Rattle.mx_request.specs.declared.requests.Request.TheVariants.{CreateDir, CreateSeg, CreateObject, CreateLink, Rename, Delete, SetAcl, DelAcl, SetBrackets, SetDirBrackets, Status, List as ListNames, ChangeWdir, SetRules, Initiate, Terminate, Wakeup, Block, Link, Resume, Logout}
+use Rattle.mx_request.specs.declared.requests.Request.TheVariants.{CreateDir, CreateSeg, CreateObject, CreateLink, Rename, Delete, SetAcl, DelAcl, SetIacl, DelIacl, SetBrackets, SetDirBrackets, SetClass, Status, List as ListNames, ChangeWdir, SetRules, Initiate, Terminate, Wakeup, Block, Link, Resume, Logout}
 use Rattle.mx_request.specs.declared.reading.kinds.Kind.{Kind}
-use Rattle.mx_request.specs.declared.reading.kinds.Kind.TheVariants.{CreateDir as OfCreateDir, CreateSeg as OfCreateSeg, CreateObject as OfCreateObject, CreateLink as OfCreateLink, Rename as OfRename, Delete as OfDelete, SetAcl as OfSetAcl, DelAcl as OfDelAcl, SetBrackets as OfSetBrackets, SetDirBrackets as OfSetDirBrackets, Status as OfStatus, List as OfList, ChangeWdir as OfChangeWdir, SetRules as OfSetRules, Initiate as OfInitiate, Terminate as OfTerminate, Wakeup as OfWakeup, Link as OfLink}
+use Rattle.mx_request.specs.declared.reading.kinds.Kind.TheVariants.{CreateDir as OfCreateDir, CreateSeg as OfCreateSeg, CreateObject as OfCreateObject, CreateLink as OfCreateLink, Rename as OfRename, Delete as OfDelete, SetAcl as OfSetAcl, DelAcl as OfDelAcl, SetIaclSeg as OfSetIaclSeg, SetIaclDir as OfSetIaclDir, DelIaclSeg as OfDelIaclSeg, DelIaclDir as OfDelIaclDir, SetBrackets as OfSetBrackets, SetDirBrackets as OfSetDirBrackets, SetClass as OfSetClass, Status as OfStatus, List as OfList, ChangeWdir as OfChangeWdir, SetRules as OfSetRules, Initiate as OfInitiate, Terminate as OfTerminate, Wakeup as OfWakeup, Link as OfLink}
 use Rattle.mx_request.specs.Decimals.{decimal_number}
 use Rattle.mx_request.specs.Kinds.{kind_of}
 use Rattle.mx_request.specs.ReadingObjects.{object_at}
@@ -109,6 +112,23 @@ del_acl_at text =
     pathname_of p.0 >>= λ path.
     Some (DelAcl path id)
 
+-- of a directory's initial access list of this kind
+abbrev pub set_iacl_at : AclKind → List ℕ → Option Request
+set_iacl_at kind text =
+    cut_at 32 text >>= λ p.
+    cut_at 32 p.1 >>= λ q.
+    modes_of_text q.1 >>= λ modes.
+    acl_id_of q.0 >>= λ id.
+    pathname_of p.0 >>= λ path.
+    Some (SetIacl path kind id modes)
+
+abbrev pub del_iacl_at : AclKind → List ℕ → Option Request
+del_iacl_at kind text =
+    cut_at 32 text >>= λ p.
+    acl_id_of p.1 >>= λ id.
+    pathname_of p.0 >>= λ path.
+    Some (DelIacl path kind id)
+
 abbrev pub set_brackets_at : List ℕ → Option Request
 set_brackets_at text =
     cut_at 32 text >>= λ p.
@@ -124,6 +144,13 @@ set_dir_brackets_at text =
     ring_at q.1 >>= λ d2.
     pathname_of p.0 >>= λ path.
     Some (SetDirBrackets path d1 d2)
+
+abbrev pub set_class_at : List ℕ → Option Request
+set_class_at text =
+    cut_at 32 text >>= λ p.
+    class_of_text p.1 >>= λ class.
+    pathname_of p.0 >>= λ path.
+    Some (SetClass path class)
 
 abbrev pub status_at : List ℕ → Option Request
 status_at text = pathname_of text >>= λ path. Some (Status path)
@@ -201,8 +228,13 @@ fields_at OfRename text = rename_at text
 fields_at OfDelete text = delete_at text
 fields_at OfSetAcl text = set_acl_at text
 fields_at OfDelAcl text = del_acl_at text
+fields_at OfSetIaclSeg text = set_iacl_at OfSegment text
+fields_at OfSetIaclDir text = set_iacl_at OfDirectory text
+fields_at OfDelIaclSeg text = del_iacl_at OfSegment text
+fields_at OfDelIaclDir text = del_iacl_at OfDirectory text
 fields_at OfSetBrackets text = set_brackets_at text
 fields_at OfSetDirBrackets text = set_dir_brackets_at text
+fields_at OfSetClass text = set_class_at text
 fields_at OfStatus text = status_at text
 fields_at OfList text = list_at text
 fields_at OfChangeWdir text = change_wdir_at text

@@ -4,6 +4,7 @@ use Rattle.std.specs.Fmt.{decimal}
 use Rattle.std.specs.List.{list_all}
 use Rattle.mx_name.specs.Paths.{path_text}
 use Rattle.mx_sdw.specs.Octal.{octal}
+use Rattle.mx_aim.specs.Classes.{PlainClass, class_text}
 use Rattle.mx_acl.specs.Modes.{modes_text}
 use Rattle.mx_hier.specs.Refusals.{refusal_number, refusal_text}
 use Rattle.mx_hier.specs.declared.asking.Status as said
@@ -11,7 +12,7 @@ use Rattle.mx_hier.specs.declared.asking.Status.TheVariants.{Segment, Object, Di
 use Rattle.mx_request.specs.declared.replies.Reply.{Reply}
 use Rattle.mx_request.specs.declared.replies.Reply.TheVariants.{Done, Refused, Status, Names, Segno, Linked, Sent, Message, Nobody, Waiting}
 use Rattle.mx_request.specs.Fields.{line_of, ring_text, is_name, address_text}
-use Rattle.mx_request.specs.RequestTexts.{is_ring}
+use Rattle.mx_request.specs.RequestTexts.{is_ring, is_class}
 
 -- whether the segment has become known by this request
 abbrev pub fresh_text : Bool → List ℕ
@@ -23,16 +24,21 @@ abbrev pub linkage_fields : Option ℕ → List (List ℕ)
 linkage_fields None = []
 linkage_fields (Some segno) = codes "linkage" ∷ octal segno ∷ []
 
+-- the class of a segment, where one is said
+abbrev pub class_fields : Option PlainClass → List (List ℕ)
+class_fields None = []
+class_fields (Some class) = codes "class" ∷ class_text class ∷ []
+
 abbrev pub status_fields : said.Status → List (List ℕ)
-status_fields (Segment words brackets modes) =
+status_fields (Segment words brackets modes class) =
     codes "segment" ∷ codes "words" ∷ decimal words
     ∷ codes "brackets" ∷ ring_text brackets.r1 ∷ ring_text brackets.r2 ∷ ring_text brackets.r3
-    ∷ codes "modes" ∷ modes_text modes ∷ []
-status_fields (Object words brackets gate definitions links modes) =
+    ∷ codes "modes" ∷ modes_text modes ∷ class_fields class
+status_fields (Object words brackets gate definitions links modes class) =
     codes "object" ∷ codes "words" ∷ decimal words
     ∷ codes "brackets" ∷ ring_text brackets.r1 ∷ ring_text brackets.r2 ∷ ring_text brackets.r3
     ∷ codes "gate" ∷ decimal gate ∷ codes "definitions" ∷ decimal definitions ∷ codes "links" ∷ decimal links
-    ∷ codes "modes" ∷ modes_text modes ∷ []
+    ∷ codes "modes" ∷ modes_text modes ∷ class_fields class
 status_fields (Directory d1 d2 modes) =
     codes "directory" ∷ codes "brackets" ∷ ring_text d1 ∷ ring_text d2 ∷ codes "modes" ∷ modes_text modes ∷ []
 status_fields (Link target) = codes "link" ∷ path_text target ∷ []
@@ -56,13 +62,18 @@ reply_fields Waiting = codes "waiting" ∷ []
 abbrev pub reply_text : Reply → List ℕ
 reply_text reply = line_of (reply_fields reply)
 
--- What a reply's text can say: names of their grammar, rings to 7, and numbers of 64 bits.
+-- a class that is said is one
+abbrev pub fits_class : Option PlainClass → Bool
+fits_class None = true
+fits_class (Some class) = is_class class
+
+-- What a reply's text can say: names of their grammar, rings to 7, numbers of 64 bits, and classes.
 abbrev pub fits_status : said.Status → Bool
-fits_status (Segment words brackets modes) =
-    nat_lt words (2 ^ 64) && (is_ring brackets.r1 && (is_ring brackets.r2 && is_ring brackets.r3))
-fits_status (Object words brackets gate definitions links modes) =
+fits_status (Segment words brackets modes class) =
+    nat_lt words (2 ^ 64) && (is_ring brackets.r1 && (is_ring brackets.r2 && (is_ring brackets.r3 && fits_class class)))
+fits_status (Object words brackets gate definitions links modes class) =
     nat_lt words (2 ^ 64) && (nat_lt gate (2 ^ 64) && (nat_lt definitions (2 ^ 64) && (nat_lt links (2 ^ 64)
-    && (is_ring brackets.r1 && (is_ring brackets.r2 && is_ring brackets.r3)))))
+    && (is_ring brackets.r1 && (is_ring brackets.r2 && (is_ring brackets.r3 && fits_class class))))))
 fits_status (Directory d1 d2 modes) = is_ring d1 && is_ring d2
 fits_status (Link target) = list_all is_name target
 

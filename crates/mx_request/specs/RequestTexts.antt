@@ -6,11 +6,14 @@ use Rattle.mx_name.specs.Pathnames.{pathname_fault}
 use Rattle.mx_name.specs.Paths.{path_text}
 use Rattle.mx_name.specs.Identifiers.{PlainAclId, acl_id_text, id_fault}
 use Rattle.mx_sdw.specs.Octal.{octal}
+use Rattle.mx_aim.specs.Classes.{PlainClass, class_text}
 use Rattle.mx_acl.specs.Modes.{modes_text}
+use Rattle.mx_acl.specs.declared.modes.AclKind.{AclKind}
+use Rattle.mx_acl.specs.declared.modes.AclKind.TheVariants.{Segment as OfSegment, Directory as OfDirectory}
 use Rattle.mx_search.specs.declared.rules.Rule.{Rule}
 use Rattle.mx_search.specs.declared.rules.Rule.TheVariants.{InitiatedSegments, ReferencingDir, WorkingDir, Directory}
 use Rattle.mx_request.specs.declared.requests.Request.{Request}
-use Rattle.mx_request.specs.declared.requests.Request.TheVariants.{CreateDir, CreateSeg, CreateObject, CreateLink, Rename, Delete, SetAcl, DelAcl, SetBrackets, SetDirBrackets, Status, List as ListNames, ChangeWdir, SetRules, Initiate, Terminate, Wakeup, Block, Link, Resume, Logout}
+use Rattle.mx_request.specs.declared.requests.Request.TheVariants.{CreateDir, CreateSeg, CreateObject, CreateLink, Rename, Delete, SetAcl, DelAcl, SetIacl, DelIacl, SetBrackets, SetDirBrackets, SetClass, Status, List as ListNames, ChangeWdir, SetRules, Initiate, Terminate, Wakeup, Block, Link, Resume, Logout}
 use Rattle.mx_request.specs.Fields.{line_of, ring_text, is_name, address_text}
 use Rattle.mx_request.specs.ObjectTexts.{object_fields, fits_object}
 
@@ -26,6 +29,16 @@ abbrev pub name_fields : Option (List ℕ) → List (List ℕ)
 name_fields None = []
 name_fields (Some name) = name ∷ []
 
+-- the words of the requests on a directory's initial access lists: that of its new segments, and that of its new
+-- directories
+abbrev pub set_iacl_word : AclKind → List ℕ
+set_iacl_word OfSegment = codes "set_iacl_seg"
+set_iacl_word OfDirectory = codes "set_iacl_dir"
+
+abbrev pub del_iacl_word : AclKind → List ℕ
+del_iacl_word OfSegment = codes "del_iacl_seg"
+del_iacl_word OfDirectory = codes "del_iacl_dir"
+
 -- the fields of a request's line: WORDS and a process's number are decimal, a ring one digit, a segment number and a word
 -- octal
 abbrev pub request_fields : Request → List (List ℕ)
@@ -38,8 +51,11 @@ request_fields (Rename path name) = codes "rename" ∷ path ∷ name ∷ []
 request_fields (Delete path) = codes "delete" ∷ path ∷ []
 request_fields (SetAcl path id modes) = codes "set_acl" ∷ path ∷ acl_id_text id ∷ modes_text modes ∷ []
 request_fields (DelAcl path id) = codes "del_acl" ∷ path ∷ acl_id_text id ∷ []
+request_fields (SetIacl path kind id modes) = set_iacl_word kind ∷ path ∷ acl_id_text id ∷ modes_text modes ∷ []
+request_fields (DelIacl path kind id) = del_iacl_word kind ∷ path ∷ acl_id_text id ∷ []
 request_fields (SetBrackets path brackets) = codes "set_brackets" ∷ path ∷ map ring_text brackets
 request_fields (SetDirBrackets path d1 d2) = codes "set_dir_brackets" ∷ path ∷ ring_text d1 ∷ ring_text d2 ∷ []
+request_fields (SetClass path class) = codes "set_class" ∷ path ∷ class_text class ∷ []
 request_fields (Status path) = codes "status" ∷ path ∷ []
 request_fields (ListNames path) = codes "list" ∷ path ∷ []
 request_fields (ChangeWdir path) = codes "change_wdir" ∷ path ∷ []
@@ -56,8 +72,9 @@ abbrev pub request_text : Request → List ℕ
 request_text request = line_of (request_fields request)
 
 -- What a line may say: pathnames, names and identifiers of their grammar, rings to 7, three brackets (in any order),
--- WORDS of at most five digits, the maps of objects that their fields can say, segment numbers to octal 7777, addresses
--- to octal 7777|37777, processes from 1 to 99, words of 36 bits, and 1 to 16 search rules.
+-- classes of a level to 7 and 18 categories, WORDS of at most five digits, the maps of objects that their fields can say,
+-- segment numbers to octal 7777, addresses to octal 7777|37777, processes from 1 to 99, words of 36 bits, and 1 to 16
+-- search rules.
 abbrev pub is_pathname : List ℕ → Bool
 is_pathname path = is_none (pathname_fault path)
 
@@ -69,6 +86,9 @@ is_ring ring = nat_le ring 7
 
 abbrev pub are_brackets : List ℕ → Bool
 are_brackets brackets = nat_eq (length brackets) 3 && list_all is_ring brackets
+
+abbrev pub is_class : PlainClass → Bool
+is_class class = nat_le class.level 7 && nat_lt class.categories (2 ^ 18)
 
 abbrev pub is_name_or_none : Option (List ℕ) → Bool
 is_name_or_none None = true
@@ -108,8 +128,11 @@ fits_request (Rename path name) = is_pathname path && is_name name
 fits_request (Delete path) = is_pathname path
 fits_request (SetAcl path id modes) = is_pathname path && is_identifier id
 fits_request (DelAcl path id) = is_pathname path && is_identifier id
+fits_request (SetIacl path kind id modes) = is_pathname path && is_identifier id
+fits_request (DelIacl path kind id) = is_pathname path && is_identifier id
 fits_request (SetBrackets path brackets) = is_pathname path && are_brackets brackets
 fits_request (SetDirBrackets path d1 d2) = is_pathname path && (is_ring d1 && is_ring d2)
+fits_request (SetClass path class) = is_pathname path && is_class class
 fits_request (Status path) = is_pathname path
 fits_request (ListNames path) = is_pathname path
 fits_request (ChangeWdir path) = is_pathname path

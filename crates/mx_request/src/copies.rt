@@ -1,10 +1,11 @@
 //! Copies of requests, each a small function over the parts of one.
 
 ghost use Rattle.std.specs.Prelude.{◌≡◌, IfOk};
-ghost use Rattle.mx_request.specs.declared.requests.Request.TheVariants.{CreateDir, CreateSeg, CreateObject, CreateLink, Rename, Delete, SetAcl, DelAcl, SetBrackets, SetDirBrackets, Status, List, ChangeWdir, SetRules, Initiate};
+ghost use Rattle.mx_request.specs.declared.requests.Request.TheVariants.{CreateDir, CreateSeg, CreateObject, CreateLink, Rename, Delete, SetAcl, DelAcl, SetIacl, DelIacl, SetBrackets, SetDirBrackets, SetClass, Status, List, ChangeWdir, SetRules, Initiate};
 
 use crate::requests::Request;
-use mx_acl::Modes;
+use mx_acl::{AclKind, Modes};
+use mx_aim::Class;
 use mx_name::{AclId, EntryName, Pathname};
 use mx_object::ObjectMap;
 use mx_sdw::Ring;
@@ -91,6 +92,34 @@ pub(crate) fn del_acl(path: &Pathname, id: &AclId) -> Result<Request, AllocError
     Ok(Request::DelAcl { path, id: *id })
 }
 
+pub(crate) fn set_iacl(
+    path: &Pathname,
+    kind: AclKind,
+    id: &AclId,
+    modes: &Modes,
+) -> Result<Request, AllocError>
+    ensures { IfOk result (λ request. request ≡ SetIacl path.now kind id.now modes.now) }
+{
+    let path = path.copy()?;
+    Ok(Request::SetIacl {
+        path,
+        kind,
+        id: *id,
+        modes: *modes,
+    })
+}
+
+pub(crate) fn del_iacl(path: &Pathname, kind: AclKind, id: &AclId) -> Result<Request, AllocError>
+    ensures { IfOk result (λ request. request ≡ DelIacl path.now kind id.now) }
+{
+    let path = path.copy()?;
+    Ok(Request::DelIacl {
+        path,
+        kind,
+        id: *id,
+    })
+}
+
 pub(crate) fn set_brackets(path: &Pathname, brackets: &[Ring; 3]) -> Result<Request, AllocError>
     ensures { IfOk result (λ request. request ≡ SetBrackets path.now brackets.now) }
 {
@@ -106,6 +135,13 @@ pub(crate) fn set_dir_brackets(path: &Pathname, d1: Ring, d2: Ring) -> Result<Re
 {
     let path = path.copy()?;
     Ok(Request::SetDirBrackets { path, d1, d2 })
+}
+
+pub(crate) fn set_class(path: &Pathname, class: Class) -> Result<Request, AllocError>
+    ensures { IfOk result (λ request. request ≡ SetClass path.now class) }
+{
+    let path = path.copy()?;
+    Ok(Request::SetClass { path, class })
 }
 
 pub(crate) fn status(path: &Pathname) -> Result<Request, AllocError>

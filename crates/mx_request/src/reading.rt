@@ -2,7 +2,7 @@
 
 ghost use Rattle.std.specs.Prelude.{◌≡◌, None, IfOk};
 ghost use Rattle.mx_sdw.specs.Octal.{octal_number};
-ghost use Rattle.mx_request.specs.Reading.{create_dir_at, create_seg_at, create_object_at, create_link_at, rename_at, delete_at, set_acl_at, del_acl_at, set_brackets_at, set_dir_brackets_at, status_at, list_at, change_wdir_at, set_rules_at, initiate_by, initiate_at, terminate_at, wakeup_at, link_at, fields_at, bare_at, request_at};
+ghost use Rattle.mx_request.specs.Reading.{create_dir_at, create_seg_at, create_object_at, create_link_at, rename_at, delete_at, set_acl_at, del_acl_at, set_iacl_at, del_iacl_at, set_brackets_at, set_dir_brackets_at, set_class_at, status_at, list_at, change_wdir_at, set_rules_at, initiate_by, initiate_at, terminate_at, wakeup_at, link_at, fields_at, bare_at, request_at};
 
 mod decimals;
 mod fields;
@@ -15,7 +15,8 @@ use crate::requests::Request;
 pub use decimals::read_decimal;
 use fields::{cut_brackets, read_brackets, read_id, read_name, read_path, read_ring};
 use kinds::Kind;
-use mx_acl::Modes;
+use mx_acl::{AclKind, Modes};
+use mx_aim::Class;
 use mx_list::Sequence;
 use mx_name::cut;
 use mx_sdw::{Word, read_octal_number};
@@ -69,8 +70,13 @@ fn read_fields(alloc: Global, kind: Kind, fields: &[u8]) -> Result<Option<Reques
         Kind::Delete => read_delete(alloc, fields),
         Kind::SetAcl => read_set_acl(alloc, fields),
         Kind::DelAcl => read_del_acl(alloc, fields),
+        Kind::SetIaclSeg => read_set_iacl(alloc, AclKind::Segment, fields),
+        Kind::SetIaclDir => read_set_iacl(alloc, AclKind::Directory, fields),
+        Kind::DelIaclSeg => read_del_iacl(alloc, AclKind::Segment, fields),
+        Kind::DelIaclDir => read_del_iacl(alloc, AclKind::Directory, fields),
         Kind::SetBrackets => read_set_brackets(alloc, fields),
         Kind::SetDirBrackets => read_set_dir_brackets(alloc, fields),
+        Kind::SetClass => read_set_class(alloc, fields),
         Kind::Status => read_status(alloc, fields),
         Kind::List => read_list(alloc, fields),
         Kind::ChangeWdir => read_change_wdir(alloc, fields),
@@ -240,6 +246,49 @@ fn read_del_acl(alloc: Global, fields: &[u8]) -> Result<Option<Request>, AllocEr
     Ok(Some(Request::DelAcl { path, id }))
 }
 
+/// `PATH ID MODES`
+fn read_set_iacl(alloc: Global, kind: AclKind, fields: &[u8]) -> Result<Option<Request>, AllocError>
+    ensures { IfOk result (λ request. request ≡ set_iacl_at kind fields.now) }
+{
+    let Some((path, rest)) = cut(b' ', fields) else {
+        return Ok(None);
+    };
+    let Some((id, modes)) = cut(b' ', rest) else {
+        return Ok(None);
+    };
+    let Some(modes) = Modes::read(modes) else {
+        return Ok(None);
+    };
+    let Some(id) = read_id(id) else {
+        return Ok(None);
+    };
+    let Some(path) = read_path(alloc, path)? else {
+        return Ok(None);
+    };
+    Ok(Some(Request::SetIacl {
+        path,
+        kind,
+        id,
+        modes,
+    }))
+}
+
+/// `PATH ID`
+fn read_del_iacl(alloc: Global, kind: AclKind, fields: &[u8]) -> Result<Option<Request>, AllocError>
+    ensures { IfOk result (λ request. request ≡ del_iacl_at kind fields.now) }
+{
+    let Some((path, id)) = cut(b' ', fields) else {
+        return Ok(None);
+    };
+    let Some(id) = read_id(id) else {
+        return Ok(None);
+    };
+    let Some(path) = read_path(alloc, path)? else {
+        return Ok(None);
+    };
+    Ok(Some(Request::DelIacl { path, kind, id }))
+}
+
 /// `PATH R1 R2 R3`
 fn read_set_brackets(alloc: Global, fields: &[u8]) -> Result<Option<Request>, AllocError>
     ensures { IfOk result (λ request. request ≡ set_brackets_at fields.now) }
@@ -276,6 +325,22 @@ fn read_set_dir_brackets(alloc: Global, fields: &[u8]) -> Result<Option<Request>
         return Ok(None);
     };
     Ok(Some(Request::SetDirBrackets { path, d1, d2 }))
+}
+
+/// `PATH CLASS`
+fn read_set_class(alloc: Global, fields: &[u8]) -> Result<Option<Request>, AllocError>
+    ensures { IfOk result (λ request. request ≡ set_class_at fields.now) }
+{
+    let Some((path, class)) = cut(b' ', fields) else {
+        return Ok(None);
+    };
+    let Some(class) = Class::read(class) else {
+        return Ok(None);
+    };
+    let Some(path) = read_path(alloc, path)? else {
+        return Ok(None);
+    };
+    Ok(Some(Request::SetClass { path, class }))
 }
 
 fn read_status(alloc: Global, path: &[u8]) -> Result<Option<Request>, AllocError>

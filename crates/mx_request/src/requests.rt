@@ -7,7 +7,8 @@ ghost use Rattle.mx_request.specs.RequestTexts.{request_text, fits_request};
 use crate::copies;
 use crate::reading::read_line;
 use crate::writing::push_request;
-use mx_acl::Modes;
+use mx_acl::{AclKind, Modes};
+use mx_aim::Class;
 use mx_list::Sequence;
 use mx_name::{AclId, EntryName, Pathname};
 use mx_object::ObjectMap;
@@ -63,6 +64,21 @@ pub enum Request {
         path: Pathname,
         id: AclId,
     },
+    /// `set_iacl_seg PATH ID MODES`, `set_iacl_dir PATH ID MODES`: give the identifier these modes on the initial access
+    /// list of the directory, that of its new segments or that of its new directories.
+    SetIacl {
+        path: Pathname,
+        kind: AclKind,
+        id: AclId,
+        modes: Modes,
+    },
+    /// `del_iacl_seg PATH ID`, `del_iacl_dir PATH ID`: remove the identifier from the initial access list of the
+    /// directory.
+    DelIacl {
+        path: Pathname,
+        kind: AclKind,
+        id: AclId,
+    },
     /// `set_brackets PATH R1 R2 R3`: set the brackets of a segment.
     SetBrackets {
         path: Pathname,
@@ -73,6 +89,11 @@ pub enum Request {
         path: Pathname,
         d1: Ring,
         d2: Ring,
+    },
+    /// `set_class PATH CLASS`: set the class of a segment, a level and octal categories as `L:C`.
+    SetClass {
+        path: Pathname,
+        class: Class,
     },
     /// `status PATH`: ask what is said of an entry.
     Status {
@@ -145,6 +166,17 @@ impl Drop for Request {
                 modes: _,
             }
             | Request::DelAcl { path: _path, id: _ }
+            | Request::SetIacl {
+                path: _path,
+                kind: _,
+                id: _,
+                modes: _,
+            }
+            | Request::DelIacl {
+                path: _path,
+                kind: _,
+                id: _,
+            }
             | Request::SetBrackets {
                 path: _path,
                 brackets: _,
@@ -153,6 +185,10 @@ impl Drop for Request {
                 path: _path,
                 d1: _,
                 d2: _,
+            }
+            | Request::SetClass {
+                path: _path,
+                class: _,
             }
             | Request::Status { path: _path }
             | Request::List { path: _path }
@@ -185,10 +221,11 @@ pub type Requests = Sequence<Request>;
 
 impl Request {
     /// The request whose line this is, without its newline; `None` exactly where no request has this line. WORDS is
-    /// decimal with at most five digits, GATE with at most four, a ring one digit, a segment number octal up to 7777, an
-    /// address octal up to 7777|37777, a process decimal from 1 to 99, a word octal with 36 bits; an object's definitions
-    /// stand before its links, at most 64 of either, no symbol is defined twice, and W is octal up to 37777; there are 1
-    /// to 16 search rules; the fields have exactly one blank between each two.
+    /// decimal with at most five digits, GATE with at most four, a ring one digit, a class one digit and octal up to
+    /// 777777, a segment number octal up to 7777, an address octal up to 7777|37777, a process decimal from 1 to 99, a
+    /// word octal with 36 bits; an object's definitions stand before its links, at most 64 of either, no symbol is defined
+    /// twice, and W is octal up to 37777; there are 1 to 16 search rules; the fields have exactly one blank between each
+    /// two.
     pub fn read(alloc: Global, line: &[u8]) -> Result<Option<Request>, AllocError>
         ensures found { (request : RequestValue) → result ≡ Ok (Some request)
             → (request_text request ≡ line.now) × (fits_request request ≡ true) }
@@ -235,8 +272,16 @@ impl Request {
             Request::Delete { path } => copies::delete(path),
             Request::SetAcl { path, id, modes } => copies::set_acl(path, id, modes),
             Request::DelAcl { path, id } => copies::del_acl(path, id),
+            Request::SetIacl {
+                path,
+                kind,
+                id,
+                modes,
+            } => copies::set_iacl(path, *kind, id, modes),
+            Request::DelIacl { path, kind, id } => copies::del_iacl(path, *kind, id),
             Request::SetBrackets { path, brackets } => copies::set_brackets(path, brackets),
             Request::SetDirBrackets { path, d1, d2 } => copies::set_dir_brackets(path, *d1, *d2),
+            Request::SetClass { path, class } => copies::set_class(path, *class),
             Request::Status { path } => copies::status(path),
             Request::List { path } => copies::list(path),
             Request::ChangeWdir { path } => copies::change_wdir(path),

@@ -8,11 +8,12 @@ ghost use Rattle.mx_hier.specs.declared.asking.Status.TheVariants.{Segment, Obje
 ghost use Rattle.mx_request.specs.declared.replies.Reply.TheVariants.{Refused, Names as Listed, Segno, Linked};
 ghost use Rattle.mx_request.specs.Fields.{line_of, ring_text, address_text};
 ghost use Rattle.mx_request.specs.Growth.{IsGrown, blank_before, labelled};
-ghost use Rattle.mx_request.specs.ReplyTexts.{fresh_text, linkage_fields, status_fields, reply_text};
+ghost use Rattle.mx_request.specs.ReplyTexts.{class_fields, fresh_text, linkage_fields, status_fields, reply_text};
 
 use super::fields::{push_address, push_field, push_message, push_number, push_ring, push_rings};
 use crate::replies::Reply;
 use mx_acl::Modes;
+use mx_aim::Class;
 use mx_hier::{Names, Refusal, Status};
 use mx_kst::Known;
 use mx_name::Path;
@@ -61,7 +62,8 @@ fn push_status(out: &mut Vec<u8>, status: &Status) -> Result<(), AllocError>
             words,
             brackets,
             modes,
-        } => push_segment(out, *words, brackets, modes),
+            class,
+        } => push_segment(out, *words, brackets, modes, *class),
         Status::Object {
             words,
             brackets,
@@ -69,7 +71,17 @@ fn push_status(out: &mut Vec<u8>, status: &Status) -> Result<(), AllocError>
             definitions,
             links,
             modes,
-        } => push_object(out, *words, brackets, *gate, *definitions, *links, modes),
+            class,
+        } => push_object(
+            out,
+            *words,
+            brackets,
+            *gate,
+            *definitions,
+            *links,
+            modes,
+            *class,
+        ),
         Status::Directory { d1, d2, modes } => push_directory(out, *d1, *d2, modes),
         Status::Link { target } => push_link(out, target),
     }
@@ -80,14 +92,15 @@ fn push_segment(
     words: u16,
     brackets: &Brackets,
     modes: &Modes,
+    class: Option<Class>,
 ) -> Result<(), AllocError>
     ensures ok { OnOk result (out.new.items
-        ≡ out.old.items ++ line_of (status_fields (Segment words brackets.now modes.now))) }
+        ≡ out.old.items ++ line_of (status_fields (Segment words brackets.now modes.now class))) }
     ensures err { OnErr result (IsGrown out.old.items out.new.items) }
 {
     push_words(out, b"segment words", words)?;
     push_brackets(out, b" brackets", brackets)?;
-    push_modes(out, b" modes", modes)
+    push_last(out, modes, class)
 }
 
 fn push_object(
@@ -98,35 +111,37 @@ fn push_object(
     definitions: u16,
     links: u16,
     modes: &Modes,
+    class: Option<Class>,
 ) -> Result<(), AllocError>
     ensures ok { OnOk result (out.new.items
-        ≡ out.old.items ++ line_of (status_fields (Object words brackets.now gate definitions links modes.now))) }
+        ≡ out.old.items ++ line_of (status_fields (Object words brackets.now gate definitions links modes.now class))) }
     ensures err { OnErr result (IsGrown out.old.items out.new.items) }
 {
     push_words(out, b"object words", words)?;
     push_brackets(out, b" brackets", brackets)?;
-    push_map(out, gate, definitions, links, modes)
+    push_map(out, gate, definitions, links, modes, class)
 }
 
-/// What an object has besides: the numbers of its map, and the modes.
+/// What an object has besides: the numbers of its map, the modes and the class.
 fn push_map(
     out: &mut Vec<u8>,
     gate: u16,
     definitions: u16,
     links: u16,
     modes: &Modes,
+    class: Option<Class>,
 ) -> Result<(), AllocError>
     ensures ok { OnOk result (out.new.items
         ≡ out.old.items ++ (labelled (codes " gate") (decimal gate)
         ++ (labelled (codes " definitions") (decimal definitions)
         ++ (labelled (codes " links") (decimal links)
-        ++ labelled (codes " modes") (modes_text modes.now))))) }
+        ++ blank_before (codes "modes" ∷ modes_text modes.now ∷ class_fields class))))) }
     ensures err { OnErr result (IsGrown out.old.items out.new.items) }
 {
     push_words(out, b" gate", gate)?;
     push_words(out, b" definitions", definitions)?;
     push_words(out, b" links", links)?;
-    push_modes(out, b" modes", modes)
+    push_last(out, modes, class)
 }
 
 fn push_directory(out: &mut Vec<u8>, d1: Ring, d2: Ring, modes: &Modes) -> Result<(), AllocError>
@@ -170,6 +185,29 @@ fn push_modes(out: &mut Vec<u8>, label: &[u8], modes: &Modes) -> Result<(), Allo
 {
     out.extend_from_slice(label)?;
     push_field(out, modes.text().as_bytes())
+}
+
+/// What is said last of a segment: the modes, and the class where one is said.
+fn push_last(out: &mut Vec<u8>, modes: &Modes, class: Option<Class>) -> Result<(), AllocError>
+    ensures ok { OnOk result (out.new.items
+        ≡ out.old.items ++ blank_before (codes "modes" ∷ modes_text modes.now ∷ class_fields class)) }
+    ensures err { OnErr result (IsGrown out.old.items out.new.items) }
+{
+    push_modes(out, b" modes", modes)?;
+    match class {
+        Some(class) => push_class(out, class),
+        None => Ok(()),
+    }
+}
+
+fn push_class(out: &mut Vec<u8>, class: Class) -> Result<(), AllocError>
+    ensures ok { OnOk result (out.new.items ≡ out.old.items ++ blank_before (class_fields (Some class))) }
+    ensures err { OnErr result (IsGrown out.old.items out.new.items) }
+{
+    out.extend_from_slice(b" class ")?;
+    write_octal(out, u64::from(class.level()))?;
+    out.extend_from_slice(b":")?;
+    write_octal(out, u64::from(class.categories()))
 }
 
 fn push_link(out: &mut Vec<u8>, target: &Path) -> Result<(), AllocError>

@@ -5,16 +5,18 @@ ghost use Rattle.std.specs.Fmt.{decimal};
 ghost use Rattle.std.specs.Option.{option_copied};
 ghost use Rattle.mx_name.specs.Identifiers.{acl_id_text};
 ghost use Rattle.mx_sdw.specs.Octal.{octal};
+ghost use Rattle.mx_aim.specs.Classes.{class_text};
 ghost use Rattle.mx_acl.specs.Modes.{modes_text};
 ghost use Rattle.mx_request.specs.Fields.{line_of, ring_text, address_text};
 ghost use Rattle.mx_request.specs.Growth.{IsGrown, blank_before};
 ghost use Rattle.mx_request.specs.ObjectTexts.{object_fields};
-ghost use Rattle.mx_request.specs.RequestTexts.{name_fields, request_text, rule_text};
+ghost use Rattle.mx_request.specs.RequestTexts.{name_fields, set_iacl_word, del_iacl_word, request_text, rule_text};
 
 use super::fields::{push_address, push_field, push_message, push_number, push_ring, push_rings};
 use super::objects::push_map;
 use crate::requests::Request;
-use mx_acl::Modes;
+use mx_acl::{AclKind, Modes};
+use mx_aim::Class;
 use mx_name::{AclId, EntryName, Pathname};
 use mx_object::ObjectMap;
 use mx_sdw::{Ring, write_octal};
@@ -44,12 +46,20 @@ pub(crate) fn push_request(out: &mut Vec<u8>, request: &Request) -> Result<(), A
         Request::Delete { path } => push_path(out, b"delete", path),
         Request::SetAcl { path, id, modes } => push_entry(out, b"set_acl", path, id, modes),
         Request::DelAcl { path, id } => push_id(out, b"del_acl", path, id),
+        Request::SetIacl {
+            path,
+            kind,
+            id,
+            modes,
+        } => push_entry(out, set_iacl_word(*kind), path, id, modes),
+        Request::DelIacl { path, kind, id } => push_id(out, del_iacl_word(*kind), path, id),
         Request::SetBrackets { path, brackets } => {
             push_brackets(out, b"set_brackets", path, brackets)
         }
         Request::SetDirBrackets { path, d1, d2 } => {
             push_dir(out, b"set_dir_brackets", path, *d1, *d2)
         }
+        Request::SetClass { path, class } => push_class(out, b"set_class", path, *class),
         Request::Status { path } => push_path(out, b"status", path),
         Request::List { path } => push_path(out, b"list", path),
         Request::ChangeWdir { path } => push_path(out, b"change_wdir", path),
@@ -61,6 +71,26 @@ pub(crate) fn push_request(out: &mut Vec<u8>, request: &Request) -> Result<(), A
         Request::Link { segno, word } => push_address(out, b"link", *segno, *word),
         Request::Resume => out.extend_from_slice(b"resume"),
         Request::Logout => out.extend_from_slice(b"logout"),
+    }
+}
+
+/// The word of a request that sets an entry of an initial access list.
+fn set_iacl_word(kind: AclKind) -> &'static [u8]
+    ensures { result.now ≡ set_iacl_word kind }
+{
+    match kind {
+        AclKind::Segment => b"set_iacl_seg",
+        AclKind::Directory => b"set_iacl_dir",
+    }
+}
+
+/// The word of a request that removes an entry of an initial access list.
+fn del_iacl_word(kind: AclKind) -> &'static [u8]
+    ensures { result.now ≡ del_iacl_word kind }
+{
+    match kind {
+        AclKind::Segment => b"del_iacl_seg",
+        AclKind::Directory => b"del_iacl_dir",
     }
 }
 
@@ -260,4 +290,22 @@ fn push_id(out: &mut Vec<u8>, word: &[u8], path: &Pathname, id: &AclId) -> Resul
     push_path(out, word, path)?;
     out.extend_from_slice(b" ")?;
     id.append_to(out)
+}
+
+/// `WORD PATH CLASS`
+fn push_class(
+    out: &mut Vec<u8>,
+    word: &[u8],
+    path: &Pathname,
+    class: Class,
+) -> Result<(), AllocError>
+    ensures ok { OnOk result (out.new.items
+        ≡ out.old.items ++ line_of (word.now ∷ path.now ∷ class_text class ∷ [])) }
+    ensures err { OnErr result (IsGrown out.old.items out.new.items) }
+{
+    push_path(out, word, path)?;
+    out.extend_from_slice(b" ")?;
+    write_octal(out, u64::from(class.level()))?;
+    out.extend_from_slice(b":")?;
+    write_octal(out, u64::from(class.categories()))
 }
