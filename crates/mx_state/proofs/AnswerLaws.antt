@@ -25,12 +25,12 @@ use Rattle.mx_state.specs.Replies.{Says, IsRefused}
 use Rattle.mx_state.specs.Requests.{changed, plain, told}
 use Rattle.mx_state.specs.Serving.{Serves}
 use Rattle.mx_state.specs.Sound.{IsSound, HoldsSound}
-use Rattle.mx_state.proofs.Descriptors.{nothing_changes, quiet, grown_is_sound, changes_are_bounded}
+use Rattle.mx_state.proofs.Descriptors.{nothing_changes, quiet, grown_is_sound, changes_are_bounded, sound_numbered}
 use Rattle.mx_state.proofs.SegmentLaws.{IsAsBefore, Nothing, Leaves, as_it_was}
 
 -- the state as its parts
-abbrev pub plain_state : Hierarchy → List PlainProcess → List ProcessState → Plain
-plain_state h mail processes = record { hierarchy = h; processes = processes; mail = mail }
+abbrev pub plain_state : ℕ → Hierarchy → List PlainProcess → List ProcessState → Plain
+plain_state version h mail processes = record { version = version; hierarchy = h; processes = processes; mail = mail }
 
 -- the answer to a request on a path is that to its caller
 pub to_caller : (s : Plain) (a : Asker) (ring : ℕ) (who : Caller) (given : Caller → Answer) → IsCallerOf a ring who
@@ -50,37 +50,37 @@ after_call but meant h k (Ok done) says leaves = leaves k says
 after_call but meant h k (Err (fault.Refused why)) says leaves = subst (IsAsBefore but h) (sym says.1) (as_it_was but h)
 after_call but meant h k (Err fault.Memory) says leaves = subst (IsAsBefore but h) (sym says) (as_it_was but h)
 
-pub call_is_sound : (but : ℕ → Type 0) (meant : Result Hierarchy Refusal) (h k : Hierarchy) (mail : List PlainProcess) (processes : List ProcessState)
+pub call_is_sound : (version : ℕ) (but : ℕ → Type 0) (meant : Result Hierarchy Refusal) (h k : Hierarchy) (mail : List PlainProcess) (processes : List ProcessState)
     (principal : PlainPrincipal) (root : List (List ℕ)) (call : Result (Unit {0}) HierError) → Answers meant h call k → Leaves but h meant
-    → HoldsSound principal root (plain_state h mail processes) → HoldsSound principal root (plain_state k mail processes)
-call_is_sound but meant h k mail processes principal root call says leaves holds = record {
+    → HoldsSound principal root (plain_state version h mail processes) → HoldsSound principal root (plain_state version k mail processes)
+call_is_sound version but meant h k mail processes principal root call says leaves holds = record {
   initializer_is = holds.initializer_is;
   root_is = holds.root_is;
-  sound = grown_is_sound but (plain_state h mail processes) k holds.sound (after_call but meant h k call says leaves);
+  sound = grown_is_sound but (plain_state version h mail processes) k holds.sound (after_call but meant h k call says leaves);
 }
 
-changed_as : (h k : Hierarchy) (mail : List PlainProcess) (processes : List ProcessState) (meant : Result Hierarchy Refusal) (call : Result (Unit {0}) HierError) (reply : Reply)
-    → Answers meant h call k → Says call (Ok reply) → changed (plain_state h mail processes) meant ≡ answer reply (plain_state k mail processes)
-changed_as h k mail processes meant (Ok done) reply answers says =
+changed_as : (version : ℕ) (h k : Hierarchy) (mail : List PlainProcess) (processes : List ProcessState) (meant : Result Hierarchy Refusal) (call : Result (Unit {0}) HierError) (reply : Reply)
+    → Answers meant h call k → Says call (Ok reply) → changed (plain_state version h mail processes) meant ≡ answer reply (plain_state version k mail processes)
+changed_as version h k mail processes meant (Ok done) reply answers says =
     let same : reply ≡ Done = cc in rw (answers, same) refl
-changed_as h k mail processes meant (Err (fault.Refused why)) reply answers says =
+changed_as version h k mail processes meant (Err (fault.Refused why)) reply answers says =
     let same : reply ≡ Refused why = cc in rw (answers.0, same, answers.1) refl
-changed_as h k mail processes meant (Err fault.Memory) reply answers says = cc
+changed_as version h k mail processes meant (Err fault.Memory) reply answers says = cc
 
 -- the same of the state that the program's stands for
-pub of_old_by : (meant : Plain → Answer) (h : Hierarchy) (mail : List PlainProcess) (processes : List ProcessState) (old new : Plain) (applied : Applied)
-    → plain_state h mail processes ≡ old → Serves (plain_state h mail processes) new (meant (plain_state h mail processes)) applied
+pub of_old_by : (version : ℕ) (meant : Plain → Answer) (h : Hierarchy) (mail : List PlainProcess) (processes : List ProcessState) (old new : Plain) (applied : Applied)
+    → plain_state version h mail processes ≡ old → Serves (plain_state version h mail processes) new (meant (plain_state version h mail processes)) applied
     → Serves old new (meant old) applied
-of_old_by meant h mail processes old new applied e serves = subst (λ s. Serves s new (meant s) applied) e serves
+of_old_by version meant h mail processes old new applied e serves = subst (λ s. Serves s new (meant s) applied) e serves
 
-pub of_old : (h : Hierarchy) (mail : List PlainProcess) (processes : List ProcessState) (old new : Plain) (p ring : ℕ) (request : Request) (applied : Applied)
-    → plain_state h mail processes ≡ old → Serves (plain_state h mail processes) new (plain (plain_state h mail processes) p ring request) applied
+pub of_old : (version : ℕ) (h : Hierarchy) (mail : List PlainProcess) (processes : List ProcessState) (old new : Plain) (p ring : ℕ) (request : Request) (applied : Applied)
+    → plain_state version h mail processes ≡ old → Serves (plain_state version h mail processes) new (plain (plain_state version h mail processes) p ring request) applied
     → Serves old new (plain old p ring request) applied
-of_old h mail processes old new p ring request applied e serves = of_old_by (λ s. plain s p ring request) h mail processes old new applied e serves
+of_old version h mail processes old new p ring request applied e serves = of_old_by version (λ s. plain s p ring request) h mail processes old new applied e serves
 
 -- no changes at all
-pub nothing_is_bounded : All IsBounded []
-nothing_is_bounded k d within = absurd (omega arith)
+pub nothing_is_bounded : (last : ℕ) → All (IsBounded last) []
+nothing_is_bounded last k d within = absurd (omega arith)
 
 -- a request that only asks of the hierarchy
 pub told_serves : {A : Type 0} (s : Plain) (p ring : ℕ) (who : Caller) (f : Caller → Result A Refusal) (as_reply : A → Reply) (reply : Reply) (applied : Applied)
@@ -89,7 +89,8 @@ pub told_serves : {A : Type 0} (s : Plain) (p ring : ℕ) (who : Caller) (f : Ca
 told_serves s p ring who f as_reply reply applied is same e = rw e (record {
   as_meant = to_caller s (asker s.processes p) ring who (λ who. told s as_reply (f who)) is ∙ same;
   changes = nothing_changes s s (λ q n. refl);
-  bounded = nothing_is_bounded;
+  bounded = nothing_is_bounded _;
+  version = refl;
   count = refl;
 })
 
@@ -104,34 +105,36 @@ told_refused s p ring who f as_reply fault.Memory (Ok applied) is tells says = a
 told_refused s p ring who f as_reply fault.Memory (Err e) is tells says = tt
 
 -- a request that changes the hierarchy, and no segment that stood
-pub quiet_serves : (f : Caller → Result Hierarchy Refusal) (meant : Result Hierarchy Refusal) (h k : Hierarchy) (mail : List PlainProcess) (processes : List ProcessState)
+pub quiet_serves : (version : ℕ) (f : Caller → Result Hierarchy Refusal) (meant : Result Hierarchy Refusal) (h k : Hierarchy) (mail : List PlainProcess) (processes : List ProcessState)
     (p ring : ℕ) (who : Caller) (call : Result (Unit {0}) HierError) (reply : Reply) (applied : Applied)
     → IsCallerOf (asker processes p) ring who → f who ≡ meant → Answers meant h call k → Says call (Ok reply) → Leaves Nothing h meant
-    → IsSound (plain_state h mail processes) → applied ≡ record { reply = reply; changes = [] }
-    → Serves (plain_state h mail processes) (plain_state k mail processes)
-    (on_path (plain_state h mail processes) p ring (λ who. changed (plain_state h mail processes) (f who))) applied
-quiet_serves f meant h k mail processes p ring who call reply applied is same answers says leaves sound e = rw e (record {
-  as_meant = to_caller (plain_state h mail processes) (asker processes p) ring who (λ who. changed (plain_state h mail processes) (f who)) is
-      ∙ ap (changed (plain_state h mail processes)) same ∙ changed_as h k mail processes meant call reply answers says;
-  changes = quiet (plain_state h mail processes) k sound (after_call Nothing meant h k call answers leaves);
-  bounded = nothing_is_bounded;
+    → IsSound (plain_state version h mail processes) → applied ≡ record { reply = reply; changes = [] }
+    → Serves (plain_state version h mail processes) (plain_state version k mail processes)
+    (on_path (plain_state version h mail processes) p ring (λ who. changed (plain_state version h mail processes) (f who))) applied
+quiet_serves version f meant h k mail processes p ring who call reply applied is same answers says leaves sound e = rw e (record {
+  as_meant = to_caller (plain_state version h mail processes) (asker processes p) ring who (λ who. changed (plain_state version h mail processes) (f who)) is
+      ∙ ap (changed (plain_state version h mail processes)) same ∙ changed_as version h k mail processes meant call reply answers says;
+  changes = quiet (plain_state version h mail processes) k sound (after_call Nothing meant h k call answers leaves);
+  bounded = nothing_is_bounded _;
+  version = refl;
   count = refl;
 })
 
 -- one that changes one segment
-pub loud_serves : (f : Caller → Result Hierarchy Refusal) (meant : Result Hierarchy Refusal) (h k : Hierarchy) (mail : List PlainProcess) (processes : List ProcessState)
+pub loud_serves : (version : ℕ) (f : Caller → Result Hierarchy Refusal) (meant : Result Hierarchy Refusal) (h k : Hierarchy) (mail : List PlainProcess) (processes : List ProcessState)
     (p ring : ℕ) (who : Caller) (call : Result (Unit {0}) HierError) (reply : Reply) (changes : List Change)
     → IsCallerOf (asker processes p) ring who → f who ≡ meant → Answers meant h call k → Says call (Ok reply)
-    → IsSound (plain_state h mail processes) → AreChanges (plain_state h mail processes) (plain_state k mail processes) changes
+    → IsSound (plain_state version h mail processes) → AreChanges (plain_state version h mail processes) (plain_state version k mail processes) changes
     → All (λ c. IsAdmissible c.desc) changes
-    → Serves (plain_state h mail processes) (plain_state k mail processes)
-    (on_path (plain_state h mail processes) p ring (λ who. changed (plain_state h mail processes) (f who)))
+    → Serves (plain_state version h mail processes) (plain_state version k mail processes)
+    (on_path (plain_state version h mail processes) p ring (λ who. changed (plain_state version h mail processes) (f who)))
     (record { reply = reply; changes = changes })
-loud_serves f meant h k mail processes p ring who call reply changes is same answers says sound are admissible = record {
-  as_meant = to_caller (plain_state h mail processes) (asker processes p) ring who (λ who. changed (plain_state h mail processes) (f who)) is
-      ∙ ap (changed (plain_state h mail processes)) same ∙ changed_as h k mail processes meant call reply answers says;
+loud_serves version f meant h k mail processes p ring who call reply changes is same answers says sound are admissible = record {
+  as_meant = to_caller (plain_state version h mail processes) (asker processes p) ring who (λ who. changed (plain_state version h mail processes) (f who)) is
+      ∙ ap (changed (plain_state version h mail processes)) same ∙ changed_as version h k mail processes meant call reply answers says;
   changes = are;
-  bounded = changes_are_bounded (plain_state h mail processes) (plain_state k mail processes) changes sound refl are admissible;
+  bounded = changes_are_bounded (plain_state version h mail processes) (plain_state version k mail processes) changes sound (sound_numbered (plain_state version h mail processes) sound) refl refl are admissible;
+  version = refl;
   count = refl;
 }
 

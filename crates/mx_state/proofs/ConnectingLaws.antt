@@ -13,6 +13,7 @@ use Rattle.mx_kst.specs.Initiating as kst
 use Rattle.mx_kst.specs.Initiating.{Initiated, is_full, is_taken, known_by, lots_given, lots_with, numbers_needed}
 use Rattle.mx_kst.specs.KnownSegments.{KnownSegments}
 use Rattle.mx_kst.specs.Lots.{lot_of, number_of, numbers_left}
+use Rattle.mx_kst.specs.Names.{RingNames}
 use Rattle.mx_kst.specs.Sections.{PlainSection}
 use Rattle.mx_kst.specs.declared.lots.Lot.{Lot}
 use Rattle.mx_kst.specs.declared.lots.Lot.TheVariants.{Free, Branch}
@@ -48,9 +49,9 @@ granted h k uid ring name c e =
         let same : connected h k uid ring name ≡ c = cc in record { free = t; room = f; page = n; is = same }
 
 -- a linkage section that a number stands for
-pub record SectionAt (lots : List Lot) (n : ℕ) : Type 0 where
+pub record SectionAt (k : KnownSegments) (n : ℕ) : Type 0 where
   pub words : ℕ
-  pub section : IsSection (stands_for lots n) words
+  pub section : IsSection (stands_for k n) words
 
 -- the section that is made where the segment has this number, or none
 abbrev pub section_with : Hierarchy → ℕ → Option ℕ → Option PlainSection
@@ -58,41 +59,42 @@ section_with h uid o =
     cond (is_none o && has_links h uid) (section_by (links_at h uid) (linkage_brackets_at h uid) (page_given h)) None
 
 -- a section that was made is there
-new_section : (h : Hierarchy) (k : KnownSegments) (uid n : ℕ) (o : Option ℕ)
-    → (is_none o && ltb (numbers_left k.lots) (numbers_needed (has_links h uid))) ≡ false
+new_section : (h : Hierarchy) (k : KnownSegments) (uid n : ℕ) (names : List RingNames) (o : Option ℕ)
+    → (is_none o && ltb (numbers_left k.last k.lots) (numbers_needed (has_links h uid))) ≡ false
     → (known_by o (length k.lots) (section_with h uid o)).linkage ≡ Some n
-    → SectionAt (lots_with k.lots (known_by o (length k.lots) (section_with h uid o)) uid (section_with h uid o)) n
-new_section h k uid n (Some own) room e = absurd (cc)
-new_section h k uid n None room e =
+    → SectionAt (record k { lots = lots_with k.lots (known_by o (length k.lots) (section_with h uid o)) uid (section_with h uid o); names = names }) n
+new_section h k uid n names (Some own) room e = absurd (cc)
+new_section h k uid n names None room e =
     by_links (has_links h uid) (section_by (links_at h uid) (linkage_brackets_at h uid) (page_given h)) room e
   where
-    by_links : (links : Bool) (made : Option PlainSection) → ltb (numbers_left k.lots) (numbers_needed links) ≡ false
+    by_links : (links : Bool) (made : Option PlainSection) → ltb (numbers_left k.last k.lots) (numbers_needed links) ≡ false
         → option_map (λ _. length k.lots + 1) (cond links made None) ≡ Some n
-        → SectionAt (k.lots ++ lots_given (length k.lots) uid (cond links made None)) n
+        → SectionAt (record k { lots = k.lots ++ lots_given (length k.lots) uid (cond links made None); names = names }) n
     by_links false made room e = absurd (cc)
     by_links true None room e = absurd (cc)
     by_links true (Some section) room e =
         let at : length k.lots + 1 ≡ n = cc in
-        let left = ltb-false (numbers_left k.lots) 2 room in
-        let within : n ≤ 127 = omega (arith, left, at) in
+        let left = ltb-false (numbers_left k.last k.lots) 2 room in
+        let within : n ≤ k.last = omega (arith, left, at) in
         record {
           words = section.words;
           section = record {
             of = length k.lots;
             page = section.page;
             brackets = section.brackets;
-            is = stands_within (k.lots ++ lots_given (length k.lots) uid (Some section)) n within
+            is = stands_within (record k { lots = k.lots ++ lots_given (length k.lots) uid (Some section); names = names }) n within
                 ∙ section_stands k.lots (length k.lots) uid n section (sym at);
           };
         }
 
 pub section_is_there : (h : Hierarchy) (k : KnownSegments) (uid ring n : ℕ) (name : Option (List ℕ)) (c : Connected)
-    → connect h k ring name uid ≡ Ok c → c.known.linkage ≡ Some n → SectionAt c.after.lots n
+    → connect h k ring name uid ≡ Ok c → c.known.linkage ≡ Some n → SectionAt c.after n
 section_is_there h k uid ring n name c e f =
     let is = granted h k uid ring name c e in
-    let there : SectionAt (connected h k uid ring name).after.lots n =
-    new_section h k uid n (number_of k.lots uid) is.room (ap (λ (c : Connected). c.known.linkage) is.is ∙ f) in
-    subst (λ (c : Connected). SectionAt c.after.lots n) is.is there
+    let before : KnownSegments = (connected h k uid ring name).after in
+    let there : SectionAt before n =
+    new_section h k uid n before.names (number_of k.lots uid) is.room (ap (λ (c : Connected). c.known.linkage) is.is ∙ f) in
+    subst (λ (c : Connected). SectionAt c.after n) is.is there
 
 -- a lot that is given stays where a segment becomes known
 given_stays : (lots : List Lot) (known : Known) (uid n : ℕ) (section : Option PlainSection) → n < length lots
@@ -112,14 +114,14 @@ given_below lots n lot e some = elim (cases_lt n (length lots)) [
 
 -- what a number stood for it stands for
 pub stands_still : (h : Hierarchy) (k : KnownSegments) (uid ring n : ℕ) (name : Option (List ℕ)) (c : Connected)
-    → connect h k ring name uid ≡ Ok c → n < length k.lots → stands_for c.after.lots n ≡ stands_for k.lots n
+    → connect h k ring name uid ≡ Ok c → n < length k.lots → stands_for c.after n ≡ stands_for k n
 stands_still h k uid ring n name c e below =
     let is = granted h k uid ring name c e in
     let before : KnownSegments = (connected h k uid ring name).after in
     let section = section_with h uid (number_of k.lots uid) in
     let own = known_by (number_of k.lots uid) (length k.lots) section in
     let kept : lot_of before.lots n ≡ lot_of k.lots n = given_stays k.lots own uid n section below in
-    ap (λ (c : Connected). stands_for c.after.lots n) (sym is.is) ∙ stands_alike before.lots k.lots n kept
+    ap (λ (c : Connected). stands_for c.after n) (sym is.is) ∙ stands_alike before k n refl kept
 
 -- a segment that is refused, by the tests that are made before anything changes, and one that is not
 pub connect_refused : (h : Hierarchy) (k : KnownSegments) (uid ring : ℕ) (name : Option (List ℕ)) (why : Refusal)
@@ -186,6 +188,17 @@ initiated_lots k uid ring name section given f = by_table (kst.refusal k uid rin
     by_table None f =
         let same : kst.initiated k uid ring name section ≡ given = cc in
         subst (λ (g : Initiated). g.after.lots ≡ lots_with k.lots g.known uid section) same refl
+    by_table (Some error) f = absurd (cc)
+
+-- and its numbers are the same
+pub initiated_last : (k : KnownSegments) (uid ring : ℕ) (name : Option (List ℕ)) (section : Option PlainSection) (given : Initiated)
+    → kst.initiate k uid ring name section ≡ Ok given → given.after.last ≡ k.last
+initiated_last k uid ring name section given f = by_table (kst.refusal k uid ring name (is_some section)) f
+  where
+    by_table : (o : Option KstError) → unless o (kst.initiated k uid ring name section) ≡ Ok given → given.after.last ≡ k.last
+    by_table None f =
+        let same : kst.initiated k uid ring name section ≡ given = cc in
+        ap (λ (g : Initiated). g.after.last) (sym same)
     by_table (Some error) f = absurd (cc)
 
 -- a segment that the process knows was known, or was made

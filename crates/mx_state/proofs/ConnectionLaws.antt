@@ -44,6 +44,7 @@ connection_serves s new p process meant connection asks reply low there told is 
       ∙ ap (answer (reply connection.known)) (sym is.state);
   changes = is.changes;
   bounded = is.bounded;
+  version = ap (λ (t : Plain). t.version) is.state;
   count = is.count;
 }
 
@@ -54,7 +55,8 @@ pub refusal_serves : (s new : Plain) (p : ℕ) (process : ProcessState) (why : R
 refusal_serves s new p process why applied asks low there told same is = rw (is, same) (record {
   as_meant = own_answer s p process asks low there ∙ told;
   changes = nothing_changes s s (λ q m. refl);
-  bounded = nothing_is_bounded;
+  bounded = nothing_is_bounded _;
+  version = refl;
   count = refl;
 })
 

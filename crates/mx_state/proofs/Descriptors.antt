@@ -14,8 +14,10 @@ use Rattle.mx_hier.specs.Branches.{Hierarchy, segment_at, object_at}
 use Rattle.mx_hier.specs.Objects.{gate_of}
 use Rattle.mx_kst.specs.declared.lots.Lot.{Lot}
 use Rattle.mx_kst.specs.declared.lots.Lot.TheVariants.{Free, Stack, Branch, Linkage}
+use Rattle.mx_request.specs.Versions.{last_number}
 use Rattle.mx_state.specs.declared.states.ProcessState.{ProcessState}
 use Rattle.mx_state.specs.Changes.{change, AreChanges, IsBefore, IsBounded}
+use Rattle.mx_state.specs.Laws.{OwnLastLaw}
 use Rattle.mx_state.specs.Numbers.{stands_for}
 use Rattle.mx_state.specs.Plain.{Plain, process_at}
 use Rattle.mx_state.specs.Sound.{IsSound}
@@ -46,18 +48,32 @@ is_there processes p process e = by_zero (cases_eq p 0)
 
 -- the descriptor of a process that is there
 pub descriptor_at : (s : Plain) (p n : ℕ) (process : ProcessState) → process_at s.processes p ≡ Some process
-    → descriptor s p n ≡ standing_desc s.hierarchy p process (stands_for process.known.lots n)
+    → descriptor s p n ≡ standing_desc s.hierarchy p process (stands_for process.known n)
 descriptor_at s p n process e = ap (λ o. process_desc s.hierarchy p o n) e
 
-pub unknown_beyond : (s : Plain) (p n : ℕ) → 127 < n → descriptor s p n ≡ unknown_desc
-unknown_beyond s p n beyond = by_process (process_at s.processes p)
-  where
-    by_process : (o : Option ProcessState) → process_desc s.hierarchy p o n ≡ unknown_desc
-    by_process None = refl
-    by_process (Some process) = ap (standing_desc s.hierarchy p process) (nothing_beyond process.known.lots n beyond)
+-- a number beyond the last of its process
+pub own_beyond : OwnLastLaw
+own_beyond s p n process e beyond =
+    descriptor_at s p n process e ∙ ap (standing_desc s.hierarchy p process) (nothing_beyond process.known n beyond)
+
+-- each process has the numbers up to this last one
+abbrev pub AreNumbered : ℕ → List ProcessState → Type 0
+AreNumbered last processes = (i : ℕ) (process : ProcessState) → slice_get processes i ≡ Some process → process.known.last ≡ last
+
+pub sound_numbered : (s : Plain) → IsSound s → AreNumbered (last_number s.version) s.processes
+sound_numbered s sound i process e = (sound.processes i process e).last
 
 unknown_of_nobody : (s : Plain) (p n : ℕ) → process_at s.processes p ≡ None → descriptor s p n ≡ unknown_desc
 unknown_of_nobody s p n e = ap (λ o. process_desc s.hierarchy p o n) e
+
+pub unknown_beyond : (s : Plain) (last p n : ℕ) → AreNumbered last s.processes → last < n → descriptor s p n ≡ unknown_desc
+unknown_beyond s last p n numbered beyond = by_process (process_at s.processes p) refl
+  where
+    by_process : (o : Option ProcessState) → process_at s.processes p ≡ o → descriptor s p n ≡ unknown_desc
+    by_process None e = unknown_of_nobody s p n e
+    by_process (Some process) e =
+        let own = numbered (p - 1) process (is_there s.processes p process e).place in
+        own_beyond s p n process e (omega (arith, own, beyond))
 
 nobody_past : (s : Plain) (p : ℕ) → length s.processes < p → process_at s.processes p ≡ None
 nobody_past s p past =
@@ -80,24 +96,24 @@ nothing_told s (c ∷ changes) are =
 
 -- the same processes, and another hierarchy in which the segments stand as before but some
 pub same_unless : (but : ℕ → Type 0) (s : Plain) (h : Hierarchy) (p n : ℕ) → IsSound s → IsAsBefore but s.hierarchy h
-    → ((process : ProcessState) (uid : ℕ) → process_at s.processes p ≡ Some process → stands_for process.known.lots n ≡ Branch uid → but uid → ⊥)
+    → ((process : ProcessState) (uid : ℕ) → process_at s.processes p ≡ Some process → stands_for process.known n ≡ Branch uid → but uid → ⊥)
     → descriptor s p n ≡ descriptor (record s { hierarchy = h }) p n
 same_unless but s h p n sound before apart = by_process (process_at s.processes p) refl
   where
-    by_standing : (process : ProcessState) → process_at s.processes p ≡ Some process → (x : Lot) → stands_for process.known.lots n ≡ x
+    by_standing : (process : ProcessState) → process_at s.processes p ≡ Some process → (x : Lot) → stands_for process.known n ≡ x
         → standing_desc s.hierarchy p process x ≡ standing_desc h p process x
     by_standing process e Free f = refl
     by_standing process e (Stack ring) f = refl
     by_standing process e (Branch uid) f =
         let there = is_there s.processes p process e in
-        let below = (sound.processes (p - 1) process there.place).made n uid (branch_at process.known.lots n uid f) in
-        ap (λ (o : Option Segment). desc_for process.principal (gate_of (object_at s.hierarchy uid)) o) (sym (before.same uid below (apart process uid e f)))
-        ∙ ap (λ (o : Option PlainObjectMap). desc_for process.principal (gate_of o) (segment_at h uid)) (sym (before.maps uid below))
+        let below = (sound.processes (p - 1) process there.place).made n uid (branch_at process.known n uid f) in
+        ap (λ (o : Option Segment). desc_for process.principal process.authorization (gate_of (object_at s.hierarchy uid)) o) (sym (before.same uid below (apart process uid e f)))
+        ∙ ap (λ (o : Option PlainObjectMap). desc_for process.principal process.authorization (gate_of o) (segment_at h uid)) (sym (before.maps uid below))
     by_standing process e (Linkage of page brackets words) f = refl
 
     by_process : (o : Option ProcessState) → process_at s.processes p ≡ o → process_desc s.hierarchy p o n ≡ process_desc h p o n
     by_process None e = refl
-    by_process (Some process) e = by_standing process e (stands_for process.known.lots n) refl
+    by_process (Some process) e = by_standing process e (stands_for process.known n) refl
 
 pub quiet : (s : Plain) (h : Hierarchy) → IsSound s → IsAsBefore NoUid s.hierarchy h → AreChanges s (record s { hierarchy = h }) []
 quiet s h sound before =
@@ -110,7 +126,7 @@ grown_is_sound but s h sound before = record {
   mail_count = sound.mail_count;
   processes = λ i process e.
       let own = sound.processes i process e in
-      record { known = own.known; made = λ k uid f. omega (arith, own.made k uid f, before.next) };
+      record { known = own.known; last = own.last; made = λ k uid f. omega (arith, own.made k uid f, before.next) };
 }
 
 same_change : (p q n m : ℕ) (d e : Descriptor) → p ≡ q → n ≡ m → d ≡ e → change p n d ≡ change q m e
@@ -139,16 +155,17 @@ one_changes s t p n d new old others = record {
     found q m differ (inr a) b = absurd (differ (others q m (λ e. a e.0)))
 
 -- a descriptor that differs is that of a number up to the last of a process that is there
-record IsInRange (s : Plain) (p n : ℕ) : Type 0 where
+record IsInRange (s : Plain) (last_segno p n : ℕ) : Type 0 where
   first : 1 ≤ p
   last : p ≤ length s.processes
-  number : n ≤ 127
+  number : n ≤ last_segno
 
 nobody_at_zero : (processes : List ProcessState) (p : ℕ) → p < 1 → process_at processes p ≡ None
 nobody_at_zero processes p low = let zero : p ≡ 0 = omega arith in rw zero refl
 
-in_range : (s t : Plain) (p n : ℕ) → length t.processes ≡ length s.processes → descriptor s p n ≢ descriptor t p n → IsInRange s p n
-in_range s t p n count differ = record {
+in_range : (s t : Plain) (last p n : ℕ) → AreNumbered last s.processes → AreNumbered last t.processes → length t.processes ≡ length s.processes
+    → descriptor s p n ≢ descriptor t p n → IsInRange s last p n
+in_range s t last p n before after count differ = record {
   first = elim (cases_lt p 1) [
     | inl low ↦ absurd (unknown_both (unknown_of_nobody s p n (nobody_at_zero s.processes p low)) (unknown_of_nobody t p n (nobody_at_zero t.processes p low)))
     | inr more ↦ more
@@ -157,8 +174,8 @@ in_range s t p n count differ = record {
     | inl past ↦ absurd (unknown_both (unknown_of_nobody s p n (nobody_past s p past)) (unknown_of_nobody t p n (nobody_past t p (omega arith))))
     | inr within ↦ within
   ];
-  number = elim (cases_lt 127 n) [
-    | inl beyond ↦ absurd (unknown_both (unknown_beyond s p n beyond) (unknown_beyond t p n beyond))
+  number = elim (cases_lt last n) [
+    | inl beyond ↦ absurd (unknown_both (unknown_beyond s last p n before beyond) (unknown_beyond t last p n after beyond))
     | inr within ↦ within
   ];
 }
@@ -167,10 +184,11 @@ in_range s t p n count differ = record {
     unknown_both e f = differ (e ∙ sym f)
 
 -- changes to descriptors that a table may hold are those of a table
-pub changes_are_bounded : (s t : Plain) (changes : List Change) → IsSound s → length t.processes ≡ length s.processes
-    → AreChanges s t changes → All (λ c. IsAdmissible c.desc) changes → All IsBounded changes
-changes_are_bounded s t changes sound count are admissible k d within =
+pub changes_are_bounded : (s t : Plain) (changes : List Change) → IsSound s → AreNumbered (last_number t.version) t.processes → t.version ≡ s.version
+    → length t.processes ≡ length s.processes → AreChanges s t changes → All (λ c. IsAdmissible c.desc) changes → All (IsBounded (last_number s.version)) changes
+changes_are_bounded s t changes sound numbered same count are admissible k d within =
     let c = get_or changes k d in
     let differs = are.each c.process c.segno c.desc (Contains-get_or changes k d within) in
-    let range = in_range s t c.process c.segno count (λ e. differs.1 (e ∙ differs.0)) in
+    let range = in_range s t (last_number s.version) c.process c.segno (sound_numbered s sound)
+    (subst (λ v. AreNumbered (last_number v) t.processes) same numbered) count (λ e. differs.1 (e ∙ differs.0)) in
     record { first = range.first; last = omega (arith, range.last, sound.process_count); number = range.number; admissible = admissible k d within }

@@ -14,7 +14,7 @@ flags_at : (h : Hierarchy) (p segno uid : ℕ) (o : Option ProcessState) → lot
     → AreFlagsOf (process_entry h o segno) (process_desc h p o segno)
 flags_at h p segno uid None e = absurd (cc)
 flags_at h p segno uid (Some process) e =
-    subst (λ (lot : Lot). AreFlagsOf (entry_for h process lot) (standing_desc h p process lot)) (sym e) (flags_of_entry h uid process.principal)
+    subst (λ (lot : Lot). AreFlagsOf (entry_for h process lot) (standing_desc h p process lot)) (sym e) (flags_of_entry h uid process.principal process.authorization)
 
 pub explained : (s : Plain) (p segno : ℕ) → Explains s p segno
 explained s p segno uid e = flags_at s.hierarchy p segno uid (process_at s.processes p) e

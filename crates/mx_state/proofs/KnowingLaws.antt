@@ -20,6 +20,7 @@ use Rattle.mx_kst.specs.Terminating as end
 use Rattle.mx_kst.specs.declared.lots.Lot.{Lot}
 use Rattle.mx_kst.specs.declared.lots.Lot.TheVariants.{Free, Stack, Branch, Linkage}
 use Rattle.mx_mail.specs.Processes.{PlainProcess}
+use Rattle.mx_request.specs.Versions.{last_number}
 use Rattle.mx_request.specs.declared.replies.Reply.TheVariants.{Done}
 use Rattle.mx_state.specs.declared.states.ProcessState.{ProcessState}
 use Rattle.mx_state.specs.Askers.{on_process}
@@ -32,10 +33,10 @@ use Rattle.mx_state.specs.Renewing.{held_two, renewed}
 use Rattle.mx_state.specs.Serving.{Serves}
 use Rattle.mx_state.specs.Sound.{IsSound, IsSoundProcess, HoldsSound}
 use Rattle.mx_state.specs.Table.{descriptor}
-use Rattle.mx_state.proofs.ConnectingLaws.{connect_granted, connected_by, initiated_lots, lots_apart, made_by}
+use Rattle.mx_state.proofs.ConnectingLaws.{connect_granted, connected_by, initiated_last, initiated_lots, lots_apart, made_by}
 use Rattle.mx_state.proofs.AnswerLaws.{plain_state}
-use Rattle.mx_state.proofs.Descriptors.{process_at_place, changes_are_bounded}
-use Rattle.mx_state.proofs.ProcessLaws.{in_place, replaced_is_sound, others_stay, to_process}
+use Rattle.mx_state.proofs.Descriptors.{AreNumbered, process_at_place, changes_are_bounded, sound_numbered}
+use Rattle.mx_state.proofs.ProcessLaws.{in_place, replaced_is_sound, replaced_numbered, others_stay, to_process}
 use Rattle.mx_state.proofs.RenewingLaws.{renewing_two}
 
 -- a process that knows this
@@ -43,13 +44,13 @@ abbrev pub knower : ProcessState → KnownSegments → ProcessState
 knower process k = record process { known = k }
 
 -- a page that is given out keeps a state sound
-paged_is_sound : (h : Hierarchy) (mail : List PlainProcess) (processes : List ProcessState) → IsSound (plain_state h mail processes)
-    → IsSound (plain_state (with_page_given h) mail processes)
-paged_is_sound h mail processes sound =
+paged_is_sound : (version : ℕ) (h : Hierarchy) (mail : List PlainProcess) (processes : List ProcessState) → IsSound (plain_state version h mail processes)
+    → IsSound (plain_state version (with_page_given h) mail processes)
+paged_is_sound version h mail processes sound =
     record { process_count = sound.process_count; mail_count = sound.mail_count; processes = sound.processes }
 
 -- a segment becomes known, or gets a further name
-module _ (h : Hierarchy) (mail : List PlainProcess) (processes : List ProcessState) (i : ℕ) (process : ProcessState) (uid ring : ℕ)
+module _ (version : ℕ) (h : Hierarchy) (mail : List PlainProcess) (processes : List ProcessState) (i : ℕ) (process : ProcessState) (uid ring : ℕ)
     (name : Option (List ℕ)) (section : Option PlainSection) (given : Initiated) (e : slice_get processes i ≡ Some process)
     (asked : kst.initiate process.known uid ring name section ≡ Ok given) where
   -- where its page is given out, the hierarchy differs in its pages alone
@@ -63,64 +64,68 @@ module _ (h : Hierarchy) (mail : List PlainProcess) (processes : List ProcessSta
       by_section None = before
       by_section (Some section) = after
 
-  knower_is_sound : (next : ℕ) → IsSoundProcess next process → IfSome section (λ s. IsWithinPage s.page s.words) → uid < next
-      → IsSoundProcess next (knower process given.after)
+  knower_is_sound : (next : ℕ) → IsSoundProcess version next process → IfSome section (λ s. IsWithinPage s.page s.words) → uid < next
+      → IsSoundProcess version next (knower process given.after)
   knower_is_sound next own within below = record {
     known = sound_initiated process.known uid ring name section given.known given.after own.known within asked;
+    last = initiated_last process.known uid ring name section given asked ∙ own.last;
     made = λ n v f.
         made_by process.known.lots given.known uid next section below own.made n v
         (ap (λ lots. lot_of lots n) (sym (initiated_lots process.known uid ring name section given asked)) ∙ f);
   }
 
-  pub known_holds : (principal : PlainPrincipal) (root : List (List ℕ)) → HoldsSound principal root (plain_state h mail processes)
+  pub known_holds : (principal : PlainPrincipal) (root : List (List ℕ)) → HoldsSound principal root (plain_state version h mail processes)
       → IfSome section (λ s. IsWithinPage s.page s.words) → uid < h.next
-      → HoldsSound principal root (plain_state paged mail (knowing processes i process given.after))
+      → HoldsSound principal root (plain_state version paged mail (knowing processes i process given.after))
   known_holds principal root holds within below =
-      let sound = replaced_is_sound (plain_state h mail processes) i (knower process given.after) holds.sound
+      let sound = replaced_is_sound (plain_state version h mail processes) i (knower process given.after) holds.sound
       (knower_is_sound h.next (holds.sound.processes i process e) within below) in
       record {
         initializer_is = holds.initializer_is;
         root_is = holds.root_is;
-        sound = with_page (λ k. IsSound (plain_state k mail (knowing processes i process given.after))) sound
-            (paged_is_sound h mail (knowing processes i process given.after) sound);
+        sound = with_page (λ k. IsSound (plain_state version k mail (knowing processes i process given.after))) sound
+            (paged_is_sound version h mail (knowing processes i process given.after) sound);
       }
 
   -- only the descriptors of the numbers that are given now change
   module _ (p : ℕ) (first : 1 ≤ p) (here : p - 1 ≡ i) where
     abbrev old : Plain
-    old = plain_state h mail processes
+    old = plain_state version h mail processes
 
     others_as_before : (q m : ℕ) → ((q ≡ p) × ((m ≡ length process.known.lots) ⊎ (m ≡ length process.known.lots + 1)) → ⊥)
-        → descriptor old q m ≡ descriptor (plain_state paged mail (knowing processes i process given.after)) q m
+        → descriptor old q m ≡ descriptor (plain_state version paged mail (knowing processes i process given.after)) q m
     others_as_before q m apart =
         let stays : descriptor old q m ≡ descriptor (in_place old i (knower process given.after)) q m =
-        others_stay old p i process (knower process given.after) first here e refl q m
+        others_stay old p i process (knower process given.after) first here e (refl, refl)
+        (initiated_last process.known uid ring name section given asked) q m
         (λ own. ap (λ lots. lot_of lots m) (initiated_lots process.known uid ring name section given asked)
         ∙ lots_apart process.known.lots given.known uid m section (λ f. apart (own, inl f)) (λ f. apart (own, inr f))) in
-        with_page (λ k. descriptor old q m ≡ descriptor (plain_state k mail (knowing processes i process given.after)) q m) stays stays
+        with_page (λ k. descriptor old q m ≡ descriptor (plain_state version k mail (knowing processes i process given.after)) q m) stays stays
 
     pub known_changes : (next : ℕ) (held changes : List Change) → next ≡ length process.known.lots → held ≡ held_two h processes p next
         → changes ≡ renewed paged (knowing processes i process given.after) held
-        → AreChanges old (plain_state paged mail (knowing processes i process given.after)) changes
+        → AreChanges old (plain_state version paged mail (knowing processes i process given.after)) changes
     known_changes next held changes at was now =
-        rw (now, was, at) (renewing_two old (plain_state paged mail (knowing processes i process given.after)) p
+        rw (now, was, at) (renewing_two old (plain_state version paged mail (knowing processes i process given.after)) p
         (length process.known.lots) others_as_before)
 
     pub known_as_meant : (next : ℕ) (held changes : List Change) → next ≡ length process.known.lots → held ≡ held_two h processes p next
         → changes ≡ renewed paged (knowing processes i process given.after) held → All (λ c. IsAdmissible c.desc) changes
         → IsSound old → section_or_refusal h process.known uid ring name ≡ Ok section
-        → IsConnected old (plain_state paged mail (knowing processes i process given.after)) p process
+        → IsConnected old (plain_state version paged mail (knowing processes i process given.after)) p process
         (connect h process.known ring name uid) (record { known = given.known; changes = changes })
     known_as_meant next held changes at was now admissible sound meant =
         let are = known_changes next held changes at was now in
         let count = length-set processes i (knower process given.after) in
+        let numbered = replaced_numbered (last_number version) processes i (knower process given.after) (sound_numbered old sound)
+        (initiated_last process.known uid ring name section given asked ∙ (sound.processes i process e).last) in
         record {
           after = connected_by h section given;
           as_meant = connect_granted h process.known uid ring name section given meant asked;
           known = refl;
-          state = ap (λ k. plain_state paged mail (slice_set processes k (knower process given.after))) (sym here);
+          state = ap (λ k. plain_state version paged mail (slice_set processes k (knower process given.after))) (sym here);
           changes = are;
-          bounded = changes_are_bounded old (plain_state paged mail (knowing processes i process given.after)) changes sound count are admissible;
+          bounded = changes_are_bounded old (plain_state version paged mail (knowing processes i process given.after)) changes sound numbered refl count are admissible;
           count = count;
         }
 
@@ -132,38 +137,39 @@ same_process processes p i process own first here e f =
     cc
 
 -- the same as the program's steps
-pub known_next : (k : KnownSegments) (left : ℕ) → known.IsSound k → left ≡ numbers_left k.lots → 127 + 1 - left ≡ length k.lots
-known_next k left sound e = omega (arith, e, sound.within)
+pub known_next : (k : KnownSegments) (last left : ℕ) → known.IsSound k → last ≡ k.last → left ≡ numbers_left k.last k.lots
+    → last + 1 - left ≡ length k.lots
+known_next k last left sound same e = omega (arith, same, e, sound.within)
 
-pub connected_as : (h after : Hierarchy) (mail : List PlainProcess) (processes new : List ProcessState) (old : Plain) (p i : ℕ) (process own : ProcessState)
+pub connected_as : (version : ℕ) (h after : Hierarchy) (mail : List PlainProcess) (processes new : List ProcessState) (old : Plain) (p i : ℕ) (process own : ProcessState)
     (uid ring next : ℕ) (name : Option (List ℕ)) (section : Option PlainSection) (given : Initiated) (held changes : List Change)
-    → plain_state h mail processes ≡ old → IsSound (plain_state h mail processes) → 1 ≤ p → p - 1 ≡ i → slice_get processes i ≡ Some own
+    → plain_state version h mail processes ≡ old → IsSound (plain_state version h mail processes) → 1 ≤ p → p - 1 ≡ i → slice_get processes i ≡ Some own
     → process_at old.processes p ≡ Some process → section_or_refusal h own.known uid ring name ≡ Ok section
     → kst.initiate own.known uid ring name section ≡ Ok given → new ≡ knowing processes i own given.after → after ≡ with_section_page h section
     → next ≡ length own.known.lots → held ≡ held_two h processes p next → changes ≡ renewed after new held → All (λ c. IsAdmissible c.desc) changes
-    → IsConnected old (plain_state after mail new) p process (connect old.hierarchy process.known ring name uid)
+    → IsConnected old (plain_state version after mail new) p process (connect old.hierarchy process.known ring name uid)
     (record { known = given.known; changes = changes })
-connected_as h after mail processes new old p i process own uid ring next name section given held changes view sound first here place there meant asked set paged at was now admissible =
+connected_as version h after mail processes new old p i process own uid ring next name section given held changes view sound first here place there meant asked set paged at was now admissible =
     let same : process ≡ own =
     same_process processes p i process own first here (ap (λ (t : Plain). process_at t.processes p) view ∙ there) place in
-    let is : IsConnected (plain_state h mail processes) (plain_state after mail new) p process (connect h process.known ring name uid)
+    let is : IsConnected (plain_state version h mail processes) (plain_state version after mail new) p process (connect h process.known ring name uid)
     (record { known = given.known; changes = changes }) =
-    rw (same, paged, set) (known_as_meant h mail processes i own uid ring name section given place asked p first here next held changes at was
+    rw (same, paged, set) (known_as_meant version h mail processes i own uid ring name section given place asked p first here next held changes at was
     (now ∙ (λ k. renewed (paged k) (set k) held)) admissible sound meant) in
-    subst (λ (t : Plain). IsConnected t (plain_state after mail new) p process (connect t.hierarchy process.known ring name uid)
+    subst (λ (t : Plain). IsConnected t (plain_state version after mail new) p process (connect t.hierarchy process.known ring name uid)
     (record { known = given.known; changes = changes })) view is
 
 -- `terminate`: a segment's number, and its linkage section's, stand for nothing more
-ended_lots : (k after : KnownSegments) (segno : ℕ) → end.terminate k segno ≡ Some after
-    → (is_branch (lot_of k.lots segno) ≡ true) × (after.lots ≡ end.lots_without segno k.lots)
+pub ended_lots : (k after : KnownSegments) (segno : ℕ) → end.terminate k segno ≡ Some after
+    → (is_branch (lot_of k.lots segno) ≡ true) × (after.lots ≡ end.lots_without segno k.lots) × (after.last ≡ k.last)
 ended_lots k after segno e = by_test (is_branch (lot_of k.lots segno)) refl e
   where
     by_test : (b : Bool) → is_branch (lot_of k.lots segno) ≡ b
-        → cond b (Some (record { lots = end.lots_without segno k.lots; names = map (end.names_without segno) k.names })) None ≡ Some after
-        → (is_branch (lot_of k.lots segno) ≡ true) × (after.lots ≡ end.lots_without segno k.lots)
+        → cond b (Some (record k { lots = end.lots_without segno k.lots; names = map (end.names_without segno) k.names })) None ≡ Some after
+        → (is_branch (lot_of k.lots segno) ≡ true) × (after.lots ≡ end.lots_without segno k.lots) × (after.last ≡ k.last)
     by_test true t e =
-        let same : record { lots = end.lots_without segno k.lots; names = map (end.names_without segno) k.names } ≡ after = cc in
-        (t, ap (λ (k : KnownSegments). k.lots) (sym same))
+        let same : record k { lots = end.lots_without segno k.lots; names = map (end.names_without segno) k.names } ≡ after = cc in
+        (t, ap (λ (k : KnownSegments). k.lots) (sym same), ap (λ (k : KnownSegments). k.last) (sym same))
     by_test false t e = absurd (cc)
 
 -- a segment that stands there stood there
@@ -193,45 +199,49 @@ stays_apart k segno m sound apart beyond =
         let next = (sound.section_next m of page words brackets e).0 in
         ne_eqb of segno (λ same. beyond (next ∙ ap (λ n. n + 1) same))
 
-pub ended_holds : (h : Hierarchy) (mail : List PlainProcess) (processes new : List ProcessState) (i : ℕ) (process : ProcessState) (segno : ℕ) (after : KnownSegments)
-    (principal : PlainPrincipal) (root : List (List ℕ)) → HoldsSound principal root (plain_state h mail processes)
+pub ended_holds : (version : ℕ) (h : Hierarchy) (mail : List PlainProcess) (processes new : List ProcessState) (i : ℕ) (process : ProcessState) (segno : ℕ) (after : KnownSegments)
+    (principal : PlainPrincipal) (root : List (List ℕ)) → HoldsSound principal root (plain_state version h mail processes)
     → slice_get processes i ≡ Some process → end.terminate process.known segno ≡ Some after → new ≡ knowing processes i process after
-    → HoldsSound principal root (plain_state h mail new)
-ended_holds h mail processes new i process segno after principal root holds e ends set =
+    → HoldsSound principal root (plain_state version h mail new)
+ended_holds version h mail processes new i process segno after principal root holds e ends set =
     let own = holds.sound.processes i process e in
     let is = ended_lots process.known after segno ends in
     record {
       initializer_is = holds.initializer_is;
       root_is = holds.root_is;
-      sound = rw set (replaced_is_sound (plain_state h mail processes) i (knower process after) holds.sound (record {
+      sound = rw set (replaced_is_sound (plain_state version h mail processes) i (knower process after) holds.sound (record {
         known = sound_terminated process.known after segno own.known ends;
+        last = is.2 ∙ own.last;
         made = λ n v f. own.made n v (stood process.known.lots segno n v (ap (λ (lots : List Lot). lot_of lots n) (sym is.1) ∙ f));
       }));
     }
 
-pub ended_serves : (h : Hierarchy) (mail : List PlainProcess) (processes new : List ProcessState) (p i : ℕ) (process : ProcessState) (segno : ℕ) (after : KnownSegments)
-    (held changes : List Change) (ask : ProcessState → Answer) → IsSound (plain_state h mail processes) → 1 ≤ p → p - 1 ≡ i
-    → slice_get processes i ≡ Some process → ask process ≡ terminate (plain_state h mail processes) p process (end.terminate process.known segno)
+pub ended_serves : (version : ℕ) (h : Hierarchy) (mail : List PlainProcess) (processes new : List ProcessState) (p i : ℕ) (process : ProcessState) (segno : ℕ) (after : KnownSegments)
+    (held changes : List Change) (ask : ProcessState → Answer) → IsSound (plain_state version h mail processes) → 1 ≤ p → p - 1 ≡ i
+    → slice_get processes i ≡ Some process → ask process ≡ terminate (plain_state version h mail processes) p process (end.terminate process.known segno)
     → end.terminate process.known segno ≡ Some after → new ≡ knowing processes i process after
     → held ≡ held_two h processes p segno → changes ≡ renewed h new held → All (λ c. IsAdmissible c.desc) changes
-    → Serves (plain_state h mail processes) (plain_state h mail new) (on_process (plain_state h mail processes) p ask)
+    → Serves (plain_state version h mail processes) (plain_state version h mail new) (on_process (plain_state version h mail processes) p ask)
     (record { reply = Done; changes = changes })
-ended_serves h mail processes new p i process segno after held changes ask sound first here e meant ends set was now admissible =
-    let s = plain_state h mail processes in
-    let own = (sound.processes i process e).known in
+ended_serves version h mail processes new p i process segno after held changes ask sound first here e meant ends set was now admissible =
+    let s = plain_state version h mail processes in
+    let own = sound.processes i process e in
     let is = ended_lots process.known after segno ends in
     let two : AreChanges s (in_place s i (knower process after)) (renewed h (slice_set processes i (knower process after)) (held_two h processes p segno)) =
     renewing_two s (in_place s i (knower process after)) p segno
-    (λ q m apart. others_stay s p i process (knower process after) first here e refl q m
+    (λ q m apart. others_stay s p i process (knower process after) first here e (refl, refl) is.2 q m
     (λ at. ap (λ (lots : List Lot). lot_of lots m) is.1
-    ∙ stays_apart process.known segno m own (λ f. apart (at, inl f)) (λ f. apart (at, inr f)))) in
-    let are : AreChanges s (plain_state h mail new) changes = rw (now, was, set) two in
+    ∙ stays_apart process.known segno m own.known (λ f. apart (at, inl f)) (λ f. apart (at, inr f)))) in
+    let are : AreChanges s (plain_state version h mail new) changes = rw (now, was, set) two in
     let count : length new ≡ length processes = ap length set ∙ length-set processes i (knower process after) in
+    let numbered : AreNumbered (last_number version) new =
+    rw set (replaced_numbered (last_number version) processes i (knower process after) (sound_numbered s sound) (is.2 ∙ own.last)) in
     record {
       as_meant = to_process s p i process ask first here e ∙ meant ∙ ap (terminate s p process) ends
-          ∙ ap (λ k. answer Done (plain_state h mail (slice_set processes k (knower process after)))) here
-          ∙ ap (λ xs. answer Done (plain_state h mail xs)) (sym set);
+          ∙ ap (λ k. answer Done (plain_state version h mail (slice_set processes k (knower process after)))) here
+          ∙ ap (λ xs. answer Done (plain_state version h mail xs)) (sym set);
       changes = are;
-      bounded = changes_are_bounded s (plain_state h mail new) changes sound count are admissible;
+      bounded = changes_are_bounded s (plain_state version h mail new) changes sound numbered refl count are admissible;
+      version = refl;
       count = count;
     }

@@ -12,8 +12,10 @@ use Rattle.mx_hier.specs.DeleteAclEntry.{del_acl}
 use Rattle.mx_hier.specs.Initiate.{segment}
 use Rattle.mx_hier.specs.List.{list}
 use Rattle.mx_hier.specs.Rename.{rename}
+use Rattle.mx_hier.specs.InitialLists.{set_iacl, del_iacl}
 use Rattle.mx_hier.specs.SetAcl.{set_acl}
 use Rattle.mx_hier.specs.SetBrackets.{set_brackets}
+use Rattle.mx_hier.specs.SetClass.{set_class}
 use Rattle.mx_hier.specs.SetDirectoryBrackets.{set_dir_brackets}
 use Rattle.mx_hier.specs.Status.{status}
 use Rattle.mx_hier.specs.declared.refusals.Refusal.{Refusal}
@@ -47,6 +49,7 @@ use Rattle.mx_state.specs.Laws.{RefusalLaw, PathLaw}
 use Rattle.mx_state.specs.Plain.{Plain, Answer, answer}
 use Rattle.mx_state.specs.Requests.{changed, told, plain}
 use Rattle.mx_state.specs.Serving.{Serves}
+use Rattle.mx_state.specs.Shown.{shown}
 use Rattle.mx_state.proofs.Descriptors.{nothing_told}
 
 -- a refusal leaves the state
@@ -144,9 +147,12 @@ refusal_leaves s p ring (ask.Rename path name) = path_answer_still s p ring (λ 
 refusal_leaves s p ring (ask.Delete path) = path_answer_still s p ring (λ who. delete s.hierarchy who path)
 refusal_leaves s p ring (ask.SetAcl path id modes) = path_answer_still s p ring (λ who. set_acl s.hierarchy who path id modes)
 refusal_leaves s p ring (ask.DelAcl path id) = path_answer_still s p ring (λ who. del_acl s.hierarchy who path id)
+refusal_leaves s p ring (ask.SetIacl path kind id modes) = path_answer_still s p ring (λ who. set_iacl s.hierarchy who path kind id modes)
+refusal_leaves s p ring (ask.DelIacl path kind id) = path_answer_still s p ring (λ who. del_iacl s.hierarchy who path kind id)
 refusal_leaves s p ring (ask.SetBrackets path brackets) = path_answer_still s p ring (λ who. set_brackets s.hierarchy who path brackets)
 refusal_leaves s p ring (ask.SetDirBrackets path d1 d2) = path_answer_still s p ring (λ who. set_dir_brackets s.hierarchy who path d1 d2)
-refusal_leaves s p ring (ask.Status path) = told_answer_still s p ring reply.Status (λ who. status s.hierarchy who path)
+refusal_leaves s p ring (ask.SetClass path class) = path_answer_still s p ring (λ who. set_class s.hierarchy who path class)
+refusal_leaves s p ring (ask.Status path) = told_answer_still s p ring (λ told. reply.Status (shown s.version told)) (λ who. status s.hierarchy who path)
 refusal_leaves s p ring (ask.List path) = told_answer_still s p ring reply.Names (λ who. list s.hierarchy who path)
 refusal_leaves s p ring (ask.ChangeWdir path) =
     process_still s (asker s.processes p) (λ process. change_wdir s p process (directory s.hierarchy (caller process ring) path))
@@ -211,9 +217,12 @@ path_request_leaves s p ring (ask.Rename path name) e = change_leaves s p ring (
 path_request_leaves s p ring (ask.Delete path) e = change_leaves s p ring (λ who. delete s.hierarchy who path)
 path_request_leaves s p ring (ask.SetAcl path id modes) e = change_leaves s p ring (λ who. set_acl s.hierarchy who path id modes)
 path_request_leaves s p ring (ask.DelAcl path id) e = change_leaves s p ring (λ who. del_acl s.hierarchy who path id)
+path_request_leaves s p ring (ask.SetIacl path kind id modes) e = change_leaves s p ring (λ who. set_iacl s.hierarchy who path kind id modes)
+path_request_leaves s p ring (ask.DelIacl path kind id) e = change_leaves s p ring (λ who. del_iacl s.hierarchy who path kind id)
 path_request_leaves s p ring (ask.SetBrackets path brackets) e = change_leaves s p ring (λ who. set_brackets s.hierarchy who path brackets)
 path_request_leaves s p ring (ask.SetDirBrackets path d1 d2) e = change_leaves s p ring (λ who. set_dir_brackets s.hierarchy who path d1 d2)
-path_request_leaves s p ring (ask.Status path) e = asking_leaves s p ring reply.Status (λ who. status s.hierarchy who path)
+path_request_leaves s p ring (ask.SetClass path class) e = change_leaves s p ring (λ who. set_class s.hierarchy who path class)
+path_request_leaves s p ring (ask.Status path) e = asking_leaves s p ring (λ told. reply.Status (shown s.version told)) (λ who. status s.hierarchy who path)
 path_request_leaves s p ring (ask.List path) e = asking_leaves s p ring reply.Names (λ who. list s.hierarchy who path)
 path_request_leaves s p ring (ask.ChangeWdir path) e = cc
 path_request_leaves s p ring (ask.SetRules rules) e = cc

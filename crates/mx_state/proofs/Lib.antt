@@ -15,5 +15,8 @@ pub mod LeavingLaws
 pub mod ConnectingLaws
 pub mod LinkingLaws
 pub mod ToldLaws
+pub mod NumberedLaws
+pub mod InitialLaws
+pub mod VersionLaws
 pub mod MessageLaws
 pub mod WaitingLaws

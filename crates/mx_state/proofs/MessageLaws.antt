@@ -29,11 +29,11 @@ use Rattle.mx_state.proofs.Descriptors.{nothing_changes}
 use Rattle.mx_state.proofs.Lists.{some_in}
 use Rattle.mx_state.proofs.ProcessLaws.{to_process}
 
-pub mail_holds : (h : Hierarchy) (mail after : List PlainProcess) (processes : List ProcessState)
+pub mail_holds : (version : ℕ) (h : Hierarchy) (mail after : List PlainProcess) (processes : List ProcessState)
     (principal : PlainPrincipal)
-    (root : List (List ℕ)) → length after ≡ length mail → HoldsSound principal root (plain_state h mail processes)
-    → HoldsSound principal root (plain_state h after processes)
-mail_holds h mail after processes principal root same holds = record {
+    (root : List (List ℕ)) → length after ≡ length mail → HoldsSound principal root (plain_state version h mail processes)
+    → HoldsSound principal root (plain_state version h after processes)
+mail_holds version h mail after processes principal root same holds = record {
   initializer_is = holds.initializer_is;
   root_is = holds.root_is;
   sound = record {
@@ -43,18 +43,19 @@ mail_holds h mail after processes principal root same holds = record {
   };
 }
 
-pub mail_serves : (h : Hierarchy) (mail after : List PlainProcess) (processes : List ProcessState) (p : ℕ)
+pub mail_serves : (version : ℕ) (h : Hierarchy) (mail after : List PlainProcess) (processes : List ProcessState) (p : ℕ)
     (given : Answer)
     (reply : Reply) (applied : Applied) → 1 ≤ p → p ≤ length processes
-    → given ≡ answer reply (plain_state h after processes) → applied ≡ record { reply = reply; changes = [] }
-    → Serves (plain_state h mail processes) (plain_state h after processes)
-    (on_process (plain_state h mail processes) p (λ process. given)) applied
-mail_serves h mail after processes p given reply applied low within meant e =
+    → given ≡ answer reply (plain_state version h after processes) → applied ≡ record { reply = reply; changes = [] }
+    → Serves (plain_state version h mail processes) (plain_state version h after processes)
+    (on_process (plain_state version h mail processes) p (λ process. given)) applied
+mail_serves version h mail after processes p given reply applied low within meant e =
     let w = some_in processes (p - 1) (omega arith) in
     rw e (record {
-      as_meant = to_process (plain_state h mail processes) p (p - 1) w.0 (λ process. given) low refl w.1 ∙ meant;
-      changes = nothing_changes (plain_state h mail processes) (plain_state h after processes) (λ q n. refl);
-      bounded = nothing_is_bounded;
+      as_meant = to_process (plain_state version h mail processes) p (p - 1) w.0 (λ process. given) low refl w.1 ∙ meant;
+      changes = nothing_changes (plain_state version h mail processes) (plain_state version h after processes) (λ q n. refl);
+      bounded = nothing_is_bounded _;
+      version = refl;
       count = refl;
     })
 

@@ -21,7 +21,7 @@ use Rattle.mx_state.specs.Serving.{Serves}
 use Rattle.mx_state.specs.Sound.{IsSound, IsSoundProcess, HoldsSound}
 use Rattle.mx_state.specs.Table.{descriptor, process_desc, standing_desc}
 use Rattle.mx_state.proofs.AnswerLaws.{plain_state, nothing_is_bounded}
-use Rattle.mx_state.proofs.Descriptors.{process_at_place, descriptor_at, nothing_changes}
+use Rattle.mx_state.proofs.Descriptors.{AreNumbered, process_at_place, descriptor_at, nothing_changes}
 use Rattle.mx_state.proofs.Lists.{slice_get-set, slice_get-set_other, slice_get-set_same, some_in}
 use Rattle.mx_state.proofs.NumberLaws.{stands_alike}
 
@@ -29,7 +29,7 @@ use Rattle.mx_state.proofs.NumberLaws.{stands_alike}
 abbrev pub in_place : Plain → ℕ → ProcessState → Plain
 in_place s i process = record s { processes = slice_set s.processes i process }
 
-pub replaced_is_sound : (s : Plain) (i : ℕ) (process : ProcessState) → IsSound s → IsSoundProcess s.hierarchy.next process → IsSound (in_place s i process)
+pub replaced_is_sound : (s : Plain) (i : ℕ) (process : ProcessState) → IsSound s → IsSoundProcess s.version s.hierarchy.next process → IsSound (in_place s i process)
 replaced_is_sound s i process sound own = record {
   process_count = omega (arith, length-set s.processes i process);
   mail_count = sound.mail_count ∙ sym (length-set s.processes i process);
@@ -37,23 +37,37 @@ replaced_is_sound s i process sound own = record {
 }
   where
     by_place : (k : ℕ) (other : ProcessState) → ((k ≡ i) × (other ≡ process)) ⊎ (slice_get s.processes k ≡ Some other)
-        → IsSoundProcess s.hierarchy.next other
-    by_place k other (inl same) = subst (IsSoundProcess s.hierarchy.next) (sym same.1) own
+        → IsSoundProcess s.version s.hierarchy.next other
+    by_place k other (inl same) = subst (IsSoundProcess s.version s.hierarchy.next) (sym same.1) own
     by_place k other (inr e) = sound.processes k other e
 
+-- and so do its numbers
+pub replaced_numbered : (last : ℕ) (processes : List ProcessState) (i : ℕ) (process : ProcessState) → AreNumbered last processes → process.known.last ≡ last
+    → AreNumbered last (slice_set processes i process)
+replaced_numbered last processes i process numbered own k other e = by_place (slice_get-set processes i k process other e)
+  where
+    by_place : ((k ≡ i) × (other ≡ process)) ⊎ (slice_get processes k ≡ Some other) → other.known.last ≡ last
+    by_place (inl same) = ap (λ (p : ProcessState). p.known.last) same.1 ∙ own
+    by_place (inr e) = numbered k other e
+
 -- one that knows the same
-kept_is_sound : (next : ℕ) (process other : ProcessState) → other.known ≡ process.known → IsSoundProcess next process → IsSoundProcess next other
-kept_is_sound next process other known own = record {
+kept_is_sound : (version next : ℕ) (process other : ProcessState) → other.known ≡ process.known → IsSoundProcess version next process → IsSoundProcess version next other
+kept_is_sound version next process other known own = record {
   known = subst kst.IsSound (sym known) own.known;
+  last = ap (λ (k : KnownSegments). k.last) known ∙ own.last;
   made = λ n uid e. own.made n uid (ap (λ (k : KnownSegments). lot_of k.lots n) (sym known) ∙ e);
 }
 
 -- the same process but for what no descriptor asks
-pub same_principal : (h : Hierarchy) (p : ℕ) (process other : ProcessState) (x : Lot) → other.principal ≡ process.principal
+abbrev pub IsSameAsker : ProcessState → ProcessState → Type 0
+IsSameAsker process other = (other.principal ≡ process.principal) × (other.authorization ≡ process.authorization)
+
+pub same_principal : (h : Hierarchy) (p : ℕ) (process other : ProcessState) (x : Lot) → IsSameAsker process other
     → standing_desc h p process x ≡ standing_desc h p other x
 same_principal h p process other Free e = refl
 same_principal h p process other (Stack ring) e = refl
-same_principal h p process other (Branch uid) e = ap (desc_of h uid) (sym e)
+same_principal h p process other (Branch uid) e =
+    ap (λ who. desc_of h uid who process.authorization) (sym e.0) ∙ ap (desc_of h uid other.principal) (sym e.1)
 same_principal h p process other (Linkage of page brackets words) e = refl
 
 -- the processes with one in a place
@@ -76,9 +90,9 @@ elsewhere processes p i other apart = by_zero (cases_eq p 0)
 
 -- the descriptors of a process that is another now, under the same principal, are those of before where its lots are
 pub others_stay : (s : Plain) (p i : ℕ) (process other : ProcessState) → 1 ≤ p → p - 1 ≡ i → slice_get s.processes i ≡ Some process
-    → other.principal ≡ process.principal → (q m : ℕ) → (q ≡ p → lot_of other.known.lots m ≡ lot_of process.known.lots m)
+    → IsSameAsker process other → other.known.last ≡ process.known.last → (q m : ℕ) → (q ≡ p → lot_of other.known.lots m ≡ lot_of process.known.lots m)
     → descriptor s q m ≡ descriptor (in_place s i other) q m
-others_stay s p i process other first here e principal q m same = by_place (cases_lt q 1) (cases_eq (q - 1) i)
+others_stay s p i process other first here e principal last q m same = by_place (cases_lt q 1) (cases_eq (q - 1) i)
   where
     away : ((1 ≤ q) × (q - 1 ≡ i) → ⊥) → descriptor s q m ≡ descriptor (in_place s i other) q m
     away apart = ap (λ o. process_desc s.hierarchy q o m) (sym (elsewhere s.processes q i other apart))
@@ -89,28 +103,29 @@ others_stay s p i process other first here e principal q m same = by_place (case
     by_place (inr low) (inl at) =
         let own : q ≡ p = omega (arith, at, here) in
         descriptor_at s q m process (process_at_place s.processes q low ∙ rw at e)
-        ∙ same_principal s.hierarchy q process other (stands_for process.known.lots m) principal
-        ∙ ap (standing_desc s.hierarchy q other) (stands_alike process.known.lots other.known.lots m (sym (same own)))
+        ∙ same_principal s.hierarchy q process other (stands_for process.known m) principal
+        ∙ ap (standing_desc s.hierarchy q other) (stands_alike process.known other.known m last (sym (same own)))
         ∙ sym (descriptor_at (in_place s i other) q m other (there_again s.processes q i process other low at e))
 
 pub kept_changes : (s : Plain) (p i : ℕ) (process other : ProcessState) → 1 ≤ p → p - 1 ≡ i → slice_get s.processes i ≡ Some process
-    → other.known.lots ≡ process.known.lots → other.principal ≡ process.principal → AreChanges s (in_place s i other) []
+    → other.known ≡ process.known → IsSameAsker process other → AreChanges s (in_place s i other) []
 kept_changes s p i process other first here e known principal =
     nothing_changes s (in_place s i other)
-    (λ q m. others_stay s p i process other first here e principal q m (λ own. ap (λ (lots : List Lot). lot_of lots m) known))
+    (λ q m. others_stay s p i process other first here e principal (ap (λ (k : KnownSegments). k.last) known) q m
+    (λ own. ap (λ (k : KnownSegments). lot_of k.lots m) known))
 
 -- the same as the program's steps
-pub kept_holds : (f : ProcessState → ProcessState) (h : Hierarchy) (mail : List PlainProcess) (processes after : List ProcessState) (i : ℕ) (principal : PlainPrincipal)
+pub kept_holds : (version : ℕ) (f : ProcessState → ProcessState) (h : Hierarchy) (mail : List PlainProcess) (processes after : List ProcessState) (i : ℕ) (principal : PlainPrincipal)
     (root : List (List ℕ)) → ((process : ProcessState) → (f process).known ≡ process.known) → i < length processes
     → ((process : ProcessState) → slice_get processes i ≡ Some process → after ≡ slice_set processes i (f process))
-    → HoldsSound principal root (plain_state h mail processes) → HoldsSound principal root (plain_state h mail after)
-kept_holds f h mail processes after i principal root known within set holds =
+    → HoldsSound principal root (plain_state version h mail processes) → HoldsSound principal root (plain_state version h mail after)
+kept_holds version f h mail processes after i principal root known within set holds =
     let w = some_in processes i within in
     record {
       initializer_is = holds.initializer_is;
       root_is = holds.root_is;
-      sound = rw (set w.0 w.1) (replaced_is_sound (plain_state h mail processes) i (f w.0) holds.sound
-          (kept_is_sound h.next w.0 (f w.0) (known w.0) (holds.sound.processes i w.0 w.1)));
+      sound = rw (set w.0 w.1) (replaced_is_sound (plain_state version h mail processes) i (f w.0) holds.sound
+          (kept_is_sound version h.next w.0 (f w.0) (known w.0) (holds.sound.processes i w.0 w.1)));
     }
 
 -- the answer to a request on a process's own state is that to the process
@@ -119,21 +134,22 @@ pub to_process : (s : Plain) (p i : ℕ) (process : ProcessState) (given : Proce
 to_process s p i process given low at e =
     rw (ne_eqb p 0 (λ z. omega (arith, z, low)), at, e) refl
 
-pub kept_serves : (f : ProcessState → ProcessState) (h : Hierarchy) (mail : List PlainProcess) (processes after : List ProcessState) (p i : ℕ)
+pub kept_serves : (version : ℕ) (f : ProcessState → ProcessState) (h : Hierarchy) (mail : List PlainProcess) (processes after : List ProcessState) (p i : ℕ)
     (given : ProcessState → Answer) (reply : Reply) (applied : Applied)
-    → ((process : ProcessState) → (f process).known ≡ process.known) → ((process : ProcessState) → (f process).principal ≡ process.principal)
+    → ((process : ProcessState) → (f process).known ≡ process.known) → ((process : ProcessState) → IsSameAsker process (f process))
     → 1 ≤ p → p - 1 ≡ i → i < length processes
     → ((process : ProcessState) → slice_get processes i ≡ Some process → after ≡ slice_set processes i (f process))
     → ((process : ProcessState) → slice_get processes i ≡ Some process
-    → given process ≡ answer reply (with_process (plain_state h mail processes) p (f process)))
+    → given process ≡ answer reply (with_process (plain_state version h mail processes) p (f process)))
     → applied ≡ record { reply = reply; changes = [] }
-    → Serves (plain_state h mail processes) (plain_state h mail after) (on_process (plain_state h mail processes) p given) applied
-kept_serves f h mail processes after p i given reply applied known principal low at within set meant e =
+    → Serves (plain_state version h mail processes) (plain_state version h mail after) (on_process (plain_state version h mail processes) p given) applied
+kept_serves version f h mail processes after p i given reply applied known principal low at within set meant e =
     let w = some_in processes i within in
     rw (e, set w.0 w.1) (record {
-      as_meant = to_process (plain_state h mail processes) p i w.0 given low at w.1 ∙ meant w.0 w.1
-          ∙ ap (λ k. answer reply (plain_state h mail (slice_set processes k (f w.0)))) at;
-      changes = kept_changes (plain_state h mail processes) p i w.0 (f w.0) low at w.1 (ap (λ (k : KnownSegments). k.lots) (known w.0)) (principal w.0);
-      bounded = nothing_is_bounded;
+      as_meant = to_process (plain_state version h mail processes) p i w.0 given low at w.1 ∙ meant w.0 w.1
+          ∙ ap (λ k. answer reply (plain_state version h mail (slice_set processes k (f w.0)))) at;
+      changes = kept_changes (plain_state version h mail processes) p i w.0 (f w.0) low at w.1 (known w.0) (principal w.0);
+      bounded = nothing_is_bounded _;
+      version = refl;
       count = length-set processes i (f w.0);
     })

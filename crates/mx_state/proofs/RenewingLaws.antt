@@ -147,22 +147,22 @@ in_order s t first (x ∷ xs) uid = by_number (number_of x.known.lots uid) (in_o
 record KnowsAs (s : Plain) (p n uid : ℕ) : Type 0 where
   process : ProcessState
   there : process_at s.processes p ≡ Some process
-  stands : stands_for process.known.lots n ≡ Branch uid
+  stands : stands_for process.known n ≡ Branch uid
 
 abbrev IsApart : Plain → ℕ → ℕ → ℕ → Type 0
-IsApart s p n uid = (process : ProcessState) (other : ℕ) → process_at s.processes p ≡ Some process → stands_for process.known.lots n ≡ Branch other
+IsApart s p n uid = (process : ProcessState) (other : ℕ) → process_at s.processes p ≡ Some process → stands_for process.known n ≡ Branch other
     → Only uid other → ⊥
 
 known_or_apart : (s : Plain) (p n uid : ℕ) → KnowsAs s p n uid ⊎ IsApart s p n uid
 known_or_apart s p n uid = by_process (process_at s.processes p) refl
   where
     again : (process other : ProcessState) (x : Lot) (own : ℕ) → process_at s.processes p ≡ Some process → process_at s.processes p ≡ Some other
-        → stands_for process.known.lots n ≡ x → stands_for other.known.lots n ≡ Branch own → x ≡ Branch own
+        → stands_for process.known n ≡ x → stands_for other.known n ≡ Branch own → x ≡ Branch own
     again process other x own e f g k =
         let same : process ≡ other = cc in
         sym g ∙ rw same k
 
-    by_standing : (process : ProcessState) → process_at s.processes p ≡ Some process → (x : Lot) → stands_for process.known.lots n ≡ x
+    by_standing : (process : ProcessState) → process_at s.processes p ≡ Some process → (x : Lot) → stands_for process.known n ≡ x
         → KnowsAs s p n uid ⊎ IsApart s p n uid
     by_standing process e Free g = inr (λ other own f k same. let z = again process other Free own e f g k in cc)
     by_standing process e (Stack ring) g = inr (λ other own f k same. let z = again process other (Stack ring) own e f g k in cc)
@@ -179,7 +179,7 @@ known_or_apart s p n uid = by_process (process_at s.processes p) refl
 
     by_process : (o : Option ProcessState) → process_at s.processes p ≡ o → KnowsAs s p n uid ⊎ IsApart s p n uid
     by_process None e = inr (λ other own f k same. let z = sym e ∙ f in cc)
-    by_process (Some process) e = by_standing process e (stands_for process.known.lots n) refl
+    by_process (Some process) e = by_standing process e (stands_for process.known n) refl
 
 -- the descriptors of some numbers are held, and all others are as before
 module _ (s t : Plain) (held : List Change) (is : (c : Change) → Contains held c → c.desc ≡ descriptor s c.process c.segno)
@@ -221,13 +221,13 @@ renewing_changes s h uid sound before = record {
     is_old c there = (is_held s 1 s.processes uid c there).desc
 
     -- the segment's number in a process that knows it
-    own_number : (p n : ℕ) (process : ProcessState) → process_at s.processes p ≡ Some process → stands_for process.known.lots n ≡ Branch uid
+    own_number : (p n : ℕ) (process : ProcessState) → process_at s.processes p ≡ Some process → stands_for process.known n ≡ Branch uid
         → number_of process.known.lots uid ≡ Some n
     own_number p n process e stands =
         let there = is_there s.processes p process e in
-        (number_is process.known (sound.processes (p - 1) process there.place).known uid n).1 (branch_at process.known.lots n uid stands)
+        (number_is process.known (sound.processes (p - 1) process there.place).known uid n).1 (branch_at process.known n uid stands)
 
-    was_held : (p n : ℕ) (process : ProcessState) → process_at s.processes p ≡ Some process → stands_for process.known.lots n ≡ Branch uid
+    was_held : (p n : ℕ) (process : ProcessState) → process_at s.processes p ≡ Some process → stands_for process.known n ≡ Branch uid
         → Contains held (change p n (descriptor s p n))
     was_held p n process e stands =
         let there = is_there s.processes p process e in
@@ -240,11 +240,11 @@ renewing_changes s h uid sound before = record {
     ]
 
 -- the same as the program's steps
-pub renewed_are : (h k : Hierarchy) (mail : List PlainProcess) (processes : List ProcessState) (uid : ℕ) (held changes : List Change) → IsSound (plain_state h mail processes)
+pub renewed_are : (version : ℕ) (h k : Hierarchy) (mail : List PlainProcess) (processes : List ProcessState) (uid : ℕ) (held changes : List Change) → IsSound (plain_state version h mail processes)
     → IsAsBefore (Only uid) h k → held ≡ held_from h processes 1 processes uid → changes ≡ renewed k processes held
-    → AreChanges (plain_state h mail processes) (plain_state k mail processes) changes
-renewed_are h k mail processes uid held changes sound before first then =
-    rw (then, first) (renewing_changes (plain_state h mail processes) k uid sound before)
+    → AreChanges (plain_state version h mail processes) (plain_state version k mail processes) changes
+renewed_are version h k mail processes uid held changes sound before first then =
+    rw (then, first) (renewing_changes (plain_state version h mail processes) k uid sound before)
 
 -- two numbers of a process
 pub renewing_two : (s t : Plain) (p segno : ℕ)

@@ -1,5 +1,5 @@
 -- The descriptors of linkage sections are admissible.
-use Rattle.std.proofs.Common.{◌≤◌, ℕ, true, false, arith}
+use Rattle.std.proofs.Common.{◌≤◌, ℕ, true, false, refl, arith}
 use Rattle.mx_kst.specs.Sections.{IsWithinPage}
 use Rattle.mx_sdw.specs.Admissible.{IsAdmissible}
 use Rattle.mx_sdw.specs.Descriptors.{segment_desc}
@@ -18,6 +18,7 @@ section_admissible brackets page words first second ring within = record {
       page = within.last_page;
       some = within.some;
       most = omega (arith, within.most);
+      class = refl;
     };
     cells = omega (arith, within.most, within.last_page);
   };

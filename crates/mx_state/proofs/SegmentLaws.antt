@@ -4,8 +4,10 @@ use Rattle.std.proofs.lemmas.Bool.{eqb-true, ne_eqb}
 use Rattle.std.specs.Option.{option_and_then}
 use Rattle.mx_name.specs.Identifiers.{PlainAclId}
 use Rattle.mx_acl.specs.Access.{Access, with_entry, without_entry}
+use Rattle.mx_acl.specs.declared.modes.AclKind.{AclKind}
 use Rattle.mx_acl.specs.declared.modes.Modes.{Modes}
 use Rattle.mx_acl.specs.declared.modes.Modes.TheVariants.{Re, Rw}
+use Rattle.mx_aim.specs.Classes.{PlainClass}
 use Rattle.mx_object.specs.Objects.{PlainObjectMap}
 use Rattle.mx_hier.specs.declared.branches.Branch.{Branch}
 use Rattle.mx_hier.specs.declared.branches.Directory.{Directory}
@@ -19,7 +21,7 @@ use Rattle.mx_pages.specs.Runs.{pages_for, run_given}
 use Rattle.mx_hier.specs.Branches.{Hierarchy, branch_of, as_segment, directory_at, segment_at, object_at}
 use Rattle.mx_hier.specs.Brackets.{settable}
 use Rattle.mx_hier.specs.Callers.{Subject, Caller}
-use Rattle.mx_hier.specs.Changing.{changed, with_node, with_branch, with_acl, acl_changed}
+use Rattle.mx_hier.specs.Changing.{changed, with_branch, with_acl, with_directory, branch_with_acl, branch_with_directory, branch_with_segment, directory_changed}
 use Rattle.mx_hier.specs.CreateDirectory.{create_dir, create_dir_at, create_dir_refusals, new_directory}
 use Rattle.mx_hier.specs.CreateLink.{create_link, create_link_at}
 use Rattle.mx_hier.specs.CreateObject.{create_object}
@@ -27,11 +29,13 @@ use Rattle.mx_hier.specs.CreateSegment.{create_seg}
 use Rattle.mx_hier.specs.Delete.{delete_at, delete_refusals, without}
 use Rattle.mx_hier.specs.DeleteAclEntry.{del_acl_at, del_acl_refusals}
 use Rattle.mx_hier.specs.MakeSegment.{Wanted, make_segment, make_segment_at, make_segment_refusals, new_segment, segment_added}
+use Rattle.mx_hier.specs.InitialLists.{initial_changed, with_initial, set_iacl_at, set_iacl_refusals, del_iacl_at, del_iacl_refusals}
 use Rattle.mx_hier.specs.Making.{place, making_refusals, made, added}
 use Rattle.mx_hier.specs.Rename.{rename_at, rename_refusals}
 use Rattle.mx_hier.specs.Rules.{first_of, required, onward, unless}
 use Rattle.mx_hier.specs.SetAcl.{set_acl_at, set_acl_refusals}
 use Rattle.mx_hier.specs.SetBrackets.{set_brackets_at, set_brackets_refusals, with_brackets, bracketed}
+use Rattle.mx_hier.specs.SetClass.{classed, with_class, set_class_at, set_class_refusals}
 use Rattle.mx_hier.specs.SetDirectoryBrackets.{set_dir_brackets_at, set_dir_brackets_refusals, with_dir_brackets, dir_bracketed}
 use Rattle.mx_hier.specs.Walks.{resolved}
 use Rattle.mx_hier.proofs.ObjectLaws.{found_still}
@@ -166,14 +170,14 @@ make_segment_leaves h who path wanted =
     (λ at. made_leaves h at (make_segment_refusals h who.subject at wanted)
     (λ parent. onward (required BadBrackets (settable who.subject.ring wanted.rings)) (λ brackets.
     onward (required NoPages (run_given h.pages (pages_for wanted.words))) (λ page.
-    Ok (segment_added h at (new_segment parent who.subject wanted brackets page) wanted.object))))
+    Ok (segment_added h at (new_segment parent who.subject wanted.words brackets wanted.modes page) wanted.object))))
     (λ parent. leaves_onward Nothing h (required BadBrackets (settable who.subject.ring wanted.rings))
     (λ brackets. onward (required NoPages (run_given h.pages (pages_for wanted.words))) (λ page.
-    Ok (segment_added h at (new_segment parent who.subject wanted brackets page) wanted.object)))
+    Ok (segment_added h at (new_segment parent who.subject wanted.words brackets wanted.modes page) wanted.object)))
     (λ brackets. leaves_onward Nothing h (required NoPages (run_given h.pages (pages_for wanted.words)))
-    (λ page. Ok (segment_added h at (new_segment parent who.subject wanted brackets page) wanted.object))
-    (λ page. leaves_ok Nothing h (segment_added h at (new_segment parent who.subject wanted brackets page) wanted.object)
-    (segment_as_before h at (new_segment parent who.subject wanted brackets page) wanted.object))))))
+    (λ page. Ok (segment_added h at (new_segment parent who.subject wanted.words brackets wanted.modes page) wanted.object))
+    (λ page. leaves_ok Nothing h (segment_added h at (new_segment parent who.subject wanted.words brackets wanted.modes page) wanted.object)
+    (segment_as_before h at (new_segment parent who.subject wanted.words brackets wanted.modes page) wanted.object))))))
 
 pub create_seg_leaves : (h : Hierarchy) (who : Caller) (path : List ℕ) (words : ℕ) (rings : List ℕ)
     → Leaves Nothing h (create_seg h who path words rings)
@@ -200,28 +204,62 @@ rename_leaves h who uid name =
     leaves_unless Nothing h (with_branch h uid (λ branch. record branch { name = name })) (first_of (rename_refusals h who uid name))
     (changed_as_before h uid (λ branch. record branch { name = name }) (λ x. refl) (λ x. refl))
 
-dir_bracketed_stays : (d1 d2 : ℕ) (node : Node) → as_segment (dir_bracketed d1 d2 node) ≡ as_segment node
-dir_bracketed_stays d1 d2 (IsDirectory directory) = refl
-dir_bracketed_stays d1 d2 (IsSegment segment) = refl
-dir_bracketed_stays d1 d2 (IsLink target) = refl
+directory_stays : (f : Directory → Directory) (node : Node) → as_segment (directory_changed f node) ≡ as_segment node
+directory_stays f (IsDirectory directory) = refl
+directory_stays f (IsSegment segment) = refl
+directory_stays f (IsLink target) = refl
+
+-- a directory that is changed is no segment
+pub with_directory_stands : (h : Hierarchy) (uid : ℕ) (f : Directory → Directory) (u : ℕ) → segment_at (with_directory h uid f) u ≡ segment_at h u
+with_directory_stands h uid f u = by_root (eqb uid 0)
+  where
+    by_root : (root : Bool) → segment_at (cond root (record h { root = f h.root }) (with_branch h uid (branch_with_directory f))) u ≡ segment_at h u
+    by_root true = refl
+    by_root false =
+        changed_standing uid (branch_with_directory f) h.branches u (λ x. refl) (λ x here there. directory_stays f x.node)
+
+pub with_directory_maps : (h : Hierarchy) (uid : ℕ) (f : Directory → Directory) (u : ℕ) → object_at (with_directory h uid f) u ≡ object_at h u
+with_directory_maps h uid f u = by_root (eqb uid 0)
+  where
+    by_root : (root : Bool) → object_at (cond root (record h { root = f h.root }) (with_branch h uid (branch_with_directory f))) u ≡ object_at h u
+    by_root true = refl
+    by_root false = refl
+
+directory_as_before : (h : Hierarchy) (uid : ℕ) (f : Directory → Directory) → IsAsBefore Nothing h (with_directory h uid f)
+directory_as_before h uid f = record {
+  same = λ u below apart. with_directory_stands h uid f u;
+  maps = λ u below. with_directory_maps h uid f u;
+  next = by_root (eqb uid 0);
+}
+  where
+    by_root : (root : Bool) → h.next ≤ (cond root (record h { root = f h.root }) (with_branch h uid (branch_with_directory f))).next
+    by_root true = omega arith
+    by_root false = omega arith
 
 pub set_dir_brackets_leaves : (h : Hierarchy) (who : Subject) (uid d1 d2 : ℕ) → Leaves Nothing h (set_dir_brackets_at h who uid d1 d2)
 set_dir_brackets_leaves h who uid d1 d2 =
-    leaves_unless Nothing h (with_dir_brackets h uid d1 d2) (first_of (set_dir_brackets_refusals h who uid d1 d2)) (by_root (eqb uid 0))
-  where
-    by_root : (root : Bool) → IsAsBefore Nothing h (cond root (record h { root = record h.root { d1 = d1; d2 = d2 } })
-        (with_branch h uid (λ branch. with_node (dir_bracketed d1 d2 branch.node) branch)))
-    by_root true = record { same = λ u below apart. refl; maps = λ u below. refl; next = omega arith }
-    by_root false =
-        changed_as_before h uid (λ branch. with_node (dir_bracketed d1 d2 branch.node) branch) (λ x. refl) (λ x. dir_bracketed_stays d1 d2 x.node)
+    leaves_unless Nothing h (with_dir_brackets h uid d1 d2) (first_of (set_dir_brackets_refusals h who uid d1 d2))
+    (directory_as_before h uid (dir_bracketed d1 d2))
+
+pub set_iacl_leaves : (h : Hierarchy) (who : Subject) (uid : ℕ) (kind : AclKind) (id : PlainAclId) (modes : Modes)
+    → Leaves Nothing h (set_iacl_at h who uid kind id modes)
+set_iacl_leaves h who uid kind id modes =
+    leaves_unless Nothing h (with_initial h uid kind (λ initial. with_entry initial id modes)) (first_of (set_iacl_refusals h who uid kind id modes))
+    (directory_as_before h uid (initial_changed kind (λ initial. with_entry initial id modes)))
+
+pub del_iacl_leaves : (h : Hierarchy) (who : Subject) (uid : ℕ) (kind : AclKind) (id : PlainAclId)
+    → Leaves Nothing h (del_iacl_at h who uid kind id)
+del_iacl_leaves h who uid kind id =
+    leaves_unless Nothing h (with_initial h uid kind (λ initial. without_entry initial id)) (first_of (del_iacl_refusals h who uid kind id))
+    (directory_as_before h uid (initial_changed kind (λ initial. without_entry initial id)))
 
 acl_as_before : (h : Hierarchy) (uid : ℕ) (f : Access → Access) → IsAsBefore (Only uid) h (with_acl h uid f)
 acl_as_before h uid f = by_root (eqb uid 0)
   where
     by_root : (root : Bool) → IsAsBefore (Only uid) h (cond root (record h { root = record h.root { acl = f h.root.acl } })
-        (with_branch h uid (λ branch. with_node (acl_changed f branch.node) branch)))
+        (with_branch h uid (branch_with_acl f)))
     by_root true = record { same = λ u below apart. refl; maps = λ u below. refl; next = omega arith }
-    by_root false = changed_but h uid (λ branch. with_node (acl_changed f branch.node) branch) (λ x. refl)
+    by_root false = changed_but h uid (branch_with_acl f) (λ x. refl)
 
 -- the requests that change one segment alone
 pub set_acl_leaves : (h : Hierarchy) (who : Subject) (uid : ℕ) (id : PlainAclId) (modes : Modes) → Leaves (Only uid) h (set_acl_at h who uid id modes)
@@ -243,7 +281,12 @@ set_brackets_leaves h who uid rings = by_rules (first_of (set_brackets_refusals 
     by_rules None =
         leaves_onward (Only uid) h (required BadBrackets (settable who.ring rings)) (λ brackets. Ok (with_brackets h uid brackets))
         (λ brackets. leaves_ok (Only uid) h (with_brackets h uid brackets)
-        (changed_but h uid (λ branch. with_node (bracketed brackets branch.node) branch) (λ x. refl)))
+        (changed_but h uid (branch_with_segment (bracketed brackets)) (λ x. refl)))
+
+pub set_class_leaves : (h : Hierarchy) (who : Subject) (uid : ℕ) (class : PlainClass) → Leaves (Only uid) h (set_class_at h who uid class)
+set_class_leaves h who uid class =
+    leaves_unless (Only uid) h (with_class h uid class) (first_of (set_class_refusals h who uid class))
+    (changed_but h uid (branch_with_segment (classed class)) (λ x. refl))
 
 -- one that is deleted
 found_without : (at : ℕ) (branches : List Branch) (uid : ℕ) → uid ≢ at → branch_of (without at branches) uid ≡ branch_of branches uid

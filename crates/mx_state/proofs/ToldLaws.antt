@@ -13,8 +13,10 @@ use Rattle.mx_hier.specs.DeleteAclEntry.{del_acl}
 use Rattle.mx_hier.specs.Initiate.{segment}
 use Rattle.mx_hier.specs.List.{list}
 use Rattle.mx_hier.specs.Rename.{rename}
+use Rattle.mx_hier.specs.InitialLists.{set_iacl, del_iacl}
 use Rattle.mx_hier.specs.SetAcl.{set_acl}
 use Rattle.mx_hier.specs.SetBrackets.{set_brackets}
+use Rattle.mx_hier.specs.SetClass.{set_class}
 use Rattle.mx_hier.specs.SetDirectoryBrackets.{set_dir_brackets}
 use Rattle.mx_hier.specs.Status.{status}
 use Rattle.mx_hier.specs.declared.refusals.Refusal.{Refusal}
@@ -52,6 +54,7 @@ use Rattle.mx_state.specs.Numbers.{stands_for}
 use Rattle.mx_state.specs.OwnState.{change_wdir, set_rules}
 use Rattle.mx_state.specs.Plain.{Plain, Answer, process_at, with_process}
 use Rattle.mx_state.specs.Requests.{changed, plain, told}
+use Rattle.mx_state.specs.Shown.{shown}
 use Rattle.mx_state.specs.Table.{process_desc, standing_desc}
 use Rattle.mx_state.specs.Told.{HasLinkWord, HasSection, IsLinked, IsLinkedWithin, IsRefused, IsSection, LinkRepliesLaw, NewSectionLaw, OnlyLinkLaw, OthersLaw, PathTellsLaw, ResolvedLaw, SectionDescLaw, SectionsStayLaw, lot_by, lot_in}
 use Rattle.mx_state.proofs.ConnectingLaws.{SectionAt, given_below, section_is_there, stands_still}
@@ -139,9 +142,12 @@ plain_on_path s p ring (ask.Rename path name) e = change_answer s p ring (λ who
 plain_on_path s p ring (ask.Delete path) e = change_answer s p ring (λ who. delete s.hierarchy who path)
 plain_on_path s p ring (ask.SetAcl path id modes) e = change_answer s p ring (λ who. set_acl s.hierarchy who path id modes)
 plain_on_path s p ring (ask.DelAcl path id) e = change_answer s p ring (λ who. del_acl s.hierarchy who path id)
+plain_on_path s p ring (ask.SetIacl path kind id modes) e = change_answer s p ring (λ who. set_iacl s.hierarchy who path kind id modes)
+plain_on_path s p ring (ask.DelIacl path kind id) e = change_answer s p ring (λ who. del_iacl s.hierarchy who path kind id)
 plain_on_path s p ring (ask.SetBrackets path brackets) e = change_answer s p ring (λ who. set_brackets s.hierarchy who path brackets)
 plain_on_path s p ring (ask.SetDirBrackets path d1 d2) e = change_answer s p ring (λ who. set_dir_brackets s.hierarchy who path d1 d2)
-plain_on_path s p ring (ask.Status path) e = told_answer s p ring reply.Status (λ who. status s.hierarchy who path) (λ value. refl)
+plain_on_path s p ring (ask.SetClass path class) e = change_answer s p ring (λ who. set_class s.hierarchy who path class)
+plain_on_path s p ring (ask.Status path) e = told_answer s p ring (λ told. reply.Status (shown s.version told)) (λ who. status s.hierarchy who path) (λ value. refl)
 plain_on_path s p ring (ask.List path) e = told_answer s p ring reply.Names (λ who. list s.hierarchy who path) (λ value. refl)
 plain_on_path s p ring (ask.ChangeWdir path) e = cc
 plain_on_path s p ring (ask.SetRules rules) e = cc
@@ -161,7 +167,7 @@ path_told s p ring request of =
     left_told s p (plain s p ring request) (plain_on_path s p ring request of) (path_request_leaves s p ring request of).0
 
 -- requests on what a process has of its own
-by_process : (P : Answer → Type 0) (s : Plain) (p : ℕ) (given : ProcessState → Answer) → P (unmade s)
+pub by_process : (P : Answer → Type 0) (s : Plain) (p : ℕ) (given : ProcessState → Answer) → P (unmade s)
     → ((process : ProcessState) → 1 ≤ p → slice_get s.processes (p - 1) ≡ Some process → P (given process)) → P (on_process s p given)
 by_process P s p given none some = by_zero (cases_eq p 0)
   where
@@ -206,11 +212,11 @@ module _ (s : Plain) (p ring : ℕ) (process : ProcessState) (low : 1 ≤ p) (at
   terminate_told None = left_told s p (terminate s p process None) refl refl
 
   -- what a number of the process stands for afterwards
-  now_stands : (c : Connected) (n : ℕ) → lot_in (knowing_more s p process c) p n ≡ stands_for c.after.lots n
+  now_stands : (c : Connected) (n : ℕ) → lot_in (knowing_more s p process c) p n ≡ stands_for c.after n
   now_stands c n =
       ap (λ o. lot_by o n) (there_again s.processes p (p - 1) process (record process { known = c.after }) low refl at)
 
-  told_section : (c : Connected) (n : ℕ) → SectionAt c.after.lots n → HasSection (knowing_more s p process c) p n
+  told_section : (c : Connected) (n : ℕ) → SectionAt c.after n → HasSection (knowing_more s p process c) p n
   told_section c n there =
       record { words = there.words; section = subst (λ lot. IsSection lot there.words) (sym (now_stands c n)) there.section }
 
@@ -260,8 +266,11 @@ is_told s p ring (ask.Rename path name) = path_told s p ring (ask.Rename path na
 is_told s p ring (ask.Delete path) = path_told s p ring (ask.Delete path) refl
 is_told s p ring (ask.SetAcl path id modes) = path_told s p ring (ask.SetAcl path id modes) refl
 is_told s p ring (ask.DelAcl path id) = path_told s p ring (ask.DelAcl path id) refl
+is_told s p ring (ask.SetIacl path kind id modes) = path_told s p ring (ask.SetIacl path kind id modes) refl
+is_told s p ring (ask.DelIacl path kind id) = path_told s p ring (ask.DelIacl path kind id) refl
 is_told s p ring (ask.SetBrackets path brackets) = path_told s p ring (ask.SetBrackets path brackets) refl
 is_told s p ring (ask.SetDirBrackets path d1 d2) = path_told s p ring (ask.SetDirBrackets path d1 d2) refl
+is_told s p ring (ask.SetClass path class) = path_told s p ring (ask.SetClass path class) refl
 is_told s p ring (ask.Status path) = path_told s p ring (ask.Status path) refl
 is_told s p ring (ask.List path) = path_told s p ring (ask.List path) refl
 is_told s p ring (ask.ChangeWdir path) =
@@ -385,8 +394,11 @@ link_or_unlinked s p ring (ask.Rename path name) = inl (unlinked_path s p ring (
 link_or_unlinked s p ring (ask.Delete path) = inl (unlinked_path s p ring (ask.Delete path) refl)
 link_or_unlinked s p ring (ask.SetAcl path id modes) = inl (unlinked_path s p ring (ask.SetAcl path id modes) refl)
 link_or_unlinked s p ring (ask.DelAcl path id) = inl (unlinked_path s p ring (ask.DelAcl path id) refl)
+link_or_unlinked s p ring (ask.SetIacl path kind id modes) = inl (unlinked_path s p ring (ask.SetIacl path kind id modes) refl)
+link_or_unlinked s p ring (ask.DelIacl path kind id) = inl (unlinked_path s p ring (ask.DelIacl path kind id) refl)
 link_or_unlinked s p ring (ask.SetBrackets path brackets) = inl (unlinked_path s p ring (ask.SetBrackets path brackets) refl)
 link_or_unlinked s p ring (ask.SetDirBrackets path d1 d2) = inl (unlinked_path s p ring (ask.SetDirBrackets path d1 d2) refl)
+link_or_unlinked s p ring (ask.SetClass path class) = inl (unlinked_path s p ring (ask.SetClass path class) refl)
 link_or_unlinked s p ring (ask.Status path) = inl (unlinked_path s p ring (ask.Status path) refl)
 link_or_unlinked s p ring (ask.List path) = inl (unlinked_path s p ring (ask.List path) refl)
 link_or_unlinked s p ring (ask.ChangeWdir path) =
@@ -452,27 +464,27 @@ link_is h known word (Linkage of page brackets words) it e = by_test (ltb word w
     by_test false t e = cc
 
 -- a section that stands for a number within the last is given
-section_below : (lots : List Lot) (segno words : ℕ) → IsSection (stands_for lots segno) words → segno < length lots
-section_below lots segno words is = by_number (cases_lt 127 segno)
+section_below : (k : KnownSegments) (segno words : ℕ) → IsSection (stands_for k segno) words → segno < length k.lots
+section_below k segno words is = by_number (cases_lt k.last segno)
   where
-    by_number : (127 < segno) ⊎ (segno ≤ 127) → segno < length lots
-    by_number (inl beyond) = let none = sym (nothing_beyond lots segno beyond) ∙ is.is in absurd (cc)
+    by_number : (k.last < segno) ⊎ (segno ≤ k.last) → segno < length k.lots
+    by_number (inl beyond) = let none = sym (nothing_beyond k segno beyond) ∙ is.is in absurd (cc)
     by_number (inr within) =
-        given_below lots segno (Linkage is.of is.page is.brackets words) (sym (stands_within lots segno within) ∙ is.is) (λ f. cc)
+        given_below k.lots segno (Linkage is.of is.page is.brackets words) (sym (stands_within k segno within) ∙ is.is) (λ f. cc)
 
 module _ (s : Plain) (p ring segno word to at : ℕ) (fresh : Bool) (linkage : Option ℕ) where
   abbrev ToWord : Answer → Type 0
   ToWord given = given.reply ≡ reply.Linked to at fresh linkage → HasLinkWord given.state p segno word
 
   module _ (process : ProcessState) (low : 1 ≤ p) (place : slice_get s.processes (p - 1) ≡ Some process) (words : ℕ)
-      (is : IsSection (stands_for process.known.lots segno) words) (within : word < words) where
+      (is : IsSection (stands_for process.known segno) words) (within : word < words) where
     still_there : (uid : ℕ) (name : Option (List ℕ)) (c : Connected) → connect s.hierarchy process.known ring name uid ≡ Ok c
         → HasLinkWord (knowing_more s p process c) p segno word
     still_there uid name c e = record {
       words = words;
       section = subst (λ lot. IsSection lot words)
           (sym (now_stands s p ring process low place c segno
-          ∙ stands_still s.hierarchy process.known uid ring segno name c e (section_below process.known.lots segno words is))) is;
+          ∙ stands_still s.hierarchy process.known uid ring segno name c e (section_below process.known segno words is))) is;
       within = within;
     }
 
@@ -498,7 +510,7 @@ module _ (s : Plain) (p ring segno word to at : ℕ) (fresh : Bool) (linkage : O
       → link_at s.hierarchy process.known segno word ≡ o → ToWord (link_by s p ring process o)
   by_word process low place None e = λ f. cc
   by_word process low place (Some it) e =
-      let is = link_is s.hierarchy process.known word (stands_for process.known.lots segno) it e in
+      let is = link_is s.hierarchy process.known word (stands_for process.known segno) it e in
       towards_word process low place is.0 is.1 is.2 it (link_target s.hierarchy process ring it)
 
 pub resolved_law : ResolvedLaw

@@ -222,10 +222,16 @@ steps s p ring (ask.Delete path) low within = path_steps s p ring (ask.Delete pa
 steps s p ring (ask.SetAcl path id modes) low within =
     path_steps s p ring (ask.SetAcl path id modes) refl (λ r now. refl)
 steps s p ring (ask.DelAcl path id) low within = path_steps s p ring (ask.DelAcl path id) refl (λ r now. refl)
+steps s p ring (ask.SetIacl path kind id modes) low within =
+    path_steps s p ring (ask.SetIacl path kind id modes) refl (λ r now. refl)
+steps s p ring (ask.DelIacl path kind id) low within =
+    path_steps s p ring (ask.DelIacl path kind id) refl (λ r now. refl)
 steps s p ring (ask.SetBrackets path brackets) low within =
     path_steps s p ring (ask.SetBrackets path brackets) refl (λ r now. refl)
 steps s p ring (ask.SetDirBrackets path d1 d2) low within =
     path_steps s p ring (ask.SetDirBrackets path d1 d2) refl (λ r now. refl)
+steps s p ring (ask.SetClass path class) low within =
+    path_steps s p ring (ask.SetClass path class) refl (λ r now. refl)
 steps s p ring (ask.Status path) low within = path_steps s p ring (ask.Status path) refl (λ r now. refl)
 steps s p ring (ask.List path) low within = path_steps s p ring (ask.List path) refl (λ r now. refl)
 steps s p ring (ask.ChangeWdir path) low within =
@@ -321,10 +327,10 @@ all_run (suc n) zero within = refl
 all_run (suc n) (suc i) within = all_run n i (omega arith)
 
 pub does_law : DoesLaw
-does_law principals journal p right low within =
-    replay_does journal (opening principals) p Running right low
-    (ap state_of (at_place (mail.all_running (length principals)) p low)
-    ∙ all_run (length principals) (p - 1) (omega arith))
+does_law version entrants journal p right low within =
+    replay_does journal (opening version entrants) p Running right low
+    (ap state_of (at_place (mail.all_running (length entrants)) p low)
+    ∙ all_run (length entrants) (p - 1) (omega arith))
 
 -- not all wait for one another
 

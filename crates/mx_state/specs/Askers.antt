@@ -1,6 +1,7 @@
 -- Who asks: the initializer as process 0, or a process in its working directory.
 use Rattle.std.specs.Prelude.{ℕ, ◌==◌, List, [], Option, Some, None, codes, if◌then◌else◌}
 use Rattle.mx_name.specs.Principals.{PlainPrincipal}
+use Rattle.mx_aim.specs.Classes.{lowest}
 use Rattle.mx_hier.specs.Callers.{Caller}
 use Rattle.mx_request.specs.declared.replies.Reply.TheVariants.{Done}
 use Rattle.mx_state.specs.declared.states.ProcessState.{ProcessState}
@@ -24,11 +25,15 @@ abbrev pub initializer : PlainPrincipal
 initializer = record { person = codes "Initializer"; project = codes "SysDaemon"; tag = codes "z" }
 
 abbrev pub initial_caller : ℕ → Caller
-initial_caller ring = record { subject = record { principal = initializer; ring = ring }; base = [] }
+initial_caller ring =
+    record { subject = record { principal = initializer; authorization = lowest; ring = ring }; base = [] }
 
 abbrev pub caller : ProcessState → ℕ → Caller
 caller process ring =
-    record { subject = record { principal = process.principal; ring = ring }; base = process.working_directory }
+    record {
+      subject = record { principal = process.principal; authorization = process.authorization; ring = ring };
+      base = process.working_directory;
+    }
 
 -- No right journal has a request that nobody may make: of a process that is not there, or of the initializer on a
 -- process's own state. So that every journal can be replayed, it is answered `ok` and leaves the state.

@@ -4,7 +4,6 @@ use Rattle.std.specs.List.{AllPairs}
 use Rattle.mx_core.specs.declared.changes.Change.{Change}
 use Rattle.mx_sdw.specs.Admissible.{IsAdmissible}
 use Rattle.mx_sdw.specs.declared.descriptors.Desc.{Desc}
-use Rattle.mx_kst.specs.Lots.{last_number}
 use Rattle.mx_state.specs.Plain.{Plain}
 use Rattle.mx_state.specs.Table.{descriptor}
 
@@ -24,8 +23,8 @@ pub record AreChanges (old new : Plain) (changes : List Change) : Type 0 where
 
 -- a change that a table of descriptors can take: of one of 1 to 15 processes, of a number up to the last, to a
 -- descriptor that a table may hold
-pub record IsBounded (c : Change) : Type 0 where
+pub record IsBounded (last_segno : ℕ) (c : Change) : Type 0 where
   pub first : 1 ≤ c.process
   pub last : c.process ≤ 15
-  pub number : c.segno ≤ last_number
+  pub number : c.segno ≤ last_segno
   pub admissible : IsAdmissible c.desc

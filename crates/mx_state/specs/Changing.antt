@@ -12,6 +12,8 @@ use Rattle.mx_hier.specs.Rename.{rename_at}
 use Rattle.mx_hier.specs.Rules.{onward}
 use Rattle.mx_hier.specs.SetAcl.{set_acl_at}
 use Rattle.mx_hier.specs.SetBrackets.{set_brackets_at}
+use Rattle.mx_hier.specs.SetClass.{set_class_at}
+use Rattle.mx_hier.specs.InitialLists.{set_iacl_at, del_iacl_at}
 use Rattle.mx_hier.specs.SetDirectoryBrackets.{set_dir_brackets_at}
 use Rattle.mx_hier.specs.Walks.{entry}
 use Rattle.mx_hier.specs.declared.refusals.Refusal.{Refusal}
@@ -32,6 +34,8 @@ created h who other = Ok h
 -- one that changes an entry and no descriptor
 abbrev pub amended_at : Hierarchy → Subject → ℕ → Request → Result Hierarchy Refusal
 amended_at h who uid (ask.Rename path name) = rename_at h who uid name
+amended_at h who uid (ask.SetIacl path kind id modes) = set_iacl_at h who uid kind id modes
+amended_at h who uid (ask.DelIacl path kind id) = del_iacl_at h who uid kind id
 amended_at h who uid (ask.SetDirBrackets path d1 d2) = set_dir_brackets_at h who uid d1 d2
 amended_at h who uid other = Ok h
 
@@ -41,6 +45,7 @@ altered_at h who uid (ask.Delete path) = delete_at h who uid
 altered_at h who uid (ask.SetAcl path id modes) = set_acl_at h who uid id modes
 altered_at h who uid (ask.DelAcl path id) = del_acl_at h who uid id
 altered_at h who uid (ask.SetBrackets path brackets) = set_brackets_at h who uid brackets
+altered_at h who uid (ask.SetClass path class) = set_class_at h who uid class
 altered_at h who uid other = Ok h
 
 abbrev pub creation : Plain → ℕ → ℕ → Request → Answer

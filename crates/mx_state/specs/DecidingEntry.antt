@@ -19,11 +19,11 @@ entry_for h process _ = None
 -- what a number stands for in a process that may not be there
 abbrev pub lot_for : Option ProcessState → ℕ → Lot
 lot_for None segno = Free
-lot_for (Some process) segno = stands_for process.known.lots segno
+lot_for (Some process) segno = stands_for process.known segno
 
 abbrev pub process_entry : Hierarchy → Option ProcessState → ℕ → Option (PlainAclId × Modes)
 process_entry h None segno = None
-process_entry h (Some process) segno = entry_for h process (stands_for process.known.lots segno)
+process_entry h (Some process) segno = entry_for h process (stands_for process.known segno)
 
 abbrev pub entry_in : Hierarchy → List ProcessState → ℕ → ℕ → Option (PlainAclId × Modes)
 entry_in h processes p segno = process_entry h (process_at processes p) segno

@@ -1,12 +1,13 @@
 -- A history of the plain supervisor: what its state is after a journal, and when a journal is right.
 use Rattle.std.specs.Prelude.{◌≡◌, ℕ, ◌*◌, ◌≤◌, List, [], ◌∷◌, length, map}
-use Rattle.mx_name.specs.Principals.{PlainPrincipal}
 use Rattle.mx_hier.specs.Opening as hierarchy
 use Rattle.mx_kst.specs.KnownSegments.{at_first}
 use Rattle.mx_mail.specs.Processes.{all_running}
 use Rattle.mx_request.specs.Classes.{class_of}
 use Rattle.mx_request.specs.declared.classes.RequestClass.TheVariants.{OfPath}
+use Rattle.mx_request.specs.declared.entrants.Entrant.{Entrant}
 use Rattle.mx_request.specs.declared.requests.Request.{Request}
+use Rattle.mx_request.specs.Versions.{last_number}
 use Rattle.mx_search.specs.Rules.{opening_rules}
 use Rattle.mx_state.specs.declared.journal.Entry.{Entry}
 use Rattle.mx_state.specs.declared.states.ProcessState.{ProcessState}
@@ -14,20 +15,22 @@ use Rattle.mx_state.specs.Plain.{Plain}
 use Rattle.mx_state.specs.Requests.{plain}
 
 -- a process at the start works in the root, with the rules of every process, and knows its stacks alone
-abbrev pub fresh : PlainPrincipal → ProcessState
-fresh who = record {
-  principal = who;
+abbrev pub fresh : ℕ → Entrant → ProcessState
+fresh version entrant = record {
+  principal = entrant.who;
+  authorization = entrant.authorization;
   working_directory = [];
   rules = opening_rules;
-  known = at_first;
+  known = at_first (last_number version);
 }
 
 -- the state before any entry: the first pages are those of the stacks, eight for each process, and each process runs
-abbrev pub opening : List PlainPrincipal → Plain
-opening principals = record {
-  hierarchy = hierarchy.opening (8 * length principals);
-  processes = map fresh principals;
-  mail = all_running (length principals);
+abbrev pub opening : ℕ → List Entrant → Plain
+opening version entrants = record {
+  version = version;
+  hierarchy = hierarchy.opening (8 * length entrants);
+  processes = map (fresh version) entrants;
+  mail = all_running (length entrants);
 }
 
 -- the state after these entries

@@ -12,6 +12,7 @@ use Rattle.mx_kst.specs.Sections.{PlainSection}
 use Rattle.mx_link.specs.declared.resolving.LinkError.{LinkError}
 use Rattle.mx_link.specs.declared.resolving.LinkError.TheVariants.{SegmentNotFound, NotObject, NoDefinition, Memory}
 use Rattle.mx_link.specs.declared.resolving.Target.{Target}
+use Rattle.mx_request.specs.Versions.{last_number}
 use Rattle.mx_state.specs.declared.knowing.Connection.{Connection}
 use Rattle.mx_state.specs.declared.linking.Link.{Link}
 use Rattle.mx_state.specs.declared.linking.Place.{Place}
@@ -41,7 +42,7 @@ pub record IsConnected (old new : Plain) (p : ℕ) (process : ProcessState) (mea
   pub known : connection.known ≡ after.known
   pub state : new ≡ knowing_more old p process after
   pub changes : AreChanges old new connection.changes
-  pub bounded : All IsBounded connection.changes
+  pub bounded : All (IsBounded (last_number old.version)) connection.changes
   pub count : length new.processes ≡ length old.processes
 
 -- or was refused as is meant

@@ -7,6 +7,7 @@ pub mod Linking
 pub mod Knowing
 pub mod OwnState
 pub mod Messages
+pub mod Shown
 pub mod Requests
 pub mod Table
 pub mod DecidingEntry

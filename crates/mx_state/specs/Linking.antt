@@ -29,7 +29,7 @@ uid_of (Branch uid) = Some uid
 uid_of (Linkage of page brackets words) = None
 
 abbrev pub known_uid : KnownSegments → ℕ → Option ℕ
-known_uid known segno = uid_of (stands_for known.lots segno)
+known_uid known segno = uid_of (stands_for known segno)
 
 -- one that was deleted is passed over
 abbrev pub standing : Hierarchy → KnownSegments → ℕ → Option Found
@@ -88,7 +88,7 @@ link_in h known word (Linkage of page brackets words) =
 -- The link of a word of a linkage section. None where the number is not that of a linkage section, or the word not below
 -- its number of links. The object may have been deleted: its map stands.
 abbrev pub link_at : Hierarchy → KnownSegments → ℕ → ℕ → Option Link
-link_at h known segno word = link_in h known word (stands_for known.lots segno)
+link_at h known segno word = link_in h known word (stands_for known segno)
 
 -- where the link leads, by the search rules of the process
 abbrev pub link_target : Hierarchy → ProcessState → ℕ → Link → Result Target LinkError

@@ -1,8 +1,9 @@
--- What a segment number stands for in a process: what its known segment table says, and nothing beyond the last number.
-use Rattle.std.specs.Prelude.{ℕ, nat_lt, List, if◌then◌else◌}
+-- What a segment number stands for in a process: what its known segment table says, and nothing beyond its last number.
+use Rattle.std.specs.Prelude.{ℕ, nat_lt, if◌then◌else◌}
+use Rattle.mx_kst.specs.KnownSegments.{KnownSegments}
 use Rattle.mx_kst.specs.declared.lots.Lot.{Lot}
 use Rattle.mx_kst.specs.declared.lots.Lot.TheVariants.{Free}
-use Rattle.mx_kst.specs.Lots.{last_number, lot_of}
+use Rattle.mx_kst.specs.Lots.{lot_of}
 
-abbrev pub stands_for : List Lot → ℕ → Lot
-stands_for lots segno = if nat_lt last_number segno then Free else lot_of lots segno
+abbrev pub stands_for : KnownSegments → ℕ → Lot
+stands_for known segno = if nat_lt known.last segno then Free else lot_of known.lots segno

@@ -5,9 +5,10 @@ use Rattle.mx_mail.specs.Processes.{PlainProcess}
 use Rattle.mx_request.specs.declared.replies.Reply.{Reply}
 use Rattle.mx_state.specs.declared.states.ProcessState.{ProcessState}
 
--- The hierarchy; the processes 1, 2, .. in order, with what each has of its own; and of each in the same order whether
--- it runs, waits or has ended, and the messages that wait for it.
+-- The version of the session; the hierarchy; the processes 1, 2, .. in order, with what each has of its own; and of each
+-- in the same order whether it runs, waits or has ended, and the messages that wait for it.
 pub record Plain : Type 0 where
+  pub version : ℕ
   pub hierarchy : Hierarchy
   pub processes : List ProcessState
   pub mail : List PlainProcess

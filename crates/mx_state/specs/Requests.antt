@@ -8,11 +8,13 @@ use Rattle.mx_hier.specs.CreateObject.{create_object}
 use Rattle.mx_hier.specs.CreateSegment.{create_seg}
 use Rattle.mx_hier.specs.Delete.{delete}
 use Rattle.mx_hier.specs.DeleteAclEntry.{del_acl}
+use Rattle.mx_hier.specs.InitialLists.{set_iacl, del_iacl}
 use Rattle.mx_hier.specs.Initiate.{segment}
 use Rattle.mx_hier.specs.List.{list}
 use Rattle.mx_hier.specs.Rename.{rename}
 use Rattle.mx_hier.specs.SetAcl.{set_acl}
 use Rattle.mx_hier.specs.SetBrackets.{set_brackets}
+use Rattle.mx_hier.specs.SetClass.{set_class}
 use Rattle.mx_hier.specs.SetDirectoryBrackets.{set_dir_brackets}
 use Rattle.mx_hier.specs.Status.{status}
 use Rattle.mx_hier.specs.declared.refusals.Refusal.{Refusal}
@@ -26,6 +28,7 @@ use Rattle.mx_state.specs.Knowing.{initiate, link, terminate}
 use Rattle.mx_state.specs.Messages.{wakeup, block, logout}
 use Rattle.mx_state.specs.OwnState.{change_wdir, set_rules}
 use Rattle.mx_state.specs.Plain.{Plain, Answer, answer}
+use Rattle.mx_state.specs.Shown.{shown}
 
 -- a request that changes the hierarchy is answered `ok`, or refused
 abbrev pub changed : Plain → Result Hierarchy Refusal → Answer
@@ -54,12 +57,18 @@ plain s p ring (ask.SetAcl path id modes) =
     on_path s p ring (λ who. changed s (set_acl s.hierarchy who path id modes))
 plain s p ring (ask.DelAcl path id) =
     on_path s p ring (λ who. changed s (del_acl s.hierarchy who path id))
+plain s p ring (ask.SetIacl path kind id modes) =
+    on_path s p ring (λ who. changed s (set_iacl s.hierarchy who path kind id modes))
+plain s p ring (ask.DelIacl path kind id) =
+    on_path s p ring (λ who. changed s (del_iacl s.hierarchy who path kind id))
 plain s p ring (ask.SetBrackets path brackets) =
     on_path s p ring (λ who. changed s (set_brackets s.hierarchy who path brackets))
 plain s p ring (ask.SetDirBrackets path d1 d2) =
     on_path s p ring (λ who. changed s (set_dir_brackets s.hierarchy who path d1 d2))
+plain s p ring (ask.SetClass path class) =
+    on_path s p ring (λ who. changed s (set_class s.hierarchy who path class))
 plain s p ring (ask.Status path) =
-    on_path s p ring (λ who. told s reply.Status (status s.hierarchy who path))
+    on_path s p ring (λ who. told s (λ status. reply.Status (shown s.version status)) (status s.hierarchy who path))
 plain s p ring (ask.List path) =
     on_path s p ring (λ who. told s reply.Names (list s.hierarchy who path))
 plain s p ring (ask.ChangeWdir path) =

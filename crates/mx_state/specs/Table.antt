@@ -14,18 +14,18 @@ use Rattle.mx_state.specs.Plain.{Plain, process_at}
 abbrev pub stack_desc : ℕ → ℕ → Desc
 stack_desc p ring = segment_desc (record { r1 = ring; r2 = ring; r3 = ring }) true false true 0 (8 * (p - 1) + ring) 64
 
--- of a segment it is what its access list gives the principal, and gone where it was deleted; a linkage section is to
--- read and write within its brackets
+-- of a segment it is what its access list gives the principal and its class lets stand, and gone where it was deleted;
+-- a linkage section is to read and write within its brackets
 abbrev pub standing_desc : Hierarchy → ℕ → ProcessState → Lot → Desc
 standing_desc h p process Free = unknown_desc
 standing_desc h p process (Stack ring) = stack_desc p ring
-standing_desc h p process (Branch uid) = desc_of h uid process.principal
+standing_desc h p process (Branch uid) = desc_of h uid process.principal process.authorization
 standing_desc h p process (Linkage of page brackets words) = segment_desc brackets true false true 0 page words
 
 -- where there is no process, every number is unknown
 abbrev pub process_desc : Hierarchy → ℕ → Option ProcessState → ℕ → Desc
 process_desc h p None segno = unknown_desc
-process_desc h p (Some process) segno = standing_desc h p process (stands_for process.known.lots segno)
+process_desc h p (Some process) segno = standing_desc h p process (stands_for process.known segno)
 
 abbrev pub descriptor_in : Hierarchy → List ProcessState → ℕ → ℕ → Desc
 descriptor_in h processes p segno = process_desc h p (process_at processes p) segno

@@ -21,7 +21,7 @@ use Rattle.mx_state.specs.declared.states.ProcessState.{ProcessState}
 -- what a number of a process stands for
 abbrev pub lot_by : Option ProcessState → ℕ → Lot
 lot_by None segno = Free
-lot_by (Some process) segno = stands_for process.known.lots segno
+lot_by (Some process) segno = stands_for process.known segno
 
 abbrev pub lot_in : Plain → ℕ → ℕ → Lot
 lot_in s p segno = lot_by (process_at s.processes p) segno

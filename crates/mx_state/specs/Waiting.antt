@@ -4,9 +4,9 @@ use Rattle.std.specs.Option.{option_map}
 use Rattle.mx_mail.specs.Processes as mail
 use Rattle.mx_mail.specs.declared.processes.ExecutionState.{ExecutionState}
 use Rattle.mx_mail.specs.declared.processes.ExecutionState.TheVariants.{Running, Waiting, Ended}
-use Rattle.mx_name.specs.Principals.{PlainPrincipal}
 use Rattle.mx_request.specs.declared.replies.Reply.{Reply}
 use Rattle.mx_request.specs.declared.replies.Reply.TheVariants as reply
+use Rattle.mx_request.specs.declared.entrants.Entrant.{Entrant}
 use Rattle.mx_request.specs.declared.requests.Request.{Request}
 use Rattle.mx_request.specs.declared.requests.Request.TheVariants as ask
 use Rattle.mx_state.specs.declared.journal.Entry.{Entry}
@@ -42,8 +42,11 @@ after_request (ask.Rename path name) r old = old
 after_request (ask.Delete path) r old = old
 after_request (ask.SetAcl path id modes) r old = old
 after_request (ask.DelAcl path id) r old = old
+after_request (ask.SetIacl path kind id modes) r old = old
+after_request (ask.DelIacl path kind id) r old = old
 after_request (ask.SetBrackets path brackets) r old = old
 after_request (ask.SetDirBrackets path d1 d2) r old = old
+after_request (ask.SetClass path class) r old = old
 after_request (ask.Status path) r old = old
 after_request (ask.List path) r old = old
 after_request (ask.ChangeWdir path) r old = old
@@ -64,9 +67,9 @@ does_after (entry ∷ entries) p now =
 
 -- after a right journal each process does what its own entries say; before them it runs
 abbrev pub DoesLaw : Type 0
-DoesLaw = (principals : List PlainPrincipal) (journal : List Entry) (p : ℕ) → IsRight (opening principals) journal
-    → 1 ≤ p → p ≤ length principals
-    → does (replay (opening principals) journal) p ≡ Some (does_after journal p Running)
+DoesLaw = (version : ℕ) (entrants : List Entrant) (journal : List Entry) (p : ℕ)
+    → IsRight (opening version entrants) journal → 1 ≤ p → p ≤ length entrants
+    → does (replay (opening version entrants) journal) p ≡ Some (does_after journal p Running)
 
 -- where a process waits, and none that waits is ready, another runs
 abbrev pub OneRunsLaw : Type 0

@@ -8,6 +8,7 @@ ghost use Rattle.mx_state.specs.Calling.{IsCallerOf};
 ghost use Rattle.mx_state.specs.Plain.{process_at};
 
 use crate::states::ProcessState;
+use mx_aim::Class;
 use mx_hier::Who;
 use mx_name::{Path, Principal};
 use mx_sdw::Ring;
@@ -39,6 +40,7 @@ pub(crate) fn caller<'a>(
     if p == 0 {
         Who {
             principal: initializer,
+            authorization: Class::lowest(),
             ring,
             base: root,
         }
@@ -53,6 +55,7 @@ pub(crate) fn own_caller(process: &ProcessState, ring: Ring) -> Who<'_>
 {
     Who {
         principal: &process.principal,
+        authorization: process.authorization,
         ring,
         base: &process.working_directory,
     }

@@ -22,8 +22,8 @@ use mx_sdw::Ring;
 use std::alloc::{AllocError, Global};
 
 impl State {
-    /// Answers `delete`, `set_acl`, `del_acl` and `set_brackets`. The last link of the path is followed where `follow`
-    /// says so.
+    /// Answers `delete`, `set_acl`, `del_acl`, `set_brackets` and `set_class`. The last link of the path is followed
+    /// where `follow` says so.
     pub(crate) fn alter(
         &mut self,
         alloc: Global,
@@ -60,6 +60,7 @@ fn alter(hier: &mut Hier, who: &Who, uid: u32, request: &Request) -> Result<(), 
         Request::SetAcl { path: _, id, modes } => hier.set_acl(who, uid, id, *modes),
         Request::DelAcl { path: _, id } => hier.del_acl(who, uid, id),
         Request::SetBrackets { path: _, brackets } => hier.set_brackets(who, uid, *brackets),
+        Request::SetClass { path: _, class } => hier.set_class(who, uid, *class),
         _ => Ok(()),
     }
 }

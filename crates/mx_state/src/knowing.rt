@@ -4,7 +4,7 @@ ghost use Rattle.std.specs.Prelude.{◌≡◌, ◌≤◌, ◌<◌, [], true, Som
 ghost use Rattle.std.specs.Option.{option_copied};
 ghost use Rattle.mx_kst.specs.Initiating.{initiate};
 ghost use Rattle.mx_kst.specs.KnownSegments.{KnownSegments};
-ghost use Rattle.mx_kst.specs.Lots.{last_number, lot_of, is_branch};
+ghost use Rattle.mx_kst.specs.Lots.{lot_of, is_branch};
 ghost use Rattle.mx_kst.specs.Sections.{IsWithinPage};
 ghost use Rattle.mx_kst.specs.Terminating as kst;
 ghost use Rattle.mx_request.specs.declared.requests.Request.TheVariants as ask;
@@ -25,7 +25,7 @@ use crate::replies::refused;
 use crate::states::{ProcessState, State};
 use mx_core::Changes;
 use mx_hier::{Hier, Refusal};
-use mx_kst::{Known, Kst, KstError, LAST_NUMBER, Lot, Section};
+use mx_kst::{Known, Kst, KstError, Lot, Section};
 use mx_name::{EntryName, Pathname};
 use mx_request::Reply;
 use mx_sdw::Ring;
@@ -126,7 +126,7 @@ impl State {
         ensures connected { IfOk result (λ given. (process : ProcessValue)
             → process_at self.old.processes p ≡ Some process → Connects self.old self.new p process
             (connect self.old.hierarchy process.known ring (option_copied name.entry) uid) given) }
-        ensures number { IfOk result (λ given. IfOk given (λ connection. connection.known.segno ≤ last_number)) }
+        ensures number { IfOk result (λ given. IfOk given (λ connection. connection.known.segno ≤ 255)) }
         ensures err { OnErr result (self.new ≡ self.old) }
     {
         let i = usize::from(p) - 1;
@@ -135,7 +135,7 @@ impl State {
             Ok(section) => section,
             Err(why) => return Ok(Err(why)),
         };
-        let next = LAST_NUMBER + 1 - process.known.left();
+        let next = process.known.last() + 1 - process.known.left();
         let held = held_two(alloc, &self.hier, self.processes.as_slice(), p, next)?;
         let known = know(&mut self.processes, i, uid, ring, name, section)?;
         give_page(&mut self.hier, &section);
@@ -248,7 +248,7 @@ fn free_name(known: &Kst, ring: Ring, name: EntryName) -> Option<EntryName>
 // Whether the number is that of a known segment.
 fn is_segment(process: &ProcessState, segno: u16) -> bool
     ensures value { result ≡ is_branch (lot_of process.now.known.lots segno) }
-    ensures within { result ≡ true → segno ≤ last_number }
+    ensures within { result ≡ true → segno ≤ 255 }
 {
     matches!(process.known.lot(segno), Lot::Branch { .. })
 }

@@ -1,6 +1,6 @@
 //! What follows from the definitions alone.
 
-ghost use Rattle.mx_state.specs.Laws.{RefusalLaw, PathLaw, UnknownLaw};
+ghost use Rattle.mx_state.specs.Laws.{RefusalLaw, PathLaw, OwnLastLaw, UnknownLaw, SetInitialLaw, DeleteInitialLaw, VersionLaw};
 ghost use Rattle.mx_state.specs.Told.{NewSectionLaw, PathTellsLaw, SectionDescLaw, ResolvedLaw, OnlyLinkLaw, LinkRepliesLaw, OthersLaw, SectionsStayLaw};
 ghost use Rattle.mx_state.specs.Waiting.{DoesLaw, OneRunsLaw, WaitsForLaw};
 
@@ -10,9 +10,23 @@ pub fn what_a_request_leaves()
     ensures on_path { PathLaw }
 {}
 
-/// No process knows a number beyond the last, 127.
+/// No process knows a number beyond its last; and whatever entries are made, none knows a number beyond the last of the
+/// version.
 pub fn numbers_beyond_the_last_are_unknown()
-    ensures { UnknownLaw }
+    ensures own { OwnLastLaw }
+    ensures unknown { UnknownLaw }
+{}
+
+/// An initial access list is in no descriptor.
+pub fn an_initial_list_is_in_no_descriptor()
+    ensures set { SetInitialLaw }
+    ensures deleted { DeleteInitialLaw }
+{}
+
+/// Only `status` asks the version: with another a request leaves the same state but for the version, and is replied the
+/// same; `status` the same but for the class of a segment.
+pub fn only_status_asks_the_version()
+    ensures { VersionLaw }
 {}
 
 /// A linkage section of which a reply tells is there, to read and write within its brackets; a reply to a request on a

@@ -7,14 +7,15 @@ ghost use Rattle.mx_request.specs.declared.requests.Request.TheVariants as ask;
 ghost use Rattle.mx_state.specs.Changing.{created, creation, amended_at, amendment};
 ghost use Rattle.mx_state.specs.Requests.{plain};
 ghost use Rattle.mx_state.specs.Serving.{Serves};
+ghost use Rattle.mx_state.specs.Shown.{shown, without_class};
 
 use crate::applied::Applied;
 use crate::callers::caller;
 use crate::replies::{done, refused};
 use crate::states::State;
-use mx_hier::{Hier, HierError, Who};
+use mx_hier::{Hier, HierError, Status, Who};
 use mx_name::Pathname;
-use mx_request::{Reply, Request};
+use mx_request::{Reply, Request, has_classes};
 use mx_sdw::Ring;
 use std::alloc::{AllocError, Global};
 
@@ -38,7 +39,8 @@ impl State {
         Ok(Applied::unchanged(alloc, reply))
     }
 
-    /// Answers `rename` and `set_dir_brackets`. The last link of the path is followed where `follow` says so.
+    /// Answers `rename`, `set_dir_brackets` and what changes an initial access list. The last link of the path is
+    /// followed where `follow` says so.
     pub(crate) fn amend(
         &mut self,
         alloc: Global,
@@ -76,7 +78,7 @@ impl State {
         let processes = self.processes.as_slice();
         let who = caller(&self.initializer, &self.root, processes, p, ring);
         match self.hier.status(alloc, &who, path) {
-            Ok(value) => Ok(Applied::unchanged(alloc, Reply::Status(value))),
+            Ok(status) => Ok(Applied::unchanged(alloc, Reply::Status(shown(self.version, status)))),
             Err(error) => refused(alloc, error),
         }
     }
@@ -128,7 +130,61 @@ fn amend(hier: &mut Hier, who: &Who, uid: u32, request: &Request) -> Result<(), 
 {
     match request {
         Request::Rename { path: _, name } => hier.rename(who, uid, name),
+        Request::SetIacl {
+            path: _,
+            kind,
+            id,
+            modes,
+        } => hier.set_iacl(who, uid, *kind, id, *modes),
+        Request::DelIacl { path: _, kind, id } => hier.del_iacl(who, uid, *kind, id),
         Request::SetDirBrackets { path: _, d1, d2 } => hier.set_dir_brackets(who, uid, *d1, *d2),
         _ => Ok(()),
+    }
+}
+
+// What is told of an entry: the class of a segment in a session that has classes.
+fn shown(version: u8, status: Status) -> Status
+    ensures { result ≡ shown version status }
+{
+    if has_classes(version) {
+        status
+    } else {
+        without_class(status)
+    }
+}
+
+fn without_class(status: Status) -> Status
+    ensures { result ≡ without_class status }
+{
+    match status {
+        Status::Segment {
+            words,
+            brackets,
+            modes,
+            class: _,
+        } => Status::Segment {
+            words,
+            brackets,
+            modes,
+            class: None,
+        },
+        Status::Object {
+            words,
+            brackets,
+            gate,
+            definitions,
+            links,
+            modes,
+            class: _,
+        } => Status::Object {
+            words,
+            brackets,
+            gate,
+            definitions,
+            links,
+            modes,
+            class: None,
+        },
+        other => other,
     }
 }

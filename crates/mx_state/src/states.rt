@@ -9,6 +9,7 @@ ghost use Rattle.mx_state.specs.DecidingEntry.{entry_behind, Explains};
 ghost use Rattle.mx_state.specs.History.{opening, MayAsk};
 ghost use Rattle.mx_request.specs.declared.replies.Reply.TheVariants as reply;
 ghost use Rattle.mx_request.specs.declared.requests.Request.TheVariants as ask;
+ghost use Rattle.mx_request.specs.Versions.{last_number};
 ghost use Rattle.mx_state.specs.Messages.{is_ready};
 ghost use Rattle.mx_state.specs.Plain.{answer};
 ghost use Rattle.mx_state.specs.Requests.{plain};
@@ -20,19 +21,22 @@ use crate::applied::Applied;
 use crate::openings::{fresh_processes, make_initializer};
 use crate::tables::{descriptor, entry_behind};
 use mx_acl::Modes;
+use mx_aim::Class;
 use mx_hier::Hier;
 use mx_kst::Kst;
 use mx_mail::Mail;
 use mx_name::{AclId, Path, Principal};
-use mx_request::Request;
+use mx_request::{Entrant, Request};
 use mx_sdw::{Desc, Ring};
 use mx_search::Rules;
 use std::alloc::{AllocError, Global};
 use std::marker::Model;
 
-/// What a process has of its own: its principal, its working directory, its search rules and its known segment table.
+/// What a process has of its own: its principal and authorization, its working directory, its search rules and its known
+/// segment table.
 pub struct ProcessState {
     pub principal: Principal,
+    pub authorization: Class,
     pub working_directory: Path,
     pub rules: Rules,
     pub known: Kst,
@@ -42,6 +46,7 @@ impl Drop for ProcessState {
     fn drop(self) {
         let ProcessState {
             principal: _principal,
+            authorization: _,
             working_directory: _working_directory,
             rules: _rules,
             known: _known,
@@ -49,9 +54,10 @@ impl Drop for ProcessState {
     }
 }
 
-/// The state of the plain supervisor: the hierarchy, the processes 1 to 15, and the mail, which also knows of each
-/// whether it runs, waits or has ended.
+/// The state of the plain supervisor: the version of the session, the hierarchy, the processes 1 to 15, and the mail,
+/// which also knows of each whether it runs, waits or has ended.
 pub struct State {
+    pub(crate) version: u8,
     pub(crate) hier: Hier,
     pub(crate) initializer: Principal,
     pub(crate) root: Path,
@@ -62,6 +68,7 @@ pub struct State {
 impl Drop for State {
     fn drop(self) {
         let State {
+            version: _,
             hier: _hier,
             initializer: _initializer,
             root: _root,
@@ -77,25 +84,28 @@ impl Model for State {
 
     ghost Value = { Plain };
 
-    ghost view = { λ a. record { hierarchy = a.hier; processes = a.processes.items; mail = a.mail } };
+    ghost view = { λ a.
+        record { version = a.version; hierarchy = a.hier; processes = a.processes.items; mail = a.mail } };
 
     ghost invariant = { λ a.
         HoldsSound a.initializer a.root
-        (record { hierarchy = a.hier; processes = a.processes.items; mail = a.mail }) };
+        (record { version = a.version; hierarchy = a.hier; processes = a.processes.items; mail = a.mail }) };
 }
 
 impl State {
-    /// The state before any entry, for the principals of 1 to 15 processes.
-    pub fn new(alloc: Global, principals: &[Principal]) -> Result<State, AllocError>
-        requires some { 1 ≤ length principals.now }
-        requires most { length principals.now ≤ 15 }
-        ensures { IfOk result (λ state. state ≡ opening principals.now) }
+    /// The state before any entry, for 1 to 15 processes with their principals and authorizations, in a session of this
+    /// version.
+    pub fn new(alloc: Global, entrants: &[Entrant], version: u8) -> Result<State, AllocError>
+        requires some { 1 ≤ length entrants.now }
+        requires most { length entrants.now ≤ 15 }
+        ensures { IfOk result (λ state. state ≡ opening version entrants.now) }
     {
-        let mail = Mail::new(alloc, principals.len() as u8)?;
-        let processes = fresh_processes(alloc, principals)?;
+        let mail = Mail::new(alloc, entrants.len() as u8)?;
+        let processes = fresh_processes(alloc, entrants, version)?;
         // Each process has eight stacks, of one page each.
-        let hier = Hier::new(alloc, 8 * principals.len() as u32)?;
+        let hier = Hier::new(alloc, 8 * entrants.len() as u32)?;
         Ok(State {
+            version,
             hier,
             initializer: make_initializer(),
             root: Path::root(alloc),
@@ -117,10 +127,11 @@ impl State {
         requires { MayAsk self.old p request.now }
         ensures answer { IfOk result (λ applied. plain self.old p ring request.now ≡ answer applied.reply self.new) }
         ensures changes { IfOk result (λ applied. AreChanges self.old self.new applied.changes) }
-        ensures bounded { IfOk result (λ applied. All IsBounded applied.changes) }
+        ensures bounded { IfOk result (λ applied. All (IsBounded (last_number self.old.version)) applied.changes) }
         ensures refused { IfOk result (RefusesQuietly self.old self.new) }
         ensures linked { IfOk result (λ applied. IsLinkedWithin applied.reply) }
         ensures processes { length self.new.processes ≡ length self.old.processes }
+        ensures version { self.new.version ≡ self.old.version }
         ensures err { OnErr result (self.new ≡ self.old) }
     {
         let applied = self.serve(alloc, p, ring, request)?;
@@ -149,10 +160,13 @@ impl State {
             Request::Delete { path } => self.alter(alloc, p, ring, path, false, request),
             Request::SetAcl { path, .. } => self.alter(alloc, p, ring, path, true, request),
             Request::DelAcl { path, .. } => self.alter(alloc, p, ring, path, true, request),
+            Request::SetIacl { path, .. } => self.amend(alloc, p, ring, path, true, request),
+            Request::DelIacl { path, .. } => self.amend(alloc, p, ring, path, true, request),
             Request::SetBrackets { path, .. } => self.alter(alloc, p, ring, path, true, request),
             Request::SetDirBrackets { path, .. } => {
                 self.amend(alloc, p, ring, path, true, request)
             }
+            Request::SetClass { path, .. } => self.alter(alloc, p, ring, path, true, request),
             Request::Status { path } => self.status(alloc, p, ring, path),
             Request::List { path } => self.list(alloc, p, ring, path),
             Request::ChangeWdir { path } => self.change_wdir(alloc, p, ring, path),
@@ -182,7 +196,7 @@ impl State {
     }
 
     /// The descriptor that process `p` has of a segment number: unknown where the number stands for nothing, as it does
-    /// from 128 on; gone where its segment was deleted. Takes no memory.
+    /// beyond the last number of the version; gone where its segment was deleted. Takes no memory.
     pub fn descriptor(&self, p: u8, segno: u16) -> Desc
         requires some { 1 ≤ p }
         requires process { p ≤ length self.now.processes }

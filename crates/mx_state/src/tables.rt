@@ -12,7 +12,7 @@ use crate::callers::process_at;
 use crate::states::ProcessState;
 use mx_acl::Modes;
 use mx_hier::Hier;
-use mx_kst::{LAST_NUMBER, Lot};
+use mx_kst::Lot;
 use mx_name::AclId;
 use mx_sdw::{Brackets, Desc, Ring};
 
@@ -25,13 +25,13 @@ pub(crate) fn descriptor(hier: &Hier, processes: &[ProcessState], p: u8, segno: 
     let Some(process) = process_at(processes, p) else {
         return Desc::unknown();
     };
-    if segno > LAST_NUMBER {
+    if segno > process.known.last() {
         return Desc::unknown();
     }
     match process.known.lot(segno) {
         Lot::Free => Desc::unknown(),
         Lot::Stack(ring) => stack_desc(p, ring),
-        Lot::Branch { uid } => hier.desc_of(uid, &process.principal),
+        Lot::Branch { uid } => hier.desc_of(uid, &process.principal, process.authorization),
         Lot::Linkage {
             of: _,
             page,
@@ -51,7 +51,7 @@ pub(crate) fn entry_behind<'a>(
     ensures { option_map (λ pair. (pair.0.now, pair.1)) result ≡ entry_in hier.now processes.now p segno }
 {
     let process = process_at(processes, p)?;
-    if segno > LAST_NUMBER {
+    if segno > process.known.last() {
         return None;
     }
     match process.known.lot(segno) {

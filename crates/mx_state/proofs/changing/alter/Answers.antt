@@ -11,3 +11,6 @@ returns-in-DelAcl c = rw c.in-DelAcl.is (record { answer = c.del_acl.ensures.ans
 
 pub returns-in-SetBrackets : goal.returns-in-SetBrackets
 returns-in-SetBrackets c = rw c.in-SetBrackets.is (record { answer = c.set_brackets.ensures.answer })
+
+pub returns-in-SetClass : goal.returns-in-SetClass
+returns-in-SetClass c = rw c.in-SetClass.is (record { answer = c.set_class.ensures.answer })

@@ -2,6 +2,6 @@ use Rattle.std.proofs.Common.{◌≡◌, map, take}
 use Rattle.mx_state.specs.History.{fresh}
 use Rattle.mx_state.proofs.openings.fresh_processes.Given as goal
 
--- the processes of the principals so far
-abbrev pub invariant-loop-principal : goal.invariant-loop-principal
-invariant-loop-principal l = l.processes.items ≡ map fresh (take l.principal-index l.principals)
+-- the processes of the entrants so far
+abbrev pub invariant-loop-entrant : goal.invariant-loop-entrant
+invariant-loop-entrant l = l.processes.items ≡ map (fresh l.version) (take l.entrant-index l.entrants)

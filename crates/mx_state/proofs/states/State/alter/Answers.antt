@@ -12,7 +12,7 @@ pub invariant_of-self-2 : goal.invariant_of-self-2
 invariant_of-self-2 c =
     let s = c.self.inside in
     let who = subject c.caller-who.result in
-    call_is_sound (Only c.in-Ok.uid) (altered_at s.hier who c.in-Ok.uid c.args.request.now) s.hier c.alter-given.new.hier s.mail s.processes.items s.initializer s.root
+    call_is_sound s.version (Only c.in-Ok.uid) (altered_at s.hier who c.in-Ok.uid c.args.request.now) s.hier c.alter-given.new.hier s.mail s.processes.items s.initializer s.root
     c.alter-given.result c.alter-given.ensures.answer (altered_leaves s.hier who c.in-Ok.uid c.args.request.now) c.self.invariant
 
 pub returns-clause-served : goal.returns-clause-served
@@ -24,13 +24,13 @@ returns-clause-served c =
     let meant = altered_at s.hier who.subject uid request in
     let before = after_call (Only uid) meant s.hier c.alter-given.new.hier c.alter-given.result c.alter-given.ensures.answer
     (altered_leaves s.hier who.subject uid request) in
-    of_old_by (λ s. alteration s c.args.p c.args.ring c.args.path.now c.args.follow request) s.hier s.mail s.processes.items _ _ _ c.self.view_is
-    (loud_serves (λ who. onward (entry s.hier who c.args.path.now c.args.follow) (λ uid. altered_at s.hier who.subject uid request))
+    of_old_by s.version (λ s. alteration s c.args.p c.args.ring c.args.path.now c.args.follow request) s.hier s.mail s.processes.items _ _ _ c.self.view_is
+    (loud_serves s.version (λ who. onward (entry s.hier who c.args.path.now c.args.follow) (λ uid. altered_at s.hier who.subject uid request))
     meant s.hier c.alter-given.new.hier s.mail s.processes.items c.args.p c.args.ring who
     c.alter-given.result c.in_ok-reply.reply c.renewed-changes.result (rw c.as_slice-processes.ensures.value at c.caller-who.ensures)
     (found (entry s.hier who c.args.path.now c.args.follow) (λ uid. altered_at s.hier who.subject uid request) uid c.in-Ok.ensures.answer)
     c.alter-given.ensures.answer c.in_ok-reply.ensures c.self.invariant.sound
-    (renewed_are s.hier c.alter-given.new.hier s.mail s.processes.items uid c.in_ok-held.held.items c.renewed-changes.result c.self.invariant.sound before
+    (renewed_are s.version s.hier c.alter-given.new.hier s.mail s.processes.items uid c.in_ok-held.held.items c.renewed-changes.result c.self.invariant.sound before
     (rw c.as_slice-processes.ensures.value at c.in_ok-held.ensures)
     (rw c.as_slice-processes.ensures.value at c.renewed-changes.ensures.value))
     c.renewed-changes.ensures.admissible)

@@ -11,7 +11,7 @@ pub invariant_of-self-2 : goal.invariant_of-self-2
 invariant_of-self-2 c =
     let s = c.self.inside in
     let who = subject c.caller-who.result in
-    call_is_sound Nothing (amended_at s.hier who c.in-Ok.uid c.args.request.now) s.hier c.amend-given.new.hier s.mail s.processes.items s.initializer s.root
+    call_is_sound s.version Nothing (amended_at s.hier who c.in-Ok.uid c.args.request.now) s.hier c.amend-given.new.hier s.mail s.processes.items s.initializer s.root
     c.amend-given.result c.amend-given.ensures.answer (amended_leaves s.hier who c.in-Ok.uid c.args.request.now) c.self.invariant
 
 pub returns-clause-served : goal.returns-clause-served
@@ -20,8 +20,8 @@ returns-clause-served c =
     let who = caller c.caller-who.result in
     let uid = c.in-Ok.uid in
     let request = c.args.request.now in
-    of_old_by (λ s. amendment s c.args.p c.args.ring c.args.path.now c.args.follow request) s.hier s.mail s.processes.items _ _ c.unchanged.result c.self.view_is
-    (quiet_serves (λ who. onward (entry s.hier who c.args.path.now c.args.follow) (λ uid. amended_at s.hier who.subject uid request))
+    of_old_by s.version (λ s. amendment s c.args.p c.args.ring c.args.path.now c.args.follow request) s.hier s.mail s.processes.items _ _ c.unchanged.result c.self.view_is
+    (quiet_serves s.version (λ who. onward (entry s.hier who c.args.path.now c.args.follow) (λ uid. amended_at s.hier who.subject uid request))
     (amended_at s.hier who.subject uid request) s.hier c.amend-given.new.hier s.mail s.processes.items c.args.p c.args.ring who
     c.amend-given.result c.in_ok-reply.reply c.unchanged.result (rw c.as_slice-processes.ensures.value at c.caller-who.ensures)
     (found (entry s.hier who c.args.path.now c.args.follow) (λ uid. amended_at s.hier who.subject uid request) uid c.in-Ok.ensures.answer)

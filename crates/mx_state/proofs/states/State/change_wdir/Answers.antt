@@ -16,17 +16,17 @@ within c =
 pub invariant_of-self : goal.invariant_of-self
 invariant_of-self c =
     let s = c.self.inside in
-    kept_holds (λ process. record process { working_directory = c.in-Ok.directory }) s.hier s.mail s.processes.items c.move_to.new.processes.items
+    kept_holds s.version (λ process. record process { working_directory = c.in-Ok.directory }) s.hier s.mail s.processes.items c.move_to.new.processes.items
     (c.from-i.result - 1) s.initializer s.root (λ process. refl) (within c) c.move_to.ensures.moved c.self.invariant
 
 pub returns-clause-served : goal.returns-clause-served
 returns-clause-served c =
     let s = c.self.inside in
-    let old = plain_state s.hier s.mail s.processes.items in
-    of_old s.hier s.mail s.processes.items _ _ c.args.p c.args.ring (ask.ChangeWdir c.args.path.now) c.unchanged.result c.self.view_is
-    (kept_serves (λ process. record process { working_directory = c.in-Ok.directory }) s.hier s.mail s.processes.items c.move_to.new.processes.items
+    let old = plain_state s.version s.hier s.mail s.processes.items in
+    of_old s.version s.hier s.mail s.processes.items _ _ c.args.p c.args.ring (ask.ChangeWdir c.args.path.now) c.unchanged.result c.self.view_is
+    (kept_serves s.version (λ process. record process { working_directory = c.in-Ok.directory }) s.hier s.mail s.processes.items c.move_to.new.processes.items
     c.args.p (c.from-i.result - 1) (λ process. change_wdir old c.args.p process (directory s.hier (caller process c.args.ring) c.args.path.now)) Done c.unchanged.result
-    (λ process. refl) (λ process. refl) c.requires.some (omega (arith, c.from-i.ensures)) (within c) c.move_to.ensures.moved
+    (λ process. refl) (λ process. (refl, refl)) c.requires.some (omega (arith, c.from-i.ensures)) (within c) c.move_to.ensures.moved
     (λ process e.
     let there = rw c.as_slice.ensures.value at c.process_in.ensures in
     let same : process ≡ c.process_in.result.now = cc in

@@ -12,7 +12,7 @@ use Rattle.mx_state.proofs.states.State.list.Goals as goal
 pub returns-in-Ok : goal.returns-in-Ok
 returns-in-Ok c =
     let s = c.self.inside in
-    let old = plain_state s.hier s.mail s.processes.items in
+    let old = plain_state s.version s.hier s.mail s.processes.items in
     subst (λ (t : Plain). Serves t t (plain t c.args.p c.args.ring (ask.List c.args.path.now)) c.unchanged.result) c.self.view_is
     (told_serves old c.args.p c.args.ring (caller c.caller-who.result) (λ who. list s.hier who c.args.path.now) Names (Names c.in-Ok.value) c.unchanged.result
     (rw c.as_slice-processes.ensures.value at c.caller-who.ensures) (ap (told old Names) c.in-Ok.ensures.answer) c.unchanged.ensures)
@@ -20,7 +20,7 @@ returns-in-Ok c =
 pub returns-in-Err : goal.returns-in-Err
 returns-in-Err c =
     let s = c.self.inside in
-    let old = plain_state s.hier s.mail s.processes.items in
+    let old = plain_state s.version s.hier s.mail s.processes.items in
     subst (λ (t : Plain). IfOk c.refused.result (Serves t t (plain t c.args.p c.args.ring (ask.List c.args.path.now)))) c.self.view_is
     (told_refused old c.args.p c.args.ring (caller c.caller-who.result) (λ who. list s.hier who c.args.path.now) Names c.in-Err.error c.refused.result
     (rw c.as_slice-processes.ensures.value at c.caller-who.ensures) c.in-Err.ensures.answer c.refused.ensures)

@@ -5,5 +5,5 @@ pub invariant_of-result : goal.invariant_of-result
 invariant_of-result c = record {
   initializer_is = c.make_initializer.ensures;
   root_is = c.root.ensures;
-  sound = opened_is_sound c.in_ok-hier.hier c.args.principals.now c.in_ok-processes.processes.items c.in_ok-mail.mail c.requires.most c.in_ok-processes.ensures c.in_ok-mail.ensures;
+  sound = opened_is_sound c.args.version c.in_ok-hier.hier c.args.entrants.now c.in_ok-processes.processes.items c.in_ok-mail.mail c.requires.most c.in_ok-processes.ensures c.in_ok-mail.ensures;
 }

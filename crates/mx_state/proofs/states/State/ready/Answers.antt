@@ -13,7 +13,7 @@ returns-clause-block c = λ ring.
     let in_range = rw (← c.self.view_is) at c.requires.process in
     subst (λ (t : Plain). IsTrue c.ready.result ↔ ((plain t c.args.p ring ask.Block).reply ≡ Waiting → ⊥))
     c.self.view_is
-    (ready_is (plain_state s.hier s.mail s.processes.items) c.args.p c.ready.result c.requires.some in_range
+    (ready_is (plain_state s.version s.hier s.mail s.processes.items) c.args.p c.ready.result c.requires.some in_range
     c.ready.ensures.exactly)
 
 pub returns-clause-resume : goal.returns-clause-resume
@@ -22,5 +22,5 @@ returns-clause-resume c = λ ring.
     let in_range = rw (← c.self.view_is) at c.requires.process in
     subst (λ (t : Plain). IsTrue c.ready.result ↔ ((plain t c.args.p ring ask.Resume).reply ≡ Waiting → ⊥))
     c.self.view_is
-    (ready_is (plain_state s.hier s.mail s.processes.items) c.args.p c.ready.result c.requires.some in_range
+    (ready_is (plain_state s.version s.hier s.mail s.processes.items) c.args.p c.ready.result c.requires.some in_range
     c.ready.ensures.exactly)

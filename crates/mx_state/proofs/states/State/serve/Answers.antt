@@ -29,3 +29,12 @@ returns-in-SetBrackets-clause-served c = rw c.in-SetBrackets.is (rw c.in-SetBrac
 
 pub returns-in-SetDirBrackets-clause-served : goal.returns-in-SetDirBrackets-clause-served
 returns-in-SetDirBrackets-clause-served c = rw c.in-SetDirBrackets.is (rw c.in-SetDirBrackets.is at c.amend-in-SetDirBrackets.ensures.served)
+
+pub returns-in-SetIacl-clause-served : goal.returns-in-SetIacl-clause-served
+returns-in-SetIacl-clause-served c = rw c.in-SetIacl.is (rw c.in-SetIacl.is at c.amend-in-SetIacl.ensures.served)
+
+pub returns-in-DelIacl-clause-served : goal.returns-in-DelIacl-clause-served
+returns-in-DelIacl-clause-served c = rw c.in-DelIacl.is (rw c.in-DelIacl.is at c.amend-in-DelIacl.ensures.served)
+
+pub returns-in-SetClass-clause-served : goal.returns-in-SetClass-clause-served
+returns-in-SetClass-clause-served c = rw c.in-SetClass.is (rw c.in-SetClass.is at c.alter-in-SetClass.ensures.served)

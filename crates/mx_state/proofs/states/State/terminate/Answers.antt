@@ -14,19 +14,19 @@ invariant_of-self c =
     let process = c.process_in-process.result.now in
     let place = rw c.as_slice.ensures.value at c.process_in-process.ensures in
     let forgotten = c.forget.ensures.forgotten process place in
-    ended_holds s.hier s.mail s.processes.items c.forget.new.processes.items (c.from-i.result - 1) process c.args.segno forgotten.0 s.initializer s.root
+    ended_holds s.version s.hier s.mail s.processes.items c.forget.new.processes.items (c.from-i.result - 1) process c.args.segno forgotten.0 s.initializer s.root
     c.self.invariant place forgotten.1 forgotten.2
 
 pub returns-clause-served : goal.returns-clause-served
 returns-clause-served c =
     let s = c.self.inside in
-    let old = plain_state s.hier s.mail s.processes.items in
+    let old = plain_state s.version s.hier s.mail s.processes.items in
     let process = c.process_in-process.result.now in
     let place = rw c.as_slice.ensures.value at c.process_in-process.ensures in
     let forgotten = c.forget.ensures.forgotten process place in
     let asks : ProcessState → Answer = λ process. terminate old c.args.p process (kst.terminate process.known c.args.segno) in
-    of_old s.hier s.mail s.processes.items _ _ c.args.p c.args.ring (ask.Terminate c.args.segno) _ c.self.view_is
-    (ended_serves s.hier s.mail s.processes.items c.forget.new.processes.items c.args.p (c.from-i.result - 1) process c.args.segno forgotten.0
+    of_old s.version s.hier s.mail s.processes.items _ _ c.args.p c.args.ring (ask.Terminate c.args.segno) _ c.self.view_is
+    (ended_serves s.version s.hier s.mail s.processes.items c.forget.new.processes.items c.args.p (c.from-i.result - 1) process c.args.segno forgotten.0
     c.in_ok-held.held.items c.renewed-changes.result asks c.self.invariant.sound c.requires.some (omega (arith, c.from-i.ensures)) place refl
     forgotten.1 forgotten.2 (rw c.as_slice-2.ensures.value at c.in_ok-held.ensures)
     (rw c.as_slice-3.ensures.value at c.renewed-changes.ensures.value) c.renewed-changes.ensures.admissible)

@@ -7,17 +7,17 @@ use Rattle.mx_state.proofs.states.State.wakeup.Goals as goal
 pub invariant_of-self : goal.invariant_of-self
 invariant_of-self c =
     let s = c.self.inside in
-    mail_holds s.hier s.mail c.send-given.new.self s.processes.items s.initializer s.root c.send-given.ensures.count
+    mail_holds s.version s.hier s.mail c.send-given.new.self s.processes.items s.initializer s.root c.send-given.ensures.count
     c.self.invariant
 
 pub returns-clause-served : goal.returns-clause-served
 returns-clause-served c =
     let s = c.self.inside in
-    let old = plain_state s.hier s.mail s.processes.items in
+    let old = plain_state s.version s.hier s.mail s.processes.items in
     let in_range = rw (← c.self.view_is) at c.requires.process in
-    of_old s.hier s.mail s.processes.items _ _ c.args.p c.args.ring (ask.Wakeup c.args.to c.args.word)
+    of_old s.version s.hier s.mail s.processes.items _ _ c.args.p c.args.ring (ask.Wakeup c.args.to c.args.word)
     c.unchanged.result c.self.view_is
-    (mail_serves s.hier s.mail c.send-given.new.self s.processes.items c.args.p
+    (mail_serves s.version s.hier s.mail c.send-given.new.self s.processes.items c.args.p
     (wakeup old c.args.p c.args.to c.args.word)
     c.in_ok-reply.reply c.unchanged.result c.requires.some in_range
     (wakeup_is old c.args.p c.args.to c.args.word c.send-given.result c.send-given.new.self c.in_ok-reply.reply
