@@ -34,7 +34,8 @@ use Rattle.mx_script.specs.declared.lines.Operand.{Operand}
 use Rattle.mx_sdw.specs.declared.denials.Denial.{Denial}
 use Rattle.mx_state.proofs.ToldLaws.{link_replies_law}
 use Rattle.std.specs.Prelude.{MatchOption}
-use Rattle.mx_state.specs.History.{opening, replay, IsRightEntry}
+use Rattle.mx_legal.specs.Opened.{opening_of}
+use Rattle.mx_state.specs.History.{replay, IsRightEntry}
 use Rattle.mx_state.specs.Messages.{is_ready}
 use Rattle.mx_state.specs.Plain.{Plain}
 use Rattle.mx_state.specs.Requests.{plain}
@@ -53,7 +54,7 @@ use Rattle.mx_line.specs.Making.{IsStore}
 use Rattle.mx_bench.proofs.WorldLaws.{IsAt, IsFree, not_told, told_blocks, waits_next}
 use Rattle.mx_bench.specs.Stepping.{IsLastDenial, IsAtLine, IsWaiting, state_in}
 use Rattle.mx_bench.specs.Benches.{world_in, IsKept}
-use Rattle.mx_line.specs.Operands.{operand_of, AsksFor, IsPlaced, IsTarget, IsRegisterWord, IsLed, IsGoodProgress}
+use Rattle.mx_line.specs.Operands.{operand_of, AsksFor, IsPlaced, IsTarget, IsRegisterWord, IsLed, IsGoodProgress, IsSayable}
 use Rattle.mx_line.specs.Processes.{seat_in, IsGoodAt, IsLedAt, IsStill, HasProgress, ReadsOperand, StoresNothing, HasAsked, HasFill, HasLastDenial, HasRegisters, fill_of}
 use Rattle.mx_bench.specs.Running.{IsAnswered, IsCome, IsRunning, left_of}
 use Rattle.mx_line.specs.Seats.{Seat}
@@ -109,7 +110,7 @@ seen_registers x s whole room cells processes w p i g k view place h = record {
 
 pub seen_script_line : (x : Outline) (s : Supervised) (whole : List (List Step)) (room : ℕ) (cells : List Contents) (processes : List Process) (p i : ℕ) (l : Line)
     (w : World) → IsKept x s whole room cells processes → world_in x s whole cells processes ≡ w → i ≡ p - 1 → IsAtLine w p l
-    → is_script_line l ≡ true
+    → IsSayable l
 seen_script_line x s whole room cells processes p i l w k view place a =
     at_script_line x s whole room cells processes p i l k place (subst (λ (v : World). IsAtLine v p l) (sym view) a)
 
@@ -145,11 +146,11 @@ led_still x s whole cells processes middle w p i o place view at c still =
 at_most_seven : (n : ℕ) → nat_le n 7 ≡ true → n ≤ 7
 at_most_seven n e = grind (arith, nat_tests)
 
-pub epp_number : (l : Line) (n : ℕ) (o : Operand) → l ≡ line.Epp n o → is_script_line l ≡ true → n ≤ 7
-epp_number l n o e s = at_most_seven n (both (is_register n) (is_address o) (ap is_script_line (sym e) ∙ s)).0
+pub epp_number : (l : Line) (n : ℕ) (o : Operand) → l ≡ line.Epp n o → IsSayable l → n ≤ 7
+epp_number l n o e s = at_most_seven n (both (is_register n) (is_address o) (ap (is_script_line s.0) (sym e) ∙ s.1)).0
 
-pub spri_number : (l : Line) (n : ℕ) (o : Operand) → l ≡ line.Spri n o → is_script_line l ≡ true → n ≤ 7
-spri_number l n o e s = at_most_seven n (both (is_register n) (is_address o) (ap is_script_line (sym e) ∙ s)).0
+pub spri_number : (l : Line) (n : ℕ) (o : Operand) → l ≡ line.Spri n o → IsSayable l → n ≤ 7
+spri_number l n o e s = at_most_seven n (both (is_register n) (is_address o) (ap (is_script_line s.0) (sym e) ∙ s.1)).0
 
 -- two looks at the seat of a process see one
 pub same_seats : (w : World) (p : ℕ) (a b : Seat) → slice_get w.seats (p - 1) ≡ Some a → slice_get w.seats (p - 1) ≡ Some b → a ≡ b
@@ -252,7 +253,7 @@ tells_to_wait (replies.Message sender word) = inr (λ e. cc)
 tells_to_wait replies.Nobody = inr (λ e. cc)
 
 -- a request of a script, by a process that was not told to wait
-pub ask_calling : (w : World) (p : ℕ) (l : Line) (request : Request) (g : Registers) (ring : ℕ) → l ≡ line.Ask request → is_script_line l ≡ true
+pub ask_calling : (w : World) (p : ℕ) (l : Line) (request : Request) (g : Registers) (ring : ℕ) → l ≡ line.Ask request → IsSayable l
     → HasSeatWith w p g → ring ≡ g.ring → IsUntold w p → IsUnfilled w p → IsCalling w p l ring request
 ask_calling w p l request g ring e in_script s r awake idle = record {
   awake = λ waits. awake waits.seat waits.seated waits.told;
@@ -273,17 +274,18 @@ ask_calling w p l request g ring e in_script s r awake idle = record {
     asks (Answer entry filled) come =
         absurd (no_answer s.seat.registers l request entry filled s.seat.progress e (awake s.seat s.seated) (λ it. idle s.seat it s.seated) come)
 
-    not_in_script : is_script_line (line.Ask Resume) ≡ true → ⊥
-    not_in_script h = cc
+    not_in_script : (version : ℕ) → is_script_line version (line.Ask Resume) ≡ true → ⊥
+    not_in_script version h = cc
 
     no_resume : request ≡ Resume → ⊥
-    no_resume h = not_in_script (ap is_script_line (sym (e ∙ ap line.Ask h)) ∙ in_script)
+    no_resume h = not_in_script in_script.0 (ap (is_script_line in_script.0) (sym (e ∙ ap line.Ask h)) ∙ in_script.1)
 
-    link_not_in_script : (segno word : ℕ) → is_script_line (line.Ask (Link segno word)) ≡ true → ⊥
-    link_not_in_script segno word h = cc
+    link_not_in_script : (version segno word : ℕ) → is_script_line version (line.Ask (Link segno word)) ≡ true → ⊥
+    link_not_in_script version segno word h = cc
 
     no_link : (segno word : ℕ) → request ≡ Link segno word → ⊥
-    no_link segno word h = link_not_in_script segno word (ap is_script_line (sym (e ∙ ap line.Ask h)) ∙ in_script)
+    no_link segno word h =
+        link_not_in_script in_script.0 segno word (ap (is_script_line in_script.0) (sym (e ∙ ap line.Ask h)) ∙ in_script.1)
 
     unlinked : (reply : Reply) → (plain (state_in w) p ring request).reply ≡ reply → IsLinked reply → ⊥
     unlinked reply is linked = let only = linked_only (state_in w) p ring request reply is linked in no_link only.0 only.1 only.2
@@ -336,7 +338,7 @@ pub state_is : (x : Outline) (s : Supervised) (whole : List (List Step)) (room :
     → IsKept x s whole room cells processes → world_in x s whole cells processes ≡ w
     → (state_of s ≡ state_in w) × (length s.journal ≡ length w.journal) × (limit_of s.session ≡ limit_of w.session)
 state_is x s whole room cells processes w k view = (
-  ap (λ (y : Outline). replay (opening y.principals) s.journal) k.same ∙ ap state_in view,
+  ap (λ (y : Outline). replay (opening_of y) s.journal) k.same ∙ ap state_in view,
   ap (λ (v : World). length v.journal) view,
   ap limit_of k.same ∙ ap (λ (v : World). limit_of v.session) view,
 )

@@ -7,6 +7,7 @@ use Rattle.std.specs.List.{slice_get, sum_by, list_all}
 use Rattle.mx_legal.specs.Scripts.{first_line, numbered, lines_before, script_at}
 use Rattle.mx_legal.specs.Transcripts.{Step}
 use Rattle.mx_request.proofs.StepLaws.{both}
+use Rattle.mx_line.specs.Operands.{IsSayable}
 use Rattle.mx_script.specs.Sessions.{Outline, IsSession, is_script, is_script_line, ends}
 use Rattle.mx_script.specs.declared.lines.Line.{Line}
 use Rattle.mx_sup.specs.Supervised.{Supervised}
@@ -138,18 +139,23 @@ all_in f first zero (l ∷ lines) number line left all e =
 all_in f first (suc k) (l ∷ lines) number line left all e =
     all_in f (suc first) k lines number line left (both (f l) (list_all f lines) all).1 e
 
-script_lines : (scripts : List (List Line)) (i : ℕ) → list_all is_script scripts ≡ true → list_all is_script_line (script_at scripts i) ≡ true
-script_lines [] i e = refl
-script_lines (script ∷ scripts) zero e =
-    (both (list_all is_script_line script) (ends script) (both (is_script script) (list_all is_script scripts) e).0).0
-script_lines (script ∷ scripts) (suc i) e = script_lines scripts i (both (is_script script) (list_all is_script scripts) e).1
+script_lines : (version : ℕ) (scripts : List (List Line)) (i : ℕ) → list_all (is_script version) scripts ≡ true
+    → list_all (is_script_line version) (script_at scripts i) ≡ true
+script_lines version [] i e = refl
+script_lines version (script ∷ scripts) zero e =
+    (both (list_all (is_script_line version) script) (ends script)
+    (both (is_script version script) (list_all (is_script version) scripts) e).0).0
+script_lines version (script ∷ scripts) (suc i) e =
+    script_lines version scripts i (both (is_script version script) (list_all (is_script version) scripts) e).1
 
 pub at_script_line : (x : Outline) (s : Supervised) (whole : List (List Step)) (room : ℕ) (cells : List Contents) (processes : List Process) (p i : ℕ) (line : Line)
-    → IsKept x s whole room cells processes → i ≡ p - 1 → IsAtLine (world_in x s whole cells processes) p line → is_script_line line ≡ true
+    → IsKept x s whole room cells processes → i ≡ p - 1 → IsAtLine (world_in x s whole cells processes) p line → IsSayable line
 at_script_line x s whole room cells processes p i line k place a =
-    let own : p ≡ suc i = let one = a.some in omega (arith, place, one) in
-    all_in is_script_line (first_line x (suc i)) (length a.seat.steps) (script_at x.scripts i) a.number line a.left
-    (script_lines x.scripts i k.session.each) (subst (λ n. left_of x n a.seat ≡ (a.number, line) ∷ a.left) own a.at)
+    let own : p ≡ suc i = let one = a.some in omega (arith, place, one) in (
+      x.version,
+      all_in (is_script_line x.version) (first_line x (suc i)) (length a.seat.steps) (script_at x.scripts i) a.number line a.left
+          (script_lines x.version x.scripts i k.session.each) (subst (λ n. left_of x n a.seat ≡ (a.number, line) ∷ a.left) own a.at),
+    )
 
 -- a process of the bench is good
 pub good_at : (x : Outline) (processes : List Process) (i : ℕ) (q : Process) → AreGood x processes → slice_get processes i ≡ Some q

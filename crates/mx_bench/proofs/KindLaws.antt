@@ -24,7 +24,8 @@ use Rattle.mx_script.specs.Sessions.{Outline, limit_of}
 use Rattle.mx_script.specs.declared.lines.Line.{Line}
 use Rattle.mx_script.specs.declared.lines.Line.TheVariants as lines
 use Rattle.mx_sdw.specs.Descriptors.{Descriptor}
-use Rattle.mx_state.specs.History.{opening, replay, IsRightEntry}
+use Rattle.mx_legal.specs.Opened.{opening_of}
+use Rattle.mx_state.specs.History.{replay, IsRightEntry}
 use Rattle.mx_state.specs.Plain.{Plain}
 use Rattle.mx_state.specs.Requests.{plain}
 use Rattle.mx_state.specs.Table.{descriptor}
@@ -217,7 +218,7 @@ call_goes x s s' whole room cells processes middle processes' p i number line ri
     let below : length s.journal < limit_of x = subst (λ (y : Outline). length s.journal < limit_of y) k.same e.below in
     let by : IsAnsweredBy d.before.registers line ring request e.reply
     = subst (λ (seat : Seat). IsAnsweredBy seat.registers line ring request e.reply) seat
-    (elim (c.answers e.reply below (subst (λ (y : Outline). IsRightEntry (replay (opening y.principals) s.journal) entry) k.same e.right)) [
+    (elim (c.answers e.reply below (subst (λ (y : Outline). IsRightEntry (replay (opening_of y) s.journal) entry) k.same e.right)) [
       | inl f ↦ f
       | inr t ↦ absurd (says.0 (sym told ∙ t.waits))
     ]) in
@@ -228,7 +229,7 @@ call_goes x s s' whole room cells processes middle processes' p i number line ri
     let there = at_process x s whole cells processes p i line d.before k.good place a d.at in
     let w = call_law (world_in x s whole cells processes) i (seat_in d.before) (d.before.first + length d.before.recording.steps) line a.left entry
     k.running there own asks answers below
-    (subst (λ (y : Outline). IsRightEntry (replay (opening y.principals) s.journal) entry) k.same e.right) in
+    (subst (λ (y : Outline). IsRightEntry (replay (opening_of y) s.journal) entry) k.same e.right) in
     let st = line_standing (world_in x s whole cells processes) i (seat_in d.before) (d.before.first + length d.before.recording.steps) line a.left
     (s.journal ++ entry ∷ []) cells (Entry (length s.journal + 1) ∷ []) (result_of e.reply) d.before.registers k.session there k.standing
     (λ j. entered_there (world_in x s whole cells processes) entry i j own) (one_longer s.journal (s.journal ++ entry ∷ []) entry refl)
@@ -268,14 +269,14 @@ wait_goes x s s' whole room cells processes middle processes' p i number line ri
     let asks : Calling (seat_in d.before) line ring request = subst (λ (seat : Seat). Calling seat line ring request) seat c.asks in
     let below : length s.journal < limit_of x = subst (λ (y : Outline). length s.journal < limit_of y) k.same e.below in
     let told : IsToldToWait line request e.reply
-    = elim (c.answers e.reply below (subst (λ (y : Outline). IsRightEntry (replay (opening y.principals) s.journal) entry) k.same e.right)) [
+    = elim (c.answers e.reply below (subst (λ (y : Outline). IsRightEntry (replay (opening_of y) s.journal) entry) k.same e.right)) [
       | inl f ↦ absurd (waits_on c.seat.registers line ring request e.reply (said ∙ waits) f)
       | inr t ↦ t
     ] in
     let there = at_process x s whole cells processes p i line d.before k.good place a d.at in
     let w = entered_law (world_in x s whole cells processes) i (seat_in d.before) (d.before.first + length d.before.recording.steps) line a.left entry
     Waiting k.running there own asks (told.waits, told.blocks, told.line_is) below
-    (subst (λ (y : Outline). IsRightEntry (replay (opening y.principals) s.journal) entry) k.same e.right) in
+    (subst (λ (y : Outline). IsRightEntry (replay (opening_of y) s.journal) entry) k.same e.right) in
     let st = event_standing (world_in x s whole cells processes) i (seat_in d.before) (d.before.first + length d.before.recording.steps) line a.left
     (s.journal ++ entry ∷ []) cells (Entry (length s.journal + 1)) Waiting there k.standing
     (λ j. entered_there (world_in x s whole cells processes) entry i j own) (one_longer s.journal (s.journal ++ entry ∷ []) entry refl)
@@ -321,15 +322,15 @@ store_goes x s s' whole room cells processes middle processes' p i number line r
     let seat = seat_is x s whole cells processes p i c.seat d.before place c.seated d.at in
     let asks : Calling (seat_in d.before) line ring request = subst (λ (seat : Seat). Calling seat line ring request) seat c.asks in
     let below : length s.journal < limit_of x = subst (λ (y : Outline). length s.journal < limit_of y) k.same e.below in
-    let right : IsRightEntry (replay (opening x.principals) s.journal) entry
-    = subst (λ (y : Outline). IsRightEntry (replay (opening y.principals) s.journal) entry) k.same e.right in
+    let right : IsRightEntry (replay (opening_of x) s.journal) entry
+    = subst (λ (y : Outline). IsRightEntry (replay (opening_of y) s.journal) entry) k.same e.right in
     let by : IsAnsweredBy d.before.registers line ring request e.reply
     = subst (λ (seat : Seat). IsAnsweredBy seat.registers line ring request e.reply) seat
     (elim (c.answers e.reply below right) [
       | inl f ↦ f
       | inr t ↦ absurd (says.0 (sym told ∙ t.waits))
     ]) in
-    let before : Plain = replay (opening x.principals) s.journal in
+    let before : Plain = replay (opening_of x) s.journal in
     let after : state_of s' ≡ (plain before p ring request).state
     = state_after s s' x entry session journal in
     let first : AsksToFill (plain before p ring request).state p ring request e.reply (Some it)
@@ -346,8 +347,8 @@ store_goes x s s' whole room cells processes middle processes' p i number line r
     (s.journal ++ entry ∷ []) cells (Entry (length s.journal + 1)) (Filling it) there k.standing
     (λ j. entered_there (world_in x s whole cells processes) entry i j own) (one_longer s.journal (s.journal ++ entry ∷ []) entry refl)
     (λ t. absurd (waits_not it t))
-    (λ other e. subst (HasPlace (replay (opening x.principals) (s.journal ++ entry ∷ [])) (suc i)) (same_fill it other e)
-    (subst (λ (t : Plain). HasPlace t (suc i) it) (sym (replay_more (opening x.principals) s.journal entry))
+    (λ other e. subst (HasPlace (replay (opening_of x) (s.journal ++ entry ∷ [])) (suc i)) (same_fill it other e)
+    (subst (λ (t : Plain). HasPlace t (suc i) it) (sym (replay_more (opening_of x) s.journal entry))
     (subst (λ n. HasPlace (plain before p ring request).state n it) own there_is.0))) in
     let made = store_same s s' d.before number entry i journal e.number in (
       moved_kept x s s' whole room cells cells processes processes' i (Entry number) (Filling it) k session k.wide d there_is.1
@@ -371,11 +372,11 @@ store_goes x s s' whole room cells processes middle processes' p i number line r
         (subst (λ (r : Reply). AsksToFill (plain before p ring request).state p ring request r (Some it)) done first)
 
     state_after : (s s' : Supervised) (x : Outline) (entry : journaled.Entry) → s'.session ≡ x → s'.journal ≡ s.journal ++ entry ∷ []
-        → state_of s' ≡ (plain (replay (opening x.principals) s.journal) entry.process entry.ring entry.request).state
+        → state_of s' ≡ (plain (replay (opening_of x) s.journal) entry.process entry.ring entry.request).state
     state_after s s' x entry session journal =
-        ap (λ (y : Outline). replay (opening y.principals) s'.journal) session
-        ∙ ap (λ (j : List journaled.Entry). replay (opening x.principals) j) journal
-        ∙ replay_more (opening x.principals) s.journal entry
+        ap (λ (y : Outline). replay (opening_of y) s'.journal) session
+        ∙ ap (λ (j : List journaled.Entry). replay (opening_of x) j) journal
+        ∙ replay_more (opening_of x) s.journal entry
 
     store_same : (s s' : Supervised) (before : Process) (number : ℕ) (entry : journaled.Entry) (i : ℕ) → s'.journal ≡ s.journal ++ entry ∷ []
         → number ≡ length s.journal + 1
@@ -393,10 +394,10 @@ pub present : (x : Outline) (s : Supervised) (desc : Descriptor) (segno p i poin
     → desc ≡ descriptor (state_of s) p segno → point ≡ length s.journal → e.segno ≡ segno → e.point ≡ point
     → desc ≡ descriptor_of x s.journal (suc i) e
 present x s desc segno p i point e same own on_desc at_end segno_is point_is =
-    on_desc ∙ ap (λ (y : Outline). descriptor (replay (opening y.principals) s.journal) p segno) same
-    ∙ ap (λ n. descriptor (replay (opening x.principals) s.journal) n segno) own
-    ∙ ap (λ n. descriptor (replay (opening x.principals) s.journal) (suc i) n) (sym segno_is)
-    ∙ ap (λ (j : List journaled.Entry). descriptor (replay (opening x.principals) j) (suc i) e.segno)
+    on_desc ∙ ap (λ (y : Outline). descriptor (replay (opening_of y) s.journal) p segno) same
+    ∙ ap (λ n. descriptor (replay (opening_of x) s.journal) n segno) own
+    ∙ ap (λ n. descriptor (replay (opening_of x) s.journal) (suc i) n) (sym segno_is)
+    ∙ ap (λ (j : List journaled.Entry). descriptor (replay (opening_of x) j) (suc i) e.segno)
     (sym (take_all e.point s.journal (omega (arith, at_end, point_is))))
 
 -- a reference, on the present access and at the journal's end
@@ -548,7 +549,7 @@ granted_here x s whole room cells cells' processes p i point q it j k own here a
     let place = (k.standing i (seat_in q) (seat_of processes i q here)).places it at in
     let there : descriptor (state_of s) p (write_of it).segno ≡ descriptor (state_in (world_in x s whole cells processes)) (suc i) (write_of it).segno
     = ap (λ n. descriptor (state_of s) n (write_of it).segno) own
-    ∙ ap (λ (y : Outline). descriptor (replay (opening y.principals) s.journal) (suc i) (write_of it).segno) k.same in
+    ∙ ap (λ (y : Outline). descriptor (replay (opening_of y) s.journal) (suc i) (write_of it).segno) k.same in
     let g = grantable (state_in (world_in x s whole cells processes)) (suc i) it place short in
     let on : j.desc ≡ descriptor (state_in (world_in x s whole cells processes)) (suc i) (write_of it).segno = m.present.on ∙ there in
     record {

@@ -14,7 +14,8 @@ use Rattle.mx_reads.specs.Held.{Held, IsHeld}
 use Rattle.mx_request.specs.declared.requests.Request.{Request}
 use Rattle.mx_script.specs.Sessions.{Outline, IsSession, limit_of, is_script, is_script_line, ends}
 use Rattle.mx_script.specs.declared.lines.Line.{Line}
-use Rattle.mx_state.specs.History.{opening, IsRight}
+use Rattle.mx_legal.specs.Opened.{opening_of}
+use Rattle.mx_state.specs.History.{IsRight}
 use Rattle.mx_state.specs.declared.journal.Entry as journaled
 use Rattle.mx_sup.specs.Entering.{IsOpened}
 use Rattle.mx_sup.specs.Supervised.{Supervised}
@@ -113,14 +114,15 @@ some_line x i session within none = by_script x.scripts i session.each within no
     none_numbered first [] e f = cc
     none_numbered first (line ∷ script) e f = cc
 
-    by_script : (scripts : List (List Line)) (j : ℕ) → list_all is_script scripts ≡ true → j < length scripts
+    by_script : (scripts : List (List Line)) (j : ℕ) → list_all (is_script x.version) scripts ≡ true → j < length scripts
         → numbered (first_line x (suc i)) (script_at scripts j) ≡ [] → ⊥
     by_script [] j all h f = omega arith
     by_script (script ∷ scripts) zero all h f =
         none_numbered (first_line x (suc i)) script
-        (both (list_all is_script_line script) (ends script) (both (is_script script) (list_all is_script scripts) all).0).1 f
+        (both (list_all (is_script_line x.version) script) (ends script)
+        (both (is_script x.version script) (list_all (is_script x.version) scripts) all).0).1 f
     by_script (script ∷ scripts) (suc j) all h f =
-        by_script scripts j (both (is_script script) (list_all is_script scripts) all).1 (omega (arith, h)) f
+        by_script scripts j (both (is_script x.version script) (list_all (is_script x.version) scripts) all).1 (omega (arith, h)) f
 
 sized : (x : Outline) (s : Supervised) (processes : List Process) (i : ℕ) (seat : Seat) → AreFresh x processes → IsSession x
     → slice_get (map seat_in processes) i ≡ Some seat → i < length x.scripts
@@ -154,7 +156,7 @@ opening_kept x s set_up whole room cells processes session opened one wide empty
         journal = sym (append-nil s.journal);
         bench = same_cells x s.journal [] (λ p. opening_view (length s.journal)) always clear (held_in cells) (all_clear cells empty)
             (bench_opening_law x s.journal (subst (λ (z : Outline). length s.journal ≤ limit_of z) y h.within_limit)
-            (subst (λ (z : Outline). IsRight (opening z.principals) s.journal) y h.right) first n (zero_maker s.journal x.setup (setup_entries x) calls));
+            (subst (λ (z : Outline). IsRight (opening_of z) s.journal) y h.right) first n (zero_maker s.journal x.setup (setup_entries x) calls));
         set_up = subst (IsSetUp x s.journal) (ap first_of (sym one)) opened.part;
         count = let c = fresh.count in let t = session.scripts in length-map processes seat_in ∙ c ∙ t;
         each = λ i seat e.

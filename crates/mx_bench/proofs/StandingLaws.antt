@@ -16,7 +16,8 @@ use Rattle.mx_script.specs.declared.lines.Line.{Line}
 use Rattle.mx_script.specs.declared.lines.Line.TheVariants as lines
 use Rattle.mx_state.specs.Waiting.{does_after, after_request}
 use Rattle.mx_state.specs.declared.journal.Entry as journaled
-use Rattle.mx_state.specs.History.{opening, replay}
+use Rattle.mx_legal.specs.Opened.{opening_of}
+use Rattle.mx_state.specs.History.{replay}
 use Rattle.mx_state.specs.Plain.{Plain}
 use Rattle.mx_sup.proofs.HistoryLaws.{replay_more}
 use Rattle.mx_line.proofs.PlaceLaws.{others_place}
@@ -61,6 +62,9 @@ is_out (ask.Rename path name) e = cc
 is_out (ask.Delete path) e = cc
 is_out (ask.SetAcl path id modes) e = cc
 is_out (ask.DelAcl path id) e = cc
+is_out (ask.SetIacl path kind id modes) e = cc
+is_out (ask.DelIacl path kind id) e = cc
+is_out (ask.SetClass path class) e = cc
 is_out (ask.SetBrackets path brackets) e = cc
 is_out (ask.SetDirBrackets path d1 d2) e = cc
 is_out (ask.Status path) e = cc
@@ -119,16 +123,18 @@ last_logout first (suc k) (l ∷ script) number line last e =
     by_test true h rest = absurd (none_behind (suc first) k script number line [] h e)
     by_test false h rest = rest h
 
-script_ends : (scripts : List (List Line)) (i : ℕ) → list_all is_script scripts ≡ true
+script_ends : (version : ℕ) (scripts : List (List Line)) (i : ℕ) → list_all (is_script version) scripts ≡ true
     → (script_at scripts i ≡ []) ⊎ (ends (script_at scripts i) ≡ true)
-script_ends [] i all = inl refl
-script_ends (script ∷ scripts) zero all =
-    inr (both (list_all is_script_line script) (ends script) (both (is_script script) (list_all is_script scripts) all).0).1
-script_ends (script ∷ scripts) (suc i) all = script_ends scripts i (both (is_script script) (list_all is_script scripts) all).1
+script_ends version [] i all = inl refl
+script_ends version (script ∷ scripts) zero all =
+    inr (both (list_all (is_script_line version) script) (ends script)
+    (both (is_script version script) (list_all (is_script version) scripts) all).0).1
+script_ends version (script ∷ scripts) (suc i) all =
+    script_ends version scripts i (both (is_script version script) (list_all (is_script version) scripts) all).1
 
 pub last_is_logout : (x : Outline) (i : ℕ) (seat : Seat) (number : ℕ) (line : Line) → IsSession x
     → left_of x (suc i) seat ≡ (number, line) ∷ [] → line ≡ lines.Ask ask.Logout
-last_is_logout x i seat number line session e = elim (script_ends x.scripts i session.each) [
+last_is_logout x i seat number line session e = elim (script_ends x.version x.scripts i session.each) [
   | inl none ↦ absurd (none_behind (first_line x (suc i)) (length seat.steps) [] number line [] refl
       (sym (ap (λ (script : List Line). drop (length seat.steps) (numbered (first_line x (suc i)) script)) none) ∙ e))
   | inr last ↦ last_logout (first_line x (suc i)) (length seat.steps) (script_at x.scripts i) number line last e
@@ -137,7 +143,7 @@ last_is_logout x i seat number line session e = elim (script_ends x.scripts i se
 -- what others entered leaves to process j + 1
 pub record IsApart (w : World) (journal : List journaled.Entry) (j : ℕ) : Type 0 where
   pub does : does_after journal (suc j) state.Running ≡ does_after w.journal (suc j) state.Running
-  pub places : (it : Fill) → HasPlace (state_in w) (suc j) it → HasPlace (replay (opening w.session.principals) journal) (suc j) it
+  pub places : (it : Fill) → HasPlace (state_in w) (suc j) it → HasPlace (replay (opening_of w.session) journal) (suc j) it
 
 -- where all but process i + 1 stand as they were
 stepped_standing : (w : World) (i : ℕ) (journal : List journaled.Entry) (cells : List Contents) (seat before : Seat)
@@ -195,7 +201,7 @@ pub event_standing : (w : World) (i : ℕ) (seat : Seat) (number : ℕ) (line : 
     → ((j : ℕ) → (j ≡ i → ⊥) → IsApart w journal j)
     → length w.journal ≤ length journal
     → (progress ≡ Waiting → does_after journal (suc i) state.Running ≡ state.Waiting)
-    → ((it : Fill) → progress ≡ Filling it → HasPlace (replay (opening w.session.principals) journal) (suc i) it)
+    → ((it : Fill) → progress ≡ Filling it → HasPlace (replay (opening_of w.session) journal) (suc i) it)
     → AreStanding (stepped w i journal cells (moved seat event progress))
 event_standing w i seat number line left journal cells event progress a stand others longer waits places =
     stepped_standing w i journal cells (moved seat event progress) seat a.seated stand others longer (record {
@@ -217,7 +223,7 @@ pub entered_there : (w : World) (entry : journaled.Entry) (i j : ℕ) → entry.
 entered_there w entry i j own apart = record {
   does = others_entry w.journal entry (suc j) state.Running (λ e. apart (omega (arith, own, e)));
   places = λ it place.
-      subst (λ (s : Plain). HasPlace s (suc j) it) (sym (replay_more (opening w.session.principals) w.journal entry))
+      subst (λ (s : Plain). HasPlace s (suc j) it) (sym (replay_more (opening_of w.session) w.journal entry))
       (others_place (state_in w) (suc j) entry.process entry.ring entry.request it (λ e. apart (omega (arith, own, e))) place);
 }
 

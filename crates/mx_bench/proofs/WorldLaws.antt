@@ -29,7 +29,8 @@ use Rattle.mx_request.specs.declared.requests.Request.TheVariants.{Block, Resume
 use Rattle.mx_script.specs.Sessions.{Outline, limit_of}
 use Rattle.mx_script.specs.declared.lines.Line.{Line}
 use Rattle.mx_script.specs.declared.lines.Line.TheVariants as lines
-use Rattle.mx_state.specs.History.{opening, replay, IsRightEntry}
+use Rattle.mx_legal.specs.Opened.{opening_of}
+use Rattle.mx_state.specs.History.{replay, IsRightEntry}
 use Rattle.mx_state.specs.declared.journal.Entry as journaled
 use Rattle.mx_reads.specs.Deeds.{Stores, Loads}
 use Rattle.mx_ties.proofs.BenchSteps.{bench_entry_law, bench_store_law, bench_load_law, bench_quiet_law}
@@ -335,7 +336,7 @@ record IsCalled (w : World) (r : IsRunning w) (i : ℕ) (seat : Seat) (number : 
 called_at : (w : World) (r : IsRunning w) (i : ℕ) (seat : Seat) (number : ℕ) (line : Line) (left : List (ℕ × Line)) (entry : journaled.Entry)
     → IsAt w i seat number line left
     → entry.process ≡ suc i → Calling seat line entry.ring entry.request
-    → length w.journal < limit_of w.session → IsRightEntry (replay (opening w.session.principals) w.journal) entry
+    → length w.journal < limit_of w.session → IsRightEntry (replay (opening_of w.session) w.journal) entry
     → IsCalled w r i seat number line left entry
 called_at w r i seat number line left entry a maker asks below right =
     let p : ℕ = suc i in
@@ -346,8 +347,8 @@ called_at w r i seat number line left entry a maker asks below right =
     let views : ℕ → View = put p v r.views in
     let within = seated_within w i seat r a.seated in
     let below' : length front < limit_of w.session = subst (λ (j : List journaled.Entry). length j < limit_of w.session) r.journal below in
-    let right' : IsRightEntry (replay (opening w.session.principals) front) entry
-    = subst (λ (j : List journaled.Entry). IsRightEntry (replay (opening w.session.principals) j) entry) r.journal right in
+    let right' : IsRightEntry (replay (opening_of w.session) front) entry
+    = subst (λ (j : List journaled.Entry). IsRightEntry (replay (opening_of w.session) j) entry) r.journal right in
     let now = at_line w.session r.setup p seat (left_of w.session p seat) number line left (r.views p) a.at (r.each i seat a.seated) in
     let called = bench_call_law w.session r.setup r.history r.views views always (held_in w.cells) p marked seat.steps number line left
     seat.registers seat.events now.course r.bench (omega arith) within maker refl below' (asks now.course now.come) (put_own p v r.views)
@@ -374,7 +375,7 @@ pub call_law : (w : World) (i : ℕ) (seat : Seat) (number : ℕ) (line : Line) 
     → IsRunning w → IsAt w i seat number line left
     → entry.process ≡ suc i → Calling seat line entry.ring entry.request
     → next seat.registers line (Answer entry []) ≡ Ends (result_of entry.reply) seat.registers
-    → length w.journal < limit_of w.session → IsRightEntry (replay (opening w.session.principals) w.journal) entry
+    → length w.journal < limit_of w.session → IsRightEntry (replay (opening_of w.session) w.journal) entry
     → IsRunning (stepped w i (w.journal ++ entry ∷ []) w.cells
     (after_line seat number (Entry (length w.journal + 1) ∷ []) (result_of entry.reply) seat.registers))
 call_law w i seat number line left entry r a maker asks answers below right =
@@ -402,7 +403,7 @@ pub entered_law : (w : World) (i : ℕ) (seat : Seat) (number : ℕ) (line : Lin
     (progress : Progress)
     → IsRunning w → IsAt w i seat number line left
     → entry.process ≡ suc i → Calling seat line entry.ring entry.request → IsAnswered seat.registers line entry [] progress
-    → length w.journal < limit_of w.session → IsRightEntry (replay (opening w.session.principals) w.journal) entry
+    → length w.journal < limit_of w.session → IsRightEntry (replay (opening_of w.session) w.journal) entry
     → IsRunning (stepped w i (w.journal ++ entry ∷ []) w.cells (moved seat (Entry (length w.journal + 1)) progress))
 entered_law w i seat number line left entry progress r a maker asks come below right =
     let p : ℕ = suc i in

@@ -7,7 +7,8 @@ use Rattle.mx_legal.specs.Transcripts.{Step}
 use Rattle.mx_script.specs.Sessions.{Outline, limit_of}
 use Rattle.mx_script.specs.declared.lines.Line.{Line}
 use Rattle.mx_sdw.specs.declared.denials.Denial.{Denial}
-use Rattle.mx_state.specs.History.{opening, replay}
+use Rattle.mx_legal.specs.Opened.{opening_of}
+use Rattle.mx_state.specs.History.{replay}
 use Rattle.mx_state.specs.Messages.{is_ready}
 use Rattle.mx_state.specs.Plain.{Plain}
 use Rattle.mx_state.specs.declared.journal.Entry as journaled
@@ -73,7 +74,7 @@ IsLastDenial w p told = (seat : Seat) → IsSeat w p seat → told ≡ last_deni
 
 -- the state of the plain supervisor after all calls so far
 abbrev pub state_in : World → Plain
-state_in w = replay (opening w.session.principals) w.journal
+state_in w = replay (opening_of w.session) w.journal
 
 -- Process p waits: the last reply to it was `waiting`, that to `resume` would be neither a message nor `nobody`, and the
 -- journal is below its limit.

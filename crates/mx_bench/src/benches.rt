@@ -5,13 +5,12 @@ ghost use Rattle.mx_legal.specs.Legal.{IsLegal, HasGatedFalls, HasSoundRegisters
 ghost use Rattle.mx_bench.specs.Stepping.{IsLastDenial, IsOpening, IsAtLine, IsNumbered, IsWaiting, HasMoved, HasStepped, HasGone, HasEnded, HaveEnded, HasNone};
 ghost use Rattle.mx_bench.specs.Asking.{HasSeat, HasSeatWith, IsToFill, IsUnfilled, IsAsking, IsTold, IsUntold, IsReadyBelow, IsUnreadyBelow, IsAiming, IsEnding, IsCalling, IsStoring};
 ghost use Rattle.mx_line.specs.Making.{IsReferring};
-ghost use Rattle.mx_line.specs.Operands.{operand_of};
+ghost use Rattle.mx_line.specs.Operands.{operand_of, IsSayable};
 ghost use Rattle.std.specs.Option.{option_map};
 ghost use Rattle.mx_line.specs.Processes.{recorded_steps};
 ghost use Rattle.mx_bench.specs.Running.{IsRunning};
 ghost use Rattle.mx_bench.specs.Standing.{AreStanding};
 ghost use Rattle.mx_bench.specs.Worlds.{transcripts_of};
-ghost use Rattle.mx_script.specs.Sessions.{is_script_line};
 ghost use Rattle.mx_script.specs.declared.lines.Line.TheVariants as lines;
 ghost use Rattle.mx_line.specs.declared.steps.Stepped.TheVariants.{More, Ended, LineDone, Waits};
 ghost use Rattle.mx_line.specs.declared.operands.Asked.TheVariants.{Target, First};
@@ -373,7 +372,7 @@ impl<'a> Bench<'a> {
         requires idle { IsUnfilled self.now p }
         requires operand { operand_of line.now ≡ Some operand.now }
         ensures asks { IsAsking self.now p operand.now result }
-        ensures line { is_script_line line.now ≡ true }
+        ensures line { IsSayable line.now }
     {
         self.processes.asks(usize::from(p) - 1, operand)
     }

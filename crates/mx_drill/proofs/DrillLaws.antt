@@ -62,7 +62,7 @@ pub record IsGoodTest (good : Line → Bool) : Type 0 where
 is_address_test : (segno word : ℕ) → segno ≤ 4095 → word ≤ 16383 → (nat_le segno 4095 && nat_le word 16383) ≡ true
 is_address_test segno word s w = both (at_most_test segno 4095 s) (at_most_test word 16383 w)
 
-pub script_lines : IsGoodTest is_script_line
+pub script_lines : IsGoodTest (is_script_line 1)
 script_lines = record {
   sets = λ value h. refl;
   stores = is_address_test;

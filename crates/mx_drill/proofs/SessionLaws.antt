@@ -1,10 +1,10 @@
 -- The drill is a session, and its text is the text of it alone.
 use Rattle.std.proofs.Common.{◌≡◌, ℕ, ◌+◌, ◌-◌, ◌%◌, ◌^◌, ◌<◌, ◌≤◌, Bool, true, false, not, List, [], ◌∷◌, ◌++◌, map, length, Some, None, refl, ap, ◌∙◌, arith, length-append, nat_eq}
-use Rattle.std.specs.Prelude.{◌&&◌, is_none, if◌then◌else◌}
+use Rattle.std.specs.Prelude.{◌&&◌, if◌then◌else◌}
 use Rattle.std.specs.List.{All, list_all}
 use Rattle.std.proofs.lemmas.List.Elements.{All-nil, All-cons}
 use Rattle.std.proofs.lemmas.List.Folds.{list_all-append, list_all-map}
-use Rattle.mx_name.specs.Principals.{PlainPrincipal, components_fault}
+use Rattle.mx_request.specs.declared.entrants.Entrant.{Entrant}
 use Rattle.mx_request.specs.declared.requests.Request.{Request}
 use Rattle.mx_request.specs.declared.requests.Request.TheVariants.{Logout}
 use Rattle.mx_script.specs.Sessions.{outline, session_of, is_session, line_count, is_script, is_script_line, is_logout, is_last, ends}
@@ -12,7 +12,7 @@ use Rattle.mx_script.specs.SessionTexts.{rows_of, fits, fits_line, process_rows,
 use Rattle.mx_script.specs.declared.lines.Line.{Line}
 use Rattle.mx_script.specs.declared.lines.Line.TheVariants.{Ask}
 use Rattle.mx_script.specs.declared.rows.Row.TheVariants as row
-use Rattle.mx_drill.specs.Drills.{driller, one_to_four, drill_setup, round, rounds, initiation, drill_script, drill_session, store, load, change, overrun}
+use Rattle.mx_drill.specs.Drills.{drill_process, one_to_four, drill_setup, round, rounds, initiation, drill_script, drill_session, store, load, change, overrun}
 use Rattle.mx_drill.proofs.ListLaws.{all_pieces, pieces_length, pieces_more}
 use Rattle.mx_drill.proofs.DrillLaws.{IsGoodTest, both, round_good, script_lines, no_logouts, text_lines}
 
@@ -52,9 +52,9 @@ ends_with_logout (line ∷ lines) e = step (is_logout line) (list_all (λ other.
     step false rest found after e on = on e
 
 -- a script of a drill is a script, and a text may say its lines
-script_is : (number p : ℕ) → number ≤ 999999 → 1 ≤ p → p ≤ 4 → is_script (drill_script number p) ≡ true
+script_is : (number p : ℕ) → number ≤ 999999 → 1 ≤ p → p ≤ 4 → is_script 1 (drill_script number p) ≡ true
 script_is number p known least most =
-    both (list_all-append is_script_line (work number p) (Ask Logout ∷ []) ∙ both (work_good is_script_line script_lines number p known least most) refl)
+    both (list_all-append (is_script_line 1) (work number p) (Ask Logout ∷ []) ∙ both (work_good (is_script_line 1) script_lines number p known least most) refl)
     (ends_with_logout (work number p) (work_good (λ line. not (is_logout line)) no_logouts number p known least most))
 
 script_fits : (number p : ℕ) → number ≤ 999999 → 1 ≤ p → p ≤ 4 → list_all fits_line (drill_script number p) ≡ true
@@ -89,7 +89,7 @@ few_of number (p ∷ processes) =
 pub few_lines : (number : ℕ) → All (λ lines. lines ≤ 600) (map length (drill_session number).scripts)
 few_lines number = few_of number one_to_four
 
-scripts_are : (number : ℕ) → number ≤ 999999 → list_all is_script (map (drill_script number) one_to_four) ≡ true
+scripts_are : (number : ℕ) → number ≤ 999999 → list_all (is_script 1) (map (drill_script number) one_to_four) ≡ true
 scripts_are number known =
     both (script_is number 1 known (omega arith) (omega arith)) (both (script_is number 2 known (omega arith) (omega arith))
     (both (script_is number 3 known (omega arith) (omega arith)) (both (script_is number 4 known (omega arith) (omega arith)) refl)))
@@ -101,7 +101,7 @@ scripts_fit number known =
 
 -- the drill has the parts of a session
 drill_is_session : (number : ℕ) → number ≤ 999999 → is_session (drill_session number) ≡ true
-drill_is_session number known = both refl (both refl (both refl (both refl (scripts_are number known))))
+drill_is_session number known = both refl (both refl (both refl (both refl (both refl (scripts_are number known)))))
 
 drill_found : (number : ℕ) → number ≤ 999999 → session_of (drill_session number) ≡ Some (drill_session number)
 drill_found number known = ap (λ b. if b then Some (drill_session number) else None) (drill_is_session number known)
@@ -110,13 +110,13 @@ drill_found number known = ap (λ b. if b then Some (drill_session number) else 
 drill_lines : (number : ℕ) → line_count (drill_session number) < 2 ^ 32 - 1
 drill_lines number = omega (arith, script_length number 1, script_length number 2, script_length number 3, script_length number 4)
 
-pub lines_few : (number : ℕ) (setup : List Request) (principals : List PlainPrincipal) (scripts : List (List Line)) → setup ≡ drill_setup
-    → principals ≡ map driller one_to_four → scripts ≡ map (drill_script number) one_to_four
+pub lines_few : (number : ℕ) (setup : List Request) (principals : List Entrant) (scripts : List (List Line)) → setup ≡ drill_setup
+    → principals ≡ map drill_process one_to_four → scripts ≡ map (drill_script number) one_to_four
     → line_count (outline 1 None setup principals scripts) < 2 ^ 32 - 1
 lines_few number setup principals scripts a b c = rw (a, b, c) (drill_lines number)
 
-pub parts_found : (number : ℕ) (setup : List Request) (principals : List PlainPrincipal) (scripts : List (List Line)) → number ≤ 999999
-    → setup ≡ drill_setup → principals ≡ map driller one_to_four → scripts ≡ map (drill_script number) one_to_four
+pub parts_found : (number : ℕ) (setup : List Request) (principals : List Entrant) (scripts : List (List Line)) → number ≤ 999999
+    → setup ≡ drill_setup → principals ≡ map drill_process one_to_four → scripts ≡ map (drill_script number) one_to_four
     → session_of (outline 1 None setup principals scripts) ≡ Some (drill_session number)
 parts_found number setup principals scripts known a b c = rw (a, b, c) (drill_found number known)
 
@@ -125,22 +125,22 @@ split : (x y : Bool) → (x && y) ≡ true → (x ≡ true) × (y ≡ true)
 split true y e = (refl, e)
 split false y e = cc
 
-process_fit : (principals : List PlainPrincipal) (scripts : List (List Line)) → list_all (λ who. is_none (components_fault who)) principals ≡ true
+process_fit : (principals : List Entrant) (scripts : List (List Line)) → list_all (λ who. fits (row.Process who)) principals ≡ true
     → list_all (λ script. list_all fits_line script) scripts ≡ true → list_all fits (process_rows principals scripts) ≡ true
 process_fit [] scripts a b = refl
 process_fit (who ∷ principals) [] a b = refl
 process_fit (who ∷ principals) (script ∷ scripts) a b =
-    let f = split (is_none (components_fault who)) (list_all (λ other. is_none (components_fault other)) principals) a in
+    let f = split (fits (row.Process who)) (list_all (λ other. fits (row.Process other)) principals) a in
     let g = split (list_all fits_line script) (list_all (λ other. list_all fits_line other) scripts) b in
     both f.0 (list_all-append fits (map row.Line script) (process_rows principals scripts)
     ∙ both (list_all-map fits row.Line script ∙ g.0) (process_fit principals scripts f.1 g.1))
 
 drill_fits : (number : ℕ) → number ≤ 999999 → list_all fits (rows_of (drill_session number)) ≡ true
 drill_fits number known =
-    let processes : List _ = process_rows (map driller one_to_four) (map (drill_script number) one_to_four) in
-    list_all-append fits (setup_rows None drill_setup) (processes ++ row.End ∷ [])
+    let processes : List _ = process_rows (map drill_process one_to_four) (map (drill_script number) one_to_four) in
+    list_all-append fits (setup_rows 1 None drill_setup) (processes ++ row.End ∷ [])
     ∙ both refl (list_all-append fits processes (row.End ∷ [])
-    ∙ both (process_fit (map driller one_to_four) (map (drill_script number) one_to_four) refl (scripts_fit number known)) refl)
+    ∙ both (process_fit (map drill_process one_to_four) (map (drill_script number) one_to_four) refl (scripts_fit number known)) refl)
 
 -- so its text is that of a session
 pub drill_text : (number : ℕ) → number ≤ 999999 → IsText (session_text (drill_session number)) (drill_session number)

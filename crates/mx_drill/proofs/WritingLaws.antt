@@ -1,7 +1,7 @@
 -- Laws of writing a session's text line by line.
 use Rattle.std.proofs.Common.{◌≡◌, ℕ, ◌+◌, ◌<◌, ◌≤◌, List, [], ◌∷◌, ◌++◌, length, map, get_or, take, drop, Option, codes, refl, ap, sym, ◌∙◌, arith, append_assoc, append-nil, add-one, drop-cons}
 use Rattle.std.proofs.lemmas.List.{map-append, map_more, drop_all}
-use Rattle.mx_name.specs.Principals.{PlainPrincipal}
+use Rattle.mx_request.specs.declared.entrants.Entrant.{Entrant}
 use Rattle.mx_script.proofs.ReadingLaws.{lines_text-append}
 use Rattle.mx_request.specs.declared.requests.Request.{Request}
 use Rattle.mx_script.specs.Sessions.{outline}
@@ -30,7 +30,7 @@ line_more f xs i x start out mid new within is before text end =
     ∙ ap (λ t. start ++ t) (sym whole))))
 
 -- the processes that are left, taken apart
-process_left : (principals : List PlainPrincipal) (scripts : List (List Line)) (i : ℕ) (principal : PlainPrincipal) (script : List Line)
+process_left : (principals : List Entrant) (scripts : List (List Line)) (i : ℕ) (principal : Entrant) (script : List Line)
     → i < length principals → length scripts ≡ length principals → principal ≡ get_or principals i principal → script ≡ get_or scripts i script
     → process_rows (drop i principals) (drop i scripts)
     ≡ row.Process principal ∷ map row.Line script ++ process_rows (drop (i + 1) principals) (drop (i + 1) scripts)
@@ -39,7 +39,7 @@ process_left principals scripts i principal script within same first second =
     rw (add-one i, drop-cons principals i principal, drop-cons scripts i script, ← first, ← second) refl
 
 -- One process more was written: its line, and its script.
-pub process_more : (principals : List PlainPrincipal) (scripts : List (List Line)) (i : ℕ) (principal : PlainPrincipal) (script : List Line)
+pub process_more : (principals : List Entrant) (scripts : List (List Line)) (i : ℕ) (principal : Entrant) (script : List Line)
     (whole out mid new : List ℕ) → i < length principals → length scripts ≡ length principals → principal ≡ get_or principals i principal
     → script ≡ get_or scripts i script → out ++ rows_text (process_rows (drop i principals) (drop i scripts)) ≡ whole
     → mid ≡ out ++ rows_text (row.Process principal ∷ []) → new ≡ mid ++ rows_text (map row.Line script)
@@ -57,7 +57,7 @@ process_more principals scripts i principal script whole out mid new within same
     ∙ (ap (λ t. out ++ t) (sym parts) ∙ before)))
 
 -- all were written
-pub processes_end : (principals : List PlainPrincipal) (scripts : List (List Line)) (i : ℕ) (whole out : List ℕ) → length principals ≤ i
+pub processes_end : (principals : List Entrant) (scripts : List (List Line)) (i : ℕ) (whole out : List ℕ) → length principals ≤ i
     → out ++ rows_text (process_rows (drop i principals) (drop i scripts)) ≡ whole → out ≡ whole
 processes_end principals scripts i whole out past before =
     sym (append-nil out) ∙ (ap (λ ps. out ++ rows_text (process_rows ps (drop i scripts))) (sym (drop_all i principals past)) ∙ before)
@@ -66,18 +66,20 @@ processes_end principals scripts i whole out past before =
 regroup : (m h s p e : List ℕ) → (((m ++ h) ++ s) ++ p) ++ e ≡ ((m ++ (h ++ s)) ++ p) ++ e
 regroup m h s p e = simp append_assoc
 
-pub whole_text : (version : ℕ) (history : Option ℕ) (setup : List Request) (principals : List PlainPrincipal) (scripts : List (List Line))
-    (a b c d e : List ℕ) → a ≡ codes "multics 1\n" → b ≡ a ++ rows_text (history_rows history) → c ≡ b ++ rows_text (map asked setup)
+pub whole_text : (version : ℕ) (history : Option ℕ) (setup : List Request) (principals : List Entrant) (scripts : List (List Line))
+    (a b c d e : List ℕ) → a ≡ rows_text (row.Header version ∷ []) → b ≡ a ++ rows_text (history_rows history) → c ≡ b ++ rows_text (map asked setup)
     → d ≡ c ++ rows_text (process_rows principals scripts) → e ≡ d ++ codes "end\n"
     → e ≡ session_text (outline version history setup principals scripts)
 whole_text version history setup principals scripts a b c d e first second third fourth fifth =
-    let m : List ℕ = codes "multics 1\n" in
+    let m : List ℕ = rows_text (row.Header version ∷ []) in
     let h : List ℕ = rows_text (history_rows history) in
     let s : List ℕ = rows_text (map asked setup) in
     let p : List ℕ = rows_text (process_rows principals scripts) in
-    let front : rows_text (setup_rows history setup) ≡ m ++ (h ++ s) = ap (λ t. m ++ t) (rows_text-append (history_rows history) (map asked setup)) in
+    let front : rows_text (setup_rows version history setup) ≡ m ++ (h ++ s) =
+    rows_text-append (row.Header version ∷ []) (history_rows history ++ map asked setup)
+    ∙ ap (λ t. m ++ t) (rows_text-append (history_rows history) (map asked setup)) in
     let parts : session_text (outline version history setup principals scripts) ≡ ((m ++ (h ++ s)) ++ p) ++ codes "end\n" =
-    rows_text-append (setup_rows history setup ++ process_rows principals scripts) (row.End ∷ [])
-    ∙ ap (λ t. t ++ codes "end\n") (rows_text-append (setup_rows history setup) (process_rows principals scripts) ∙ ap (λ t. t ++ p) front) in
+    rows_text-append (setup_rows version history setup ++ process_rows principals scripts) (row.End ∷ [])
+    ∙ ap (λ t. t ++ codes "end\n") (rows_text-append (setup_rows version history setup) (process_rows principals scripts) ∙ ap (λ t. t ++ p) front) in
     fifth ∙ (ap (λ t. t ++ codes "end\n") (fourth ∙ ap (λ t. t ++ p) (third ∙ ap (λ t. t ++ s) (second ∙ ap (λ t. t ++ h) first)))
     ∙ (regroup m h s p (codes "end\n") ∙ sym parts))

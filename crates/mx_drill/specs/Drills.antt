@@ -5,12 +5,14 @@ use Rattle.std.specs.Prelude.{ℕ, ◌+◌, ◌*◌, ◌/◌, ◌%◌, ◌==◌,
 use Rattle.std.specs.List.{flat_map, range_with_len}
 use Rattle.mx_acl.specs.declared.modes.Modes.{Modes}
 use Rattle.mx_acl.specs.declared.modes.Modes.TheVariants.{R, Rw, Sma}
+use Rattle.mx_aim.specs.Classes.{lowest}
 use Rattle.mx_name.specs.Identifiers.{PlainAclId}
 use Rattle.mx_name.specs.Identifiers.Component.{Any, Literal}
 use Rattle.mx_name.specs.Principals.{PlainPrincipal}
+use Rattle.mx_request.specs.declared.entrants.Entrant.{Entrant}
 use Rattle.mx_request.specs.declared.requests.Request.{Request}
 use Rattle.mx_request.specs.declared.requests.Request.TheVariants.{CreateSeg, SetAcl, Initiate, Logout}
-use Rattle.mx_script.specs.Sessions.{Outline, outline}
+use Rattle.mx_script.specs.Sessions.{Outline, outline, entrant}
 use Rattle.mx_script.specs.declared.lines.Base.TheVariants.{Segment}
 use Rattle.mx_script.specs.declared.lines.Line.{Line}
 use Rattle.mx_script.specs.declared.lines.Line.TheVariants.{Ask, Set, Lda, Sta}
@@ -30,6 +32,10 @@ person p = codes "U" ++ digit p
 
 abbrev pub driller : ℕ → PlainPrincipal
 driller p = record { person = person p; project = codes "Drill"; tag = codes "a" }
+
+-- the session brings it in with the lowest class
+abbrev pub drill_process : ℕ → Entrant
+drill_process p = entrant (driller p) lowest
 
 abbrev pub driller_id : ℕ → PlainAclId
 driller_id p = record { person = Literal (person p); project = Literal (codes "Drill"); tag = Literal (codes "a") }
@@ -115,4 +121,4 @@ abbrev pub drill_script : ℕ → ℕ → List Line
 drill_script number p = map initiation one_to_four ++ rounds number p 256 ++ Ask Logout ∷ []
 
 abbrev pub drill_session : ℕ → Outline
-drill_session number = outline 1 None drill_setup (map driller one_to_four) (map (drill_script number) one_to_four)
+drill_session number = outline 1 None drill_setup (map drill_process one_to_four) (map (drill_script number) one_to_four)

@@ -1,7 +1,7 @@
 //! The drill session of a number.
 
 ghost use Rattle.std.specs.Prelude.{◌≡◌, ◌++◌, ◌≤◌, map, IfOk, OnOk};
-ghost use Rattle.mx_drill.specs.Drills.{driller, one_to_four, segment_setup, drill_setup, drill_script, drill_session};
+ghost use Rattle.mx_drill.specs.Drills.{drill_process, one_to_four, segment_setup, drill_setup, drill_script, drill_session};
 
 use crate::names::{driller, drillers_id, everyone_id, root, segment_path};
 use crate::rounds::script;
@@ -65,7 +65,7 @@ fn add_segment(alloc: Global, setup: &mut Requests, s: u8) -> Result<(), AllocEr
 }
 
 fn principals(alloc: Global) -> Result<Principals, AllocError>
-    ensures { IfOk result (λ principals. principals ≡ map driller one_to_four) }
+    ensures { IfOk result (λ principals. principals ≡ map drill_process one_to_four) }
 {
     let mut principals = Principals::new(alloc);
     for p in 1..5 {

@@ -1,22 +1,24 @@
 //! The writer of session texts: from the session to its text.
 
 ghost use Rattle.std.specs.Prelude.{◌≡◌, ◌++◌, ◌∷◌, [], map, length, IfOk, OnOk};
-ghost use Rattle.mx_script.specs.SessionTexts.{asked, history_rows, process_rows, session_text};
+ghost use Rattle.mx_script.specs.SessionTexts.{asked, class_part, history_rows, process_rows, session_text};
 ghost use Rattle.mx_drill.specs.Writing.{rows_text};
-ghost use Rattle.mx_script.specs.declared.rows.Row.TheVariants.{Line as LineRow, Process as ProcessRow};
+ghost use Rattle.mx_script.specs.declared.rows.Row.TheVariants.{Header as HeaderRow, Line as LineRow, Process as ProcessRow};
 
 use itoa::Buffer;
+use mx_aim::Class;
 use mx_list::Bytes;
-use mx_name::Principal;
-use mx_request::Request;
+use mx_request::{Entrant, Request};
 use mx_script::{Line, Script, Session};
+use mx_sdw::write_octal;
 use std::alloc::{AllocError, Global};
 
 /// The text of a session, line by line. Takes time linear in the text, and memory for it alone. The only error is want of memory.
 pub fn session_text(alloc: Global, session: &Session) -> Result<Bytes, AllocError>
     ensures { IfOk result (λ text. text ≡ session_text session.now) }
 {
-    let mut out = Vec::from_slice(alloc, b"multics 1\n")?;
+    let mut out = Vec::new(alloc);
+    add_header(&mut out, session.version())?;
     add_history(&mut out, session.history())?;
     add_setup(&mut out, session.setup().items())?;
     add_processes(
@@ -26,6 +28,15 @@ pub fn session_text(alloc: Global, session: &Session) -> Result<Bytes, AllocErro
     )?;
     out.extend_from_slice(b"end\n")?;
     Ok(Bytes::of(out))
+}
+
+fn add_header(out: &mut Vec<u8>, version: u8) -> Result<(), AllocError>
+    ensures { OnOk result (out.new.items ≡ out.old.items ++ rows_text (HeaderRow version ∷ [])) }
+{
+    let mut buffer = Buffer::new();
+    out.extend_from_slice(b"multics ")?;
+    out.extend_from_slice(buffer.format(version).as_bytes())?;
+    out.extend_from_slice(b"\n")
 }
 
 fn add_history(out: &mut Vec<u8>, history: Option<u32>) -> Result<(), AllocError>
@@ -53,25 +64,39 @@ fn add_setup(out: &mut Vec<u8>, setup: &[Request]) -> Result<(), AllocError>
 // Each process's line, and then its script.
 fn add_processes(
     out: &mut Vec<u8>,
-    principals: &[Principal],
+    entrants: &[Entrant],
     scripts: &[Script],
 ) -> Result<(), AllocError>
-    requires { length scripts.now ≡ length principals.now }
-    ensures { OnOk result (out.new.items ≡ out.old.items ++ rows_text (process_rows principals.now scripts.now)) }
+    requires { length scripts.now ≡ length entrants.now }
+    ensures { OnOk result (out.new.items ≡ out.old.items ++ rows_text (process_rows entrants.now scripts.now)) }
 {
-    for (i, principal) in principals.iter().enumerate() {
-        add_process(out, principal)?;
+    for (i, entrant) in entrants.iter().enumerate() {
+        add_process(out, entrant)?;
         add_script(out, scripts[i].items())?;
     }
     Ok(())
 }
 
-fn add_process(out: &mut Vec<u8>, principal: &Principal) -> Result<(), AllocError>
-    ensures { OnOk result (out.new.items ≡ out.old.items ++ rows_text (ProcessRow principal.now ∷ [])) }
+fn add_process(out: &mut Vec<u8>, entrant: &Entrant) -> Result<(), AllocError>
+    ensures { OnOk result (out.new.items ≡ out.old.items ++ rows_text (ProcessRow entrant.now ∷ [])) }
 {
     out.extend_from_slice(b"process ")?;
-    principal.append_to(out)?;
+    entrant.who.append_to(out)?;
+    add_class(out, entrant.authorization)?;
     out.extend_from_slice(b"\n")
+}
+
+// The class, which is left out where it is the lowest.
+fn add_class(out: &mut Vec<u8>, class: Class) -> Result<(), AllocError>
+    ensures { OnOk result (out.new.items ≡ out.old.items ++ class_part class) }
+{
+    if class.equals(&Class::lowest()) {
+        return Ok(());
+    }
+    out.extend_from_slice(b" ")?;
+    write_octal(out, u64::from(class.level()))?;
+    out.extend_from_slice(b":")?;
+    write_octal(out, u64::from(class.categories()))
 }
 
 fn add_script(out: &mut Vec<u8>, script: &[Line]) -> Result<(), AllocError>

@@ -43,10 +43,10 @@ peel g l r e ends after asks is =
 
 -- a call from a ring at the place of a pointer, of another segment than the one that runs; and a return
 abbrev asks_call : ℕ → ℕ → ℕ → ℕ → Reference
-asks_call current ring segno word = at_place (op.Call current false) (pointer ring segno word)
+asks_call current ring segno word = at_place (op.Call current false false) (pointer ring segno word)
 
 abbrev asks_within : Reference
-asks_within = at_place (op.Call 4 true) (pointer 4 8 7)
+asks_within = at_place (op.Call 4 true false) (pointer 4 8 7)
 
 abbrev asks_return : ℕ → ℕ → ℕ → Reference
 asks_return ring segno word = at_place op.Return (pointer ring segno word)

@@ -13,6 +13,7 @@ use Rattle.mx_request.specs.declared.replies.Reply.TheVariants as reply
 use Rattle.mx_request.specs.declared.requests.Request.{Request}
 use Rattle.mx_request.specs.declared.requests.Request.TheVariants as ask
 use Rattle.mx_script.specs.declared.lines.Line.TheVariants.{Ask}
+use Rattle.mx_state.specs.Shown.{shown}
 use Rattle.mx_state.specs.Askers.{Asker, Initializer, Process, Nobody, asker, answered_caller}
 use Rattle.mx_state.specs.Plain.{Plain, Answer}
 use Rattle.mx_state.specs.Requests.{plain, changed, told}
@@ -102,12 +103,15 @@ path_final s p ring (ask.Rename path name) c = by_caller s (asker s.processes p)
 path_final s p ring (ask.Delete path) c = by_caller s (asker s.processes p) ring _ (λ who. change_final s _)
 path_final s p ring (ask.SetAcl path id modes) c = by_caller s (asker s.processes p) ring _ (λ who. change_final s _)
 path_final s p ring (ask.DelAcl path id) c = by_caller s (asker s.processes p) ring _ (λ who. change_final s _)
+path_final s p ring (ask.SetIacl path kind id modes) c = by_caller s (asker s.processes p) ring _ (λ who. change_final s _)
+path_final s p ring (ask.DelIacl path kind id) c = by_caller s (asker s.processes p) ring _ (λ who. change_final s _)
+path_final s p ring (ask.SetClass path class) c = by_caller s (asker s.processes p) ring _ (λ who. change_final s _)
 path_final s p ring (ask.SetBrackets path brackets) c =
     by_caller s (asker s.processes p) ring _ (λ who. change_final s _)
 path_final s p ring (ask.SetDirBrackets path d1 d2) c =
     by_caller s (asker s.processes p) ring _ (λ who. change_final s _)
 path_final s p ring (ask.Status path) c =
-    by_caller s (asker s.processes p) ring _ (λ who. told_final s reply.Status _ (λ value. tt))
+    by_caller s (asker s.processes p) ring _ (λ who. told_final s (λ status. reply.Status (shown s.version status)) _ (λ value. tt))
 path_final s p ring (ask.List path) c =
     by_caller s (asker s.processes p) ring _ (λ who. told_final s reply.Names _ (λ value. tt))
 path_final s p ring (ask.ChangeWdir path) c = absurd cc

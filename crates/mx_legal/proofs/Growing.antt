@@ -1,7 +1,8 @@
 -- A process's lines so far are right in a journal that grew.
 use Rattle.std.proofs.Common.{nat_le, ◌≡◌, ℕ, zero, suc, ◌<◌, ◌≤◌, ◌==◌, List, [], ◌∷◌, ◌++◌, length, refl, ap, true, Some, arith, take}
 use Rattle.std.specs.List.{slice_get}
-use Rattle.mx_state.specs.History.{opening, replay}
+use Rattle.mx_legal.specs.Opened.{opening_of}
+use Rattle.mx_state.specs.History.{replay}
 use Rattle.mx_state.specs.Table.{descriptor}
 use Rattle.mx_state.specs.declared.journal.Entry as journaled
 use Rattle.mx_script.specs.Sessions.{limit_of}
@@ -41,7 +42,7 @@ grown_law x journal entry p events below points = record {
   entries = entry_still journal (entry ∷ []);
   full = λ full. absurd (not_yet (length journal) (limit_of x) below full);
   descriptors = λ place e at.
-      ap (λ (l : List journaled.Entry). descriptor (replay (opening x.principals) l) p e.segno)
+      ap (λ (l : List journaled.Entry). descriptor (replay (opening_of x) l) p e.segno)
       (first_of e.point journal (entry ∷ []) (points place e at));
 }
 

@@ -1,13 +1,13 @@
 -- What a line's own reference makes of the registers: a granted call and a granted return move, and the others stay.
-use Rattle.std.proofs.Common.{◌≡◌, ℕ, ◌<◌, ◌≤◌, min, nat_eq, refl, ap, sym, ◌∙◌, subst, Bool, Ok, Err, Result, IsOk, arith}
-use Rattle.mx_sdw.specs.Judging.{judgement}
+use Rattle.std.proofs.Common.{◌≡◌, ℕ, ◌<◌, ◌≤◌, min, nat_eq, refl, ap, sym, ◌∙◌, subst, Bool, Ok, Err, Result, IsOk, arith, false}
+use Rattle.mx_sdw.specs.Judging.{judgement, ring_after}
 use Rattle.mx_sdw.specs.declared.denials.Denial.{Denial}
 use Rattle.mx_sdw.specs.declared.descriptors.Cell.{Cell}
 use Rattle.mx_sdw.specs.declared.operations.Op.TheVariants as op
 use Rattle.mx_ptr.specs.Pointers.{PointerParts}
 use Rattle.mx_call.specs.Registers.{Registers, IsSound}
 use Rattle.mx_call.specs.Transfers.{calling, call_judgement, called, returned, IsCalled, IsReturned}
-use Rattle.mx_call.proofs.RegisterLaws.{exactly_called, called_stays_sound, returned_stays_sound, through_a_gate}
+use Rattle.mx_call.proofs.RegisterLaws.{exactly_called, called_stays_sound, returned_stays_sound, through_a_gate, goes_on_in}
 use Rattle.mx_core.specs.declared.elements.Kind.TheVariants as kind
 use Rattle.mx_core.specs.declared.elements.Outcome.{Outcome}
 use Rattle.mx_core.specs.declared.elements.Outcome.TheVariants as outcome
@@ -51,10 +51,10 @@ ok_of : (r : Reference) (entered ring : ℕ) (ruled : Result Cell Denial) → Ag
 ok_of r entered ring (Ok cell) a = refl
 ok_of r entered ring (Err denial) a = absurd cc
 
-entered_so : (current : ℕ) (same : Bool) (target : PointerParts) (entered ring : ℕ) (ruled : Result Cell Denial)
-    → Agrees (at_place (op.Call current same) target) entered ruled (outcome.Entered ring) → ring ≡ entered
-entered_so current same target entered ring (Ok cell) a = a
-entered_so current same target entered ring (Err denial) a = absurd cc
+entered_so : (current : ℕ) (same upward : Bool) (target : PointerParts) (entered ring : ℕ) (ruled : Result Cell Denial)
+    → Agrees (at_place (op.Call current same upward) target) entered ruled (outcome.Entered ring) → ring ≡ entered
+entered_so current same upward target entered ring (Ok cell) a = a
+entered_so current same upward target entered ring (Err denial) a = absurd cc
 
 after_call : (g : Registers) (target : PointerParts) (j : Judged) (ring : ℕ) (ends : Result2) (now : Registers)
     → IsSound g → g.ring ≤ target.ring → IsJudged (at_place (calling g target) target) j.desc j.element
@@ -63,12 +63,13 @@ after_call : (g : Registers) (target : PointerParts) (j : Judged) (ring : ℕ) (
     ≡ Ends ends now
     → IsMoved g ends now (IsGateSeen j now.ring)
 after_call g target j ring ends now sound high right came e =
-    let agrees : Agrees (at_place (calling g target) target) (min target.ring j.desc.brackets.r2)
+    let agrees : Agrees (at_place (calling g target) target) (ring_after j.desc (calling g target) target.ring)
     (judgement j.desc (calling g target) target.ring target.word) (outcome.Entered ring) =
-    subst (λ (c : Outcome). Agrees (at_place (calling g target) target) (min target.ring j.desc.brackets.r2)
+    subst (λ (c : Outcome). Agrees (at_place (calling g target) target) (ring_after j.desc (calling g target) target.ring)
     (judgement j.desc (calling g target) target.ring target.word) c) came right.outcome in
     let ok : IsOk (call_judgement g target j.desc) = ok_of (at_place (calling g target) target) _ ring _ agrees in
-    let into = entered_so g.ring (nat_eq target.segno g.procedure.segno) target _ ring _ agrees in
+    let into : ring ≡ min target.ring j.desc.brackets.r2 =
+    entered_so g.ring (nat_eq target.segno g.procedure.segno) false target _ ring _ agrees ∙ goes_on_in g target j.desc ok in
     let is : IsCalled g target j.desc (called g target j.desc) =
     (exactly_called g (called g target j.desc) target j.desc sound.eight).1 refl in
     let same : called g target j.desc ≡ now = cc in

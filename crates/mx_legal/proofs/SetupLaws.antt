@@ -8,7 +8,8 @@ use Rattle.mx_call.specs.Registers.{Registers}
 use Rattle.mx_request.specs.Classes.{class_of}
 use Rattle.mx_request.specs.declared.classes.RequestClass.TheVariants.{OfPath}
 use Rattle.mx_request.specs.declared.requests.Request.{Request}
-use Rattle.mx_state.specs.History.{opening, IsRight}
+use Rattle.mx_legal.specs.Opened.{opening_of}
+use Rattle.mx_state.specs.History.{IsRight}
 use Rattle.mx_state.specs.Plain.{Plain}
 use Rattle.mx_state.specs.Requests.{plain}
 use Rattle.mx_state.specs.declared.journal.Entry as journaled
@@ -163,7 +164,7 @@ setup_lines_law x journal transcripts legal place step within at = elim (each pl
 
     final : AreFinal (setting_of x journal 0)
     final zero entry there maker = absurd cc
-    final (suc i) entry there maker = final_replies (opening x.principals) journal i entry legal.right there maker
+    final (suc i) entry there maker = final_replies (opening_of x) journal i entry legal.right there maker
 
     each : (j : ℕ) (other : Step) → slice_get steps j ≡ Some other → Enters other ⊎ IsFullStep other
     each j other found =

@@ -20,7 +20,7 @@ kind_of op.Read = kind.Read
 kind_of op.Indirect = kind.Ind
 kind_of op.Write = kind.Write
 kind_of op.Fetch = kind.Fetch
-kind_of (op.Call current same) = kind.Call
+kind_of (op.Call current same upward) = kind.Call
 kind_of op.Return = kind.Return
 
 -- What a granted operation comes to: a word read, the word stored, or the ring in which the process goes on. Which
@@ -30,7 +30,7 @@ Gives op.Read stores entered (outcome.Read value writer stamp) = Unit {0}
 Gives op.Indirect stores entered (outcome.Read value writer stamp) = Unit {0}
 Gives op.Fetch stores entered (outcome.Read value writer stamp) = Unit {0}
 Gives op.Write stores entered (outcome.Written value) = stores ≡ Some value
-Gives (op.Call current same) stores entered (outcome.Entered ring) = ring ≡ entered
+Gives (op.Call current same upward) stores entered (outcome.Entered ring) = ring ≡ entered
 Gives op.Return stores entered (outcome.Entered ring) = ring ≡ entered
 Gives _ _ _ _ = ⊥
 

@@ -3,7 +3,8 @@ use Rattle.std.specs.Prelude.{◌≡◌, ℕ, ◌+◌, ◌<◌, ◌≤◌, ◌==
 use Rattle.mx_call.specs.Registers.{Registers}
 use Rattle.mx_request.specs.declared.requests.Request.{Request}
 use Rattle.mx_script.specs.Sessions.{Outline, limit_of}
-use Rattle.mx_state.specs.History.{opening, IsRight}
+use Rattle.mx_legal.specs.Opened.{opening_of}
+use Rattle.mx_state.specs.History.{IsRight}
 use Rattle.mx_state.specs.declared.journal.Entry as journaled
 use Rattle.mx_legal.specs.Access.{descriptor_of}
 use Rattle.mx_legal.specs.Deeds.{Deeds}
@@ -53,7 +54,7 @@ pub record IsLegal (x : Outline) (journal : List journaled.Entry) (transcripts :
   -- the journal is within its limit
   pub within_limit : length journal ≤ limit_of x
   -- it is one history of the plain supervisor: each reply is the plain supervisor's at its place
-  pub right : IsRight (opening x.principals) journal
+  pub right : IsRight (opening_of x) journal
   -- it begins with the setup, made by the initializer in ring 0
   pub setup_first : take (setup_entries x) (map call_of journal) ≡ take (setup_entries x) (map setup_call x.setup)
   -- each line of the setup past the limit found the journal full

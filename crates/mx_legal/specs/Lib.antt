@@ -17,6 +17,7 @@ pub mod Scripts
 pub mod Openings
 pub mod Parts
 -- the rules over deeds, and all rules together
+pub mod Opened
 pub mod Access
 pub mod Deeds
 pub mod References

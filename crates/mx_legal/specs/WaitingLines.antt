@@ -2,12 +2,13 @@
 -- from them; and the numbers that lines have in a session that sets a limit.
 use Rattle.std.specs.Prelude.{◌≡◌, ℕ, Bool, true, false, List, [], ◌∷◌, map, Some, codes}
 use Rattle.mx_call.specs.Registers.{Registers}
-use Rattle.mx_name.specs.Principals.{PlainPrincipal}
+use Rattle.mx_aim.specs.Classes.{lowest}
+use Rattle.mx_request.specs.declared.entrants.Entrant.{Entrant}
 use Rattle.mx_request.specs.declared.replies.Reply.TheVariants as reply
 use Rattle.mx_request.specs.declared.requests.Request.TheVariants.{ChangeWdir, Block, Resume, Logout}
 use Rattle.mx_sdw.specs.Descriptors.{unknown_desc}
 use Rattle.mx_state.specs.declared.journal.Entry as journaled
-use Rattle.mx_script.specs.Sessions.{Outline, outline, is_session}
+use Rattle.mx_script.specs.Sessions.{Outline, outline, entrant, is_session}
 use Rattle.mx_script.specs.declared.lines.Line.{Line}
 use Rattle.mx_script.specs.declared.lines.Line.TheVariants as line
 use Rattle.mx_legal.specs.declared.transcripts.Event2.{Event2}
@@ -82,8 +83,8 @@ pub record WrongWaits : Type 0 where
   pub blocked_twice : Never (Entry 1 ∷ Entry 1 ∷ []) result.Done
 
 -- two processes, a journal of three entries: `history 3` is line 2, the first process's line is line 3
-abbrev pub somebody : PlainPrincipal
-somebody = record { person = codes "A"; project = codes "B"; tag = codes "c" }
+abbrev pub somebody : Entrant
+somebody = entrant (record { person = codes "A"; project = codes "B"; tag = codes "c" }) lowest
 
 abbrev pub to_root : Line
 to_root = line.Ask (ChangeWdir (codes ">"))

@@ -1,6 +1,6 @@
 -- What the lines ask for, as their operands do.
 use Rattle.std.proofs.Common.{◌≡◌, inr, ℕ, true, List, length, Some, Result, Ok, Err, IsOk, refl, sym, ◌∙◌, ap, subst}
-use Rattle.mx_call.proofs.RegisterLaws.{exactly_called, one_return}
+use Rattle.mx_call.proofs.RegisterLaws.{exactly_called, one_return, goes_on_in}
 use Rattle.mx_call.specs.Registers.{Registers}
 use Rattle.mx_call.specs.Transfers.{calling, call_judgement, return_judgement, IsCalled, IsReturned}
 use Rattle.mx_core.specs.declared.elements.Kind.TheVariants as kind
@@ -11,7 +11,7 @@ use Rattle.mx_legal.specs.Targets.{at_target}
 use Rattle.mx_legal.specs.declared.transcripts.Result2.TheVariants as result
 use Rattle.mx_ptr.specs.Pointers.{PointerParts}
 use Rattle.mx_request.proofs.StepLaws.{both}
-use Rattle.mx_script.specs.Sessions.{is_register, is_address, is_script_line}
+use Rattle.mx_script.specs.Sessions.{is_register, is_address}
 use Rattle.mx_script.specs.declared.lines.Line.{Line}
 use Rattle.mx_script.specs.declared.lines.Line.TheVariants as line
 use Rattle.mx_script.specs.declared.lines.Operand.{Operand}
@@ -20,7 +20,7 @@ use Rattle.mx_sdw.specs.declared.denials.Denial.{Denial}
 use Rattle.mx_sdw.specs.declared.descriptors.Cell.{Cell}
 use Rattle.mx_sdw.specs.declared.operations.Op.TheVariants as op
 use Rattle.mx_line.specs.Making.{IsReferring, IsStore, IsMade, moved}
-use Rattle.mx_line.specs.Operands.{operand_of}
+use Rattle.mx_line.specs.Operands.{operand_of, IsSayable}
 use Rattle.mx_line.specs.declared.memory.Contents.{Contents}
 use Rattle.mx_line.specs.declared.references.Made.{Made}
 
@@ -28,16 +28,16 @@ pub wide_still : (cells cells' : List Contents) → length cells ≡ 65536 → l
 wide_still cells cells' wide same = same ∙ wide
 
 -- the operand of a line that a script may hold
-pub own_address : (l : Line) (o : Operand) → operand_of l ≡ Some o → is_script_line l ≡ true → is_address o ≡ true
+pub own_address : (l : Line) (o : Operand) → operand_of l ≡ Some o → IsSayable l → is_address o ≡ true
 own_address (line.Ask request) o e s = absurd (cc)
 own_address (line.Set word) o e s = absurd (cc)
-own_address (line.Epp n operand) o e s = let same : operand ≡ o = cc in ap is_address (sym same) ∙ (both (is_register n) (is_address operand) s).1
-own_address (line.Lda operand) o e s = let same : operand ≡ o = cc in ap is_address (sym same) ∙ s
-own_address (line.Sta operand) o e s = let same : operand ≡ o = cc in ap is_address (sym same) ∙ s
+own_address (line.Epp n operand) o e s = let same : operand ≡ o = cc in ap is_address (sym same) ∙ (both (is_register n) (is_address operand) s.1).1
+own_address (line.Lda operand) o e s = let same : operand ≡ o = cc in ap is_address (sym same) ∙ s.1
+own_address (line.Sta operand) o e s = let same : operand ≡ o = cc in ap is_address (sym same) ∙ s.1
 own_address line.Fetch o e s = absurd (cc)
-own_address (line.Call operand) o e s = let same : operand ≡ o = cc in ap is_address (sym same) ∙ s
-own_address (line.Return operand) o e s = let same : operand ≡ o = cc in ap is_address (sym same) ∙ s
-own_address (line.Spri n operand) o e s = let same : operand ≡ o = cc in ap is_address (sym same) ∙ (both (is_register n) (is_address operand) s).1
+own_address (line.Call operand) o e s = let same : operand ≡ o = cc in ap is_address (sym same) ∙ s.1
+own_address (line.Return operand) o e s = let same : operand ≡ o = cc in ap is_address (sym same) ∙ s.1
+own_address (line.Spri n operand) o e s = let same : operand ≡ o = cc in ap is_address (sym same) ∙ (both (is_register n) (is_address operand) s.1).1
 
 -- a store, by either line
 pub stores_made : (l : Line) (asked : Reference) (g : Registers) (d : Descriptor) (target : PointerParts) (p point : ℕ) (cells cells' : List Contents) (m : Made)
@@ -94,7 +94,8 @@ entered_made o g after target d p point cells eight ok is = record {
     segno = refl;
     word = refl;
     ring = refl;
-    outcome = granted_so (at_place (calling g target) target) _ after.ring (call_judgement g target d) ok is.current;
+    outcome = granted_so (at_place (calling g target) target) _ after.ring (call_judgement g target d) ok
+        (is.current ∙ sym (goes_on_in g target d ok));
   };
   segno = refl;
   point_is = refl;

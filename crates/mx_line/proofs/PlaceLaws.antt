@@ -1,6 +1,6 @@
 -- What is to be stored goes into linkage sections of its process: the write is granted, and the entries of other processes
 -- leave it so.
-use Rattle.std.proofs.Common.{◌≡◌, ◌≢◌, ℕ, ◌+◌, ◌<◌, ◌≤◌, nat_le, nat_lt, Bool, true, false, if◌then◌else◌, List, [], ◌∷◌, Option, Some, None, Result, Ok, refl, sym, ◌∙◌, ap, subst, arith}
+use Rattle.std.proofs.Common.{◌≡◌, ◌≢◌, ℕ, ◌+◌, ◌<◌, ◌≤◌, nat_le, nat_lt, Bool, true, false, if◌then◌else◌, List, [], ◌∷◌, Option, Some, None, Result, Ok, refl, sym, ◌∙◌, ap, subst, arith, ◌&&◌}
 use Rattle.std.proofs.lemmas.Bool.Decides.{nat_tests}
 use Rattle.mx_core.specs.declared.elements.Element.{Element}
 use Rattle.mx_core.specs.declared.elements.Outcome.{Outcome}
@@ -36,6 +36,11 @@ use Rattle.mx_line.specs.declared.fills.Filled.TheVariants.{More, Anew, Done}
 use Rattle.mx_line.specs.declared.fills.Snap.{Snap}
 use Rattle.mx_legal.specs.Courses.{Judged}
 
+-- what asks for two things of which the second is not so
+neither_way : (b : Bool) → b && false ≡ false
+neither_way true = refl
+neither_way false = refl
+
 -- a word of a linkage section is written in ring 0
 write_ok : (brackets : Bracketing) (page words word : ℕ) → word < words
     → judgement (segment_desc brackets true false true 0 page words) op.Write 0 word
@@ -44,7 +49,7 @@ unfolding judgement
 write_ok brackets page words word h =
     let within : nat_le words word ≡ false = grind (arith, nat_tests) in
     let low : nat_lt brackets.r1 0 ≡ false = grind (arith, nat_tests) in
-    rw (within, low) refl
+    rw (within, low, neither_way (nat_le brackets.r1 0)) refl
 
 -- the descriptor on which a write is judged
 pub record IsGrantable (it : Fill) (d : Descriptor) : Type 0 where

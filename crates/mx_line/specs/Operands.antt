@@ -1,5 +1,5 @@
 -- Helpers: how far the line at work has come, and what its operand asks for.
-use Rattle.std.specs.Prelude.{◌≡◌, ℕ, ◌-◌, ◌<◌, ◌≤◌, false, List, [], Option, Some, None, length, slice_get}
+use Rattle.std.specs.Prelude.{◌≡◌, ℕ, ◌-◌, ◌<◌, ◌≤◌, true, false, List, [], Option, Some, None, length, slice_get}
 use Rattle.mx_call.specs.Registers.{Registers, ArePackable}
 use Rattle.mx_effring.specs.Chains as chains
 use Rattle.mx_effring.specs.Chains.{IsBounded}
@@ -16,6 +16,7 @@ use Rattle.mx_request.specs.declared.requests.Request.TheVariants.{Link}
 use Rattle.mx_script.specs.declared.lines.Line.{Line}
 use Rattle.mx_script.specs.declared.lines.Line.TheVariants as line
 use Rattle.mx_script.specs.declared.lines.Operand.{Operand}
+use Rattle.mx_script.specs.Sessions.{is_script_line}
 use Rattle.mx_line.specs.Fills.{IsShort, steps_to_fill}
 use Rattle.mx_line.specs.declared.operands.Asked.{Asked}
 use Rattle.mx_line.specs.declared.operands.Asked.TheVariants.{Target, First}
@@ -25,6 +26,10 @@ use Rattle.mx_line.specs.declared.operands.Place.{Place}
 use Rattle.mx_line.specs.declared.operands.Progress.{Progress}
 use Rattle.mx_line.specs.declared.operands.Progress.TheVariants.{Before, Walking, AtLink, Waiting, Filling}
 use Rattle.mx_line.specs.declared.operands.Way.TheVariants as way
+
+-- a line that a script may hold, in a session of some version
+abbrev pub IsSayable : Line → Type 0
+IsSayable line = (version : ℕ) × (is_script_line version line ≡ true)
 
 -- the operand of a memory line
 abbrev pub operand_of : Line → Option Operand

@@ -183,8 +183,11 @@ fn snap_into(request: &Request, target: &Pointer) -> Option<Snap>
         | Request::Delete { .. }
         | Request::SetAcl { .. }
         | Request::DelAcl { .. }
+        | Request::SetIacl { .. }
+        | Request::DelIacl { .. }
         | Request::SetBrackets { .. }
         | Request::SetDirBrackets { .. }
+        | Request::SetClass { .. }
         | Request::Status { .. }
         | Request::List { .. }
         | Request::ChangeWdir { .. }

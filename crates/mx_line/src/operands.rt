@@ -11,8 +11,8 @@ ghost use Rattle.mx_legal.specs.Operands.{base_of, beyond, operand_walk};
 ghost use Rattle.mx_legal.specs.Standing.{IsWalked};
 ghost use Rattle.mx_legal.specs.declared.transcripts.Result2.TheVariants as results;
 ghost use Rattle.mx_ptr.specs.Pointers.{IsPackable};
-ghost use Rattle.mx_script.specs.Sessions.{is_address, is_script_line};
-ghost use Rattle.mx_line.specs.Operands.{HasBegun, IsGoodWalk, IsGoodProgress, IsTarget, asked_by, AsksFor, IsGoodAsked, IsOnward, IsGoodOnward, IsCloser, IsRegisterWord};
+ghost use Rattle.mx_script.specs.Sessions.{is_address};
+ghost use Rattle.mx_line.specs.Operands.{HasBegun, IsGoodWalk, IsGoodProgress, IsTarget, asked_by, AsksFor, IsGoodAsked, IsOnward, IsGoodOnward, IsCloser, IsRegisterWord, IsSayable};
 ghost use Rattle.mx_line.specs.declared.fills.Fill.{Fill as PlainFill};
 ghost use Rattle.mx_line.specs.declared.operands.Onward.TheVariants.{End};
 ghost use Rattle.mx_line.specs.declared.operands.Progress.TheVariants.{Waiting, Filling};
@@ -152,7 +152,7 @@ pub(crate) fn feed(
     value: Word,
     r1: Ring,
 ) -> Onward
-    requires line { is_script_line line.now ≡ true }
+    requires line { IsSayable line.now }
     requires packable { ArePackable registers.now }
     requires good { IsGoodWalk registers.now walk }
     requires wants { wanted walk ≡ WantsWord place.segno place.word place.ring }
@@ -181,7 +181,7 @@ fn denied(registers: &Regs, denial: Denial) -> Onward
 
 // A walk was led on: `epp` ends where it is done, and the other lines refer to their target.
 fn led(line: &Line, registers: &Regs, walk: Walk) -> Onward
-    requires line { is_script_line line.now ≡ true }
+    requires line { IsSayable line.now }
     requires packable { ArePackable registers.now }
     requires begun { HasBegun registers.now walk }
     ensures onward { (seen : List Judged) → IsWalked registers.now line.now seen walk

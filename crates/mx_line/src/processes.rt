@@ -2,8 +2,8 @@
 
 ghost use Rattle.std.specs.Prelude.{◌≡◌, ◌<◌, ◌+◌, ◌^◌, true, [], ◌∷◌, ◌++◌, IfOk, IsTrue, IsFalse, IsSome, OnOk, Some, length};
 ghost use Rattle.mx_call.specs.Registers.{ArePackable};
-ghost use Rattle.mx_script.specs.Sessions.{IsSession, is_address, is_script_line};
-ghost use Rattle.mx_line.specs.Operands.{IsGoodProgress, IsGoodWalk, IsLed, walk_at};
+ghost use Rattle.mx_script.specs.Sessions.{IsSession, is_address};
+ghost use Rattle.mx_line.specs.Operands.{IsGoodProgress, IsGoodWalk, IsLed, walk_at, IsSayable};
 ghost use Rattle.mx_line.specs.Processes.{AreFresh, IsStill, HasRoom, IsCountable, IsGoodAt, HasEnded, HasGoneOn, HasFed, IsFed, HasProgress, ReadsOperand, StoresNothing, HasRegisters, HasLines, HasNumber, HasLastDenial, HasAsked, HasFill, IsLedAt, fill_of, events_in};
 ghost use Rattle.mx_line.specs.declared.operands.Progress.TheVariants.{Before, Waiting};
 
@@ -166,7 +166,7 @@ impl Processes {
         requires room { HasRoom self.old i }
         requires number { IsCountable self.old i }
         requires good { IsGoodAt self.old i }
-        requires line { is_script_line line.now ≡ true }
+        requires line { IsSayable line.now }
         requires address { is_address operand.now ≡ true }
         requires led { IsLedAt self.old i operand.now place }
         ensures { HasFed self.old i line.now operand.now value r1 event self.new result }
@@ -301,7 +301,7 @@ fn feed_at(
     requires room { HasRoom processes.old i }
     requires number { IsCountable processes.old i }
     requires good { IsGoodAt processes.old i }
-    requires line { is_script_line line.now ≡ true }
+    requires line { IsSayable line.now }
     requires address { is_address operand.now ≡ true }
     requires led { IsLedAt processes.old i operand.now place }
     ensures { HasFed processes.old i line.now operand.now value r1 event processes.new result }
@@ -390,7 +390,7 @@ impl Process {
         requires number { self.old.first + length self.old.recording.steps < 2 ^ 32 }
         requires packable { ArePackable self.old.registers }
         requires progress { IsGoodProgress self.old.registers self.old.progress }
-        requires line { is_script_line line.now ≡ true }
+        requires line { IsSayable line.now }
         requires address { is_address operand.now ≡ true }
         requires led { IsLed self.old.registers operand.now self.old.progress place }
         ensures { IsFed self.old line.now operand.now value r1 event self.new result }

@@ -11,7 +11,8 @@ use Rattle.mx_mail.specs.declared.processes.ExecutionState.{ExecutionState}
 use Rattle.mx_mail.specs.declared.processes.ExecutionState.TheVariants as state
 use Rattle.mx_state.proofs.LeavingLaws.{path_request_leaves}
 use Rattle.mx_state.proofs.WaitingLaws.{mail_counts, does_law, waits_for}
-use Rattle.mx_state.specs.History.{opening, replay, IsRight, IsRightEntry}
+use Rattle.mx_legal.specs.Opened.{opening_of}
+use Rattle.mx_state.specs.History.{replay, IsRight, IsRightEntry}
 use Rattle.mx_state.specs.Messages.{is_ready}
 use Rattle.mx_state.specs.Plain.{Plain}
 use Rattle.mx_state.specs.Requests.{plain}
@@ -64,11 +65,11 @@ some_there (x ∷ xs) zero h = (x, refl)
 some_there (x ∷ xs) (suc i) h = some_there xs i (omega (arith, h))
 
 module _ (w : World) (r : IsRunning w) (stand : AreStanding w) (stopped : HaveStoppedUpTo w (length w.seats)) where
-  right : IsRight (opening w.session.principals) w.journal
-  right = subst (IsRight (opening w.session.principals)) (sym r.journal) r.bench.closed.right
+  right : IsRight (opening_of w.session) w.journal
+  right = subst (IsRight (opening_of w.session)) (sym r.journal) r.bench.closed.right
 
   mail_count : length (state_in w).mail ≡ length w.session.principals
-  mail_count = mail_after (opening w.session.principals) w.journal right ∙ length-replicate (length w.session.principals) _
+  mail_count = mail_after (opening_of w.session) w.journal right ∙ length-replicate (length w.session.principals) _
 
   -- a process other than the one that waits does not run, nor is it ready
   asleep : (p q : ℕ) → IsWaiting w p → IsAwake (state_in w) q → ⊥
@@ -99,7 +100,7 @@ module _ (w : World) (r : IsRunning w) (stand : AreStanding w) (stopped : HaveSt
           let below : q - 1 < length w.seats = omega (arith, within.1, mail_count, r.count) in
           let seat = some_there w.seats (q - 1) below in
           let most : q ≤ length w.session.principals = omega (arith, within.1, some, mail_count) in
-          let says = does_law w.session.principals w.journal q right some most in
+          let says = does_law w.session.version w.session.principals w.journal q right some most in
           let place : suc (q - 1) ≡ q = omega (arith, some) in
           (seat.0, seat.1, ap (λ n. does_after w.journal n state.Running) place ∙ one _ now (sym says ∙ e))
 

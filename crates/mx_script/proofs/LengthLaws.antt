@@ -2,12 +2,13 @@
 use Rattle.std.proofs.Common.{◌≡◌, ℕ, ◌+◌, ◌*◌, ◌<◌, ◌≤◌, true, List, [], ◌∷◌, ◌++◌, map, length, codes, ap, arith, length-append}
 use Rattle.std.specs.List.{All, join_with_byte}
 use Rattle.std.proofs.lemmas.List.Elements.{All-nil, All-cons, All-map}
-use Rattle.mx_name.specs.Principals.{PlainPrincipal}
+use Rattle.mx_acl.specs.declared.modes.AclKind.TheVariants.{Segment as OfSegment, Directory as OfDirectory}
 use Rattle.mx_sdw.specs.Octal.{octal, is_octal}
 use Rattle.mx_sdw.proofs.OctalLaws.{is_octal-octal}
 use Rattle.mx_request.specs.RequestTexts.{rule_text, request_text}
+use Rattle.mx_request.specs.declared.entrants.Entrant.{Entrant}
 use Rattle.mx_request.specs.declared.requests.Request.{Request}
-use Rattle.mx_request.specs.declared.requests.Request.TheVariants.{CreateDir, CreateSeg, CreateObject, CreateLink, Rename, Delete, SetAcl, DelAcl, SetBrackets, SetDirBrackets, Status, List as ListNames, ChangeWdir, SetRules, Initiate, Terminate, Wakeup, Block, Link, Resume, Logout}
+use Rattle.mx_request.specs.declared.requests.Request.TheVariants.{CreateDir, CreateSeg, CreateObject, CreateLink, Rename, Delete, SetAcl, DelAcl, SetIacl, DelIacl, SetBrackets, SetDirBrackets, SetClass, Status, List as ListNames, ChangeWdir, SetRules, Initiate, Terminate, Wakeup, Block, Link, Resume, Logout}
 use Rattle.mx_script.proofs.DraftLaws.{HasParts, parts_of_session}
 use Rattle.mx_script.specs.Sessions.{Outline}
 use Rattle.mx_script.specs.SessionTexts.{base_text, offset_text, operand_text, line_text, row_text, setup_rows, process_rows, rows_of, lines_text, IsText}
@@ -43,8 +44,13 @@ five_of_request (Rename path name) = omega arith
 five_of_request (Delete path) = omega arith
 five_of_request (SetAcl path id modes) = omega arith
 five_of_request (DelAcl path id) = omega arith
+five_of_request (SetIacl path OfSegment id modes) = omega arith
+five_of_request (SetIacl path OfDirectory id modes) = omega arith
+five_of_request (DelIacl path OfSegment id) = omega arith
+five_of_request (DelIacl path OfDirectory id) = omega arith
 five_of_request (SetBrackets path brackets) = omega arith
 five_of_request (SetDirBrackets path d1 d2) = omega arith
+five_of_request (SetClass path class) = omega arith
 five_of_request (Status path) = omega arith
 five_of_request (ListNames path) = omega arith
 five_of_request (ChangeWdir path) = omega arith
@@ -88,7 +94,7 @@ script_bytes [] = omega arith
 script_bytes (line ∷ script) =
     omega (arith, bytes_more (row.Line line) (map row.Line script), five_bytes line, script_bytes script)
 
-each_script : (principals : List PlainPrincipal) (scripts : List (List Line)) (most : ℕ) → length scripts ≡ length principals
+each_script : (principals : List Entrant) (scripts : List (List Line)) (most : ℕ) → length scripts ≡ length principals
     → bytes (process_rows principals scripts) ≤ most → All (λ script. 6 * length script ≤ most) scripts
 each_script principals [] most same within = All-nil (λ script. 6 * length script ≤ most)
 each_script [] (script ∷ scripts) most same within = absurd (omega (arith, same))
@@ -106,7 +112,7 @@ each_script (principal ∷ principals) (script ∷ scripts) most same within =
 pub six_bytes_a_line : (spelled : List ℕ) (x : Outline) → IsText spelled x → All (λ script. 6 * length script ≤ length spelled) x.scripts
 six_bytes_a_line spelled x is =
     let have : HasParts x = parts_of_session x is.session in
-    let before : List Row = setup_rows x.history x.setup in
+    let before : List Row = setup_rows x.version x.history x.setup in
     let own : List Row = process_rows x.principals x.scripts in
     let n : length spelled ≡ bytes (rows_of x) = ap length is.text in
     let a : bytes (before ++ own) ≡ bytes before + bytes own = bytes_append before own in

@@ -1,5 +1,6 @@
 pub mod FrontLaws
 pub mod FieldLaws
+pub mod VersionLaws
 pub mod OperandLaws
 pub mod RowLaws
 pub mod DraftLaws

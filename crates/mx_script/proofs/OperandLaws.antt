@@ -11,7 +11,7 @@ use Rattle.mx_sdw.specs.Octal.{is_octal_digit, octal, octal_number}
 use Rattle.mx_request.proofs.FieldLaws.{word_number_takes, word_number_again}
 use Rattle.mx_request.specs.WordNumbers.{word_number_of}
 use Rattle.mx_request.proofs.StepLaws.{both, both_hold, fails, some_is, bind_some, when_some, same_bytes}
-use Rattle.mx_script.proofs.FieldLaws.{at_most, at_most_test, octal_free}
+use Rattle.mx_script.proofs.FieldLaws.{at_most, at_most_test, octal_free, cut_none}
 use Rattle.mx_script.proofs.FrontLaws.{after_takes}
 use Rattle.mx_script.specs.Fields.{operand, register_at, register_base, segment_base, base_at, star_at, offset_of, offset_at, operand_at, register_operand_at}
 use Rattle.mx_script.specs.Fronts.{after, read_or}
@@ -22,12 +22,6 @@ use Rattle.mx_script.specs.declared.lines.Base.TheVariants.{Segment, Register}
 use Rattle.mx_script.specs.declared.lines.Operand.{Operand}
 
 -- cuts and fronts that are not there
-cut_none : (byte : ℕ) (text : List ℕ) → is_free byte text ≡ true → cut_at byte text ≡ None
-unfolding cut_at
-cut_none byte [] e = refl
-cut_none byte (c ∷ cs) e =
-    let f = both (not (c == byte)) (is_free byte cs) e in rw (fails (c == byte) f.0, cut_none byte cs f.1) refl
-
 no_front : (f : ℕ) (fs text : List ℕ) → is_free f text ≡ true → after (f ∷ fs) text ≡ None
 unfolding after
 no_front f fs [] e = refl

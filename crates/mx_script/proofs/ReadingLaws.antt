@@ -5,7 +5,7 @@ use Rattle.std.proofs.lemmas.List.Folds.{list_all-append}
 use Rattle.std.proofs.lemmas.List.Sums.{sum_by-cons}
 use Rattle.std.specs.List.{list_all, sum_by}
 use Rattle.mx_name.specs.Names.{is_free}
-use Rattle.mx_name.specs.Principals.{PlainPrincipal}
+use Rattle.mx_request.specs.declared.entrants.Entrant.{Entrant}
 use Rattle.mx_name.proofs.CutLaws.{cut_takes, cut_again}
 use Rattle.mx_request.proofs.LineLaws.{same_cut}
 use Rattle.mx_request.proofs.StepLaws.{both, both_hold, some_is}
@@ -172,7 +172,7 @@ counted spelled rest number draft p h c =
       length-append p.0 (10 ∷ p.1),
     )
 
-processes_length : (principals : List PlainPrincipal) (scripts : List (List Line)) → length scripts ≡ length principals
+processes_length : (principals : List Entrant) (scripts : List (List Line)) → length scripts ≡ length principals
     → length (process_rows principals scripts) ≡ length principals + sum_by length scripts
 processes_length [] [] same = refl
 processes_length [] (s ∷ scripts) same = absurd (omega (arith, same))
@@ -196,9 +196,9 @@ ended_length x e =
     omega (
       arith,
       length-map (rows_so_far (Ended x)) row_text,
-      length-append (setup_rows x.history x.setup ++ process_rows x.principals x.scripts) (row.End ∷ []),
-      length-append (setup_rows x.history x.setup) (process_rows x.principals x.scripts),
-      length-append (row.Header ∷ history_rows x.history) (map asked x.setup),
+      length-append (setup_rows x.version x.history x.setup ++ process_rows x.principals x.scripts) (row.End ∷ []),
+      length-append (setup_rows x.version x.history x.setup) (process_rows x.principals x.scripts),
+      length-append (row.Header x.version ∷ history_rows x.history) (map asked x.setup),
       length-map x.setup asked,
       history_length x.history,
       processes_length x.principals x.scripts (parts_of_session x e).same,

@@ -1,25 +1,24 @@
 -- Laws of rows: what a line is read as spells that line, and each row is read back.
 use Rattle.std.proofs.Common.{◌≡◌, ℕ, ◌==◌, Bool, true, false, cond, List, [], ◌∷◌, ◌++◌, Option, Some, None, codes, refl, ap, sym, ◌∙◌, subst}
 use Rattle.std.specs.Cmp.Lexicographic.{pointwise}
-use Rattle.mx_name.proofs.TextLaws.{principal_takes, principal_again, principal_is_free}
 use Rattle.mx_name.specs.Names.{is_free}
-use Rattle.mx_name.specs.Principals.{components_fault, principal_of, principal_text}
+use Rattle.mx_acl.specs.declared.modes.AclKind.TheVariants.{Segment as OfSegment, Directory as OfDirectory}
 use Rattle.mx_request.specs.declared.requests.Request.{Request}
-use Rattle.mx_request.specs.declared.requests.Request.TheVariants.{CreateDir, CreateSeg, CreateObject, CreateLink, Rename, Delete, SetAcl, DelAcl, SetBrackets, SetDirBrackets, Status, List as ListNames, ChangeWdir, SetRules, Initiate, Terminate, Wakeup, Block, Link, Resume, Logout}
-use Rattle.mx_request.proofs.StepLaws.{no_fault, faultless, some_is, bind_some, when_some, same_bytes}
+use Rattle.mx_request.specs.declared.requests.Request.TheVariants.{CreateDir, CreateSeg, CreateObject, CreateLink, Rename, Delete, SetAcl, DelAcl, SetIacl, DelIacl, SetBrackets, SetDirBrackets, SetClass, Status, List as ListNames, ChangeWdir, SetRules, Initiate, Terminate, Wakeup, Block, Link, Resume, Logout}
+use Rattle.mx_request.proofs.StepLaws.{some_is, bind_some, when_some, same_bytes}
 use Rattle.mx_script.proofs.FrontLaws.{after_takes}
-use Rattle.mx_script.proofs.FieldLaws.{word_takes, word_again, word_free, history_takes, history_again, history_free}
+use Rattle.mx_script.proofs.FieldLaws.{word_takes, word_again, word_free, version_takes, version_again, version_free, history_takes, history_again, history_free, entrant_takes, entrant_again, entrant_free}
 use Rattle.mx_script.proofs.OperandLaws.{operand_takes, operand_again, operand_free, register_operand_takes, register_operand_again, register_operand_free}
 use Rattle.mx_request.proofs.AgainLaws.{one_request}
 use Rattle.mx_request.proofs.ForeignLaws.{newline_free}
 use Rattle.mx_request.specs.Decimals.{decimal_number}
 use Rattle.mx_request.specs.Steps.{◌>>=◌}
 use Rattle.mx_script.specs.Fronts.{after, read_or}
-use Rattle.mx_script.specs.Fields.{operand_at, register_operand_at, word_at}
-use Rattle.mx_script.specs.Reading.{IsRow, set_at, epp_at, lda_at, sta_at, spri_at, call_at, return_at, memory_at, memory_row, history_row, plain_at, principal_row, process_at}
+use Rattle.mx_script.specs.Fields.{entrant_at, operand_at, register_operand_at, word_at}
+use Rattle.mx_script.specs.Reading.{IsRow, set_at, epp_at, lda_at, sta_at, spri_at, call_at, return_at, memory_at, memory_row, header_row, history_row, plain_at, entrant_row, process_at}
 use Rattle.mx_request.specs.RequestTexts.{request_text, fits_request}
-use Rattle.mx_script.specs.Sessions.{is_history}
-use Rattle.mx_script.specs.SessionTexts.{row_text, line_text, fits, fits_line}
+use Rattle.mx_script.specs.Sessions.{is_version, is_history}
+use Rattle.mx_script.specs.SessionTexts.{entrant_text, row_text, line_text, fits, fits_line}
 use Rattle.mx_script.specs.declared.lines.Line.{Line}
 use Rattle.mx_script.specs.declared.lines.Line.TheVariants.{Ask, Set, Epp, Lda, Sta, Spri, Fetch, Call, Return}
 use Rattle.mx_script.specs.declared.rows.Row.{Row}
@@ -117,6 +116,13 @@ alone_takes text word own r other spelled fit on e = by_test (pointwise ◌==◌
         subst (IsRow text) (some_is _ _ e) (record { spelled = spelled ∙ sym (same_bytes text word t); fits = fit })
     by_test false t e = on e
 
+header_row_takes : (text : List ℕ) (r : Row) → header_row text ≡ Some r → IsRow (codes "multics " ++ text) r
+header_row_takes text r e =
+    let version = bind_some (decimal_number 1 text) _ r e in
+    let found = when_some (is_version version.0) (row.Header version.0) r version.2 in
+    subst (IsRow (codes "multics " ++ text)) found.1
+    (record { spelled = ap (λ xs. codes "multics " ++ xs) (version_takes text version.0 version.1); fits = found.0 })
+
 history_row_takes : (text : List ℕ) (r : Row) → history_row text ≡ Some r → IsRow (codes "history " ++ text) r
 history_row_takes text r e =
     let limit = bind_some (decimal_number 6 text) _ r e in
@@ -127,30 +133,27 @@ history_row_takes text r e =
 pub plain_takes : (text : List ℕ) (r : Row) → plain_at text ≡ Some r → IsRow text r
 unfolding plain_at
 plain_takes text r e =
-    alone_takes text (codes "multics 1") row.Header r _ refl refl
-    (alone_takes text (codes "end") row.End r _ refl refl
+    alone_takes text (codes "end") row.End r _ refl refl
     (alone_takes text (codes "fetch") (row.Line Fetch) r _ refl refl
+    (read_or_takes IsRow (codes "multics ") text header_row _ r (λ rest. header_row_takes rest r)
     (read_or_takes IsRow (codes "history ") text history_row (memory_row text) r (λ rest. history_row_takes rest r)
     (memory_row_takes text r)))) e
 
-principal_row_takes : (text : List ℕ) (r : Row) → principal_row text ≡ Some r → IsRow (codes "process " ++ text) r
-principal_row_takes text r e =
-    let who = bind_some (principal_of text) _ r e in
-    let name = principal_takes text who.0 who.1 in
-    subst (IsRow (codes "process " ++ text)) (some_is _ _ who.2)
-    (record {
-      spelled = ap (λ xs. codes "process " ++ xs) name.0;
-      fits = no_fault (components_fault who.0) name.1;
-    })
+entrant_row_takes : (text : List ℕ) (r : Row) → entrant_row text ≡ Some r → IsRow (codes "process " ++ text) r
+entrant_row_takes text r e =
+    let told = bind_some (entrant_at text) _ r e in
+    let is = entrant_takes text told.0 told.1 in
+    subst (IsRow (codes "process " ++ text)) (some_is _ _ told.2)
+    (record { spelled = ap (λ xs. codes "process " ++ xs) is.spelled; fits = is.fits })
 
 pub process_takes : (text : List ℕ) (r : Row) → process_at text ≡ Some r → IsRow text r
 unfolding process_at
 process_takes text r e =
-    read_or_takes IsRow (codes "process ") text principal_row None r (λ rest. principal_row_takes rest r) (λ e. cc) e
+    read_or_takes IsRow (codes "process ") text entrant_row None r (λ rest. entrant_row_takes rest r) (λ e. cc) e
 
 -- each row is read back by the reading of its kind, and by no other
 abbrev plain_part : Row → Option Row
-plain_part row.Header = Some row.Header
+plain_part (row.Header version) = Some (row.Header version)
 plain_part row.End = Some row.End
 plain_part (row.History limit) = Some (row.History limit)
 plain_part (row.Process who) = None
@@ -160,6 +163,10 @@ plain_part (row.Line line) = Some (row.Line line)
 abbrev process_part : Row → Option Row
 process_part (row.Process who) = Some (row.Process who)
 process_part _ = None
+
+header_front : (rest : List ℕ) → plain_at (codes "multics " ++ rest) ≡ header_row rest
+unfolding plain_at memory_at after
+header_front rest = refl
 
 history_front : (rest : List ℕ) → plain_at (codes "history " ++ rest) ≡ history_row rest
 unfolding plain_at memory_at after
@@ -203,8 +210,13 @@ plain_request (Rename path name) = refl
 plain_request (Delete path) = refl
 plain_request (SetAcl path id modes) = refl
 plain_request (DelAcl path id) = refl
+plain_request (SetIacl path OfSegment id modes) = refl
+plain_request (SetIacl path OfDirectory id modes) = refl
+plain_request (DelIacl path OfSegment id) = refl
+plain_request (DelIacl path OfDirectory id) = refl
 plain_request (SetBrackets path brackets) = refl
 plain_request (SetDirBrackets path d1 d2) = refl
+plain_request (SetClass path class) = refl
 plain_request (Status path) = refl
 plain_request (ListNames path) = refl
 plain_request (ChangeWdir path) = refl
@@ -228,8 +240,13 @@ process_request (Rename path name) = refl
 process_request (Delete path) = refl
 process_request (SetAcl path id modes) = refl
 process_request (DelAcl path id) = refl
+process_request (SetIacl path OfSegment id modes) = refl
+process_request (SetIacl path OfDirectory id modes) = refl
+process_request (DelIacl path OfSegment id) = refl
+process_request (DelIacl path OfDirectory id) = refl
 process_request (SetBrackets path brackets) = refl
 process_request (SetDirBrackets path d1 d2) = refl
+process_request (SetClass path class) = refl
 process_request (Status path) = refl
 process_request (ListNames path) = refl
 process_request (ChangeWdir path) = refl
@@ -245,7 +262,7 @@ process_request Logout = refl
 
 pub plain_again : (r : Row) → fits r ≡ true → plain_at (row_text r) ≡ plain_part r
 unfolding plain_at memory_at after
-plain_again row.Header e = refl
+plain_again (row.Header version) e = header_front _ ∙ rw (version_again version e, e) refl
 plain_again row.End e = refl
 plain_again (row.History limit) e = history_front _ ∙ rw (history_again limit e, e) refl
 plain_again (row.Process who) e = refl
@@ -259,17 +276,16 @@ plain_again (row.Line Fetch) e = refl
 plain_again (row.Line (Call operand)) e = call_front _ ∙ rw (operand_again operand e) refl
 plain_again (row.Line (Return operand)) e = return_front _ ∙ rw (operand_again operand e) refl
 
-process_front : (rest : List ℕ) → process_at (codes "process " ++ rest) ≡ principal_row rest
+process_front : (rest : List ℕ) → process_at (codes "process " ++ rest) ≡ entrant_row rest
 unfolding process_at after
 process_front rest = refl
 
 pub process_again : (r : Row) → fits r ≡ true → process_at (row_text r) ≡ process_part r
 unfolding process_at after
-process_again row.Header e = refl
+process_again (row.Header version) e = refl
 process_again row.End e = refl
 process_again (row.History limit) e = refl
-process_again (row.Process who) e =
-    process_front (principal_text who) ∙ rw (principal_again who (faultless (components_fault who) e)) refl
+process_again (row.Process told) e = process_front (entrant_text told) ∙ rw (entrant_again told e) refl
 process_again (row.Line (Ask request)) e = process_request request
 process_again (row.Line (Set word)) e = refl
 process_again (row.Line (Epp n operand)) e = refl
@@ -282,7 +298,7 @@ process_again (row.Line (Return operand)) e = refl
 
 -- a text is that of one row at most
 plain_is : (r found : Row) → plain_part r ≡ Some found → found ≡ r
-plain_is row.Header found e = sym (some_is _ _ e)
+plain_is (row.Header version) found e = sym (some_is _ _ e)
 plain_is row.End found e = sym (some_is _ _ e)
 plain_is (row.History limit) found e = sym (some_is _ _ e)
 plain_is (row.Process who) found e = cc
@@ -298,7 +314,7 @@ plain_is (row.Line (Return operand)) found e = sym (some_is _ _ e)
 
 process_is : (r found : Row) → process_part r ≡ Some found → found ≡ r
 process_is (row.Process who) found e = sym (some_is _ _ e)
-process_is row.Header found e = cc
+process_is (row.Header version) found e = cc
 process_is row.End found e = cc
 process_is (row.History limit) found e = cc
 process_is (row.Line line) found e = cc
@@ -315,7 +331,7 @@ asks text r p q is =
     by_kind r (sym (plain_again r is.fits) ∙ ap plain_at is.spelled ∙ p) (sym (process_again r is.fits) ∙ ap process_at is.spelled ∙ q)
   where
     by_kind : (r : Row) → plain_part r ≡ None → process_part r ≡ None → (request : Request) × (r ≡ row.Line (Ask request))
-    by_kind row.Header e f = cc
+    by_kind (row.Header version) e f = cc
     by_kind row.End e f = cc
     by_kind (row.History limit) e f = cc
     by_kind (row.Process who) e f = cc
@@ -356,8 +372,8 @@ line_free (Call operand) e = operand_free operand
 line_free (Return operand) e = operand_free operand
 
 pub row_free : (r : Row) → fits r ≡ true → is_free 10 (row_text r) ≡ true
-row_free row.Header e = refl
+row_free (row.Header version) e = version_free version e
 row_free (row.History limit) e = history_free limit e
 row_free (row.Line line) e = line_free line e
-row_free (row.Process who) e = principal_is_free 10 who refl refl (faultless (components_fault who) e)
+row_free (row.Process told) e = entrant_free told e
 row_free row.End e = refl

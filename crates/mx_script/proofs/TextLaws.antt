@@ -15,7 +15,8 @@ use Rattle.mx_script.specs.declared.rows.Row.TheVariants as row
 
 -- rows of one text are one row
 one_row : (r s : Row) → fits r ≡ true → IsRow (row_text r) s → r ≡ s
-one_row row.Header s f is = plain_alone (row_text row.Header) row.Header s (plain_again row.Header f) is
+one_row (row.Header version) s f is =
+    plain_alone (row_text (row.Header version)) (row.Header version) s (plain_again (row.Header version) f) is
 one_row row.End s f is = plain_alone (row_text row.End) row.End s (plain_again row.End f) is
 one_row (row.History limit) s f is =
     plain_alone (row_text (row.History limit)) (row.History limit) s (plain_again (row.History limit) f) is

@@ -1,15 +1,19 @@
 -- Helpers that only private contracts cite: what each field of a line is read as.
-use Rattle.std.specs.Prelude.{ℕ, ◌==◌, Bool, true, false, List, Option, None, Some, codes}
+use Rattle.std.specs.Prelude.{ℕ, ◌==◌, Bool, true, false, not, List, Option, None, Some, codes}
 use Rattle.std.specs.Cmp.Lexicographic.{pointwise}
+use Rattle.mx_aim.specs.Classes.{PlainClass, class_of_text, equals, lowest}
 use Rattle.mx_sdw.specs.Octal.{octal_number}
 use Rattle.mx_sdw.specs.Words.{word_of}
 use Rattle.mx_script.specs.declared.lines.Base.{Base}
 use Rattle.mx_script.specs.declared.lines.Base.TheVariants.{Segment, Register}
 use Rattle.mx_script.specs.declared.lines.Operand.{Operand}
 use Rattle.mx_name.specs.Cuts.{cut_at}
+use Rattle.mx_name.specs.Principals.{principal_of}
+use Rattle.mx_request.specs.declared.entrants.Entrant.{Entrant}
 use Rattle.mx_request.specs.Steps.{◌>>=◌, when}
 use Rattle.mx_request.specs.WordNumbers.{word_number_of}
 use Rattle.mx_script.specs.Fronts.{after, read_or}
+use Rattle.mx_script.specs.Sessions.{entrant}
 
 abbrev pub operand : Base → ℕ → Bool → Operand
 operand base word indirect = record { base = base; word = word; indirect = indirect }
@@ -58,3 +62,15 @@ register_operand_at text =
 
 abbrev pub word_at : List ℕ → Option ℕ
 word_at text = octal_number 12 text >>= λ n. word_of n
+
+-- the lowest class is never written out
+abbrev pub written_class : List ℕ → Option PlainClass
+written_class text = class_of_text text >>= λ class. when (not (equals class lowest)) class
+
+-- `PRINCIPAL`, or `PRINCIPAL CLASS`
+abbrev pub entrant_of : List ℕ → Option (List ℕ × List ℕ) → Option Entrant
+entrant_of text None = principal_of text >>= λ who. Some (entrant who lowest)
+entrant_of text (Some p) = principal_of p.0 >>= λ who. written_class p.1 >>= λ class. Some (entrant who class)
+
+abbrev pub entrant_at : List ℕ → Option Entrant
+entrant_at text = entrant_of text (cut_at 32 text)

@@ -1,12 +1,11 @@
 -- Helpers that only private contracts cite: what each line is read as.
 use Rattle.std.specs.Prelude.{◌≡◌, ℕ, ◌==◌, true, List, Option, None, Some, codes, if◌then◌else◌}
 use Rattle.std.specs.Cmp.Lexicographic.{pointwise}
-use Rattle.mx_name.specs.Principals.{principal_of}
 use Rattle.mx_request.specs.Decimals.{decimal_number}
 use Rattle.mx_request.specs.Steps.{◌>>=◌, when}
 use Rattle.mx_script.specs.Fronts.{after, read_or}
-use Rattle.mx_script.specs.Fields.{operand_at, register_operand_at, word_at}
-use Rattle.mx_script.specs.Sessions.{is_history}
+use Rattle.mx_script.specs.Fields.{entrant_at, operand_at, register_operand_at, word_at}
+use Rattle.mx_script.specs.Sessions.{is_version, is_history}
 use Rattle.mx_script.specs.SessionTexts.{row_text, fits}
 use Rattle.mx_script.specs.declared.lines.Line.{Line}
 use Rattle.mx_script.specs.declared.lines.Line.TheVariants.{Set, Epp, Lda, Sta, Spri, Fetch, Call, Return}
@@ -53,21 +52,25 @@ memory_at text =
 abbrev pub memory_row : List ℕ → Option Row
 memory_row text = memory_at text >>= λ line. Some (row.Line line)
 
+-- the version
+abbrev pub header_row : List ℕ → Option Row
+header_row text = decimal_number 1 text >>= λ version. when (is_version version) (row.Header version)
+
 -- the limit of the journal
 abbrev pub history_row : List ℕ → Option Row
 history_row text = decimal_number 6 text >>= λ limit. when (is_history limit) (row.History limit)
 
--- a line that holds no text: the header, the end, the limit or a memory line
+-- a line that holds no text: the end, the version, the limit or a memory line
 unfoldable pub plain_at : List ℕ → Option Row
 plain_at text =
-    if pointwise ◌==◌ text (codes "multics 1") then Some row.Header
-    else (if pointwise ◌==◌ text (codes "end") then Some row.End
+    if pointwise ◌==◌ text (codes "end") then Some row.End
     else (if pointwise ◌==◌ text (codes "fetch") then Some (row.Line Fetch)
-    else read_or (after (codes "history ") text) history_row (memory_row text)))
+    else read_or (after (codes "multics ") text) header_row
+    (read_or (after (codes "history ") text) history_row (memory_row text)))
 
-abbrev pub principal_row : List ℕ → Option Row
-principal_row text = principal_of text >>= λ who. Some (row.Process who)
+abbrev pub entrant_row : List ℕ → Option Row
+entrant_row text = entrant_at text >>= λ entrant. Some (row.Process entrant)
 
 -- the line that begins a process
 unfoldable pub process_at : List ℕ → Option Row
-process_at text = read_or (after (codes "process ") text) principal_row None
+process_at text = read_or (after (codes "process ") text) entrant_row None

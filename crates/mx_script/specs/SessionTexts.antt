@@ -1,12 +1,14 @@
 -- The session text: what a session's lines are, in order, and how each is written.
-use Rattle.std.specs.Prelude.{◌≡◌, ◌^◌, ℕ, nat_lt, Bool, true, false, ◌&&◌, List, [], ◌∷◌, ◌++◌, map, Option, Some, None, is_none, codes}
+use Rattle.std.specs.Prelude.{◌≡◌, ◌^◌, ℕ, nat_lt, Bool, true, false, ◌&&◌, List, [], ◌∷◌, ◌++◌, map, Option, Some, None, is_none, codes, if◌then◌else◌}
 use Rattle.std.specs.Fmt.{decimal}
 use Rattle.std.specs.List.{list_all}
-use Rattle.mx_name.specs.Principals.{PlainPrincipal, components_fault, principal_text}
+use Rattle.mx_aim.specs.Classes.{PlainClass, class_text, equals, lowest}
+use Rattle.mx_name.specs.Principals.{components_fault, principal_text}
 use Rattle.mx_sdw.specs.Octal.{octal}
 use Rattle.mx_request.specs.declared.requests.Request.{Request}
-use Rattle.mx_request.specs.RequestTexts.{request_text, fits_request}
-use Rattle.mx_script.specs.Sessions.{Outline, is_session, is_history, is_register, is_address}
+use Rattle.mx_request.specs.declared.entrants.Entrant.{Entrant}
+use Rattle.mx_request.specs.RequestTexts.{request_text, fits_request, is_class}
+use Rattle.mx_script.specs.Sessions.{Outline, is_session, is_version, is_history, is_register, is_address}
 use Rattle.mx_script.specs.declared.lines.Base.{Base}
 use Rattle.mx_script.specs.declared.lines.Base.TheVariants.{Segment, Register}
 use Rattle.mx_script.specs.declared.lines.Line.{Line}
@@ -43,11 +45,19 @@ line_text Fetch = codes "fetch"
 line_text (Call operand) = codes "call " ++ operand_text operand
 line_text (Return operand) = codes "return " ++ operand_text operand
 
+-- the class of a process is written out where it is not the lowest
+abbrev pub class_part : PlainClass → List ℕ
+class_part class = if equals class lowest then [] else codes " " ++ class_text class
+
+-- `PRINCIPAL`, and the class where it is written out
+abbrev pub entrant_text : Entrant → List ℕ
+entrant_text entrant = principal_text entrant.who ++ class_part entrant.authorization
+
 abbrev pub row_text : Row → List ℕ
-row_text row.Header = codes "multics 1"
+row_text (row.Header version) = codes "multics " ++ decimal version
 row_text (row.History limit) = codes "history " ++ decimal limit
 row_text (row.Line line) = line_text line
-row_text (row.Process principal) = codes "process " ++ principal_text principal
+row_text (row.Process entrant) = codes "process " ++ entrant_text entrant
 row_text row.End = codes "end"
 
 -- a request of the setup, as a line
@@ -60,25 +70,25 @@ history_rows None = []
 history_rows (Some limit) = row.History limit ∷ []
 
 -- header, limit and setup
-abbrev pub setup_rows : Option ℕ → List Request → List Row
-setup_rows history setup = row.Header ∷ history_rows history ++ map asked setup
+abbrev pub setup_rows : ℕ → Option ℕ → List Request → List Row
+setup_rows version history setup = row.Header version ∷ history_rows history ++ map asked setup
 
 -- each process's line, and then its script
-abbrev pub process_rows : List PlainPrincipal → List (List Line) → List Row
-process_rows (principal ∷ principals) (script ∷ scripts) =
-    row.Process principal ∷ map row.Line script ++ process_rows principals scripts
+abbrev pub process_rows : List Entrant → List (List Line) → List Row
+process_rows (entrant ∷ entrants) (script ∷ scripts) =
+    row.Process entrant ∷ map row.Line script ++ process_rows entrants scripts
 process_rows _ _ = []
 
 -- the lines of a session: header, limit, setup, processes, end
 abbrev pub rows_of : Outline → List Row
-rows_of x = setup_rows x.history x.setup ++ process_rows x.principals x.scripts ++ row.End ∷ []
+rows_of x = setup_rows x.version x.history x.setup ++ process_rows x.principals x.scripts ++ row.End ∷ []
 
 -- lines, each with its newline
 abbrev pub lines_text : List (List ℕ) → List ℕ
 lines_text [] = []
 lines_text (line ∷ lines) = line ++ 10 ∷ lines_text lines
 
--- what a line may say: requests, addresses, words, limits and principals of their grammar
+-- what a line may say: requests, addresses, words, versions, limits, principals and classes of their grammar
 abbrev pub fits_line : Line → Bool
 fits_line (Ask request) = fits_request request
 fits_line (Set word) = nat_lt word (2 ^ 36)
@@ -91,10 +101,10 @@ fits_line (Call operand) = is_address operand
 fits_line (Return operand) = is_address operand
 
 abbrev pub fits : Row → Bool
-fits row.Header = true
+fits (row.Header version) = is_version version
 fits (row.History limit) = is_history limit
 fits (row.Line line) = fits_line line
-fits (row.Process principal) = is_none (components_fault principal)
+fits (row.Process entrant) = is_none (components_fault entrant.who) && is_class entrant.authorization
 fits row.End = true
 
 abbrev pub session_text : Outline → List ℕ

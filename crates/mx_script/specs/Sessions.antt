@@ -1,14 +1,17 @@
 -- What a session consists of: its version, the journal's limit where it sets one, the setup's requests, and for each
--- process its principal and its script; and which of these are the parts of a session.
-use Rattle.std.specs.Prelude.{◌≡◌, ◌-◌, ◌<◌, ◌≤◌, ℕ, ◌+◌, ◌==◌, ◌^◌, nat_le, Bool, true, false, ◌&&◌, if◌then◌else◌, List, [], ◌∷◌, length, Option, Some, None}
+-- process its principal and authorization, and its script; and which of these are the parts of a session.
+use Rattle.std.specs.Prelude.{◌≡◌, ◌-◌, ◌<◌, ◌≤◌, ℕ, ◌+◌, ◌==◌, ◌^◌, nat_le, Bool, true, false, ◌&&◌, ◌||◌, if◌then◌else◌, List, [], ◌∷◌, length, Option, Some, None}
 use Rattle.std.specs.List.{list_all, sum_by}
+use Rattle.mx_aim.specs.Classes.{PlainClass, lowest, equals}
 use Rattle.mx_name.specs.Principals.{PlainPrincipal}
 use Rattle.mx_object.specs.Objects.{PlainObjectMap}
 use Rattle.mx_request.specs.declared.requests.Request.{Request}
-use Rattle.mx_request.specs.declared.requests.Request.TheVariants.{CreateDir, CreateSeg, CreateObject, CreateLink, Rename, Delete, SetAcl, DelAcl, SetBrackets, SetDirBrackets, Status, List as ListNames, ChangeWdir, SetRules, Initiate, Terminate, Wakeup, Block, Link, Resume, Logout}
+use Rattle.mx_request.specs.declared.requests.Request.TheVariants.{CreateSeg, CreateObject, Terminate, Wakeup, Logout}
 use Rattle.mx_request.specs.Classes.{class_of}
+use Rattle.mx_request.specs.Versions.{has_classes, since_version}
 use Rattle.mx_request.specs.declared.classes.RequestClass.{RequestClass}
 use Rattle.mx_request.specs.declared.classes.RequestClass.TheVariants.{OfPath, OfProcess, OfSupervisor}
+use Rattle.mx_request.specs.declared.entrants.Entrant.{Entrant}
 use Rattle.mx_script.specs.declared.lines.Base.{Base}
 use Rattle.mx_script.specs.declared.lines.Base.TheVariants.{Segment, Register}
 use Rattle.mx_script.specs.declared.lines.Line.{Line}
@@ -19,10 +22,10 @@ pub record Outline : Type 0 where
   pub version : ℕ
   pub history : Option ℕ
   pub setup : List Request
-  pub principals : List PlainPrincipal
+  pub principals : List Entrant
   pub scripts : List (List Line)
 
-abbrev pub outline : ℕ → Option ℕ → List Request → List PlainPrincipal → List (List Line) → Outline
+abbrev pub outline : ℕ → Option ℕ → List Request → List Entrant → List (List Line) → Outline
 outline version history setup principals scripts = record {
   version = version;
   history = history;
@@ -30,6 +33,10 @@ outline version history setup principals scripts = record {
   principals = principals;
   scripts = scripts;
 }
+
+-- the process of a principal, with this authorization
+abbrev pub entrant : PlainPrincipal → PlainClass → Entrant
+entrant who authorization = record { who = who; authorization = authorization }
 
 -- the word of a definition is at most octal 37777
 abbrev pub is_short_definition : List ℕ × ℕ → Bool
@@ -42,27 +49,11 @@ is_short_object object = nat_le object.gate 9999 && list_all is_short_definition
 -- WORDS has at most five digits, a segment number four octal ones, and a process to be woken up a number from 1 to 99;
 -- the types bound all other parts of a request
 abbrev pub is_short : Request → Bool
-is_short (CreateDir path d1 d2) = true
 is_short (CreateSeg path words brackets) = nat_le words 99999
 is_short (CreateObject path words brackets object) = nat_le words 99999 && is_short_object object
-is_short (CreateLink path target) = true
-is_short (Rename path name) = true
-is_short (Delete path) = true
-is_short (SetAcl path id modes) = true
-is_short (DelAcl path id) = true
-is_short (SetBrackets path brackets) = true
-is_short (SetDirBrackets path d1 d2) = true
-is_short (Status path) = true
-is_short (ListNames path) = true
-is_short (ChangeWdir path) = true
-is_short (SetRules rules) = true
-is_short (Initiate path name) = true
 is_short (Terminate segno) = nat_le segno 4095
 is_short (Wakeup to word) = nat_le 1 to && nat_le to 99
-is_short Block = true
-is_short (Link segno word) = true
-is_short Resume = true
-is_short Logout = true
+is_short _ = true
 
 -- the setup makes requests on paths
 abbrev pub is_for_setup : RequestClass → Bool
@@ -70,9 +61,9 @@ is_for_setup OfPath = true
 is_for_setup OfProcess = false
 is_for_setup OfSupervisor = false
 
--- what the setup may ask
-abbrev pub is_setup_request : Request → Bool
-is_setup_request request = is_for_setup (class_of request) && is_short request
+-- what the setup may ask in a session of a version
+abbrev pub is_setup_request : ℕ → Request → Bool
+is_setup_request version request = is_for_setup (class_of request) && (nat_le (since_version request) version && is_short request)
 
 -- a script asks for everything but what the supervisor enters for a process
 abbrev pub is_for_script : RequestClass → Bool
@@ -93,17 +84,17 @@ is_base (Register n) = is_register n
 abbrev pub is_address : Operand → Bool
 is_address operand = is_base operand.base && nat_le operand.word 16383
 
--- what a script may say
-abbrev pub is_script_line : Line → Bool
-is_script_line (Ask request) = is_for_script (class_of request) && is_short request
-is_script_line (Set word) = true
-is_script_line (Epp n operand) = is_register n && is_address operand
-is_script_line (Lda operand) = is_address operand
-is_script_line (Sta operand) = is_address operand
-is_script_line (Spri n operand) = is_register n && is_address operand
-is_script_line Fetch = true
-is_script_line (Call operand) = is_address operand
-is_script_line (Return operand) = is_address operand
+-- what a script may say in a session of a version
+abbrev pub is_script_line : ℕ → Line → Bool
+is_script_line version (Ask request) = is_for_script (class_of request) && (nat_le (since_version request) version && is_short request)
+is_script_line version (Set word) = true
+is_script_line version (Epp n operand) = is_register n && is_address operand
+is_script_line version (Lda operand) = is_address operand
+is_script_line version (Sta operand) = is_address operand
+is_script_line version (Spri n operand) = is_register n && is_address operand
+is_script_line version Fetch = true
+is_script_line version (Call operand) = is_address operand
+is_script_line version (Return operand) = is_address operand
 
 abbrev pub is_logout : Line → Bool
 is_logout (Ask Logout) = true
@@ -118,16 +109,22 @@ abbrev pub ends : List Line → Bool
 ends [] = false
 ends (line ∷ lines) = if is_logout line then is_last lines else ends lines
 
-abbrev pub is_script : List Line → Bool
-is_script lines = list_all is_script_line lines && ends lines
+abbrev pub is_script : ℕ → List Line → Bool
+is_script version lines = list_all (is_script_line version) lines && ends lines
 
 -- 1 to 15 processes, and as many scripts
 abbrev pub is_count : ℕ → ℕ → Bool
 is_count processes scripts = nat_le 1 processes && (nat_le processes 15 && (scripts == processes))
 
+-- without classes every process has the lowest
+abbrev pub is_entrant : ℕ → Entrant → Bool
+is_entrant version entrant = has_classes version || equals entrant.authorization lowest
+
 -- each process has its script
-abbrev pub are_processes : List PlainPrincipal → List (List Line) → Bool
-are_processes principals scripts = is_count (length principals) (length scripts) && list_all is_script scripts
+abbrev pub are_processes : ℕ → List Entrant → List (List Line) → Bool
+are_processes version principals scripts =
+    is_count (length principals) (length scripts)
+    && (list_all (is_entrant version) principals && list_all (is_script version) scripts)
 
 -- a limit of the journal that a session may set
 abbrev pub is_history : ℕ → Bool
@@ -137,11 +134,18 @@ abbrev pub is_limit : Option ℕ → Bool
 is_limit None = true
 is_limit (Some limit) = is_history limit
 
+-- the versions of sessions are 1 to 3
+abbrev pub greatest_version : ℕ
+greatest_version = 3
+
+abbrev pub is_version : ℕ → Bool
+is_version version = nat_le 1 version && nat_le version greatest_version
+
 -- these are the parts of a session
 abbrev pub is_session : Outline → Bool
 is_session x =
-    (x.version == 1) && (is_limit x.history
-    && (list_all is_setup_request x.setup && are_processes x.principals x.scripts))
+    is_version x.version && (is_limit x.history
+    && (list_all (is_setup_request x.version) x.setup && are_processes x.version x.principals x.scripts))
 
 -- the session of these parts
 abbrev pub session_of : Outline → Option Outline
@@ -164,13 +168,15 @@ limit_or_most (Some limit) = limit
 abbrev pub limit_of : Outline → ℕ
 limit_of x = limit_or_most x.history
 
--- What whoever runs a session rests on: a setup of requests on paths, 1 to 15 processes, for each its script, and line
--- numbers of 32 bits.
+-- What whoever runs a session rests on: a version, a setup of requests on paths, 1 to 15 processes, for each its script,
+-- authorizations and requests of the version, and line numbers of 32 bits.
 pub record IsSession (x : Outline) : Type 0 where
-  pub setup : list_all is_setup_request x.setup ≡ true
+  pub version : is_version x.version ≡ true
+  pub setup : list_all (is_setup_request x.version) x.setup ≡ true
+  pub entrants : list_all (is_entrant x.version) x.principals ≡ true
   pub some : 1 ≤ length x.principals
   pub most : length x.principals ≤ 15
   pub scripts : length x.scripts ≡ length x.principals
-  pub each : list_all is_script x.scripts ≡ true
+  pub each : list_all (is_script x.version) x.scripts ≡ true
   pub limit : limit_of x ≤ 262143
   pub lines : line_count x < 2 ^ 32 - 1

@@ -1,27 +1,51 @@
-//! Whether requests, principals and scripts are those of a session.
+//! Whether a version, requests, processes and scripts are those of a session.
 
-ghost use Rattle.std.specs.Prelude.{◌≡◌, ◌&&◌};
+ghost use Rattle.std.specs.Prelude.{◌≡◌, ◌&&◌, nat_le};
 ghost use Rattle.std.specs.List.{list_all};
-ghost use Rattle.mx_script.specs.Sessions.{is_short, is_short_object, is_short_definition, is_for_setup, is_for_script, is_setup_request, are_processes, is_count, is_history, is_limit, is_script, is_script_line, ends, is_logout, is_register, is_base, is_address};
-ghost use Rattle.mx_script.specs.Drafts.{may_stand};
+ghost use Rattle.mx_script.specs.Sessions.{is_short, is_short_object, is_short_definition, is_for_setup, is_for_script, is_setup_request, is_entrant, are_processes, is_count, is_version, is_history, is_limit, is_script, is_script_line, ends, is_logout, is_register, is_base, is_address};
+ghost use Rattle.mx_script.specs.Drafts.{may_prepare, may_stand};
 
 use crate::lines::{Base, Line, Operand, Script};
-use mx_name::{EntryName, Principal};
+use mx_aim::Class;
+use mx_name::EntryName;
 use mx_object::ObjectMap;
-use mx_request::{Request, RequestClass};
+use mx_request::{Entrant, Request, RequestClass, has_classes};
 
-/// Whether a setup may ask all this.
-pub(crate) fn is_setup(setup: &[Request]) -> bool
-    ensures { result ≡ list_all is_setup_request setup.now }
+/// The greatest version of a session.
+const GREATEST_VERSION: u8 = 3;
+
+/// Whether sessions have this version.
+pub(crate) fn is_version(version: u8) -> bool
+    ensures { result ≡ is_version version }
+{
+    1 <= version && version <= GREATEST_VERSION
+}
+
+/// Whether a setup may ask all this in a session of the version.
+pub(crate) fn is_setup(version: u8, setup: &[Request]) -> bool
+    ensures { result ≡ list_all (is_setup_request version) setup.now }
 {
     setup.iter().all(
         |request: &Request| -> bool
-            ensures { result ≡ is_setup_request request.now }
-        { is_for_setup(request.class()) && is_short(request) },
+            ensures { result ≡ is_setup_request version request.now }
+        { is_setup_request(version, request) },
     )
 }
 
-pub(crate) fn is_for_setup(class: RequestClass) -> bool
+fn is_setup_request(version: u8, request: &Request) -> bool
+    ensures { result ≡ is_setup_request version request.now }
+{
+    is_for_setup(request.class()) && request.since_version() <= version && is_short(request)
+}
+
+/// Whether a setup may hold the request.
+pub(crate) fn may_prepare(version: u8, request: &Request) -> bool
+    ensures { result ≡ may_prepare version request.now }
+{
+    is_for_setup(request.class()) && request.since_version() <= version
+}
+
+fn is_for_setup(class: RequestClass) -> bool
     ensures { result ≡ is_for_setup class }
 {
     match class {
@@ -54,8 +78,11 @@ fn is_short(request: &Request) -> bool
         | Request::Delete { .. }
         | Request::SetAcl { .. }
         | Request::DelAcl { .. }
+        | Request::SetIacl { .. }
+        | Request::DelIacl { .. }
         | Request::SetBrackets { .. }
         | Request::SetDirBrackets { .. }
+        | Request::SetClass { .. }
         | Request::Status { .. }
         | Request::List { .. }
         | Request::ChangeWdir { .. }
@@ -85,11 +112,30 @@ fn are_short_definitions(definitions: &[(EntryName, u16)]) -> bool
     )
 }
 
-/// Whether these are 1 to 15 processes, with a script each.
-pub(crate) fn are_processes(principals: &[Principal], scripts: &[Script]) -> bool
-    ensures { result ≡ are_processes principals.now scripts.now }
+/// Whether these are 1 to 15 processes, with authorizations of the version and a script each.
+pub(crate) fn are_processes(version: u8, entrants: &[Entrant], scripts: &[Script]) -> bool
+    ensures { result ≡ are_processes version entrants.now scripts.now }
 {
-    is_count(principals.len(), scripts.len()) && are_all_scripts(scripts)
+    is_count(entrants.len(), scripts.len())
+        && are_entrants(version, entrants)
+        && are_all_scripts(version, scripts)
+}
+
+fn are_entrants(version: u8, entrants: &[Entrant]) -> bool
+    ensures { result ≡ list_all (is_entrant version) entrants.now }
+{
+    entrants.iter().all(
+        |entrant: &Entrant| -> bool
+            ensures { result ≡ is_entrant version entrant.now }
+        { is_entrant(version, entrant) },
+    )
+}
+
+/// Whether a session of the version may have the process. Without classes each has the lowest.
+pub(crate) fn is_entrant(version: u8, entrant: &Entrant) -> bool
+    ensures { result ≡ is_entrant version entrant.now }
+{
+    has_classes(version) || entrant.authorization.equals(&Class::lowest())
 }
 
 fn is_count(processes: usize, scripts: usize) -> bool
@@ -98,13 +144,13 @@ fn is_count(processes: usize, scripts: usize) -> bool
     1 <= processes && processes <= 15 && scripts == processes
 }
 
-fn are_all_scripts(scripts: &[Script]) -> bool
-    ensures { result ≡ list_all is_script scripts.now }
+fn are_all_scripts(version: u8, scripts: &[Script]) -> bool
+    ensures { result ≡ list_all (is_script version) scripts.now }
 {
     scripts.iter().all(
         |script: &Script| -> bool
-            ensures { result ≡ is_script script.now }
-        { is_script(script.items()) },
+            ensures { result ≡ is_script version script.now }
+        { is_script(version, script.items()) },
     )
 }
 
@@ -124,19 +170,19 @@ pub(crate) fn is_history(limit: u32) -> bool
     1 <= limit && limit <= 262_143
 }
 
-fn is_script(lines: &[Line]) -> bool
-    ensures { result ≡ is_script lines.now }
+fn is_script(version: u8, lines: &[Line]) -> bool
+    ensures { result ≡ is_script version lines.now }
 {
-    are_script_lines(lines) && ends(lines)
+    are_script_lines(version, lines) && ends(lines)
 }
 
-fn are_script_lines(lines: &[Line]) -> bool
-    ensures { result ≡ list_all is_script_line lines.now }
+fn are_script_lines(version: u8, lines: &[Line]) -> bool
+    ensures { result ≡ list_all (is_script_line version) lines.now }
 {
     lines.iter().all(
         |line: &Line| -> bool
-            ensures { result ≡ is_script_line line.now }
-        { is_script_line(line) },
+            ensures { result ≡ is_script_line version line.now }
+        { is_script_line(version, line) },
     )
 }
 
@@ -155,13 +201,15 @@ fn ends(lines: &[Line]) -> bool
     is_logout(last)
 }
 
-fn is_script_line(line: &Line) -> bool
-    ensures { result ≡ is_script_line line.now }
+fn is_script_line(version: u8, line: &Line) -> bool
+    ensures { result ≡ is_script_line version line.now }
 {
     match line {
         Line::Ask(boxed) => {
             let request = boxed.request();
-            is_for_script(request.class()) && is_short(request)
+            is_for_script(request.class())
+                && request.since_version() <= version
+                && is_short(request)
         }
         Line::Set { .. } => true,
         Line::Epp { n, operand } => is_register(*n) && is_address(operand),
@@ -174,12 +222,15 @@ fn is_script_line(line: &Line) -> bool
     }
 }
 
-/// Whether a script may hold the line.
-pub(crate) fn may_stand(line: &Line) -> bool
-    ensures { result ≡ may_stand line.now }
+/// Whether a script may hold the line in a session of the version.
+pub(crate) fn may_stand(version: u8, line: &Line) -> bool
+    ensures { result ≡ may_stand version line.now }
 {
     match line {
-        Line::Ask(request) => is_for_script(request.request().class()),
+        Line::Ask(boxed) => {
+            let request = boxed.request();
+            is_for_script(request.class()) && request.since_version() <= version
+        }
         Line::Set { .. } => true,
         Line::Epp { .. } => true,
         Line::Lda { .. } => true,

@@ -4,18 +4,14 @@ ghost use Rattle.std.specs.Prelude.{◌≡◌, ◌<◌, ◌≤◌, ◌-◌, ◌^
 ghost use Rattle.mx_script.specs.Sessions.{line_count, limit_of};
 
 use crate::lines::Scripts;
-use crate::outlines::{are_processes, is_limit, is_setup};
-use mx_list::Sequence;
-use mx_name::Principal;
+use crate::outlines::{are_processes, is_limit, is_setup, is_version};
+use crate::principals::Principals;
 use mx_request::Requests;
 use std::marker::Model;
 
-/// The principals of processes 1, 2, .. in order.
-pub type Principals = Sequence<Principal>;
-
-/// A session: the journal's limit where it sets one, what its setup asks for, and for each process its principal and its
-/// script. A value always has a setup of requests on paths, and 1 to 15 processes with a script each, which ends with its
-/// logout.
+/// A session: its version, the journal's limit where it sets one, what its setup asks for, and for each process its
+/// principal, its authorization and its script. A value always has a version from 1 to 3, a setup of requests on paths, and 1
+/// to 15 processes with a script each, which ends with its logout; authorizations and requests are those of the version.
 #[derive(Drop)]
 pub struct Session {
     version: u8,
@@ -38,8 +34,9 @@ impl Model for Session {
 impl Session {
     ghost use Rattle.mx_script.specs.Sessions.{outline, session_of, IsSession};
 
-    /// The session of these parts, with 1 to 15 processes and a limit of 1 to 262,143 entries if any; `None` exactly where
-    /// they are not those of a session. Takes no memory.
+    /// The session of these parts, with a version from 1 to 3, 1 to 15 processes and a limit of 1 to 262,143 entries if any;
+    /// `None` exactly where they are not those of a session. A class other than the lowest is of version 2 on, and so is each
+    /// request of its own version. Takes no memory.
     pub fn new(
         version: u8,
         history: Option<u32>,
@@ -50,10 +47,10 @@ impl Session {
         requires { line_count (outline version history setup principals scripts) < 2 ^ 32 - 1 }
         ensures { result ≡ session_of (outline version history setup principals scripts) }
     {
-        if version == 1
+        if is_version(version)
             && is_limit(history)
-            && is_setup(setup.items())
-            && are_processes(principals.items(), scripts.items())
+            && is_setup(version, setup.items())
+            && are_processes(version, principals.items(), scripts.items())
         {
             Some(Session {
                 version,
@@ -67,7 +64,7 @@ impl Session {
         }
     }
 
-    /// The version of the session text, 1 so far.
+    /// The version of the session, from 1 to 3.
     pub fn version(&self) -> u8
         ensures { result ≡ self.now.version }
     {
@@ -88,7 +85,7 @@ impl Session {
         &self.setup
     }
 
-    /// The principals of the processes.
+    /// The processes, as the session brings them in.
     pub fn principals(&self) -> &Principals
         ensures value { result.now ≡ self.now.principals }
         ensures some { 1 ≤ length result.now }

@@ -8,7 +8,8 @@ use Rattle.mx_legal.specs.Settings.{entry_at}
 use Rattle.mx_request.specs.declared.replies.Reply.{Reply}
 use Rattle.mx_request.specs.declared.requests.Request.{Request}
 use Rattle.mx_script.specs.Sessions.{Outline, limit_of}
-use Rattle.mx_state.specs.History.{opening, replay, IsRight, IsRightEntry}
+use Rattle.mx_legal.specs.Opened.{opening_of}
+use Rattle.mx_state.specs.History.{replay, IsRight, IsRightEntry}
 use Rattle.mx_state.specs.Plain.{Plain, answer}
 use Rattle.mx_state.specs.Requests.{plain}
 use Rattle.mx_state.specs.declared.journal.Entry as journaled
@@ -40,16 +41,16 @@ pub kept_more : (x : Outline) (s s' : Plain) (journal journal' : List journaled.
 kept_more x s s' journal journal' entry k below some most told same more =
     let h = k.history in
     let n : length journal' ≡ length journal + 1 = ap length more ∙ length-append journal (entry ∷ []) in
-    let here : IsRightEntry (replay (opening x.principals) journal) entry = right_entry x s s' journal entry k some most told in
+    let here : IsRightEntry (replay (opening_of x) journal) entry = right_entry x s s' journal entry k some most told in
     record {
       session = k.session;
       state =
           sym (ap (λ a. a.state) told) ∙ ap (λ (p : Plain). (plain p entry.process entry.ring entry.request).state) k.state
-          ∙ sym (replay_more (opening x.principals) journal entry) ∙ ap (replay (opening x.principals)) (sym more);
+          ∙ sym (replay_more (opening_of x) journal entry) ∙ ap (replay (opening_of x)) (sym more);
       processes = same ∙ k.processes;
       history = record {
         within_limit = omega (arith, n, below);
-        right = subst (IsRight (opening x.principals)) (sym more) (right_more (opening x.principals) journal entry h.right here);
+        right = subst (IsRight (opening_of x)) (sym more) (right_more (opening_of x) journal entry h.right here);
         begun = let b = h.begun in omega (arith, n, b);
         setup_first =
             ap (λ (j : List journaled.Entry). take (setup_entries x) (map call_of j)) more
@@ -66,7 +67,7 @@ kept_more x s s' journal journal' entry k below some most told same more =
   where
     right_entry : (x : Outline) (s s' : Plain) (journal : List journaled.Entry) (entry : journaled.Entry) → IsKept x s journal
         → 1 ≤ entry.process → entry.process ≤ length x.principals → plain s entry.process entry.ring entry.request ≡ answer entry.reply s'
-        → IsRightEntry (replay (opening x.principals) journal) entry
+        → IsRightEntry (replay (opening_of x) journal) entry
     right_entry x s s' journal entry k some most told = subst (λ (p : Plain). IsRightEntry p entry) k.state
         (record {
           maker = (let n = k.processes in omega (arith, n, most), λ zero. absurd (omega (arith, some, zero)));

@@ -24,7 +24,8 @@ use Rattle.mx_request.specs.declared.requests.Request.{Request}
 use Rattle.mx_script.specs.Sessions.{Outline, limit_of}
 use Rattle.mx_script.specs.declared.lines.Line.TheVariants.{Ask}
 use Rattle.mx_state.specs.declared.journal.Entry as journaled
-use Rattle.mx_state.specs.History.{opening, IsRight}
+use Rattle.mx_legal.specs.Opened.{opening_of}
+use Rattle.mx_state.specs.History.{IsRight}
 use Rattle.mx_state.specs.Plain.{Plain}
 use Rattle.mx_state.specs.Requests.{plain}
 use Rattle.mx_sup.specs.Setups.{setup_step, setup_steps, setup_part}
@@ -202,12 +203,12 @@ are_last g s (entry ∷ entries) (request ∷ requests) right calls = (
 )
 
 pub part_is_set_up : (x : Outline) (journal : List journaled.Entry) → length journal ≡ setup_entries x
-    → map call_of journal ≡ take (setup_entries x) (map setup_call x.setup) → IsRight (opening x.principals) journal
+    → map call_of journal ≡ take (setup_entries x) (map setup_call x.setup) → IsRight (opening_of x) journal
     → IsSetUp x journal (setup_part x journal)
 part_is_set_up x journal n c right =
     let first = first_line x 0 in
     let calls = are_calls journal x.setup (setup_entries x) n c in
-    let last = are_last (opening_registers 0) (opening x.principals) journal x.setup right calls in
+    let last = are_last (opening_registers 0) (opening_of x) journal x.setup right calls in
     record {
       after = opening_registers 0;
       lines = λ d agrees.

@@ -23,6 +23,7 @@ use Rattle.mx_request.specs.declared.replies.Reply.{Reply}
 use Rattle.mx_request.specs.declared.replies.Reply.TheVariants as reply
 use Rattle.mx_request.specs.declared.requests.Request.{Request}
 use Rattle.mx_request.specs.declared.requests.Request.TheVariants as ask
+use Rattle.mx_state.specs.Shown.{shown}
 use Rattle.mx_state.specs.Askers.{Asker, Initializer, Process, Nobody, asker, answered_caller, answered_process}
 use Rattle.mx_state.specs.Connecting.{Connected}
 use Rattle.mx_state.specs.Knowing.{given, link_by, link_to, link_towards, linked, terminate}
@@ -110,10 +111,13 @@ only_block_waits s p ring (ask.Rename path name) e = absurd (by_caller s (asker 
 only_block_waits s p ring (ask.Delete path) e = absurd (by_caller s (asker s.processes p) ring _ (λ who. change_never s _) e)
 only_block_waits s p ring (ask.SetAcl path id modes) e = absurd (by_caller s (asker s.processes p) ring _ (λ who. change_never s _) e)
 only_block_waits s p ring (ask.DelAcl path id) e = absurd (by_caller s (asker s.processes p) ring _ (λ who. change_never s _) e)
+only_block_waits s p ring (ask.SetIacl path kind id modes) e = absurd (by_caller s (asker s.processes p) ring _ (λ who. change_never s _) e)
+only_block_waits s p ring (ask.DelIacl path kind id) e = absurd (by_caller s (asker s.processes p) ring _ (λ who. change_never s _) e)
+only_block_waits s p ring (ask.SetClass path class) e = absurd (by_caller s (asker s.processes p) ring _ (λ who. change_never s _) e)
 only_block_waits s p ring (ask.SetBrackets path brackets) e = absurd (by_caller s (asker s.processes p) ring _ (λ who. change_never s _) e)
 only_block_waits s p ring (ask.SetDirBrackets path d1 d2) e = absurd (by_caller s (asker s.processes p) ring _ (λ who. change_never s _) e)
 only_block_waits s p ring (ask.Status path) e =
-    absurd (by_caller s (asker s.processes p) ring _ (λ who. told_never s reply.Status _ (λ value h. cc)) e)
+    absurd (by_caller s (asker s.processes p) ring _ (λ who. told_never s (λ status. reply.Status (shown s.version status)) _ (λ value h. cc)) e)
 only_block_waits s p ring (ask.List path) e =
     absurd (by_caller s (asker s.processes p) ring _ (λ who. told_never s reply.Names _ (λ value h. cc)) e)
 only_block_waits s p ring (ask.ChangeWdir path) e =

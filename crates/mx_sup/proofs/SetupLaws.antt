@@ -9,7 +9,8 @@ use Rattle.mx_legal.specs.Transcripts.{Step}
 use Rattle.mx_request.specs.declared.replies.Reply.{Reply}
 use Rattle.mx_request.specs.declared.requests.Request.{Request}
 use Rattle.mx_script.specs.Sessions.{Outline, IsSession}
-use Rattle.mx_state.specs.History.{opening, replay, IsRight, IsRightEntry, MayAsk}
+use Rattle.mx_legal.specs.Opened.{opening_of}
+use Rattle.mx_state.specs.History.{replay, IsRight, IsRightEntry, MayAsk}
 use Rattle.mx_state.specs.Plain.{Plain, answer}
 use Rattle.mx_state.specs.Requests.{plain}
 use Rattle.mx_state.specs.declared.journal.Entry as journaled
@@ -31,13 +32,13 @@ pub set_up_on : (x : Outline) (count : ℕ) (state state' : Plain) (journal jour
     → HasSetUp x count state journal → HasSetUp x (count + 1) state' journal'
 set_up_on x count state state' journal journal' request at is before =
     let entry : journaled.Entry = setup_entry request is.reply in
-    let here : IsRightEntry (replay (opening x.principals) journal) entry = subst (λ s. IsRightEntry s entry) before.state is.right in
+    let here : IsRightEntry (replay (opening_of x) journal) entry = subst (λ s. IsRightEntry s entry) before.state is.right in
     record {
       many = ap length is.entry ∙ length-append journal (entry ∷ []) ∙ ap (λ n. n + 1) before.many;
-      right = subst (IsRight (opening x.principals)) (sym is.entry) (right_more (opening x.principals) journal entry before.right here);
+      right = subst (IsRight (opening_of x)) (sym is.entry) (right_more (opening_of x) journal entry before.right here);
       state =
           is.state ∙ ap (λ (s : Plain). (plain s 0 0 request).state) before.state
-          ∙ sym (replay_more (opening x.principals) journal entry) ∙ ap (replay (opening x.principals)) (sym is.entry);
+          ∙ sym (replay_more (opening_of x) journal entry) ∙ ap (replay (opening_of x)) (sym is.entry);
       processes = is.processes ∙ before.processes;
       calls =
           ap (map call_of) is.entry ∙ map-append call_of journal (entry ∷ [])

@@ -10,7 +10,8 @@ use Rattle.mx_legal.specs.declared.transcripts.Result2.TheVariants.{HistoryFull}
 use Rattle.mx_request.specs.declared.replies.Reply.{Reply}
 use Rattle.mx_request.specs.declared.requests.Request.{Request}
 use Rattle.mx_script.specs.Sessions.{Outline}
-use Rattle.mx_state.specs.History.{opening, replay, IsRight, IsRightEntry}
+use Rattle.mx_legal.specs.Opened.{opening_of}
+use Rattle.mx_state.specs.History.{replay, IsRight, IsRightEntry}
 use Rattle.mx_state.specs.Plain.{Plain}
 use Rattle.mx_state.specs.Requests.{plain}
 use Rattle.mx_state.specs.declared.journal.Entry as journaled
@@ -37,8 +38,8 @@ setup_step first place events (Some entry) =
 -- the first so many requests of the setup were entered
 pub record HasSetUp (x : Outline) (count : ℕ) (now : Plain) (journal : List journaled.Entry) : Type 0 where
   pub many : length journal ≡ count
-  pub right : IsRight (opening x.principals) journal
-  pub state : now ≡ replay (opening x.principals) journal
+  pub right : IsRight (opening_of x) journal
+  pub state : now ≡ replay (opening_of x) journal
   pub processes : length now.processes ≡ length x.principals
   pub calls : map call_of journal ≡ take count (map setup_call x.setup)
 

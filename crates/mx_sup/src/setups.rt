@@ -3,8 +3,9 @@
 ghost use Rattle.std.specs.Prelude.{◌≡◌, ◌<◌, ◌+◌, ◌^◌, [], ◌∷◌, ◌++◌, IsTrue, IfOk, OnOk, slice_get, vec_capacity, vec_len};
 ghost use Rattle.std.specs.Option.{option_map};
 ghost use Rattle.mx_legal.specs.Legal.{setup_entries};
+ghost use Rattle.mx_legal.specs.Opened.{opening_of};
 ghost use Rattle.mx_script.specs.Sessions.{IsSession};
-ghost use Rattle.mx_state.specs.History.{opening, MayAsk};
+ghost use Rattle.mx_state.specs.History.{MayAsk};
 ghost use Rattle.mx_sup.specs.Setups.{HasSetUp, IsEntered, setup_step, setup_part};
 
 use crate::answering::answered;
@@ -22,7 +23,7 @@ pub(crate) fn enter_setup(
     state: &mut State,
 ) -> Result<Vec<Entry>, AllocError>
     requires session { IsSession session.now }
-    requires opening { state.old ≡ opening session.now.principals }
+    requires opening { state.old ≡ opening_of session.now }
     ensures { IfOk result (λ journal. HasSetUp session.now (setup_entries session.now) state.new journal.items) }
 {
     let requests = session.setup().items();

@@ -73,7 +73,7 @@ impl<'a> Supervisor<'a> {
     {
         // Each session has a script for each process.
         let _scripts = session.scripts();
-        let mut state = State::new(alloc, session.principals().items())?;
+        let mut state = State::new(alloc, session.principals().items(), session.version())?;
         let journal = enter_setup(alloc, session, &mut state)?;
         let part = setup_part(alloc, session, &journal)?;
         let supervisor = Supervisor {

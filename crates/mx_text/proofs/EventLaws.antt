@@ -10,7 +10,7 @@ use Rattle.mx_name.specs.Cuts.{cut_at}
 use Rattle.mx_name.specs.Names.{is_free, is_name_byte}
 use Rattle.mx_sdw.proofs.OctalLaws.{octal_value-octal}
 use Rattle.mx_sdw.specs.declared.denials.Denial.{Denial}
-use Rattle.mx_sdw.specs.declared.denials.Denial.TheVariants.{UnknownSegment, NoSegment, OutOfBounds, NotReadable, ReadBracket, NotWritable, WriteBracket, NotExecutable, ExecuteBracket, CallBracket, UpwardCall, Gate, RaisedRing, BadReturn, NotPointer, IndirectLimit}
+use Rattle.mx_sdw.specs.declared.denials.Denial.TheVariants.{UnknownSegment, NoSegment, OutOfBounds, NotReadable, ReadBracket, NotWritable, WriteBracket, NotExecutable, ExecuteBracket, CallBracket, UpwardCall, Gate, RaisedRing, BadReturn, NotPointer, IndirectLimit, AimRead, AimWrite}
 use Rattle.mx_sdw.specs.Denials.{denial_text}
 use Rattle.mx_sdw.specs.Octal.{octal, octal_value}
 use Rattle.mx_core.specs.declared.elements.Element.{Element}
@@ -66,7 +66,8 @@ result_fields result.HistoryFull = codes "history_full" ∷ []
 abbrev all_denials : List Denial
 all_denials =
     UnknownSegment ∷ NoSegment ∷ OutOfBounds ∷ NotReadable ∷ ReadBracket ∷ NotWritable ∷ WriteBracket ∷ NotExecutable
-    ∷ ExecuteBracket ∷ CallBracket ∷ UpwardCall ∷ Gate ∷ RaisedRing ∷ BadReturn ∷ NotPointer ∷ IndirectLimit ∷ []
+    ∷ ExecuteBracket ∷ CallBracket ∷ UpwardCall ∷ Gate ∷ RaisedRing ∷ BadReturn ∷ NotPointer ∷ IndirectLimit
+    ∷ AimRead ∷ AimWrite ∷ []
 
 abbrev denial_at : List ℕ → Option Denial
 denial_at text = find (λ denial. pointwise ◌==◌ text (denial_text denial)) all_denials
@@ -88,6 +89,8 @@ denial_again RaisedRing = refl
 denial_again BadReturn = refl
 denial_again NotPointer = refl
 denial_again IndirectLimit = refl
+denial_again AimRead = refl
+denial_again AimWrite = refl
 
 denial_bytes : (denial : Denial) → list_all is_name_byte (denial_text denial) ≡ true
 denial_bytes UnknownSegment = refl
@@ -106,6 +109,8 @@ denial_bytes RaisedRing = refl
 denial_bytes BadReturn = refl
 denial_bytes NotPointer = refl
 denial_bytes IndirectLimit = refl
+denial_bytes AimRead = refl
+denial_bytes AimWrite = refl
 
 abbrev kind_at : List ℕ → Option Kind
 kind_at text =

@@ -41,10 +41,10 @@ both_of : {A : Type 0} (x y : A) (xs ys : List A) → x ≡ y → xs ≡ ys → 
 both_of x y xs ys e f = cc
 
 blank : IsApart 32
-blank = record { no_name = refl; no_digit = refl; no_octal = refl; no_letter = refl; no_mark = refl; no_bar = refl }
+blank = record { no_name = refl; no_digit = refl; no_octal = refl; no_letter = refl; no_mark = refl; no_bar = refl; no_colon = refl }
 
 newline : IsApart 10
-newline = record { no_name = refl; no_digit = refl; no_octal = refl; no_letter = refl; no_mark = refl; no_bar = refl }
+newline = record { no_name = refl; no_digit = refl; no_octal = refl; no_letter = refl; no_mark = refl; no_bar = refl; no_colon = refl }
 
 -- the lines of a run, each without its newline
 abbrev entry_line : ℕ → journaled.Entry → List ℕ

@@ -3,7 +3,8 @@ use Rattle.std.proofs.Common.{◌≡◌, ◌≢◌, inl, inr, ℕ, zero, suc, �
 use Rattle.std.specs.List.{slice_get}
 use Rattle.std.proofs.lemmas.Bool.{cases_eq}
 use Rattle.std.proofs.lemmas.List.{map-append, append-nil, take-append-le, length-append, length-map}
-use Rattle.mx_state.specs.History.{opening, replay, IsRight, IsRightEntry}
+use Rattle.mx_legal.specs.Opened.{opening_of}
+use Rattle.mx_state.specs.History.{replay, IsRight, IsRightEntry}
 use Rattle.mx_state.specs.Plain.{Plain}
 use Rattle.mx_state.specs.Requests.{plain}
 use Rattle.mx_state.specs.declared.journal.Entry as journaled
@@ -61,7 +62,7 @@ module _ (x : Outline) (setup : List journaled.Entry) (history : List Marked) (v
     (closed : IsClosed x setup history views) (some : 1 ≤ p) (most : p ≤ length x.principals)
     (own : marked.entry.process ≡ p)
     (room : length (followed setup history) < limit_of x)
-    (right : IsRightEntry (replay (opening x.principals) (followed setup history)) marked.entry)
+    (right : IsRightEntry (replay (opening_of x) (followed setup history)) marked.entry)
     (within : (u i : ℕ) (j : Judged) → slice_get (views u).trace i ≡ Some (Referred j)
     → j.element.point ≤ length (followed setup history))
     (mine : views' p ≡ entered_view (views p) (history ++ marked ∷ []) (length (followed setup history) + 1))
@@ -141,8 +142,8 @@ module _ (x : Outline) (setup : List journaled.Entry) (history : List Marked) (v
   pub still_closed : IsClosed x setup (history ++ marked ∷ []) views'
   still_closed = record {
     within_limit = let l = longer in omega arith;
-    right = subst (IsRight (opening x.principals)) (sym grown)
-        (right_more (opening x.principals) journal marked.entry closed.right right);
+    right = subst (IsRight (opening_of x)) (sym grown)
+        (right_more (opening_of x) journal marked.entry closed.right right);
     setup_first =
         ap (λ (j : List journaled.Entry). take (setup_entries x) (map call_of j)) grown
         ∙ ap (λ (c : List Call). take (setup_entries x) c) (map-append call_of journal (marked.entry ∷ []))

@@ -4,7 +4,8 @@ use Rattle.std.specs.List.{slice_get}
 use Rattle.std.proofs.lemmas.Bool.{cases_eq}
 use Rattle.std.proofs.lemmas.List.{append-nil, map-append, length-append, length-map}
 use Rattle.mx_state.specs.declared.journal.Entry as journaled
-use Rattle.mx_state.specs.History.{opening, replay, IsRight, IsRightEntry}
+use Rattle.mx_legal.specs.Opened.{opening_of}
+use Rattle.mx_state.specs.History.{replay, IsRight, IsRightEntry}
 use Rattle.mx_script.specs.Sessions.{Outline, limit_of}
 use Rattle.mx_core.specs.declared.elements.Outcome.{Outcome}
 use Rattle.mx_core.specs.declared.elements.Outcome.TheVariants as outcome
@@ -59,7 +60,7 @@ module _ (x : Outline) (setup : List journaled.Entry) (history : List Marked) (v
     (b : IsBench x setup history views present memory) (some : 1 ≤ p) (most : p ≤ length x.principals)
     (own : marked.entry.process ≡ p)
     (mark : marked.mark ≡ length (views p).trace) (room : length (followed setup history) < limit_of x)
-    (right : IsRightEntry (replay (opening x.principals) (followed setup history)) marked.entry)
+    (right : IsRightEntry (replay (opening_of x) (followed setup history)) marked.entry)
     (fresh : (cell : CellUse) → IsTrue (present' cell)
     → IsTrue (present cell) ⊎ IsNew (traces views) cell (memory cell))
     (mine : views' p ≡ entered_view (views p) (history ++ marked ∷ []) (length (followed setup history) + 1))
@@ -249,7 +250,7 @@ pub bench_opening_law : BenchOpeningLaw
 bench_opening_law x setup within right first long makers = record {
   closed = record {
     within_limit = subst (λ (l : List journaled.Entry). length l ≤ limit_of x) (sym (append-nil setup)) within;
-    right = subst (IsRight (opening x.principals)) (sym (append-nil setup)) right;
+    right = subst (IsRight (opening_of x)) (sym (append-nil setup)) right;
     setup_first = ap (λ (l : List journaled.Entry). take (setup_entries x) (map call_of l)) (append-nil setup) ∙ first;
     setup_length = long;
     setup_makers = makers;

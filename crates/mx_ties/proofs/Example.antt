@@ -7,7 +7,8 @@ use Rattle.mx_sdw.specs.declared.operations.Op.TheVariants as op
 use Rattle.mx_call.specs.Registers.{Registers}
 use Rattle.mx_request.specs.declared.requests.Request.TheVariants as ask
 use Rattle.mx_request.specs.declared.replies.Reply.TheVariants as reply
-use Rattle.mx_script.specs.Sessions.{Outline}
+use Rattle.mx_aim.specs.Classes.{lowest}
+use Rattle.mx_script.specs.Sessions.{Outline, entrant}
 use Rattle.mx_script.specs.declared.lines.Base.TheVariants.{Segment}
 use Rattle.mx_script.specs.declared.lines.Line.{Line}
 use Rattle.mx_script.specs.declared.lines.Line.TheVariants as line
@@ -46,7 +47,7 @@ x = record {
   version = 1;
   history = None;
   setup = [];
-  principals = record { person = codes "Jones"; project = codes "Faculty"; tag = codes "a" } ∷ [];
+  principals = entrant (record { person = codes "Jones"; project = codes "Faculty"; tag = codes "a" }) lowest ∷ [];
   scripts = (sta ∷ logout ∷ []) ∷ [];
 }
 

@@ -3,7 +3,8 @@ use Rattle.std.proofs.Common.{◌≡◌, inl, inr, ℕ, zero, suc, ◌+◌, ◌<
 use Rattle.std.specs.List.{slice_get}
 use Rattle.std.proofs.lemmas.Bool.{cases_lt}
 use Rattle.std.proofs.lemmas.List.{map-append, take-append-le, length-append, length-map}
-use Rattle.mx_state.specs.History.{opening, replay}
+use Rattle.mx_legal.specs.Opened.{opening_of}
+use Rattle.mx_state.specs.History.{replay}
 use Rattle.mx_state.specs.Table.{descriptor}
 use Rattle.mx_state.specs.declared.journal.Entry as journaled
 use Rattle.mx_script.specs.Sessions.{Outline}
@@ -57,7 +58,7 @@ followed_length setup history = length-append setup (map entry_in history)
 pub descriptor_kept : (x : Outline) (own more : List journaled.Entry) (point p segno : ℕ) → point ≤ length own
     → descriptor_at x (own ++ more) point p segno ≡ descriptor_at x own point p segno
 descriptor_kept x own more point p segno under =
-    ap (λ (entries : List journaled.Entry). descriptor (replay (opening x.principals) entries) p segno)
+    ap (λ (entries : List journaled.Entry). descriptor (replay (opening_of x) entries) p segno)
     (take-append-le point own more under)
 
 pub changed_front : (x : Outline) (own more : List journaled.Entry) (p segno by : ℕ) → by ≤ length own

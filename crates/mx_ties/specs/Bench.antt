@@ -1,7 +1,8 @@
 -- Under one lock: the journal is the bench's, cells hold what they should, and what is closed now is still so after a
 -- step of process p. Nothing is said of what other processes have run: it does not change.
 use Rattle.std.specs.Prelude.{Bool, true, IsTrue, map, take, ◌≡◌, ◌≢◌, ◌⊎◌, ℕ, suc, ◌+◌, ◌<◌, ◌≤◌, List, [], ◌∷◌, ◌++◌, length, Some, slice_get}
-use Rattle.mx_state.specs.History.{opening, replay, IsRight, IsRightEntry}
+use Rattle.mx_legal.specs.Opened.{opening_of}
+use Rattle.mx_state.specs.History.{replay, IsRight, IsRightEntry}
 use Rattle.mx_state.specs.declared.journal.Entry as journaled
 use Rattle.mx_script.specs.Sessions.{Outline, limit_of}
 use Rattle.mx_legal.specs.Access.{descriptor_of}
@@ -37,7 +38,7 @@ clear cell = record { value = 0; writer = 0; stamp = 0 }
 -- after the setup, with all cells clear
 abbrev pub BenchOpeningLaw : Type 0
 BenchOpeningLaw = (x : Outline) (setup : List journaled.Entry)
-    → length setup ≤ limit_of x → IsRight (opening x.principals) setup
+    → length setup ≤ limit_of x → IsRight (opening_of x) setup
     → take (setup_entries x) (map call_of setup) ≡ take (setup_entries x) (map setup_call x.setup)
     → length setup ≡ setup_entries x
     → ((i : ℕ) (entry : journaled.Entry) → slice_get setup i ≡ Some entry → entry.process ≡ 0)
@@ -52,7 +53,7 @@ BenchEntryLaw = (x : Outline) (setup : List journaled.Entry) (history : List Mar
     (present present' : CellUse → Bool) (memory : CellUse → Held) (p : ℕ) (marked : Marked)
     → IsBench x setup history views present memory → 1 ≤ p → p ≤ length x.principals → marked.entry.process ≡ p
     → marked.mark ≡ length (views p).trace → length (followed setup history) < limit_of x
-    → IsRightEntry (replay (opening x.principals) (followed setup history)) marked.entry
+    → IsRightEntry (replay (opening_of x) (followed setup history)) marked.entry
     → ((cell : CellUse) → IsTrue (present' cell) → IsTrue (present cell) ⊎ IsNew (traces views) cell (memory cell))
     → views' p ≡ entered_view (views p) (history ++ marked ∷ []) (length (followed setup history) + 1)
     → ((u : ℕ) → u ≢ p → views' u ≡ views u)

@@ -1,7 +1,8 @@
 -- What the office, which keeps the journal for all processes, tells when it is closed: of the journal, and of the
 -- passes that it took back.
 use Rattle.std.specs.Prelude.{◌≡◌, ℕ, ◌<◌, ◌≤◌, List, [], ◌++◌, map, take, length, Some, slice_get}
-use Rattle.mx_state.specs.History.{opening, IsRight}
+use Rattle.mx_legal.specs.Opened.{opening_of}
+use Rattle.mx_state.specs.History.{IsRight}
 use Rattle.mx_state.specs.declared.journal.Entry as journaled
 use Rattle.mx_script.specs.Sessions.{Outline, limit_of}
 use Rattle.mx_legal.specs.Courses.{Judged}
@@ -45,7 +46,7 @@ pub record IsClosed (x : Outline) (setup : List journaled.Entry) (history : List
     (views : ℕ → View) : Type 0 where
   -- the journal is within its limit, one history of the plain supervisor, and begins with the setup
   pub within_limit : length (followed setup history) ≤ limit_of x
-  pub right : IsRight (opening x.principals) (followed setup history)
+  pub right : IsRight (opening_of x) (followed setup history)
   pub setup_first : take (setup_entries x) (map call_of (followed setup history)) ≡ take (setup_entries x)
       (map setup_call x.setup)
   -- the setup has its entries, all of them the initializer's; every later one is a process's

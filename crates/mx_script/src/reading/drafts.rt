@@ -5,23 +5,23 @@ ghost use Rattle.mx_script.specs.Drafts.{Headed, Empty, setup_step, script_step,
 ghost use Rattle.mx_script.specs.declared.rows.Row.TheVariants.{Header as HeaderRow, History as HistoryRow, Line as LineRow, Process as ProcessRow, End as EndRow};
 
 use crate::lines::{Line, Script};
-use crate::outlines::{is_for_setup, is_logout, may_stand};
+use crate::outlines::{is_entrant, is_logout, may_prepare, may_stand};
 use crate::reading::lines::read_row;
 use crate::reading::parts::Parts;
 use crate::reading::stages::{Reach, Stage};
 use crate::rows::Row;
 use crate::sessions::Session;
-use mx_name::Principal;
-use mx_request::Requests;
+use mx_request::{Entrant, Requests};
 use std::alloc::{AllocError, Global};
 use std::marker::Model;
 use std::mem::replace;
 
-/// What the lines read so far say: up to the first process the limit, if any, and the setup; then the processes that have
-/// logged out, and the script so far of the one that has not.
+/// What the lines read so far say: up to the first process the version, the limit, if any, and the setup; then the processes
+/// that have logged out, and the script so far of the one that has not.
 #[derive(Drop)]
 pub(crate) struct Draft {
     stage: Stage,
+    version: u8,
     history: Option<u32>,
     setup: Requests,
     parts: Parts,
@@ -33,7 +33,7 @@ impl Model for Draft {
 
     ghost Value = { DraftValue };
 
-    ghost view = { λ a. draft_at a.stage a.history a.setup a.parts a.script };
+    ghost view = { λ a. draft_at a.stage a.version a.history a.setup a.parts a.script };
 }
 
 impl Draft {
@@ -43,9 +43,10 @@ impl Draft {
     {
         Draft {
             stage: Stage::Empty,
+            version: 1,
             history: None,
             setup: Requests::new(alloc),
-            parts: Parts::new(alloc, None, Requests::new(alloc)),
+            parts: Parts::new(alloc, 1, None, Requests::new(alloc)),
             script: Script::new(alloc),
         }
     }
@@ -65,20 +66,21 @@ impl Draft {
         ensures { IfOk result (λ goes. (if goes then Some self.new else None) ≡ step self.old row) }
     {
         match row {
-            Row::Header => Ok(self.take_header(alloc)),
+            Row::Header(version) => Ok(self.take_header(alloc, version)),
             Row::History(limit) => Ok(self.take_limit(limit)),
             Row::Line(line) => self.take_line(alloc, line),
-            Row::Process(principal) => Ok(self.take_process(alloc, principal)),
+            Row::Process(entrant) => Ok(self.take_process(alloc, entrant)),
             Row::End => Ok(self.take_end()),
         }
     }
 
-    fn take_header(&mut self, alloc: Global) -> bool
-        ensures { (if result then Some self.new else None) ≡ step self.old HeaderRow }
+    fn take_header(&mut self, alloc: Global, version: u8) -> bool
+        ensures { (if result then Some self.new else None) ≡ step self.old (HeaderRow version) }
     {
         match self.stage {
             Stage::Empty => {
                 self.stage = Stage::Headed;
+                self.version = version;
                 self.history = None;
                 self.setup = Requests::new(alloc);
                 true
@@ -114,9 +116,9 @@ impl Draft {
         ensures { IfOk result (λ goes. (if goes then Some self.new else None) ≡ step self.old (LineRow line)) }
     {
         match &self.stage {
-            Stage::Headed => add_request(&mut self.setup, line),
-            Stage::Running(principal) => {
-                match add_line(alloc, &mut self.parts, principal, &mut self.script, line)? {
+            Stage::Headed => add_request(self.version, &mut self.setup, line),
+            Stage::Running(entrant) => {
+                match add_line(alloc, &mut self.parts, entrant, &mut self.script, line)? {
                     Reach::Nowhere => Ok(false),
                     Reach::Within => Ok(true),
                     Reach::Logout => {
@@ -131,22 +133,26 @@ impl Draft {
         }
     }
 
-    // One more process, up to the fifteenth.
-    fn take_process(&mut self, alloc: Global, principal: Principal) -> bool
-        ensures { (if result then Some self.new else None) ≡ step self.old (ProcessRow principal) }
+    // One more process, up to the fifteenth, with a class only where the version has classes.
+    fn take_process(&mut self, alloc: Global, entrant: Entrant) -> bool
+        ensures { (if result then Some self.new else None) ≡ step self.old (ProcessRow entrant) }
     {
         match self.stage {
             Stage::Headed => {
-                let setup = replace(&mut self.setup, Requests::new(alloc));
-                self.parts = Parts::new(alloc, self.history, setup);
-                self.script = Script::new(alloc);
-                self.stage = Stage::Running(principal);
-                true
+                if is_entrant(self.version, &entrant) {
+                    let setup = replace(&mut self.setup, Requests::new(alloc));
+                    self.parts = Parts::new(alloc, self.version, self.history, setup);
+                    self.script = Script::new(alloc);
+                    self.stage = Stage::Running(entrant);
+                    true
+                } else {
+                    false
+                }
             }
             Stage::LoggedOut => {
-                if self.parts.processes() < 15 {
+                if self.parts.processes() < 15 && is_entrant(self.parts.version(), &entrant) {
                     self.script = Script::new(alloc);
-                    self.stage = Stage::Running(principal);
+                    self.stage = Stage::Running(entrant);
                     true
                 } else {
                     false
@@ -191,13 +197,13 @@ impl Draft {
     }
 }
 
-// A setup goes on with a path request.
-fn add_request(setup: &mut Requests, line: Line) -> Result<bool, AllocError>
-    ensures { (history : Option ℕ) → IfOk result (λ goes. (if goes then Some (Headed history setup.new) else None) ≡ setup_step history setup.old line) }
+// A setup goes on with a path request of the version.
+fn add_request(version: u8, setup: &mut Requests, line: Line) -> Result<bool, AllocError>
+    ensures { (history : Option ℕ) → IfOk result (λ goes. (if goes then Some (Headed version history setup.new) else None) ≡ setup_step version history setup.old line) }
 {
     match line {
         Line::Ask(request) => {
-            if is_for_setup(request.request().class()) {
+            if may_prepare(version, request.request()) {
                 setup.push(request.into_request())?;
                 Ok(true)
             } else {
@@ -219,19 +225,19 @@ fn add_request(setup: &mut Requests, line: Line) -> Result<bool, AllocError>
 fn add_line(
     alloc: Global,
     parts: &mut Parts,
-    principal: &Principal,
+    entrant: &Entrant,
     script: &mut Script,
     line: Line,
 ) -> Result<Reach, AllocError>
-    ensures { IfOk result (λ reach. reached reach parts.new principal.now script.new ≡ script_step parts.old principal.now script.old line) }
+    ensures { IfOk result (λ reach. reached reach parts.new entrant.now script.new ≡ script_step parts.old entrant.now script.old line) }
 {
-    if !may_stand(&line) {
+    if !may_stand(parts.version(), &line) {
         return Ok(Reach::Nowhere);
     }
     let last = is_logout(&line);
     script.push(line)?;
     if last {
-        parts.add(*principal, replace(script, Script::new(alloc)))?;
+        parts.add(*entrant, replace(script, Script::new(alloc)))?;
         Ok(Reach::Logout)
     } else {
         Ok(Reach::Within)

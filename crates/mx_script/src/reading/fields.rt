@@ -1,16 +1,52 @@
 //! The fields of a line.
 
 ghost use Rattle.std.specs.Prelude.{◌≡◌};
+ghost use Rattle.mx_aim.specs.Classes.{equals, lowest};
 ghost use Rattle.mx_name.specs.Principals.{principal_of};
-ghost use Rattle.mx_script.specs.Fields.{register_at, register_base, segment_base, base_at, star_at, offset_at, operand_at, register_operand_at, word_at};
+ghost use Rattle.mx_script.specs.Fields.{written_class, entrant_at, register_at, register_base, segment_base, base_at, star_at, offset_at, operand_at, register_operand_at, word_at};
 
 use crate::lines::{Base, Operand};
 use crate::reading::cutting::after;
+use mx_aim::Class;
 use mx_name::{Principal, cut};
-use mx_request::read_word_number;
+use mx_request::{Entrant, read_word_number};
 use mx_sdw::{Word, read_octal_number};
 
-pub(crate) fn read_principal(text: &[u8]) -> Option<Principal>
+/// `PRINCIPAL`, or `PRINCIPAL CLASS`, where the class is not the lowest.
+pub(crate) fn read_entrant(text: &[u8]) -> Option<Entrant>
+    ensures { result ≡ entrant_at text.now }
+{
+    match cut(b' ', text) {
+        Some((who, class)) => {
+            let who = read_principal(who)?;
+            let authorization = read_written_class(class)?;
+            Some(Entrant { who, authorization })
+        }
+        None => {
+            let who = read_principal(text)?;
+            Some(Entrant {
+                who,
+                authorization: Class::lowest(),
+            })
+        }
+    }
+}
+
+// The lowest class is never written out.
+fn read_written_class(text: &[u8]) -> Option<Class>
+    ensures { result ≡ written_class text.now }
+{
+    let class = Class::read(text)?;
+    if is_lowest(&class) { None } else { Some(class) }
+}
+
+fn is_lowest(class: &Class) -> bool
+    ensures { result ≡ equals class.now lowest }
+{
+    class.equals(&Class::lowest())
+}
+
+fn read_principal(text: &[u8]) -> Option<Principal>
     ensures { result ≡ principal_of text.now }
 {
     Principal::read(text).ok()

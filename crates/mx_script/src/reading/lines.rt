@@ -1,13 +1,13 @@
 //! What a line of a session text says by itself.
 
 ghost use Rattle.std.specs.Prelude.{◌≡◌, IfOk, IfSome, Some};
-ghost use Rattle.mx_script.specs.Reading.{IsRow, set_at, epp_at, lda_at, sta_at, spri_at, call_at, return_at, memory_at, history_row, plain_at, process_at};
+ghost use Rattle.mx_script.specs.Reading.{IsRow, set_at, epp_at, lda_at, sta_at, spri_at, call_at, return_at, memory_at, header_row, history_row, plain_at, process_at};
 ghost use Rattle.mx_script.specs.declared.rows.Row.{Row};
 
 use crate::lines::{BoxedRequest, Line};
-use crate::outlines::is_history;
+use crate::outlines::{is_history, is_version};
 use crate::reading::cutting::after;
-use crate::reading::fields::{read_operand, read_principal, read_register_operand, read_word};
+use crate::reading::fields::{read_entrant, read_operand, read_register_operand, read_word};
 use crate::rows::Row;
 use mx_request::{Request, read_decimal};
 use std::alloc::{AllocError, Global};
@@ -36,25 +36,37 @@ pub(crate) fn read_row(alloc: Global, line: &[u8]) -> Result<Option<Row>, AllocE
 fn read_process(line: &[u8]) -> Option<Row>
     ensures { result ≡ process_at line.now }
 {
-    let who = read_principal(after(b"process ", line)?)?;
-    Some(Row::Process(who))
+    let entrant = read_entrant(after(b"process ", line)?)?;
+    Some(Row::Process(entrant))
 }
 
-/// A line that holds no text: the header, the end, the limit or a memory line.
+/// A line that holds no text: the end, the version, the limit or a memory line.
 #[tactic(auto, unfolding(crate::specs::Reading::plain_at))]
 fn read_plain(line: &[u8]) -> Option<Row>
     ensures { result ≡ plain_at line.now }
 {
-    if line == b"multics 1".as_slice() {
-        Some(Row::Header)
-    } else if line == b"end".as_slice() {
+    if line == b"end".as_slice() {
         Some(Row::End)
     } else if line == b"fetch".as_slice() {
         Some(Row::Line(Line::Fetch))
+    } else if let Some(version) = after(b"multics ", line) {
+        read_header(version)
     } else if let Some(limit) = after(b"history ", line) {
         read_history(limit)
     } else {
         Some(Row::Line(read_memory(line)?))
+    }
+}
+
+fn read_header(text: &[u8]) -> Option<Row>
+    ensures { result ≡ header_row text.now }
+{
+    let version = read_decimal(text, 1)?;
+    let version = version as u8;
+    if is_version(version) {
+        Some(Row::Header(version))
+    } else {
+        None
     }
 }
 

@@ -5,15 +5,16 @@ ghost use Rattle.mx_script.specs.Sessions.{session_of, line_count};
 ghost use Rattle.mx_script.specs.Drafts.{set_up, with_process};
 
 use crate::lines::{Script, Scripts};
-use crate::sessions::{Principals, Session};
-use mx_name::Principal;
-use mx_request::Requests;
+use crate::principals::Principals;
+use crate::sessions::Session;
+use mx_request::{Entrant, Requests};
 use std::alloc::{AllocError, Global};
 use std::marker::Model;
 
-/// The limit, if any, the setup, and the processes that have logged out, each with its script.
+/// The version, the limit, if any, the setup, and the processes that have logged out, each with its script.
 #[derive(Drop)]
 pub(crate) struct Parts {
+    version: u8,
     history: Option<u32>,
     setup: Requests,
     principals: Principals,
@@ -25,15 +26,16 @@ impl Model for Parts {
 
     ghost Value = { Outline };
 
-    ghost view = { λ a. outline 1 a.history a.setup a.principals a.scripts };
+    ghost view = { λ a. outline a.version a.history a.setup a.principals a.scripts };
 }
 
 impl Parts {
     /// A setup without processes.
-    pub(crate) fn new(alloc: Global, history: Option<u32>, setup: Requests) -> Parts
-        ensures { result ≡ set_up history setup }
+    pub(crate) fn new(alloc: Global, version: u8, history: Option<u32>, setup: Requests) -> Parts
+        ensures { result ≡ set_up version history setup }
     {
         Parts {
+            version,
             history,
             setup,
             principals: Principals::new(alloc),
@@ -42,11 +44,19 @@ impl Parts {
     }
 
     /// One more process. For want of memory the parts are of no use any more.
-    pub(crate) fn add(&mut self, principal: Principal, script: Script) -> Result<(), AllocError>
-        ensures { OnOk result (self.new ≡ with_process self.old principal script) }
+    pub(crate) fn add(&mut self, entrant: Entrant, script: Script) -> Result<(), AllocError>
+        ensures { OnOk result (self.new ≡ with_process self.old entrant script) }
     {
-        self.principals.push(principal)?;
+        self.principals
+            .push_with(entrant.who, entrant.authorization)?;
         self.scripts.push(script)
+    }
+
+    /// The version.
+    pub(crate) fn version(&self) -> u8
+        ensures { result ≡ self.now.version }
+    {
+        self.version
     }
 
     /// How many processes have logged out.
@@ -61,6 +71,12 @@ impl Parts {
         requires { line_count self < 2 ^ 32 - 1 }
         ensures { result ≡ session_of self }
     {
-        Session::new(1, self.history, self.setup, self.principals, self.scripts)
+        Session::new(
+            self.version,
+            self.history,
+            self.setup,
+            self.principals,
+            self.scripts,
+        )
     }
 }

@@ -1,16 +1,16 @@
 //! How far a session was read.
 
-use mx_name::Principal;
+use mx_request::Entrant;
 
 /// What was read last.
 #[derive(Clone, Copy)]
 pub(crate) enum Stage {
     /// No line yet.
     Empty,
-    /// The header, the limit or a request of the setup.
+    /// The version, the limit or a request of the setup.
     Headed,
     /// The line of a process, or one of its script.
-    Running(Principal),
+    Running(Entrant),
     /// The end of a script.
     LoggedOut,
     /// The end.

@@ -5,5 +5,5 @@ use Rattle.mx_drill.proofs.writing.add_processes.Given as goal
 
 abbrev pub invariant-loop-i : goal.invariant-loop-i
 invariant-loop-i l =
-    l.out.items ++ rows_text (process_rows (drop l.i l.principals) (drop l.i l.scripts))
-    ≡ l.initial.out.items ++ rows_text (process_rows l.principals l.scripts)
+    l.out.items ++ rows_text (process_rows (drop l.i l.entrants) (drop l.i l.scripts))
+    ≡ l.initial.out.items ++ rows_text (process_rows l.entrants l.scripts)

@@ -11,7 +11,7 @@ enter-requires-clause-ask c =
     let within : c.loop-i.i < length c.items-requests.result.now = search rules in
     let at : slice_get c.args.session.now.setup c.loop-i.i ≡ Some c.index-requests-i.result
     = rw (← requests) (slice_get_read _ _ _ _ refl within c.index-requests-i.is) in
-    may_ask c.loop-i.state c.args.session.now.setup c.loop-i.i c.index-requests-i.result c.requires.session.setup at
+    may_ask c.loop-i.state c.args.session.now.version c.args.session.now.setup c.loop-i.i c.index-requests-i.result c.requires.session.setup at
 
 pub loop-i-preserved : goal.loop-i-preserved
 loop-i-preserved c =
