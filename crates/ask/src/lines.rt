@@ -11,7 +11,9 @@ use mx_sdw::{Ring, read_octal_number};
 pub enum Line<'a> {
     /// A comment, or nothing.
     Nothing,
-    /// `processes PRINCIPAL ..`: a play begins with these processes.
+    /// `version V`: the plays from here on are of this version.
+    Version(u8),
+    /// `processes PRINCIPAL[=CLASS] ..`: a play begins with these processes.
     Processes(&'a [u8]),
     /// `PROCESS RING REQUEST`: a process asks this in a ring.
     Asked(Asked<'a>),
@@ -47,7 +49,12 @@ pub fn read_line(line: &[u8]) -> Line<'_> {
 }
 
 fn read_fields<'a>(word: &[u8], rest: &'a [u8]) -> Line<'a> {
-    if word == b"processes".as_slice() {
+    if word == b"version".as_slice() {
+        match read_version(rest) {
+            Some(version) => Line::Version(version),
+            None => Line::Unknown,
+        }
+    } else if word == b"processes".as_slice() {
         Line::Processes(rest)
     } else if word == b"=".as_slice() {
         Line::Told(rest)
@@ -68,6 +75,14 @@ fn read_fields<'a>(word: &[u8], rest: &'a [u8]) -> Line<'a> {
             Some(asked) => Line::Asked(asked),
             None => Line::Unknown,
         }
+    }
+}
+
+// A version from 1 to 3.
+fn read_version(text: &[u8]) -> Option<u8> {
+    match read_small(text, 1) {
+        Some(version) if 1 <= version && version <= 3 => Some(version),
+        _ => None,
     }
 }
 

@@ -1,5 +1,6 @@
 //! The program: it plays files of requests over the plain supervisor. Each word of its command line names a file, in which
-//! `processes PRINCIPAL ..` begins a play, `PROCESS RING REQUEST` has a process ask, `= REPLY` tells the reply, and
+//! `version V` tells of which version plays are, `processes PRINCIPAL[=CLASS] ..` begins a play, `PROCESS RING REQUEST` has a
+//! process ask, `= REPLY` tells the reply, and
 //! `changed P|SEGNO ..` whose descriptors change. A reply that is not told is printed, and so is each that came otherwise than
 //! told; a line for each file counts. Status 0 means that all came as told, 1 that something did not, 2 that no file was named
 //! or one is not there. What decides the status is proved. Stands on the plain supervisor and the spellings of requests.

@@ -6,7 +6,9 @@ use crate::lines::{Asked, Line, read_line};
 use crate::outcome::{Outcome, judge};
 use crate::plays::{Answer, Play, descriptor_text, readiness_text};
 use itoa::Buffer;
-use mx_name::Principal;
+use mx_aim::Class;
+use mx_name::{Principal, cut};
+use mx_request::{Entrant, has_classes};
 use std::alloc::{AllocError, Global};
 
 /// What came of a file: a line for each that came otherwise than told and for each reply that is not told, and what came of each line.
@@ -16,9 +18,10 @@ pub struct Account {
     pub outcomes: Vec<Outcome>,
 }
 
-// The play of the moment, and the answer to its latest request.
+// The version of the plays to come, the play of the moment, and the answer to its latest request.
 #[derive(Drop)]
 struct Stage {
+    version: u8,
     play: Option<Play>,
     latest: Option<Answer>,
 }
@@ -50,6 +53,7 @@ fn play_lines(
     account: &mut Account,
 ) -> Result<(), AllocError> {
     let mut stage = Stage {
+        version: 1,
         play: None,
         latest: None,
     };
@@ -123,6 +127,13 @@ impl Stage {
                 outcome: Outcome::Untold,
                 note: None,
             }),
+            Line::Version(version) => {
+                self.version = version;
+                Ok(Step {
+                    outcome: Outcome::Untold,
+                    note: None,
+                })
+            }
             Line::Processes(principals) => self.open(alloc, principals),
             Line::Asked(asked) => self.ask(alloc, &asked, is_told),
             Line::Ready(p) => {
@@ -152,7 +163,7 @@ impl Stage {
     // A new play.
     fn open(&mut self, alloc: Global, principals: &[u8]) -> Result<Step, AllocError> {
         self.latest = None;
-        self.play = opened(alloc, principals)?;
+        self.play = opened(alloc, principals, self.version)?;
         if self.play.is_some() {
             Ok(Step {
                 outcome: Outcome::Untold,
@@ -226,22 +237,38 @@ fn difference(alloc: Global, told: &[u8], came: Option<&[u8]>) -> Result<Vec<u8>
     Ok(note)
 }
 
-// A play of these principals.
-fn opened(alloc: Global, principals: &[u8]) -> Result<Option<Play>, AllocError> {
-    match read_principals(alloc, principals)? {
-        Some(principals) => Play::open(alloc, &principals),
+// A play of these processes, in this version.
+fn opened(alloc: Global, principals: &[u8], version: u8) -> Result<Option<Play>, AllocError> {
+    match read_entrants(alloc, principals, version)? {
+        Some(entrants) => Play::open(alloc, &entrants, version),
         None => Ok(None),
     }
 }
 
-// The principals that a text names, one blank between each two.
-fn read_principals(alloc: Global, text: &[u8]) -> Result<Option<Vec<Principal>>, AllocError> {
-    let mut principals = Vec::new(alloc);
+// The processes that a text names, one blank between each two.
+fn read_entrants(
+    alloc: Global,
+    text: &[u8],
+    version: u8,
+) -> Result<Option<Vec<Entrant>>, AllocError> {
+    let mut entrants = Vec::new(alloc);
     for part in text.split(|byte| *byte == b' ') {
-        match Principal::read(part) {
-            Ok(principal) => principals.push(principal)?,
-            Err(_) => return Ok(None),
+        match read_entrant(part, version) {
+            Some(entrant) => entrants.push(entrant)?,
+            None => return Ok(None),
         }
     }
-    Ok(Some(principals))
+    Ok(Some(entrants))
+}
+
+// `PRINCIPAL`, or in a version with classes `PRINCIPAL=CLASS`.
+fn read_entrant(text: &[u8], version: u8) -> Option<Entrant> {
+    let (who, authorization) = match cut(b'=', text) {
+        Some((who, class)) if has_classes(version) => (who, Class::read(class)?),
+        _ => (text, Class::lowest()),
+    };
+    Some(Entrant {
+        who: Principal::read(who).ok()?,
+        authorization,
+    })
 }

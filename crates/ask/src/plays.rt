@@ -6,9 +6,8 @@ ghost use Rattle.mx_state.specs.History.{MayAsk};
 
 use itoa::Buffer;
 use mx_core::Change;
-use mx_name::Principal;
-use mx_request::{Request, RequestClass};
-use mx_sdw::{Desc, DescKind, Ring, write_octal};
+use mx_request::{Entrant, Request, RequestClass};
+use mx_sdw::{Aim, Desc, DescKind, Ring, write_octal};
 use mx_state::{Applied, State};
 use std::alloc::{AllocError, Global};
 use std::marker::Model;
@@ -17,6 +16,7 @@ use std::marker::Model;
 #[derive(Drop)]
 pub struct Play {
     state: State,
+    version: u8,
     processes: u8,
 }
 
@@ -39,15 +39,20 @@ pub struct Answer {
 }
 
 impl Play {
-    /// A play from its opening on, for the principals of 1 to 15 processes.
-    pub fn open(alloc: Global, principals: &[Principal]) -> Result<Option<Play>, AllocError> {
-        if principals.is_empty() || principals.len() > 15 {
+    /// A play of a version from its opening on, for 1 to 15 processes.
+    pub fn open(
+        alloc: Global,
+        entrants: &[Entrant],
+        version: u8,
+    ) -> Result<Option<Play>, AllocError> {
+        if entrants.is_empty() || entrants.len() > 15 {
             return Ok(None);
         }
-        let state = State::new(alloc, principals)?;
+        let state = State::new(alloc, entrants, version)?;
         Ok(Some(Play {
             state,
-            processes: principals.len() as u8,
+            version,
+            processes: entrants.len() as u8,
         }))
     }
 
@@ -108,6 +113,8 @@ impl Play {
     {
         if p > self.processes {
             Some("no such process")
+        } else if request.since_version() > self.version {
+            Some("of a later version")
         } else if p > 0 {
             None
         } else {
@@ -200,7 +207,8 @@ pub fn readiness_text(ready: Option<bool>) -> &'static [u8] {
     }
 }
 
-/// What is told of a descriptor: `unknown`, `gone`, or its modes, brackets, gates, page and words.
+/// What is told of a descriptor: `unknown`, `gone`, or its modes, brackets, gates, page and words, and how the authorization
+/// stands to the class where they are not equal.
 pub fn descriptor_text(alloc: Global, desc: Option<Desc>) -> Result<Vec<u8>, AllocError> {
     match desc {
         Some(desc) => text_of(alloc, &desc),
@@ -226,6 +234,7 @@ fn segment_text(alloc: Global, desc: &Desc) -> Result<Vec<u8>, AllocError> {
     push_number(&mut text, b" gate ", u32::from(desc.gate()))?;
     push_number(&mut text, b" page ", u32::from(desc.page()))?;
     push_number(&mut text, b" words ", u32::from(desc.bound()))?;
+    text.extend_from_slice(aim_text(desc.aim()))?;
     Ok(text)
 }
 
@@ -239,6 +248,14 @@ fn flags_text(r: bool, e: bool, w: bool) -> &'static [u8] {
         (true, false, true) => b"rw",
         (false, true, true) => b"ew",
         (true, true, true) => b"rew",
+    }
+}
+
+fn aim_text(aim: Aim) -> &'static [u8] {
+    match aim {
+        Aim::Equal => b"",
+        Aim::Dominates => b" dominates",
+        Aim::Neither => b" neither",
     }
 }
 

@@ -6,6 +6,7 @@ use crate::orders::Order;
 use crate::places::Place;
 use crate::reading::{is_definition, is_object_link};
 use crate::texts::Shown;
+use mx_aim::Class;
 use mx_name::cut;
 use std::alloc::{AllocError, Global};
 use std::fmt::{self, Display, Formatter, Write};
@@ -41,9 +42,10 @@ pub enum Fault<'a> {
     Unexplained,
 }
 
-/// What is wrong with the line that begins here; behind it there is a newline, or the text ends.
+/// What is wrong with the line that begins here, in a session of this version; behind it there is a newline, or the text ends.
 pub(crate) fn fault_of<'a>(
     alloc: Global,
+    version: u8,
     place: Place,
     line: &'a [u8],
     ends: bool,
@@ -51,7 +53,7 @@ pub(crate) fn fault_of<'a>(
     if ends && line.is_empty() && !matches!(place, Place::Ended) {
         return Ok(Fault::TextEnds(place));
     }
-    match fault_in(alloc, place, line)? {
+    match fault_in(alloc, version, place, line)? {
         Some(fault) => Ok(fault),
         None if ends => Ok(Fault::NoNewline),
         None => Ok(Fault::Unexplained),
@@ -60,6 +62,7 @@ pub(crate) fn fault_of<'a>(
 
 fn fault_in<'a>(
     alloc: Global,
+    version: u8,
     place: Place,
     line: &'a [u8],
 ) -> Result<Option<Fault<'a>>, AllocError> {
@@ -78,7 +81,34 @@ fn fault_in<'a>(
     };
     match place.refuses(form) {
         Some(order) => Ok(Some(Fault::Order(form, order))),
-        None => field_fault(alloc, form, fields),
+        None => match version_fault(version, form, fields) {
+            Some(order) => Ok(Some(Fault::Order(form, order))),
+            None => field_fault(alloc, form, fields),
+        },
+    }
+}
+
+// Why a session of this version cannot have the line, if so.
+fn version_fault(version: u8, form: Form, fields: Option<&[u8]>) -> Option<Order> {
+    if version < form.since() {
+        return Some(match form.since() {
+            2 => Order::FromVersionTwo,
+            _ => Order::FromVersionThree,
+        });
+    }
+    match (form, fields) {
+        (Form::Process, Some(fields)) if version == 1 && has_class(fields) => {
+            Some(Order::ClassInVersionOne)
+        }
+        _ => None,
+    }
+}
+
+// Whether a class stands behind the first of the fields.
+fn has_class(fields: &[u8]) -> bool {
+    match cut(b' ', fields) {
+        Some((_, class)) => Class::read(class).is_some(),
+        None => false,
     }
 }
 

@@ -4,9 +4,11 @@ ghost use Rattle.std.specs.Prelude.{◌≡◌, IfOk};
 ghost use Rattle.mx_lint.specs.Fields.{is_field};
 
 use crate::reading::{
-    is_definition, is_limit, is_object_link, is_operand, is_pathname, is_receiver, is_ring, is_rule,
+    is_definition, is_limit, is_object_link, is_operand, is_pathname, is_receiver, is_ring,
+    is_rule, is_version,
 };
 use mx_acl::Modes;
+use mx_aim::Class;
 use mx_name::{AclId, EntryName, Principal};
 use mx_request::read_decimal;
 use mx_sdw::read_octal_number;
@@ -18,6 +20,8 @@ pub enum Field {
     Version,
     Limit,
     Principal,
+    Authorization,
+    Class,
     Path,
     Target,
     Words,
@@ -48,6 +52,7 @@ impl Field {
             Field::Version => "the version",
             Field::Limit => "H",
             Field::Principal => "PRINCIPAL",
+            Field::Authorization | Field::Class => "CLASS",
             Field::Path => "PATH",
             Field::Target => "TARGET",
             Field::Words => "WORDS",
@@ -75,10 +80,16 @@ impl Field {
     /// What the field is to be.
     pub(crate) fn wanted(self) -> &'static str {
         match self {
-            Field::Version => "1",
+            Field::Version => "1, 2 or 3",
             Field::Limit => "a decimal number from 1 to 262143, with no leading zero",
             Field::Principal => {
                 "Person.Project.tag, of at most 22, 9 and 1 letters, digits or `_`"
+            }
+            Field::Authorization => {
+                "L:C, a digit from 0 to 7 and an octal number to 777777, with no leading zero; 0:0 is left out"
+            }
+            Field::Class => {
+                "L:C, a digit from 0 to 7 and an octal number to 777777, with no leading zero"
             }
             Field::Path | Field::Target => {
                 "a pathname: names with `>` between them, after one `>`, some `<` or nothing; at most 168 characters, a name at most 32"
@@ -119,7 +130,9 @@ impl Field {
         match self {
             Field::Path | Field::Target => is_pathname(alloc, text),
             Field::Rule => is_rule(alloc, text),
-            Field::Version => Ok(text == b"1".as_slice()),
+            Field::Version => Ok(is_version(text)),
+            Field::Authorization => Ok(Class::read(text).is_some() && text != b"0:0".as_slice()),
+            Field::Class => Ok(Class::read(text).is_some()),
             Field::Limit => Ok(is_limit(text)),
             Field::Principal => Ok(Principal::read(text).is_ok()),
             Field::Words => Ok(read_decimal(text, 5).is_some()),

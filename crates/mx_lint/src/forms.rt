@@ -31,8 +31,13 @@ pub enum Form {
     Delete,
     SetAcl,
     DelAcl,
+    SetIaclSeg,
+    SetIaclDir,
+    DelIaclSeg,
+    DelIaclDir,
     SetBrackets,
     SetDirBrackets,
+    SetClass,
     Status,
     List,
     ChangeWdir,
@@ -53,7 +58,7 @@ pub enum Form {
     Resume,
 }
 
-const ALL: [Form; 33] = [
+const ALL: [Form; 38] = [
     Form::Header,
     Form::History,
     Form::Process,
@@ -67,8 +72,13 @@ const ALL: [Form; 33] = [
     Form::Delete,
     Form::SetAcl,
     Form::DelAcl,
+    Form::SetIaclSeg,
+    Form::SetIaclDir,
+    Form::DelIaclSeg,
+    Form::DelIaclDir,
     Form::SetBrackets,
     Form::SetDirBrackets,
+    Form::SetClass,
     Form::Status,
     Form::List,
     Form::ChangeWdir,
@@ -116,8 +126,13 @@ impl Form {
             Form::Delete => "delete",
             Form::SetAcl => "set_acl",
             Form::DelAcl => "del_acl",
+            Form::SetIaclSeg => "set_iacl_seg",
+            Form::SetIaclDir => "set_iacl_dir",
+            Form::DelIaclSeg => "del_iacl_seg",
+            Form::DelIaclDir => "del_iacl_dir",
             Form::SetBrackets => "set_brackets",
             Form::SetDirBrackets => "set_dir_brackets",
+            Form::SetClass => "set_class",
             Form::Status => "status",
             Form::List => "list",
             Form::ChangeWdir => "change_wdir",
@@ -145,7 +160,7 @@ impl Form {
         match self {
             Form::Header => &[Field::Version],
             Form::History => &[Field::Limit],
-            Form::Process => &[Field::Principal],
+            Form::Process => &[Field::Principal, Field::Authorization],
             Form::CreateDir | Form::SetDirBrackets => &[Field::Path, Field::D1, Field::D2],
             Form::CreateSeg => &[Field::Path, Field::Words, Field::R1, Field::R2, Field::R3],
             Form::CreateObject => &[
@@ -159,8 +174,11 @@ impl Form {
             Form::CreateLink => &[Field::Path, Field::Target],
             Form::Rename | Form::Initiate => &[Field::Path, Field::Name],
             Form::Delete | Form::Status | Form::List | Form::ChangeWdir => &[Field::Path],
-            Form::SetAcl => &[Field::Path, Field::Id, Field::Modes],
-            Form::DelAcl => &[Field::Path, Field::Id],
+            Form::SetAcl | Form::SetIaclSeg | Form::SetIaclDir => {
+                &[Field::Path, Field::Id, Field::Modes]
+            }
+            Form::DelAcl | Form::DelIaclSeg | Form::DelIaclDir => &[Field::Path, Field::Id],
+            Form::SetClass => &[Field::Path, Field::Class],
             Form::SetBrackets => &[Field::Path, Field::R1, Field::R2, Field::R3],
             Form::SetRules => &[Field::Rule; 16],
             Form::Terminate => &[Field::Segno],
@@ -176,7 +194,7 @@ impl Form {
     /// How many of its fields a line must have.
     pub(crate) fn least(self) -> usize {
         match self {
-            Form::Initiate | Form::SetRules => 1,
+            Form::Process | Form::Initiate | Form::SetRules => 1,
             _ => self.fields().len(),
         }
     }
@@ -184,9 +202,9 @@ impl Form {
     /// Its fields, as they are written behind its word.
     pub(crate) fn shape(self) -> &'static str {
         match self {
-            Form::Header => "1",
+            Form::Header => "VERSION",
             Form::History => "H",
-            Form::Process => "PRINCIPAL",
+            Form::Process => "PRINCIPAL [CLASS]",
             Form::CreateDir | Form::SetDirBrackets => "PATH D1 D2",
             Form::CreateSeg => "PATH WORDS R1 R2 R3",
             Form::CreateObject => {
@@ -196,8 +214,9 @@ impl Form {
             Form::Rename => "PATH NAME",
             Form::Initiate => "PATH [NAME]",
             Form::Delete | Form::Status | Form::List | Form::ChangeWdir => "PATH",
-            Form::SetAcl => "PATH ID MODES",
-            Form::DelAcl => "PATH ID",
+            Form::SetAcl | Form::SetIaclSeg | Form::SetIaclDir => "PATH ID MODES",
+            Form::DelAcl | Form::DelIaclSeg | Form::DelIaclDir => "PATH ID",
+            Form::SetClass => "PATH CLASS",
             Form::SetBrackets => "PATH R1 R2 R3",
             Form::SetRules => "RULE {RULE}, 1 to 16 of them",
             Form::Terminate => "S",
@@ -226,8 +245,13 @@ impl Form {
             Form::Delete => "delete >udd>a",
             Form::SetAcl => "set_acl >udd>a Jones.*.* rw",
             Form::DelAcl => "del_acl >udd>a Jones.*.*",
+            Form::SetIaclSeg => "set_iacl_seg >udd *.Faculty.* r",
+            Form::SetIaclDir => "set_iacl_dir >udd *.Faculty.* s",
+            Form::DelIaclSeg => "del_iacl_seg >udd *.Faculty.*",
+            Form::DelIaclDir => "del_iacl_dir >udd *.Faculty.*",
             Form::SetBrackets => "set_brackets >udd>a 1 4 4",
             Form::SetDirBrackets => "set_dir_brackets >udd 4 4",
+            Form::SetClass => "set_class >udd>a 2:3",
             Form::Status => "status >udd>a",
             Form::List => "list >udd",
             Form::ChangeWdir => "change_wdir >udd",
@@ -261,8 +285,13 @@ impl Form {
             | Form::Delete
             | Form::SetAcl
             | Form::DelAcl
+            | Form::SetIaclSeg
+            | Form::SetIaclDir
+            | Form::DelIaclSeg
+            | Form::DelIaclDir
             | Form::SetBrackets
             | Form::SetDirBrackets
+            | Form::SetClass
             | Form::Status
             | Form::List => Group::OfPath,
             Form::ChangeWdir
@@ -280,6 +309,15 @@ impl Form {
             | Form::Call
             | Form::Return => Group::OfProcess,
             Form::Link | Form::Resume => Group::OfSupervisor,
+        }
+    }
+
+    /// The version from which on a session may have it.
+    pub(crate) fn since(self) -> u8 {
+        match self {
+            Form::SetClass => 2,
+            Form::SetIaclSeg | Form::SetIaclDir | Form::DelIaclSeg | Form::DelIaclDir => 3,
+            _ => 1,
         }
     }
 }

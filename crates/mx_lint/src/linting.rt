@@ -52,7 +52,7 @@ fn diagnose(alloc: Global, bytes: &[u8], number: u32) -> Result<Finding<'_>, All
 {
     let (place, rest) = approach(bytes, number.saturating_sub(1));
     let (text, ends) = first_line(rest);
-    let fault = fault_of(alloc, place, text, ends)?;
+    let fault = fault_of(alloc, version_of(bytes), place, text, ends)?;
     Ok(Finding::Bad(Diagnosis {
         number,
         text,
@@ -75,6 +75,16 @@ fn approach(bytes: &[u8], lines: u32) -> (Place, &[u8])
         rest = after;
     }
     (place, rest)
+}
+
+// The version that the first line says; 1 where it says none.
+fn version_of(bytes: &[u8]) -> u8 {
+    let (line, _) = first_line(bytes);
+    match line {
+        b"multics 2" => 2,
+        b"multics 3" => 3,
+        _ => 1,
+    }
 }
 
 // The kind of a line, by its first word.

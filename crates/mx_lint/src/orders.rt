@@ -29,15 +29,22 @@ pub enum Order {
     AfterEnd,
     /// A request that the supervisor enters for a process.
     OfSupervisor,
+    /// A line that came with version 2, in a session of version 1.
+    FromVersionTwo,
+    /// A line that came with version 3, in a session of an older one.
+    FromVersionThree,
+    /// The class of a process in a session of version 1.
+    ClassInVersionOne,
 }
 
 impl Order {
     /// The reason in words.
     pub(crate) fn words(self) -> &'static str {
         match self {
-            Order::FirstIsHeader => "a session begins with the line `multics 1`",
-            Order::HeaderOnce => "`multics 1` stands once, as the first line",
-            Order::HistorySecond => "`history` stands once, right behind `multics 1`",
+            Order::FirstIsHeader =>
+                "a session begins with the line `multics 1`, `multics 2` or `multics 3`",
+            Order::HeaderOnce => "the line of the version stands once, as the first line",
+            Order::HistorySecond => "`history` stands once, right behind the first line",
             Order::NoProcessYet => "a line of a process's script before the first process line",
             Order::LogoutWithoutProcess => "`logout` before the first process line",
             Order::EndWithoutProcess => {
@@ -58,6 +65,13 @@ impl Order {
             Order::AfterEnd => "nothing may follow `end`, not even an empty line",
             Order::OfSupervisor => {
                 "the supervisor enters this for a process in the journal; no session asks for it"
+            }
+            Order::FromVersionTwo =>
+                "a session has this from version 2 on, and the first line says 1",
+            Order::FromVersionThree =>
+                "a session has this from version 3 on, and the first line says less",
+            Order::ClassInVersionOne => {
+                "a process has a class from version 2 on, and the first line says 1"
             }
         }
     }

@@ -75,11 +75,11 @@ impl Place {
     /// What may come next.
     pub(crate) fn next(self) -> &'static str {
         match self {
-            Place::Start => "`multics 1`",
-            Place::Headed => "`history H`, a setup line or `process PRINCIPAL`",
-            Place::Setup => "a setup line or `process PRINCIPAL`",
+            Place::Start => "`multics 1`, `multics 2` or `multics 3`",
+            Place::Headed => "`history H`, a setup line or `process PRINCIPAL [CLASS]`",
+            Place::Setup => "a setup line or `process PRINCIPAL [CLASS]`",
             Place::Script(_) => "a script line or `logout`",
-            Place::LoggedOut(_) => "`process PRINCIPAL` or `end`",
+            Place::LoggedOut(_) => "`process PRINCIPAL [CLASS]` or `end`",
             Place::Ended => "nothing",
         }
     }

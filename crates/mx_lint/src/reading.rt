@@ -8,7 +8,7 @@ ghost use Rattle.mx_request.specs.ReadingObjects.{definition_at, object_link_at}
 ghost use Rattle.mx_request.specs.WordNumbers.{word_number_of};
 ghost use Rattle.mx_script.specs.Fronts.{after};
 ghost use Rattle.mx_script.specs.Fields.{base_at, offset_at, operand_at};
-ghost use Rattle.mx_lint.specs.Fields.{is_limit_text, is_receiver_text, is_definition_text, is_object_link_text};
+ghost use Rattle.mx_lint.specs.Fields.{is_limit_text, is_receiver_text, is_definition_text, is_object_link_text, is_version_text};
 
 use mx_name::{EntryName, NameError, Path, PathError, Pathname, cut};
 use mx_request::{read_decimal, read_word_number};
@@ -66,6 +66,13 @@ pub(crate) fn is_ring(text: &[u8]) -> bool
         [digit] => b'0' <= *digit && *digit <= b'7',
         _ => false,
     }
+}
+
+/// A version.
+pub(crate) fn is_version(text: &[u8]) -> bool
+    ensures { result ≡ is_version_text text.now }
+{
+    text == b"1".as_slice() || text == b"2".as_slice() || text == b"3".as_slice()
 }
 
 /// A limit of the journal.

@@ -14,7 +14,7 @@ use Rattle.mx_legal.specs.Transcripts.{Step, part}
 use Rattle.mx_name.proofs.CutLaws.{cut_takes}
 use Rattle.mx_name.specs.Cuts.{cut_at}
 use Rattle.mx_name.specs.Names.{is_free}
-use Rattle.mx_name.specs.Principals.{PlainPrincipal}
+use Rattle.mx_request.specs.declared.entrants.Entrant.{Entrant}
 use Rattle.mx_script.specs.Sessions.{Outline}
 use Rattle.mx_script.specs.declared.lines.Line.{Line}
 use Rattle.mx_script.specs.declared.lines.Line.TheVariants.{Ask}
@@ -126,7 +126,7 @@ step_left all all_steps lines after line steps a b before buffer up now_line non
     omega (arith, long)
 
 -- Processes, one after another.
-pub processes_begun : (all : List PlainPrincipal) (scripts : List (List Line)) (transcripts : List (List Step)) (a : Option (List ℕ)) (before : List ℕ)
+pub processes_begun : (all : List Entrant) (scripts : List (List Line)) (transcripts : List (List Step)) (a : Option (List ℕ)) (before : List ℕ)
     → AreAsLong scripts transcripts → IsThrough all scripts transcripts 1 all scripts transcripts a a before before
 processes_begun all scripts transcripts a before as_long = record {
   sofar = [];
@@ -141,8 +141,8 @@ as_long_here scripts after script transcripts afters steps as_long now_script no
     subst (λ (ss : List (List Line)). AreAsLong ss (steps ∷ afters)) now_script
     (subst (λ (ts : List (List Step)). AreAsLong scripts ts) now_steps as_long)
 
-pub process_next : (all : List PlainPrincipal) (all_scripts : List (List Line)) (all_transcripts : List (List Step)) (p : ℕ)
-    (principals later : List PlainPrincipal) (principal : PlainPrincipal) (scripts after : List (List Line)) (script : List Line)
+pub process_next : (all : List Entrant) (all_scripts : List (List Line)) (all_transcripts : List (List Step)) (p : ℕ)
+    (principals later : List Entrant) (principal : Entrant) (scripts after : List (List Line)) (script : List Line)
     (transcripts afters : List (List Step)) (steps : List Step) (a b c : Option (List ℕ)) (before buffer headed kept : List ℕ)
     → IsThrough all all_scripts all_transcripts p principals scripts transcripts a b before buffer
     → principals ≡ principal ∷ later → scripts ≡ script ∷ after → transcripts ≡ steps ∷ afters
@@ -155,7 +155,7 @@ process_next all all_scripts all_transcripts p principals later principal script
     = ap (λ (v : List ℕ). v ++ prints.text) head ∙ append_assoc buffer (heading_text p principal) prints.text in
     let goes : (rest : List ℕ) → AreProcessesShown p (principal ∷ later) (script ∷ after) (steps ∷ afters) rest
     → AreProcessesShown 1 all all_scripts all_transcripts (through.sofar ++ rest)
-    = subst (λ (ps : List PlainPrincipal). (rest : List ℕ) → AreProcessesShown p ps (script ∷ after) (steps ∷ afters) rest
+    = subst (λ (ps : List Entrant). (rest : List ℕ) → AreProcessesShown p ps (script ∷ after) (steps ∷ afters) rest
     → AreProcessesShown 1 all all_scripts all_transcripts (through.sofar ++ rest)) now_principal
     (subst (λ (ss : List (List Line)). (rest : List ℕ) → AreProcessesShown p principals ss (steps ∷ afters) rest
     → AreProcessesShown 1 all all_scripts all_transcripts (through.sofar ++ rest)) now_script
@@ -172,13 +172,13 @@ process_next all all_scripts all_transcripts p principals later principal script
       as_long = (as_long_here scripts after script transcripts afters steps through.as_long now_script now_steps).1;
     }
 
-pub processes_done : (all : List PlainPrincipal) (all_scripts : List (List Line)) (all_transcripts : List (List Step)) (p : ℕ)
-    (principals : List PlainPrincipal) (scripts : List (List Line)) (transcripts : List (List Step)) (a b : Option (List ℕ)) (before buffer : List ℕ)
+pub processes_done : (all : List Entrant) (all_scripts : List (List Line)) (all_transcripts : List (List Step)) (p : ℕ)
+    (principals : List Entrant) (scripts : List (List Line)) (transcripts : List (List Step)) (a b : Option (List ℕ)) (before buffer : List ℕ)
     → IsThrough all all_scripts all_transcripts p principals scripts transcripts a b before buffer
     → principals ≡ [] → scripts ≡ [] → transcripts ≡ [] → PrintsProcesses 1 all all_scripts all_transcripts a b before buffer
 processes_done all all_scripts all_transcripts p principals scripts transcripts a b before buffer through none none_scripts none_transcripts =
     let goes : (rest : List ℕ) → AreProcessesShown p [] [] [] rest → AreProcessesShown 1 all all_scripts all_transcripts (through.sofar ++ rest)
-    = subst (λ (ps : List PlainPrincipal). (rest : List ℕ) → AreProcessesShown p ps [] [] rest
+    = subst (λ (ps : List Entrant). (rest : List ℕ) → AreProcessesShown p ps [] [] rest
     → AreProcessesShown 1 all all_scripts all_transcripts (through.sofar ++ rest)) none
     (subst (λ (ss : List (List Line)). (rest : List ℕ) → AreProcessesShown p principals ss [] rest
     → AreProcessesShown 1 all all_scripts all_transcripts (through.sofar ++ rest)) none_scripts
@@ -221,6 +221,10 @@ pub put_label : (s label number b c d x y z w : List ℕ) → x ≡ s ++ (label 
     → w ≡ s ++ (label ++ number ++ b ++ c ++ d)
 put_label s label number b c d x y z w e f g h =
     h ∙ ap (λ (v : List ℕ). v ++ d) (put_three s (label ++ number) b c x y z e f g) ∙ append_assoc s (label ++ number ++ b ++ c) d
+
+-- two pieces in place of the last one
+pub put_both : (z a b y w : List ℕ) → y ≡ z ++ a → w ≡ y ++ b → w ≡ z ++ (a ++ b)
+put_both z a b y w e f = f ∙ ap (λ (v : List ℕ). v ++ b) e ∙ append_assoc z a b
 
 pub put_labels : (s label number other more e x y z : List ℕ) → x ≡ s ++ (label ++ number) → y ≡ x ++ (other ++ more) → z ≡ y ++ e
     → z ≡ s ++ (label ++ number ++ other ++ more ++ e)

@@ -1,12 +1,14 @@
 -- The text of `lines`: the lines of a run in order, each under its number and in the session's own spelling, and behind each
 -- what is told of it, on lines of their own that begin with four spaces.
-use Rattle.std.specs.Prelude.{◌≡◌, ℕ, ◌+◌, Bool, true, List, [], ◌∷◌, ◌++◌, map, drop, length, Option, codes}
+use Rattle.std.specs.Prelude.{◌≡◌, ℕ, ◌+◌, Bool, true, List, [], ◌∷◌, ◌++◌, map, drop, length, Option, codes, if◌then◌else◌}
 use Rattle.std.specs.Fmt.{decimal}
 use Rattle.std.specs.List.{flat_map, list_all}
+use Rattle.mx_aim.specs.Classes.{PlainClass, class_text, equals, lowest}
 use Rattle.mx_io.specs.Bytes.{Appends}
 use Rattle.mx_legal.specs.Transcripts.{Step, part}
 use Rattle.mx_name.specs.Names.{is_free}
-use Rattle.mx_name.specs.Principals.{PlainPrincipal, principal_text}
+use Rattle.mx_name.specs.Principals.{principal_text}
+use Rattle.mx_request.specs.declared.entrants.Entrant.{Entrant}
 use Rattle.mx_script.specs.Sessions.{Outline}
 use Rattle.mx_script.specs.SessionTexts.{line_text}
 use Rattle.mx_script.specs.declared.lines.Line.{Line}
@@ -45,17 +47,22 @@ counts_text processes entries =
 abbrev pub opening_text : Outline → List journaled.Entry → List ℕ
 opening_text x journal = counts_text (length x.principals) (length journal)
 
+-- the authorization of a process is told where it is not the lowest
+abbrev pub authorization_text : PlainClass → List ℕ
+authorization_text class = if equals class lowest then [] else codes " of class " ++ class_text class
+
 -- whose lines come
-abbrev pub heading_text : ℕ → PlainPrincipal → List ℕ
-heading_text p principal =
-    codes "\nprocess " ++ decimal p ++ codes ": " ++ principal_text principal ++ codes ", from ring 4\n"
+abbrev pub heading_text : ℕ → Entrant → List ℕ
+heading_text p entrant =
+    codes "\nprocess " ++ decimal p ++ codes ": " ++ principal_text entrant.who
+    ++ (authorization_text entrant.authorization ++ codes ", from ring 4\n")
 
 -- this is shown of the processes from this one on: each heading, and behind it the lines of the script
-abbrev pub AreProcessesShown : ℕ → List PlainPrincipal → List (List Line) → List (List Step) → List ℕ → Type 0
+abbrev pub AreProcessesShown : ℕ → List Entrant → List (List Line) → List (List Step) → List ℕ → Type 0
 AreProcessesShown p [] [] [] text = text ≡ []
-AreProcessesShown p (principal ∷ principals) (script ∷ scripts) (steps ∷ transcripts) text =
-    (shown : List ℕ) × (rest : List ℕ) × (text ≡ heading_text p principal ++ shown ++ rest) × AreShown script steps shown
-    × AreProcessesShown (p + 1) principals scripts transcripts rest
+AreProcessesShown p (entrant ∷ entrants) (script ∷ scripts) (steps ∷ transcripts) text =
+    (shown : List ℕ) × (rest : List ℕ) × (text ≡ heading_text p entrant ++ shown ++ rest) × AreShown script steps shown
+    × AreProcessesShown (p + 1) entrants scripts transcripts rest
 AreProcessesShown p _ _ _ text = ⊥
 
 -- this is the text of a run of the session: the opening, the lines of the setup, and those of each process

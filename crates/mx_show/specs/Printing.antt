@@ -1,7 +1,7 @@
 -- Helpers of the printer: what is added to a buffer, and what of it goes to the sink.
 use Rattle.std.specs.Prelude.{◌≡◌, ℕ, true, List, [], ◌∷◌, ◌++◌, length, Option}
 use Rattle.mx_legal.specs.Transcripts.{Step}
-use Rattle.mx_name.specs.Principals.{PlainPrincipal}
+use Rattle.mx_request.specs.declared.entrants.Entrant.{Entrant}
 use Rattle.mx_script.specs.declared.lines.Line.{Line}
 use Rattle.mx_text.specs.Printing.{IsSent}
 use Rattle.mx_show.specs.Lines.{head_text, told_text, are_lines, AreShown, AreProcessesShown}
@@ -25,10 +25,10 @@ pub record PrintsLines (lines : List Line) (steps : List Step) (sink sink' : Opt
   pub is_sent : IsSent sink sink' rest (before ++ text)
 
 -- processes were added and a part of all was sent
-pub record PrintsProcesses (p : ℕ) (principals : List PlainPrincipal) (scripts : List (List Line)) (transcripts : List (List Step))
+pub record PrintsProcesses (p : ℕ) (entrants : List Entrant) (scripts : List (List Line)) (transcripts : List (List Step))
     (sink sink' : Option (List ℕ)) (before rest : List ℕ) : Type 0 where
   pub text : List ℕ
-  pub shown : AreProcessesShown p principals scripts transcripts text
+  pub shown : AreProcessesShown p entrants scripts transcripts text
   pub is_sent : IsSent sink sink' rest (before ++ text)
 
 -- each transcript has as many steps as its script has lines
@@ -46,11 +46,11 @@ pub record IsUpTo (all : List Line) (all_steps : List Step) (lines : List Line) 
   pub as_many : length lines ≡ length steps
 
 -- The processes before p were printed.
-pub record IsThrough (all : List PlainPrincipal) (all_scripts : List (List Line)) (all_transcripts : List (List Step))
-    (p : ℕ) (principals : List PlainPrincipal) (scripts : List (List Line)) (transcripts : List (List Step))
+pub record IsThrough (all : List Entrant) (all_scripts : List (List Line)) (all_transcripts : List (List Step))
+    (p : ℕ) (entrants : List Entrant) (scripts : List (List Line)) (transcripts : List (List Step))
     (sink sink' : Option (List ℕ)) (before buffer : List ℕ) : Type 0 where
   pub sofar : List ℕ
   pub is_sent : IsSent sink sink' buffer (before ++ sofar)
-  pub goes : (rest : List ℕ) → AreProcessesShown p principals scripts transcripts rest
+  pub goes : (rest : List ℕ) → AreProcessesShown p entrants scripts transcripts rest
       → AreProcessesShown 1 all all_scripts all_transcripts (sofar ++ rest)
   pub as_long : AreAsLong scripts transcripts

@@ -1,6 +1,6 @@
 -- What a denial is explained by: the comparison of its rule, with the numbers of this access and this reference.
 use Rattle.std.specs.Prelude.{◌≡◌, ℕ, ◌≤◌, ◌<◌, min, true, false}
-use Rattle.mx_sdw.specs.Descriptors.{Descriptor, is_unknown, is_gone}
+use Rattle.mx_sdw.specs.Descriptors.{Descriptor, is_unknown, is_gone, is_equal, is_neither}
 use Rattle.mx_sdw.specs.declared.denials.Denial.{Denial}
 use Rattle.mx_sdw.specs.declared.denials.Denial.TheVariants as denial
 use Rattle.mx_show.specs.declared.reasons.Bracket.{Bracket}
@@ -24,6 +24,8 @@ abbrev pub IsSo : Descriptor → ℕ → ℕ → ℕ → Reason → Type 0
 IsSo d ring word current reason.NotKnown = is_unknown d.kind ≡ true
 IsSo d ring word current reason.Deleted = is_gone d.kind ≡ true
 IsSo d ring word current (reason.Beyond told bound) = (told ≡ word) × (bound ≡ d.bound) × (bound ≤ told)
+IsSo d ring word current reason.NotDominated = is_neither d.aim ≡ true
+IsSo d ring word current reason.NotEqual = is_equal d.aim ≡ false
 IsSo d ring word current reason.NoRead = d.r ≡ false
 IsSo d ring word current reason.NoWrite = d.w ≡ false
 IsSo d ring word current reason.NoExecute = d.e ≡ false
@@ -38,6 +40,8 @@ abbrev pub IsRuleOf : Denial → Reason → Type 0
 IsRuleOf denial.UnknownSegment reason.NotKnown = Unit {0}
 IsRuleOf denial.NoSegment reason.Deleted = Unit {0}
 IsRuleOf denial.OutOfBounds (reason.Beyond word bound) = Unit {0}
+IsRuleOf denial.AimRead reason.NotDominated = Unit {0}
+IsRuleOf denial.AimWrite reason.NotEqual = Unit {0}
 IsRuleOf denial.NotReadable reason.NoRead = Unit {0}
 IsRuleOf denial.ReadBracket (reason.Above ring (bracket.R2 limit)) = Unit {0}
 IsRuleOf denial.NotWritable reason.NoWrite = Unit {0}

@@ -1,14 +1,14 @@
 //! All references of a run with the access that each was judged on.
 
-ghost use Rattle.std.specs.Prelude.{◌≤◌, length, IfOk, OnOk};
+ghost use Rattle.std.specs.Prelude.{IfOk, OnOk};
 ghost use Rattle.mx_legal.specs.Legal.{IsLegal};
-ghost use Rattle.mx_state.specs.History.{opening, IsRight};
-ghost use Rattle.mx_show.specs.Judging.{AreAccesses, AreJudged};
+ghost use Rattle.mx_legal.specs.Opened.{opening_of};
+ghost use Rattle.mx_state.specs.History.{IsRight};
+ghost use Rattle.mx_show.specs.Judging.{AreAccesses};
 ghost use Rattle.mx_show.specs.Replays.{IsSameJournal};
 
 use crate::replays::{Changed, Judged, Replay};
 use mx_legal::{Element, Event, Event2, Transcript, Transcripts};
-use mx_name::Principal;
 use mx_script::Session;
 use mx_state::{Entry, Journal};
 use std::alloc::{AllocError, Global};
@@ -37,26 +37,23 @@ pub fn judge_all(
 {
     let references = sorted_references(alloc, transcripts)?;
     let mut judged = Vec::with_capacity(alloc, references.len())?;
-    let principals = session.principals().items();
-    let changed = judge_each(alloc, principals, journal.items(), &references, &mut judged)?;
+    let changed = judge_each(alloc, session, journal.items(), &references, &mut judged)?;
     Ok(Accesses { judged, changed })
 }
 
 // Runs the journal once, adds each of the references with its access, and answers what the entries changed.
 fn judge_each(
     alloc: Global,
-    principals: &[Principal],
+    session: &Session,
     journal: &[Entry],
     references: &[(u8, Element)],
     judged: &mut Vec<Judged>,
 ) -> Result<Vec<Changed>, AllocError>
-    requires some { 1 ≤ length principals.now }
-    requires most { length principals.now ≤ 15 }
-    requires right { IsRight (opening principals.now) journal.now }
-    requires judged { AreJudged principals.now journal.now judged.old.items }
-    ensures { IfOk result (λ changed. AreJudged principals.now journal.now judged.new.items) }
+    requires right { IsRight (opening_of session.now) journal.now }
+    requires judged { AreAccesses session.now journal.now judged.old.items }
+    ensures { IfOk result (λ changed. AreAccesses session.now journal.now judged.new.items) }
 {
-    let mut replay = Replay::new(alloc, principals, journal)?;
+    let mut replay = Replay::new(alloc, session, journal)?;
     let added = add_all_judged(alloc, &mut replay, references, judged);
     let changed = replay.into_changed();
     added?;
@@ -70,8 +67,8 @@ fn add_all_judged(
     references: &[(u8, Element)],
     judged: &mut Vec<Judged>,
 ) -> Result<(), AllocError>
-    requires { AreJudged replay.old.principals replay.old.journal judged.old.items }
-    ensures { OnOk result (AreJudged replay.old.principals replay.old.journal judged.new.items) }
+    requires { AreAccesses replay.old.session replay.old.journal judged.old.items }
+    ensures { OnOk result (AreAccesses replay.old.session replay.old.journal judged.new.items) }
 {
     for (process, element) in references {
         add_judged(alloc, replay, judged, *process, *element)?;
@@ -87,9 +84,9 @@ fn add_judged(
     process: u8,
     element: Element,
 ) -> Result<(), AllocError>
-    requires { AreJudged replay.old.principals replay.old.journal judged.old.items }
+    requires { AreAccesses replay.old.session replay.old.journal judged.old.items }
     ensures same { OnOk result (IsSameJournal replay.old replay.new) }
-    ensures accesses { OnOk result (AreJudged replay.old.principals replay.old.journal judged.new.items) }
+    ensures accesses { OnOk result (AreAccesses replay.old.session replay.old.journal judged.new.items) }
 {
     if !replay.has_process(process) {
         return Ok(());

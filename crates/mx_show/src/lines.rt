@@ -16,8 +16,7 @@ use crate::telling::Teller;
 use adding::{add_heading, add_opening, add_request_line, add_script_line};
 use mx_io::{Sink, WriteFault, write_all};
 use mx_legal::{Transcript, Transcripts};
-use mx_name::Principal;
-use mx_request::Request;
+use mx_request::{Entrant, Request};
 use mx_script::{Line, Script, Session};
 use mx_state::Journal;
 use std::alloc::Global;
@@ -43,10 +42,10 @@ pub fn show_lines<K: Sink>(
     ensures later { K.faults sink.old ≤ K.faults sink.new }
 {
     let accesses = judge_all(alloc, session, journal, transcripts)?;
-    let (principals, scripts) = (session.principals().items(), session.scripts().items());
+    let (entrants, scripts) = (session.principals().items(), session.scripts().items());
     let parts = transcripts.items();
     let mut out = Vec::new(alloc);
-    add_opening(&mut out, principals.len(), journal.items().len())?;
+    add_opening(&mut out, entrants.len(), journal.items().len())?;
     let mut teller = Teller::new(journal, &accesses, 0);
     let setup = session.setup().items();
     print_setup(alloc, setup, &parts[0], &mut teller, &mut out, sink)?;
@@ -54,7 +53,7 @@ pub fn show_lines<K: Sink>(
         journal,
         accesses: &accesses,
     };
-    print_processes(alloc, principals, scripts, parts, told, &mut out, sink)?;
+    print_processes(alloc, entrants, scripts, parts, told, &mut out, sink)?;
     write_all(sink, &out)?;
     Ok(())
 }
@@ -95,25 +94,25 @@ fn print_setup<K: Sink>(
 // The processes from the first on, whose transcripts come behind that of the setup: each heading, and the lines of the script.
 fn print_processes<K: Sink>(
     alloc: Global,
-    principals: &[Principal],
+    entrants: &[Entrant],
     scripts: &[Script],
     transcripts: &[Transcript],
     told: Told,
     out: &mut Vec<u8>,
     sink: &mut K,
 ) -> Result<(), ShowError>
-    requires few { length principals.now ≤ 15 }
-    requires scripts { length scripts.now ≡ length principals.now }
-    requires transcripts { length transcripts.now ≡ 1 + length principals.now }
+    requires few { length entrants.now ≤ 15 }
+    requires scripts { length scripts.now ≡ length entrants.now }
+    requires transcripts { length transcripts.now ≡ 1 + length entrants.now }
     requires each { AreAsLong scripts.now (drop 1 transcripts.now) }
-    ensures printed { OnOk result (PrintsProcesses 1 principals.now scripts.now (drop 1 transcripts.now) (K.out sink.old) (K.out sink.new) out.old.items out.new.items) }
+    ensures printed { OnOk result (PrintsProcesses 1 entrants.now scripts.now (drop 1 transcripts.now) (K.out sink.old) (K.out sink.new) out.old.items out.new.items) }
     ensures cause { IsErrOf result ShowError.Fault → Rose (K.faults sink.old) (K.faults sink.new) }
     ensures only { (IsErrOf result ShowError.Fault → ⊥) → K.faults sink.new ≡ K.faults sink.old }
     ensures later { K.faults sink.old ≤ K.faults sink.new }
 {
-    for (i, principal) in principals.iter().enumerate() {
+    for (i, entrant) in entrants.iter().enumerate() {
         let process = i as u8 + 1;
-        add_heading(out, process, principal)?;
+        add_heading(out, process, entrant)?;
         let mut teller = Teller::new(told.journal, told.accesses, process);
         let script = scripts[i].items();
         print_script(alloc, script, &transcripts[i + 1], &mut teller, out, sink)?;

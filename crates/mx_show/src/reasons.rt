@@ -5,7 +5,7 @@ ghost use Rattle.mx_show.specs.Reasons.{Explains};
 
 use crate::parts::NOTHING;
 use crate::parts::Part::{self, Decimal, Octal, Text};
-use mx_sdw::{Denial, Desc, DescKind, Ring};
+use mx_sdw::{Aim, Denial, Desc, DescKind, Ring};
 use std::fmt::{self, Display, Formatter, Write};
 
 /// One of the brackets, with the ring that it is.
@@ -36,6 +36,10 @@ pub enum Reason {
     Deleted,
     /// The word is not below the bound.
     Beyond { word: u16, bound: u16 },
+    /// The authorization does not dominate the segment's class.
+    NotDominated,
+    /// The authorization does not equal the segment's class.
+    NotEqual,
     /// The flag r is off.
     NoRead,
     /// The flag w is off.
@@ -61,6 +65,8 @@ impl Reason {
             Reason::Beyond { word, bound } => {
                 place(word, " is not below the bound ", u64::from(bound))
             }
+            Reason::NotDominated => whole("the authorization does not dominate the class"),
+            Reason::NotEqual => whole("the authorization does not equal the class"),
             Reason::NoRead => whole("the flag r is off"),
             Reason::NoWrite => whole("the flag w is off"),
             Reason::NoExecute => whole("the flag e is off"),
@@ -151,6 +157,8 @@ pub fn explain(desc: &Desc, denial: Denial, ring: Ring, word: u16, current: u8) 
         Denial::UnknownSegment if desc.kind() == DescKind::Unknown => Some(Reason::NotKnown),
         Denial::NoSegment if desc.kind() == DescKind::Gone => Some(Reason::Deleted),
         Denial::OutOfBounds if word >= bound => Some(Reason::Beyond { word, bound }),
+        Denial::AimRead if desc.aim() == Aim::Neither => Some(Reason::NotDominated),
+        Denial::AimWrite if desc.aim() != Aim::Equal => Some(Reason::NotEqual),
         Denial::NotReadable if !desc.r() => Some(Reason::NoRead),
         Denial::ReadBracket if ring > r2 => Some(above),
         Denial::NotWritable if !desc.w() => Some(Reason::NoWrite),

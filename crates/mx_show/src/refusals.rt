@@ -21,8 +21,16 @@ pub(crate) fn refusal_words(refusal: Refusal, request: &Request) -> &'static str
             "the length is not 1 to 1024 words, or a gate or definition lies beyond it",
         Refusal::BadBrackets => bracket_words(request),
         Refusal::InvalidMode => "letters of the other kind of entry, or m without s",
-        Refusal::AclFull => "the access list has 64 entries",
-        Refusal::NoAclEntry => "the access list has no such entry",
+        Refusal::AclFull => list_words(
+            request,
+            "the access list has 64 entries",
+            "the initial access list has 63 entries",
+        ),
+        Refusal::NoAclEntry => list_words(
+            request,
+            "the access list has no such entry",
+            "the initial access list has no such entry",
+        ),
         Refusal::NoPages => "too few pages are left",
         Refusal::KstFull => "too few segment numbers are left",
         Refusal::UnknownSegno => "the number stands for no segment that was made known",
@@ -33,6 +41,15 @@ pub(crate) fn refusal_words(refusal: Refusal, request: &Request) -> &'static str
         Refusal::NoProcess => "there is no such process",
         Refusal::MailFull => "64 messages wait for it already",
         Refusal::Ended => "the process has ended",
+        Refusal::BadClass => "the class does not dominate the one that the segment has",
+    }
+}
+
+// What is wrong with an access list, in the words for the one of an entry or for an initial one.
+fn list_words(request: &Request, own: &'static str, initial: &'static str) -> &'static str {
+    match request {
+        Request::SetIacl { .. } | Request::DelIacl { .. } => initial,
+        _ => own,
     }
 }
 

@@ -5,14 +5,15 @@ ghost use Rattle.std.specs.Option.{option_map};
 
 use mx_acl::Modes;
 use mx_legal::Element;
-use mx_name::{AclId, Principal};
+use mx_name::AclId;
+use mx_script::Session;
 use mx_sdw::Desc;
 use mx_state::{Changes, Entry, State};
 use std::alloc::{AllocError, Global};
 use std::marker::Model;
 
-/// How many segment numbers a process has.
-const NUMBERS: usize = 128;
+/// How many segment numbers a process has at most.
+const NUMBERS: usize = 256;
 
 /// A descriptor that an entry of the journal changed: whose, and what it was and is.
 #[derive(Clone, Copy)]
@@ -46,7 +47,7 @@ struct Held {
 /// The plain supervisor after the first `at` entries of a right journal, and what each of them changed.
 #[derive(Drop)]
 pub struct Replay<'a> {
-    principals: &'a [Principal],
+    session: &'a Session,
     journal: &'a [Entry],
     at: usize,
     state: State,
@@ -59,32 +60,32 @@ impl<'a> Model for Replay<'a> {
 
     ghost Value = { Replayed };
 
-    ghost view = { λ a. replayed a.principals.now a.journal.now a.at };
+    ghost view = { λ a. replayed a.session.now a.journal.now a.at };
 
-    ghost invariant = { λ a. IsReplay (replayed a.principals.now a.journal.now a.at) a.state };
+    ghost invariant = { λ a. IsReplay (replayed a.session.now a.journal.now a.at) a.state };
 }
 
 impl<'a> Replay<'a> {
     ghost use Rattle.mx_show.specs.Judging.{IsAccess};
     ghost use Rattle.mx_show.specs.Replays.{Replayed, replayed, IsSameJournal};
     ghost use Rattle.std.specs.Prelude.{◌≡◌, ◌≤◌, ◌<◌, ◌+◌, length, min, IfOk, IsTrue, OnOk};
-    ghost use Rattle.mx_state.specs.History.{opening, IsRight};
+    ghost use Rattle.mx_legal.specs.Opened.{opening_of};
+    ghost use Rattle.mx_state.specs.History.{IsRight};
 
-    /// Before the first entry of a right journal of 1 to 15 processes.
+    /// Before the first entry of a right journal of the session.
     pub(crate) fn new(
         alloc: Global,
-        principals: &'a [Principal],
+        session: &'a Session,
         journal: &'a [Entry],
     ) -> Result<Replay<'a>, AllocError>
-        requires some { 1 ≤ length principals.now }
-        requires most { length principals.now ≤ 15 }
-        requires right { IsRight (opening principals.now) journal.now }
-        ensures { IfOk result (λ replay. replay ≡ replayed principals.now journal.now 0) }
+        requires { IsRight (opening_of session.now) journal.now }
+        ensures { IfOk result (λ replay. replay ≡ replayed session.now journal.now 0) }
     {
-        let state = State::new(alloc, principals)?;
-        let held = held_at_first(alloc, &state, principals.len() as u8)?;
+        let entrants = session.principals().items();
+        let state = State::new(alloc, entrants, session.version())?;
+        let held = held_at_first(alloc, &state, entrants.len() as u8)?;
         Ok(Replay {
-            principals,
+            session,
             journal,
             at: 0,
             state,
@@ -100,9 +101,9 @@ impl<'a> Replay<'a> {
 
     /// Whether there is a process of this number, from 1.
     pub(crate) fn has_process(&self, process: u8) -> bool
-        ensures { IsTrue result → (1 ≤ process) × (process ≤ length self.now.principals) }
+        ensures { IsTrue result → (1 ≤ process) × (process ≤ length self.now.session.principals) }
     {
-        1 <= process && usize::from(process) <= self.principals.len()
+        1 <= process && usize::from(process) <= self.session.principals().items().len()
     }
 
     /// A reference of this process, with its access. Where the point lies behind, all begins anew.
@@ -113,11 +114,11 @@ impl<'a> Replay<'a> {
         element: Element,
     ) -> Result<Judged, AllocError>
         requires some { 1 ≤ process }
-        requires process { process ≤ length self.old.principals }
+        requires process { process ≤ length self.old.session.principals }
         ensures same { OnOk result (IsSameJournal self.old self.new) }
         ensures process { IfOk result (λ judged. judged.process ≡ process) }
         ensures element { IfOk result (λ judged. judged.element ≡ element) }
-        ensures access { IfOk result (IsAccess self.old.principals self.old.journal) }
+        ensures access { IfOk result (IsAccess self.old.session self.old.journal) }
     {
         self.go_to(alloc, element.point)?;
         let desc = self.state.descriptor(process, element.segno);
@@ -144,7 +145,7 @@ impl<'a> Replay<'a> {
         ensures at { OnOk result (self.new.at ≡ min point (length self.new.journal)) }
     {
         if self.at > point as usize {
-            *self = Replay::new(alloc, self.principals, self.journal)?;
+            *self = Replay::new(alloc, self.session, self.journal)?;
         }
         while self.at < point as usize && self.at < self.journal.len() {
             self.step(alloc)?;

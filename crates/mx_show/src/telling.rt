@@ -6,7 +6,9 @@ use crate::parts::{NOTHING, add_parts, add_sentences, ring};
 use crate::reasons::{Reason, explain};
 use crate::replays::{Changed, Judged};
 use crate::sources::source_of;
-use crate::words::{access_word, add_access, add_lack, add_reply, extent, kind_word, walk_words};
+use crate::words::{
+    access_word, add_access, add_lack, add_reply, extent, kind_word, standing, walk_words,
+};
 use mx_legal::{Event, Event2, Kind, Outcome, Result2, entry_at};
 use mx_ptr::{Pointer, is_link};
 use mx_sdw::{Denial, DescKind, Ring, Word};
@@ -388,7 +390,8 @@ fn raised_words(judged: &Judged, pointer: &Pointer) -> [Part<'static>; 4] {
     }
 }
 
-// Adds whose access changed, and from what to what: the modes alone where nothing else did.
+// Adds whose access changed, and from what to what: of the modes, and of how the authorization stands to the class, where the
+// brackets are the same.
 fn add_changed(out: &mut String, changed: &Changed) -> Result<(), AllocError> {
     let (before, after) = (&changed.before, &changed.after);
     let (process, segno) = (
@@ -409,7 +412,10 @@ fn add_changed(out: &mut String, changed: &Changed) -> Result<(), AllocError> {
         && after.kind() == DescKind::Segment
         && before.brackets() == after.brackets()
     {
-        add_sentences(out, &[&head, &then, &[Text("\n")]])
+        let (aim, next) = (before.aim(), after.aim());
+        let stood = [Text(standing(aim, next))];
+        let stands = [Text(standing(next, aim))];
+        add_sentences(out, &[&head, &stood, &then, &stands, &[Text("\n")]])
     } else {
         let (before, after) = (extent(before), extent(after));
         add_sentences(out, &[&head, &before, &then, &after, &[Text("\n")]])

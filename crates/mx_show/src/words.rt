@@ -7,7 +7,7 @@ use crate::replays::Judged;
 use mx_legal::Kind;
 use mx_name::AclId;
 use mx_request::{Known, Reply};
-use mx_sdw::{Denial, Desc, DescKind};
+use mx_sdw::{Aim, Denial, Desc, DescKind};
 use mx_state::Entry;
 use std::alloc::{AllocError, Global};
 
@@ -55,8 +55,9 @@ pub(crate) fn access_word(desc: &Desc) -> &'static str {
     }
 }
 
-/// The brackets of a segment, its size and its gates; nothing where there is none.
-pub(crate) fn extent(desc: &Desc) -> [Part<'static>; 11] {
+/// The brackets of a segment, its size, its gates, and how the authorization stands to its class where they are not equal;
+/// nothing where there is none.
+pub(crate) fn extent(desc: &Desc) -> [Part<'static>; 12] {
     let brackets = desc.brackets();
     let bound = desc.bound();
     let words = if bound == 1 { " word" } else { " words" };
@@ -74,8 +75,21 @@ pub(crate) fn extent(desc: &Desc) -> [Part<'static>; 11] {
             Text(words),
             Text(gates),
             last,
+            Text(standing(desc.aim(), Aim::Equal)),
         ],
-        DescKind::Unknown | DescKind::Gone => [NOTHING; 11],
+        DescKind::Unknown | DescKind::Gone => [NOTHING; 12],
+    }
+}
+
+/// How the authorization stands to the class; nothing where it stands so to it already.
+pub(crate) fn standing(aim: Aim, already: Aim) -> &'static str {
+    if aim == already {
+        return "";
+    }
+    match aim {
+        Aim::Equal => ", the authorization equals the class",
+        Aim::Dominates => ", the authorization dominates the class",
+        Aim::Neither => ", the authorization does not dominate the class",
     }
 }
 

@@ -2,7 +2,7 @@
 
 use mx_explain::show;
 use mx_io::{MemorySink, MemorySource};
-use mx_sdw::{Brackets, Denial, Desc, Ring};
+use mx_sdw::{Aim, Brackets, Denial, Desc, Ring};
 use mx_show::{Reason, explain};
 use std::alloc::{AllocError, Global};
 use std::sync::Wait;
@@ -31,7 +31,8 @@ const SMALLEST_LINES: &str = "processes: 1; journal entries: 4\n\n\
     \x20       at point 3: rw by Jones.Faculty.a, brackets 1,4,4, 64 words, since entry 3\n\
     line 9: logout\n    entry 4 in ring 4: done\n";
 
-const ENDED: &str = "line 1: the text ends here; what may come is `multics 1`\n";
+const ENDED: &str =
+    "line 1: the text ends here; what may come is `multics 1`, `multics 2` or `multics 3`\n";
 
 const COMMANDS: &[Row] = &[
     ("lint", SMALLEST, false, 4096, 0, "good\n"),
@@ -92,9 +93,11 @@ enum Shape {
     Gone,
     // Brackets 1,3,5, no flag, 2 gates, 64 words.
     Closed,
+    // The same of a class that the authorization does not equal.
+    OfClass(Aim),
 }
 
-use Shape::{Closed, Gone, Unknown};
+use Shape::{Closed, Gone, OfClass, Unknown};
 
 const DENIALS: &[Why] = &[
     (
@@ -115,6 +118,22 @@ const DENIALS: &[Why] = &[
         64,
         4,
         "word 100 is not below the bound 100 (octal)",
+    ),
+    (
+        OfClass(Aim::Neither),
+        Denial::AimRead,
+        4,
+        0,
+        4,
+        "the authorization does not dominate the class",
+    ),
+    (
+        OfClass(Aim::Dominates),
+        Denial::AimWrite,
+        1,
+        0,
+        1,
+        "the authorization does not equal the class",
     ),
     (Closed, Denial::NotReadable, 1, 0, 1, "the flag r is off"),
     (
@@ -208,11 +227,14 @@ fn desc_of(shape: Shape) -> Option<Desc> {
     match shape {
         Unknown => Some(Desc::unknown()),
         Gone => Some(Desc::gone()),
-        Closed => {
-            let brackets = Brackets::new(Ring::new(1)?, Ring::new(3)?, Ring::new(5)?)?;
-            Some(Desc::segment(brackets, false, false, false, 2, 8, 64))
-        }
+        Closed => closed(Aim::Equal),
+        OfClass(aim) => closed(aim),
     }
+}
+
+fn closed(aim: Aim) -> Option<Desc> {
+    let brackets = Brackets::new(Ring::new(1)?, Ring::new(3)?, Ring::new(5)?)?;
+    Some(Desc::classed(aim, brackets, false, false, false, 2, 8, 64))
 }
 
 fn said(alloc: Global, reason: Option<Reason>) -> Result<String, AllocError> {

@@ -110,6 +110,8 @@ fn why(placed: &Placed, denial: Denial, current: u8) -> [Part<'static>; 4] {
         current,
     ) {
         Some(Reason::Beyond { word, bound }) => compared(word, " >= ", bound),
+        Some(Reason::NotDominated) => words("class not dominated"),
+        Some(Reason::NotEqual) => words("class not equal"),
         Some(Reason::NoRead) => words("r is off"),
         Some(Reason::NoWrite) => words("w is off"),
         Some(Reason::NoExecute) => words("e is off"),

@@ -17,14 +17,14 @@ pub(super) fn add_lanes(
     layout: &Layout,
 ) -> Result<(), AllocError> {
     let mut process = 0u8;
-    for principal in session
+    for entrant in session
         .principals()
         .items()
         .iter()
         .take(usize::from(layout.lanes))
     {
         process = process.saturating_add(1);
-        add_name(alloc, out, process, principal)?;
+        add_name(alloc, out, process, &entrant.who)?;
         add_bands(out, layout, process)?;
     }
     Ok(())

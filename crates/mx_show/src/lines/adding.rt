@@ -3,16 +3,17 @@
 ghost use Rattle.std.specs.Prelude.{◌≡◌, ◌++◌, OnOk};
 ghost use Rattle.std.specs.Fmt.{decimal};
 ghost use Rattle.mx_script.specs.declared.lines.Line.TheVariants.{Ask};
-ghost use Rattle.mx_show.specs.Lines.{counts_text, heading_text, head_text, told_line};
+ghost use Rattle.mx_show.specs.Lines.{authorization_text, counts_text, heading_text, head_text, told_line};
 ghost use Rattle.mx_show.specs.Printing.{IsToldBehind, IsLineBehind};
 
 use crate::telling::Teller;
 use itoa::Buffer;
+use mx_aim::Class;
 use mx_legal::{Event2, Result2};
-use mx_name::{Principal, cut};
-use mx_request::Request;
+use mx_name::cut;
+use mx_request::{Entrant, Request};
 use mx_script::Line;
-use mx_sdw::Word;
+use mx_sdw::{Word, write_octal};
 use std::alloc::{AllocError, Global};
 
 /// Adds how many processes and journal entries there are, and whose lines come first.
@@ -32,14 +33,28 @@ pub(super) fn add_opening(
 pub(super) fn add_heading(
     out: &mut Vec<u8>,
     process: u8,
-    principal: &Principal,
+    entrant: &Entrant,
 ) -> Result<(), AllocError>
-    ensures { OnOk result (out.new.items ≡ out.old.items ++ heading_text process principal.now) }
+    ensures { OnOk result (out.new.items ≡ out.old.items ++ heading_text process entrant.now) }
 {
     add_labelled(out, b"\nprocess ", u64::from(process))?;
     out.extend_from_slice(b": ")?;
-    principal.append_to(out)?;
+    entrant.who.append_to(out)?;
+    add_authorization(out, entrant.authorization)?;
     out.extend_from_slice(b", from ring 4\n")
+}
+
+// Adds the authorization of a process; nothing where it is the lowest.
+fn add_authorization(out: &mut Vec<u8>, class: Class) -> Result<(), AllocError>
+    ensures { OnOk result (out.new.items ≡ out.old.items ++ authorization_text class) }
+{
+    if class.equals(&Class::lowest()) {
+        return Ok(());
+    }
+    out.extend_from_slice(b" of class ")?;
+    write_octal(out, u64::from(class.level()))?;
+    out.extend_from_slice(b":")?;
+    write_octal(out, u64::from(class.categories()))
 }
 
 /// Adds a line of the setup, and what is told of it.

@@ -1,11 +1,11 @@
 use Rattle.std.proofs.Common.{◌≡◌}
-use Rattle.mx_show.specs.Judging.{AreJudged}
+use Rattle.mx_show.specs.Judging.{AreAccesses}
 use Rattle.mx_show.proofs.judging.add_all_judged.Given as goal
 
 -- the journal is the same, and each reference so far has its access
 abbrev pub invariant-loop-process : goal.invariant-loop-process
 invariant-loop-process l = record {
-  principals : l.replay.principals ≡ l.initial.replay.principals;
+  session : l.replay.session ≡ l.initial.replay.session;
   journal : l.replay.journal ≡ l.initial.replay.journal;
-  accesses : AreJudged l.initial.replay.principals l.initial.replay.journal l.judged.items;
+  accesses : AreAccesses l.initial.replay.session l.initial.replay.journal l.judged.items;
 }

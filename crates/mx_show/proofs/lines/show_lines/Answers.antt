@@ -18,10 +18,10 @@ pub returns-clause-shown : goal.returns-clause-shown
 returns-clause-shown g c =
     lines_gained c.args.session.now c.args.journal.now c.args.transcripts.now c.index-parts-0.result _ _ _ _ _ _ _ _
     c.new-out.ensures.items
-    (rw (c.items-principals.ensures, c.principals.ensures.value, c.items.ensures) at c.in_ok-add_opening.ensures)
+    (rw (c.items-entrants.ensures, c.principals.ensures.value, c.items.ensures) at c.in_ok-add_opening.ensures)
     (first_part c.args.transcripts.now c.index-parts-0.result (below_first c.args.transcripts.now _ c.requires.legal.parts)
     (rw c.items-parts.ensures at c.index-parts-0.is))
     (rw (c.items-setup.ensures, c.setup.ensures) at c.in_ok-print_setup.ensures.printed)
-    (rw (c.items-principals.ensures, c.principals.ensures.value, c.items-scripts.ensures, c.scripts.ensures.value, c.items-parts.ensures)
+    (rw (c.items-entrants.ensures, c.principals.ensures.value, c.items-scripts.ensures, c.scripts.ensures.value, c.items-parts.ensures)
     at c.in_ok-print_processes.ensures.printed)
     (rw c.deref.ensures.value at c.in_ok-write_all.ensures.all)
