@@ -2,12 +2,13 @@
 use Rattle.std.proofs.Common.{◌≡◌, ◌⊎◌, ℕ, ◌≤◌, ◌<◌, List, [], ◌∷◌, length, codes, Option, Some, inl, inr, refl, sym, ◌∙◌, subst, arith}
 use Rattle.mx_io.specs.Bytes.{TakesAll, TakesTooMany}
 use Rattle.mx_script.specs.Sessions.{Outline}
-use Rattle.mx_explain.specs.Statuses.{IsCommand, Shows, IsShown, GainsFront, IsStopped, IsDueStatus}
+use Rattle.mx_explain.specs.Statuses.{IsCommand, Shows, IsShown, IsRefused, GainsFront, IsStopped, IsDueStatus}
 use Rattle.mx_explain.specs.Views.{word_of, ShowsOf, Tells, TellsFront}
 use Rattle.mx_explain.specs.declared.commands.View.{View}
 use Rattle.mx_explain.specs.declared.commands.View.TheVariants.{Lint, Lines, Picture}
 
-command_of : (view : View) (words : List (List ℕ)) → words ≡ word_of view ∷ [] → IsCommand words
+-- an accepted word is one of a command
+pub command_of : (view : View) (words : List (List ℕ)) → words ≡ word_of view ∷ [] → IsCommand words
 command_of Lint words e = inl e
 command_of Lines words e = inr (inl e)
 command_of Picture words e = inr (inr e)
@@ -38,6 +39,16 @@ shown_at view words spelled source source' sink sink' status e taken within (inl
   shown = shows_of view words told.1.session sink sink' e told.1.shown;
 }
 shown_at view words spelled source source' sink sink' status e taken within (inr told) zero = none 0 5 (omega arith) (sym zero ∙ told.0)
+
+-- what was told of a text that is no session's
+pub refused_at : (view : View) (spelled : List ℕ) (source source' sink sink' : Option (List ℕ)) (status : ℕ) → TakesAll source source' spelled
+    → length spelled ≤ 4194304 → Tells view spelled sink sink' status → status ≡ 5 → IsRefused source source' sink sink'
+refused_at view spelled source source' sink sink' status taken within (inl told) five = none 0 5 (omega arith) (sym told.0 ∙ five)
+refused_at view spelled source source' sink sink' status taken within (inr told) five = record {
+  spelled = spelled;
+  read = record { taken = taken; within = within };
+  bad = told.1;
+}
 
 -- the status that is due of a text
 pub due_of_text : (view : View) (words : List (List ℕ)) (spelled bytes : List ℕ) (source source' sink sink' : Option (List ℕ)) (status : ℕ)

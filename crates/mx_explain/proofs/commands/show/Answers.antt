@@ -1,11 +1,22 @@
 use Rattle.std.proofs.Common.{Err, inl, inr, ap}
-use Rattle.mx_explain.proofs.StatusLaws.{shown_at, front_of_text, due_of_text, due_too_long}
+use Rattle.mx_explain.proofs.StatusLaws.{command_of, shown_at, refused_at, front_of_text, due_of_text, due_too_long}
 use Rattle.mx_explain.proofs.commands.show.Goals as goal
 
 pub returns-in-Ok-tell-clause-done : goal.returns-in-Ok-tell-clause-done
 returns-in-Ok-tell-clause-done g c = λ zero.
     shown_at c.in-Some.view _ _ _ _ _ _ _ c.in-Some.ensures.view (rw c.deref.ensures.value c.in-Ok.ensures.all)
     (rw c.deref.ensures.value c.in-Ok.ensures.within) c.in-Ok-tell.ensures.told zero
+
+pub returns-in-Ok-tell-clause-bad_line : goal.returns-in-Ok-tell-clause-bad_line
+returns-in-Ok-tell-clause-bad_line g c = λ five.
+    refused_at c.in-Some.view _ _ _ _ _ _ (rw c.deref.ensures.value c.in-Ok.ensures.all)
+    (rw c.deref.ensures.value c.in-Ok.ensures.within) c.in-Ok-tell.ensures.told five
+
+pub returns-in-Ok-tell-clause-refused : goal.returns-in-Ok-tell-clause-refused
+returns-in-Ok-tell-clause-refused g c = λ other. absurd (other (command_of c.in-Some.view _ c.in-Some.ensures.view))
+
+pub returns-in-Ok-tell-clause-unread : goal.returns-in-Ok-tell-clause-unread
+returns-in-Ok-tell-clause-unread g c = λ other. absurd (other (command_of c.in-Some.view _ c.in-Some.ensures.view))
 
 pub returns-in-Ok-tell-clause-due : goal.returns-in-Ok-tell-clause-due
 returns-in-Ok-tell-clause-due g c = λ spelled is.
