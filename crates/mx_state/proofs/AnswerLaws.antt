@@ -26,6 +26,7 @@ use Rattle.mx_state.specs.Requests.{changed, plain, told}
 use Rattle.mx_state.specs.Serving.{Serves}
 use Rattle.mx_state.specs.Sound.{IsSound, HoldsSound}
 use Rattle.mx_state.proofs.Descriptors.{nothing_changes, quiet, grown_is_sound, changes_are_bounded, sound_numbered}
+use Rattle.mx_state.proofs.PageLaws.{grown_once}
 use Rattle.mx_state.proofs.SegmentLaws.{IsAsBefore, Nothing, Leaves, as_it_was}
 
 -- the state as its parts
@@ -57,6 +58,7 @@ call_is_sound version but meant h k mail processes principal root call says leav
   initializer_is = holds.initializer_is;
   root_is = holds.root_is;
   sound = grown_is_sound but (plain_state version h mail processes) k holds.sound (after_call but meant h k call says leaves);
+  held_once = grown_once version h k mail processes (after_call but meant h k call says leaves).pages holds.held_once;
 }
 
 changed_as : (version : ℕ) (h k : Hierarchy) (mail : List PlainProcess) (processes : List ProcessState) (meant : Result Hierarchy Refusal) (call : Result (Unit {0}) HierError) (reply : Reply)

@@ -5,8 +5,11 @@ use Rattle.std.proofs.lemmas.Bool.{ne_eqb}
 use Rattle.mx_core.specs.declared.changes.Change.{Change}
 use Rattle.mx_name.specs.Principals.{PlainPrincipal}
 use Rattle.mx_sdw.specs.Admissible.{IsAdmissible}
+use Rattle.mx_sdw.specs.Rings.{Bracketing}
 use Rattle.mx_hier.specs.Branches.{Hierarchy}
-use Rattle.mx_hier.specs.Linkage.{with_page_given}
+use Rattle.mx_hier.specs.Linkage.{links_at, linkage_brackets_at, page_given, with_page_given}
+use Rattle.mx_hier.specs.Rules.{first_of, unless}
+use Rattle.mx_hier.specs.declared.refusals.Refusal.{Refusal}
 use Rattle.mx_kst.proofs.InitiateLaws.{sound_initiated}
 use Rattle.mx_kst.proofs.LotLaws.{freed}
 use Rattle.mx_kst.proofs.TerminateLaws.{sound_terminated}
@@ -25,23 +28,49 @@ use Rattle.mx_request.specs.declared.replies.Reply.TheVariants.{Done}
 use Rattle.mx_state.specs.declared.states.ProcessState.{ProcessState}
 use Rattle.mx_state.specs.Askers.{on_process}
 use Rattle.mx_state.specs.Changes.{AreChanges}
-use Rattle.mx_state.specs.Connecting.{connect, with_section_page}
+use Rattle.mx_state.specs.Connecting.{connect, connect_refusals, with_section_page}
 use Rattle.mx_state.specs.Known.{IsConnected, knowing, section_or_refusal}
 use Rattle.mx_state.specs.Knowing.{terminate}
 use Rattle.mx_state.specs.Plain.{Plain, Answer, answer, process_at}
 use Rattle.mx_state.specs.Renewing.{held_two, renewed}
+use Rattle.mx_state.specs.Sections.{needs_section, section_by, section_made}
 use Rattle.mx_state.specs.Serving.{Serves}
 use Rattle.mx_state.specs.Sound.{IsSound, IsSoundProcess, HoldsSound}
 use Rattle.mx_state.specs.Table.{descriptor}
 use Rattle.mx_state.proofs.ConnectingLaws.{connect_granted, connected_by, initiated_last, initiated_lots, lots_apart, made_by}
 use Rattle.mx_state.proofs.AnswerLaws.{plain_state}
 use Rattle.mx_state.proofs.Descriptors.{AreNumbered, process_at_place, changes_are_bounded, sound_numbered}
+use Rattle.mx_state.proofs.PageLaws.{known_once, ended_once}
 use Rattle.mx_state.proofs.ProcessLaws.{in_place, replaced_is_sound, replaced_numbered, others_stay, to_process}
 use Rattle.mx_state.proofs.RenewingLaws.{renewing_two}
 
 -- a process that knows this
 abbrev pub knower : ProcessState → KnownSegments → ProcessState
 knower process k = record process { known = k }
+
+-- a section that is made is on the page that is given out
+section_on : (h : Hierarchy) (links : ℕ) (brackets : Option Bracketing) (page : Option ℕ) → page_given h ≡ page
+    → IfSome (section_by links brackets page) (λ s. page_given h ≡ Some s.page)
+section_on h links (Some brackets) (Some page) given = given
+section_on h links (Some brackets) None given = tt
+section_on h links None page given = tt
+
+section_made_on : (h : Hierarchy) (k : KnownSegments) (uid : ℕ) → IfSome (section_made h k uid) (λ s. page_given h ≡ Some s.page)
+section_made_on h k uid = by_need (needs_section h k uid)
+  where
+    by_need : (needs : Bool) → IfSome (cond needs (section_by (links_at h uid) (linkage_brackets_at h uid) (page_given h)) None) (λ s. page_given h ≡ Some s.page)
+    by_need true = section_on h (links_at h uid) (linkage_brackets_at h uid) (page_given h) refl
+    by_need false = tt
+
+on_page_given : (h : Hierarchy) (k : KnownSegments) (uid ring : ℕ) (name : Option (List ℕ)) (section : Option PlainSection)
+    → section_or_refusal h k uid ring name ≡ Ok section → IfSome section (λ s. page_given h ≡ Some s.page)
+on_page_given h k uid ring name section e = by_refusals (first_of (connect_refusals h k uid ring name)) e
+  where
+    by_refusals : (why : Option Refusal) → unless why (section_made h k uid) ≡ Ok section → IfSome section (λ s. page_given h ≡ Some s.page)
+    by_refusals None e =
+        let same : section_made h k uid ≡ section = cc in
+        subst (λ o. IfSome o (λ s. page_given h ≡ Some s.page)) same (section_made_on h k uid)
+    by_refusals (Some why) e = absurd (cc)
 
 -- a page that is given out keeps a state sound
 paged_is_sound : (version : ℕ) (h : Hierarchy) (mail : List PlainProcess) (processes : List ProcessState) → IsSound (plain_state version h mail processes)
@@ -75,9 +104,9 @@ module _ (version : ℕ) (h : Hierarchy) (mail : List PlainProcess) (processes :
   }
 
   pub known_holds : (principal : PlainPrincipal) (root : List (List ℕ)) → HoldsSound principal root (plain_state version h mail processes)
-      → IfSome section (λ s. IsWithinPage s.page s.words) → uid < h.next
+      → IfSome section (λ s. IsWithinPage s.page s.words) → uid < h.next → section_or_refusal h process.known uid ring name ≡ Ok section
       → HoldsSound principal root (plain_state version paged mail (knowing processes i process given.after))
-  known_holds principal root holds within below =
+  known_holds principal root holds within below meant =
       let sound = replaced_is_sound (plain_state version h mail processes) i (knower process given.after) holds.sound
       (knower_is_sound h.next (holds.sound.processes i process e) within below) in
       record {
@@ -85,6 +114,8 @@ module _ (version : ℕ) (h : Hierarchy) (mail : List PlainProcess) (processes :
         root_is = holds.root_is;
         sound = with_page (λ k. IsSound (plain_state version k mail (knowing processes i process given.after))) sound
             (paged_is_sound version h mail (knowing processes i process given.after) sound);
+        held_once = known_once version h mail processes i process (knower process given.after) given.known uid section e
+            (initiated_lots process.known uid ring name section given asked) (on_page_given h process.known uid ring name section meant) holds.held_once;
       }
 
   -- only the descriptors of the numbers that are given now change
@@ -214,6 +245,7 @@ ended_holds version h mail processes new i process segno after principal root ho
         last = is.2 ∙ own.last;
         made = λ n v f. own.made n v (stood process.known.lots segno n v (ap (λ (lots : List Lot). lot_of lots n) (sym is.1) ∙ f));
       }));
+      held_once = rw set (ended_once version h mail processes i segno process (knower process after) e is.1 holds.held_once);
     }
 
 pub ended_serves : (version : ℕ) (h : Hierarchy) (mail : List PlainProcess) (processes new : List ProcessState) (p i : ℕ) (process : ProcessState) (segno : ℕ) (after : KnownSegments)

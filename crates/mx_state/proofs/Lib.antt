@@ -1,6 +1,7 @@
 pub mod Lists
 pub mod NumberLaws
 pub mod SectionLaws
+pub mod PageLaws
 pub mod OpeningLaws
 pub mod SegmentLaws
 pub mod Descriptors

@@ -41,6 +41,7 @@ mail_holds version h mail after processes principal root same holds = record {
     mail_count = same ∙ holds.sound.mail_count;
     processes = holds.sound.processes;
   };
+  held_once = holds.held_once;
 }
 
 pub mail_serves : (version : ℕ) (h : Hierarchy) (mail after : List PlainProcess) (processes : List ProcessState) (p : ℕ)

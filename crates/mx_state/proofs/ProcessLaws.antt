@@ -24,6 +24,7 @@ use Rattle.mx_state.proofs.AnswerLaws.{plain_state, nothing_is_bounded}
 use Rattle.mx_state.proofs.Descriptors.{AreNumbered, process_at_place, descriptor_at, nothing_changes}
 use Rattle.mx_state.proofs.Lists.{slice_get-set, slice_get-set_other, slice_get-set_same, some_in}
 use Rattle.mx_state.proofs.NumberLaws.{stands_alike}
+use Rattle.mx_state.proofs.PageLaws.{kept_once}
 
 -- the state with a process in a place
 abbrev pub in_place : Plain → ℕ → ProcessState → Plain
@@ -126,6 +127,7 @@ kept_holds version f h mail processes after i principal root known within set ho
       root_is = holds.root_is;
       sound = rw (set w.0 w.1) (replaced_is_sound (plain_state version h mail processes) i (f w.0) holds.sound
           (kept_is_sound version h.next w.0 (f w.0) (known w.0) (holds.sound.processes i w.0 w.1)));
+      held_once = rw (set w.0 w.1) (kept_once version h mail processes i w.0 (f w.0) w.1 (known w.0) holds.held_once);
     }
 
 -- the answer to a request on a process's own state is that to the process

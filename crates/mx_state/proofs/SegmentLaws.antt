@@ -17,11 +17,12 @@ use Rattle.mx_hier.specs.declared.branches.Node.TheVariants.{Directory as IsDire
 use Rattle.mx_hier.specs.declared.making.Place.{Place}
 use Rattle.mx_hier.specs.declared.refusals.Refusal.{Refusal}
 use Rattle.mx_hier.specs.declared.refusals.Refusal.TheVariants.{NotADir, BadBrackets, NoPages}
-use Rattle.mx_pages.specs.Runs.{pages_for, run_given}
+use Rattle.mx_pages.proofs.RunLaws.{given_free}
+use Rattle.mx_pages.specs.Runs.{pages_for, run_given, is_in_run}
 use Rattle.mx_hier.specs.Branches.{Hierarchy, branch_of, as_segment, directory_at, segment_at, object_at}
 use Rattle.mx_hier.specs.Brackets.{settable}
 use Rattle.mx_hier.specs.Callers.{Subject, Caller}
-use Rattle.mx_hier.specs.Changing.{changed, with_branch, with_acl, with_directory, branch_with_acl, branch_with_directory, branch_with_segment, directory_changed}
+use Rattle.mx_hier.specs.Changing.{changed, with_branch, with_acl, with_directory, branch_with_acl, branch_with_directory, branch_with_segment, directory_changed, segment_changed, acl_changed}
 use Rattle.mx_hier.specs.CreateDirectory.{create_dir, create_dir_at, create_dir_refusals, new_directory}
 use Rattle.mx_hier.specs.CreateLink.{create_link, create_link_at}
 use Rattle.mx_hier.specs.CreateObject.{create_object}
@@ -39,16 +40,20 @@ use Rattle.mx_hier.specs.SetClass.{classed, with_class, set_class_at, set_class_
 use Rattle.mx_hier.specs.SetDirectoryBrackets.{set_dir_brackets_at, set_dir_brackets_refusals, with_dir_brackets, dir_bracketed}
 use Rattle.mx_hier.specs.Walks.{resolved}
 use Rattle.mx_hier.proofs.ObjectLaws.{found_still}
+use Rattle.mx_state.specs.Pages.{lies_on}
+use Rattle.mx_state.proofs.PageLaws.{once, counted, pushed, changed_count, deleted_count, lies_alike, run_count}
 
 -- the segment of a uid among branches
 abbrev standing : List Branch → ℕ → Option Segment
 standing branches uid = option_and_then (λ (branch : Branch). as_segment branch.node) (branch_of branches uid)
 
--- all segments made so far stand as they did, but the one of this uid, and have the same object maps
+-- All segments made so far stand as they did, but the one of this uid, and have the same object maps. At no page more
+-- counts than before.
 pub record IsAsBefore (but : ℕ → Type 0) (old new : Hierarchy) : Type 0 where
   pub same : (uid : ℕ) → uid < old.next → (but uid → ⊥) → segment_at new uid ≡ segment_at old uid
   pub maps : (uid : ℕ) → uid < old.next → object_at new uid ≡ object_at old uid
   pub next : old.next ≤ new.next
+  pub pages : (page : ℕ) → counted new page ≤ counted old page
 
 -- none
 abbrev pub Nothing : ℕ → Type 0
@@ -59,7 +64,7 @@ abbrev pub Only : ℕ → ℕ → Type 0
 Only uid u = u ≡ uid
 
 pub as_it_was : (but : ℕ → Type 0) (h : Hierarchy) → IsAsBefore but h h
-as_it_was but h = record { same = λ uid below apart. refl; maps = λ uid below. refl; next = omega arith }
+as_it_was but h = record { same = λ uid below apart. refl; maps = λ uid below. refl; next = omega arith; pages = λ page. omega arith }
 
 -- what a request leaves, where it is not refused
 abbrev pub Leaves : (ℕ → Type 0) → Hierarchy → Result Hierarchy Refusal → Type 0
@@ -82,12 +87,17 @@ found_before : (branches : List Branch) (branch : Branch) (uid : ℕ) → branch
 found_before [] branch uid apart = rw (ne_eqb branch.uid uid apart) refl
 found_before (x ∷ xs) branch uid apart = ap (cond (eqb x.uid uid) (Some x)) (found_before xs branch uid apart)
 
-added_as_before : (h : Hierarchy) (at : Place) (node : Node) → IsAsBefore Nothing h (added h at node)
-added_as_before h at node = record {
-  same = λ uid below apart. ap (option_and_then (λ (branch : Branch). as_segment branch.node))
-      (found_before h.branches (record { uid = h.next; parent = at.dir; name = at.name; node = node }) uid (λ same. omega arith));
+added_stands : (h : Hierarchy) (at : Place) (node : Node) (uid : ℕ) → uid < h.next → segment_at (added h at node) uid ≡ segment_at h uid
+added_stands h at node uid below = ap (option_and_then (λ (branch : Branch). as_segment branch.node))
+    (found_before h.branches (record { uid = h.next; parent = at.dir; name = at.name; node = node }) uid (λ same. omega arith))
+
+-- a directory or a link lies on no page
+added_as_before : (h : Hierarchy) (at : Place) (node : Node) → ((page : ℕ) → lies_on page node ≡ false) → IsAsBefore Nothing h (added h at node)
+added_as_before h at node none = record {
+  same = λ uid below apart. added_stands h at node uid below;
   maps = λ uid below. refl;
   next = omega arith;
+  pages = λ page. omega (arith, pushed h.branches (record { uid = h.next; parent = at.dir; name = at.name; node = node }) page, ap once (none page));
 }
 
 -- a branch that is changed keeps its uid
@@ -126,15 +136,17 @@ changed_as_before h at f keeps same = record {
   same = λ uid below apart. changed_standing at f h.branches uid keeps (λ x here there. same x);
   maps = λ uid below. refl;
   next = omega arith;
+  pages = λ page. changed_count h at f page (λ x. lies_alike page (f x).node x.node (same x));
 }
 
--- one branch changed
+-- one branch changed, which lies where it did
 changed_but : (h : Hierarchy) (at : ℕ) (f : Branch → Branch) → ((x : Branch) → (f x).uid ≡ x.uid)
-    → IsAsBefore (Only at) h (with_branch h at f)
-changed_but h at f keeps = record {
+    → ((page : ℕ) (x : Branch) → lies_on page (f x).node ≡ lies_on page x.node) → IsAsBefore (Only at) h (with_branch h at f)
+changed_but h at f keeps lies = record {
   same = λ uid below apart. changed_standing at f h.branches uid keeps (λ x here there. absurd (apart (sym there ∙ here)));
   maps = λ uid below. refl;
   next = omega arith;
+  pages = λ page. changed_count h at f page (lies page);
 }
 
 -- the requests that leave all segments
@@ -155,13 +167,26 @@ create_dir_leaves h who path d1 d2 =
     (λ at. made_leaves h at (create_dir_refusals h who.subject at d1 d2)
     (λ parent. Ok (added h at (IsDirectory (new_directory parent who.subject d1 d2))))
     (λ parent. leaves_ok Nothing h (added h at (IsDirectory (new_directory parent who.subject d1 d2)))
-    (added_as_before h at (IsDirectory (new_directory parent who.subject d1 d2))))))
+    (added_as_before h at (IsDirectory (new_directory parent who.subject d1 d2)) (λ page. refl)))))
 
 segment_as_before : (h : Hierarchy) (at : Place) (segment : Segment) (object : Option PlainObjectMap)
-    → IsAsBefore Nothing h (segment_added h at segment object)
-segment_as_before h at segment object =
-    let before = added_as_before h at (IsSegment segment) in
-    record { same = before.same; maps = λ uid below. found_still h.objects h.next uid object (λ same. omega arith); next = before.next }
+    → run_given h.pages (pages_for segment.words) ≡ Some segment.page → IsAsBefore Nothing h (segment_added h at segment object)
+segment_as_before h at segment object given = record {
+  same = λ uid below apart. added_stands h at (IsSegment segment) uid below;
+  maps = λ uid below. found_still h.objects h.next uid object (λ same. omega arith);
+  next = omega arith;
+  pages = λ page. omega (
+    arith,
+    pushed h.branches (record { uid = h.next; parent = at.dir; name = at.name; node = IsSegment segment }) page,
+    run_count h.pages (pages_for segment.words) segment.page page (given_free h.pages (pages_for segment.words) segment.page given),
+  );
+}
+
+-- what follows where a run of pages is given
+leaves_given : (but : ℕ → Type 0) (h : Hierarchy) (given : Option ℕ) (rest : ℕ → Result Hierarchy Refusal)
+    → ((page : ℕ) → given ≡ Some page → Leaves but h (rest page)) → Leaves but h (onward (required NoPages given) rest)
+leaves_given but h (Some page) rest leaves = leaves page refl
+leaves_given but h None rest leaves = λ k e. cc
 
 make_segment_leaves : (h : Hierarchy) (who : Caller) (path : List ℕ) (wanted : Wanted) → Leaves Nothing h (make_segment h who path wanted)
 make_segment_leaves h who path wanted =
@@ -174,10 +199,10 @@ make_segment_leaves h who path wanted =
     (λ parent. leaves_onward Nothing h (required BadBrackets (settable who.subject.ring wanted.rings))
     (λ brackets. onward (required NoPages (run_given h.pages (pages_for wanted.words))) (λ page.
     Ok (segment_added h at (new_segment parent who.subject wanted.words brackets wanted.modes page) wanted.object)))
-    (λ brackets. leaves_onward Nothing h (required NoPages (run_given h.pages (pages_for wanted.words)))
+    (λ brackets. leaves_given Nothing h (run_given h.pages (pages_for wanted.words))
     (λ page. Ok (segment_added h at (new_segment parent who.subject wanted.words brackets wanted.modes page) wanted.object))
-    (λ page. leaves_ok Nothing h (segment_added h at (new_segment parent who.subject wanted.words brackets wanted.modes page) wanted.object)
-    (segment_as_before h at (new_segment parent who.subject wanted.words brackets wanted.modes page) wanted.object))))))
+    (λ page given. leaves_ok Nothing h (segment_added h at (new_segment parent who.subject wanted.words brackets wanted.modes page) wanted.object)
+    (segment_as_before h at (new_segment parent who.subject wanted.words brackets wanted.modes page) wanted.object given))))))
 
 pub create_seg_leaves : (h : Hierarchy) (who : Caller) (path : List ℕ) (words : ℕ) (rings : List ℕ)
     → Leaves Nothing h (create_seg h who path words rings)
@@ -197,7 +222,7 @@ create_link_leaves h who path target =
     (λ target. onward (place h who.subject path) (λ at. create_link_at h who.subject at target))
     (λ target. placed_leaves h who.subject path (λ at. create_link_at h who.subject at target)
     (λ at. made_leaves h at (making_refusals h who.subject at) (λ parent. Ok (added h at (IsLink target)))
-    (λ parent. leaves_ok Nothing h (added h at (IsLink target)) (added_as_before h at (IsLink target))))))
+    (λ parent. leaves_ok Nothing h (added h at (IsLink target)) (added_as_before h at (IsLink target) (λ page. refl))))))
 
 pub rename_leaves : (h : Hierarchy) (who : Subject) (uid : ℕ) (name : List ℕ) → Leaves Nothing h (rename_at h who uid name)
 rename_leaves h who uid name =
@@ -230,8 +255,13 @@ directory_as_before h uid f = record {
   same = λ u below apart. with_directory_stands h uid f u;
   maps = λ u below. with_directory_maps h uid f u;
   next = by_root (eqb uid 0);
+  pages = λ page. no_more page (eqb uid 0);
 }
   where
+    no_more : (page : ℕ) (root : Bool) → counted (cond root (record h { root = f h.root }) (with_branch h uid (branch_with_directory f))) page ≤ counted h page
+    no_more page true = omega arith
+    no_more page false = changed_count h uid (branch_with_directory f) page (λ x. lies_alike page (directory_changed f x.node) x.node (directory_stays f x.node))
+
     by_root : (root : Bool) → h.next ≤ (cond root (record h { root = f h.root }) (with_branch h uid (branch_with_directory f))).next
     by_root true = omega arith
     by_root false = omega arith
@@ -253,13 +283,26 @@ del_iacl_leaves h who uid kind id =
     leaves_unless Nothing h (with_initial h uid kind (λ initial. without_entry initial id)) (first_of (del_iacl_refusals h who uid kind id))
     (directory_as_before h uid (initial_changed kind (λ initial. without_entry initial id)))
 
+acl_lies : (f : Access → Access) (page : ℕ) (node : Node) → lies_on page (acl_changed f node) ≡ lies_on page node
+acl_lies f page (IsDirectory directory) = refl
+acl_lies f page (IsSegment segment) = refl
+acl_lies f page (IsLink target) = refl
+
 acl_as_before : (h : Hierarchy) (uid : ℕ) (f : Access → Access) → IsAsBefore (Only uid) h (with_acl h uid f)
 acl_as_before h uid f = by_root (eqb uid 0)
   where
     by_root : (root : Bool) → IsAsBefore (Only uid) h (cond root (record h { root = record h.root { acl = f h.root.acl } })
         (with_branch h uid (branch_with_acl f)))
-    by_root true = record { same = λ u below apart. refl; maps = λ u below. refl; next = omega arith }
-    by_root false = changed_but h uid (branch_with_acl f) (λ x. refl)
+    by_root true = record { same = λ u below apart. refl; maps = λ u below. refl; next = omega arith; pages = λ page. omega arith }
+    by_root false = changed_but h uid (branch_with_acl f) (λ x. refl) (λ page x. acl_lies f page x.node)
+
+-- a segment that has its words and its page lies where it did
+segment_lies : (f : Segment → Segment) → ((segment : Segment) → (f segment).words ≡ segment.words) → ((segment : Segment) → (f segment).page ≡ segment.page)
+    → (page : ℕ) (node : Node) → lies_on page (segment_changed f node) ≡ lies_on page node
+segment_lies f words first page (IsDirectory directory) = refl
+segment_lies f words first page (IsSegment segment) =
+    ap (λ n. is_in_run (pages_for n) (f segment).page page) (words segment) ∙ ap (λ n. is_in_run (pages_for segment.words) n page) (first segment)
+segment_lies f words first page (IsLink target) = refl
 
 -- the requests that change one segment alone
 pub set_acl_leaves : (h : Hierarchy) (who : Subject) (uid : ℕ) (id : PlainAclId) (modes : Modes) → Leaves (Only uid) h (set_acl_at h who uid id modes)
@@ -281,12 +324,14 @@ set_brackets_leaves h who uid rings = by_rules (first_of (set_brackets_refusals 
     by_rules None =
         leaves_onward (Only uid) h (required BadBrackets (settable who.ring rings)) (λ brackets. Ok (with_brackets h uid brackets))
         (λ brackets. leaves_ok (Only uid) h (with_brackets h uid brackets)
-        (changed_but h uid (branch_with_segment (bracketed brackets)) (λ x. refl)))
+        (changed_but h uid (branch_with_segment (bracketed brackets)) (λ x. refl)
+        (λ page x. segment_lies (bracketed brackets) (λ segment. refl) (λ segment. refl) page x.node)))
 
 pub set_class_leaves : (h : Hierarchy) (who : Subject) (uid : ℕ) (class : PlainClass) → Leaves (Only uid) h (set_class_at h who uid class)
 set_class_leaves h who uid class =
     leaves_unless (Only uid) h (with_class h uid class) (first_of (set_class_refusals h who uid class))
-    (changed_but h uid (branch_with_segment (classed class)) (λ x. refl))
+    (changed_but h uid (branch_with_segment (classed class)) (λ x. refl)
+    (λ page x. segment_lies (classed class) (λ segment. refl) (λ segment. refl) page x.node))
 
 -- one that is deleted
 found_without : (at : ℕ) (branches : List Branch) (uid : ℕ) → uid ≢ at → branch_of (without at branches) uid ≡ branch_of branches uid
@@ -306,4 +351,5 @@ delete_leaves h who uid =
       same = λ u below apart. ap (option_and_then (λ (branch : Branch). as_segment branch.node)) (found_without uid h.branches u apart);
       maps = λ u below. refl;
       next = omega arith;
+      pages = λ page. deleted_count h uid page;
     })

@@ -17,6 +17,7 @@ pub mod History
 pub mod Serving
 pub mod Laws
 pub mod Waiting
+pub mod Pages
 pub mod Sound
 pub mod Calling
 pub mod Known

@@ -7,6 +7,7 @@ use Rattle.mx_kst.specs.Lots.{lot_of}
 use Rattle.mx_request.specs.Versions.{last_number}
 use Rattle.mx_state.specs.declared.states.ProcessState.{ProcessState}
 use Rattle.mx_state.specs.Askers.{initializer}
+use Rattle.mx_state.specs.Pages.{ArePagesHeldOnce}
 use Rattle.mx_state.specs.Plain.{Plain}
 
 -- a process's table is sound, with the numbers of the version, and it knows only what was made
@@ -21,8 +22,9 @@ pub record IsSound (s : Plain) : Type 0 where
   pub processes : (i : ℕ) (process : ProcessState) → slice_get s.processes i ≡ Some process
       → IsSoundProcess s.version s.hierarchy.next process
 
--- a program's state: its initializer, the path of the root, and what contracts see of it
+-- a program's state: its initializer, the path of the root, and what contracts see of it; its pages are held once
 pub record HoldsSound (principal : PlainPrincipal) (root : List (List ℕ)) (s : Plain) : Type 0 where
   pub initializer_is : principal ≡ initializer
   pub root_is : root ≡ []
   pub sound : IsSound s
+  pub held_once : ArePagesHeldOnce s

@@ -1,8 +1,11 @@
-//! What follows from the definitions alone.
+//! What follows from the definitions alone, and what is true of every state that the program reaches.
 
 ghost use Rattle.mx_state.specs.Laws.{RefusalLaw, PathLaw, OwnLastLaw, UnknownLaw, SetInitialLaw, DeleteInitialLaw, VersionLaw};
+ghost use Rattle.mx_state.specs.Pages.{ArePagesHeldOnce};
 ghost use Rattle.mx_state.specs.Told.{NewSectionLaw, PathTellsLaw, SectionDescLaw, ResolvedLaw, OnlyLinkLaw, LinkRepliesLaw, OthersLaw, SectionsStayLaw};
 ghost use Rattle.mx_state.specs.Waiting.{DoesLaw, OneRunsLaw, WaitsForLaw};
+
+use crate::states::State;
 
 /// A request that is refused leaves the state; one on a path leaves what is the processes' own, and the mail.
 pub fn what_a_request_leaves()
@@ -62,3 +65,12 @@ pub fn not_all_wait_for_one_another()
     ensures runs { OneRunsLaw }
     ensures waits_for { WaitsForLaw }
 {}
+
+/// In every state that the program reaches the stacks, the segments and the linkage sections of all processes lie on
+/// different pages, and no free page is held.
+pub fn pages_are_held_once(state: &State)
+    ensures { ArePagesHeldOnce state.now }
+{
+    // The state is read for what its model says of it.
+    let _version = state.version;
+}

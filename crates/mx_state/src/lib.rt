@@ -4,11 +4,11 @@
 //! own definitions, `Knowing`, `OwnState` and `Messages`), how a segment becomes known (`Connecting`) and gets its
 //! linkage section (`Sections`), where a link leads (`Linking`), who asks (`Askers`), what a history is (`History`:
 //! replay, right), what a segment number stands for (`Numbers`), which descriptor a process has of it (`Table`), what a
-//! reply tells of linkage sections and links (`Told`), what `status` tells in a session's version (`Shown`), and who
-//! runs, waits or has ended (`Waiting`). [`State`] is the plain supervisor as a program: `apply` gives exactly the reply
-//! and the state of the definition, and exactly the descriptors that changed; `descriptor` is the descriptor of the
-//! definition, and `ready` whether a process would not wait. Stands on requests, the hierarchy, links and the mail; the
-//! type of a change is the core machine's.
+//! reply tells of linkage sections and links (`Told`), what `status` tells in a session's version (`Shown`), who runs,
+//! waits or has ended (`Waiting`), and who holds each page of memory (`Pages`). [`State`] is the plain supervisor as a
+//! program: `apply` gives exactly the reply and the state of the definition, and exactly the descriptors that changed;
+//! `descriptor` is the descriptor of the definition, and `ready` whether a process would not wait. Stands on requests,
+//! the hierarchy, links and the mail; the type of a change is the core machine's.
 #![tactic(auto)]
 
 mod applied;
@@ -33,7 +33,8 @@ pub use laws::{
     a_link_is_resolved_or_refused, a_process_does_what_its_entries_say,
     a_section_that_is_told_is_there, an_initial_list_is_in_no_descriptor,
     not_all_wait_for_one_another, numbers_beyond_the_last_are_unknown,
-    only_status_asks_the_version, what_a_request_leaves, what_a_request_leaves_to_others,
+    only_status_asks_the_version, pages_are_held_once, what_a_request_leaves,
+    what_a_request_leaves_to_others,
 };
 pub use mx_core::{Change, Changes};
 pub use mx_request::{Entrant, Known, Reply, Request};

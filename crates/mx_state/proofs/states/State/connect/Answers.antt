@@ -32,7 +32,7 @@ invariant_of-self-2 c =
     let below = subst (λ (t : Plain). c.args.uid < t.hierarchy.next) (sym c.self.view_is) c.requires.made in
     rw (c.give_page.ensures, knows.2)
     (known_holds s.version s.hier s.mail s.processes.items (c.from-i.result - 1) own c.args.uid c.args.ring (option_copied c.args.name) c.in-Ok.section given place knows.1
-    s.initializer s.root c.self.invariant c.in-Ok.ensures.within below)
+    s.initializer s.root c.self.invariant c.in-Ok.ensures.within below (sym c.section.ensures.value ∙ c.in-Ok.is))
 
 pub returns-clause-connected : goal.returns-clause-connected
 returns-clause-connected c = λ process e.
