@@ -1,7 +1,7 @@
 -- What the read rule looks at in a world: what each process did, how much of it is known at a point, and what cells
 -- hold.
 use Rattle.std.specs.Prelude.{ℕ, suc, zero, ◌==◌, max, nat_le, Bool, ◌&&◌, ◌||◌, not, map}
-use Rattle.mx_reads.specs.Deeds.{CellUse, Deed, Deeds, Stores, Loads, Denies, Misses}
+use Rattle.mx_reads.specs.Deeds.{CellUse, Deed, Deeds, Stores, Loads, Refers, Misses}
 use Rattle.mx_reads.specs.Held.{Held}
 use Rattle.mx_reads.specs.ReadRule.{Fronts}
 use Rattle.mx_core.specs.Pages.{page_of, cell_at, use_at, cell_use}
@@ -14,8 +14,8 @@ use Rattle.mx_core.specs.declared.elements.Outcome.TheVariants as outcome
 abbrev pub deed_by : CellUse → ℕ → Outcome → Deed
 deed_by cell point (outcome.Read value writer stamp) = Loads cell value writer stamp point
 deed_by cell point (outcome.Written value) = Stores cell value point
-deed_by cell point (outcome.Entered ring) = Denies point
-deed_by cell point (outcome.Denied denial) = Denies point
+deed_by cell point (outcome.Entered ring) = Refers point
+deed_by cell point (outcome.Denied denial) = Refers point
 
 -- an element has the use of its cell at its point
 abbrev pub deed_of : ℕ → (ℕ → ℕ → Bool) → Kept → Deed

@@ -201,11 +201,11 @@ pages_there h who at words first brackets modes object acl there given =
     Ok (segment_added h at (record { acl = acl; class = who.authorization; brackets = brackets; words = words; page = first }) object)) g.gives
 
 -- what a call answers is what an equal definition says
-pub answers_as : {meant same : Result Hierarchy Refusal} (h : Hierarchy) (result : Result (Unit {0}) HierError) (new : Hierarchy) → same ≡ meant
+pub answers_as : {A : Type 0} {meant same : Result Hierarchy Refusal} (h : Hierarchy) (result : Result A HierError) (new : Hierarchy) → same ≡ meant
     → Answers meant h result new → Answers same h result new
 answers_as h result new e found = subst (λ (m : Result Hierarchy Refusal). Answers m h result new) (sym e) found
 
-pub tells_first_as : {meant same : Result Hierarchy Refusal} (result : Result (Unit {0}) HierError) → same ≡ meant
+pub tells_first_as : {A : Type 0} {meant same : Result Hierarchy Refusal} (result : Result A HierError) → same ≡ meant
     → TellsFirst meant result → TellsFirst same result
 tells_first_as result e told = subst (λ (m : Result Hierarchy Refusal). TellsFirst m result) (sym e) told
 
@@ -220,8 +220,8 @@ onward_err : {A B C : Type 0} (r : Result A Refusal) (f : A → Result B Refusal
 onward_err (Ok a) f g why e = ap (λ r. onward r g) e
 onward_err (Err w) f g why e = let same : w ≡ why = cc in ap (λ w. Err w) same
 
-pub placed_then : {A B : Type 0} (r : Result A Refusal) (f : A → Result B Refusal) (g : B → Result Hierarchy Refusal) (b : B) (h : Hierarchy)
-    (result : Result (Unit {0}) HierError) (new : Hierarchy) → onward r f ≡ Ok b → Answers (g b) h result new
+pub placed_then : {A B C : Type 0} (r : Result A Refusal) (f : A → Result B Refusal) (g : B → Result Hierarchy Refusal) (b : B) (h : Hierarchy)
+    (result : Result C HierError) (new : Hierarchy) → onward r f ≡ Ok b → Answers (g b) h result new
     → Answers (onward r (λ a. onward (f a) g)) h result new
 placed_then r f g b h result new e found =
     subst (λ (meant : Result Hierarchy Refusal). Answers meant h result new) (sym (onward_ok r f g b e)) found
@@ -231,10 +231,10 @@ pub resolved_then : {A : Type 0} (r : Result A Refusal) (a b : A) (g : A → Res
 resolved_then r a b g h result new e f found =
     subst (λ (meant : Result Hierarchy Refusal). Answers meant h result new) (ap g f ∙ sym (ap (λ r. onward r g) e)) found
 
-pub not_placed : {A B : Type 0} (r : Result A Refusal) (f : A → Result B Refusal) (g : B → Result Hierarchy Refusal) (h : Hierarchy)
-    (error : HierError) → Tells (onward r f) (Err error) → Answers (onward r (λ a. onward (f a) g)) h (Err error) h
-not_placed r f g h (Refused why) e = (onward_err r f g why e, refl)
-not_placed r f g h Memory e = refl
+pub not_placed : {A B : Type 0} (C : Type 0) (r : Result A Refusal) (f : A → Result B Refusal) (g : B → Result Hierarchy Refusal) (h : Hierarchy)
+    (error : HierError) → Tells (onward r f) (Err error) → Answers {A = C} (onward r (λ a. onward (f a) g)) h (Err error) h
+not_placed C r f g h (Refused why) e = (onward_err r f g why e, refl)
+not_placed C r f g h Memory e = refl
 
 pub told_first : {A B C : Type 0} (r : Result A Refusal) (f : A → Result B Refusal) (b : B) (result : Result C HierError) → onward r f ≡ Ok b
     → TellsFirst r result

@@ -1,9 +1,10 @@
 -- Making a segment: what `create_seg` and `create_object` have in common.
-use Rattle.std.specs.Prelude.{ℕ, ◌==◌, nat_lt, nat_le, Bool, ◌||◌, List, [], ◌∷◌, ◌++◌, Option, Some, Result, Ok, is_none}
+use Rattle.std.specs.Prelude.{◌≡◌, ℕ, ◌==◌, nat_lt, nat_le, Bool, ◌||◌, List, [], ◌∷◌, ◌++◌, Option, Some, Result, Ok, is_none}
 use Rattle.std.specs.List.{list_any}
 use Rattle.mx_acl.specs.declared.modes.Modes.{Modes}
 use Rattle.mx_object.specs.Objects.{PlainObjectMap}
-use Rattle.mx_pages.specs.Runs.{pages_for, run_given, after_run}
+use Rattle.mx_pages.specs.Runs.{PageMap, IsPageRun, pages_for, run_given, after_run}
+use Rattle.mx_pages.specs.declared.pages.PageRun.{PageRun}
 use Rattle.mx_sdw.specs.Rings.{Bracketing}
 use Rattle.mx_hier.specs.declared.branches.Directory.{Directory}
 use Rattle.mx_hier.specs.declared.branches.Segment.{Segment}
@@ -63,6 +64,12 @@ make_segment_at h who at wanted =
     onward (required BadBrackets (settable who.ring wanted.rings)) (λ brackets.
     onward (required NoPages (run_given h.pages (pages_for wanted.words))) (λ page.
     Ok (segment_added h at (new_segment parent who wanted.words brackets wanted.modes page) wanted.object))))
+
+-- the run of pages that a segment of so many words is given of these pages: that which is given out next
+pub record IsRunFor (pages : PageMap) (words : ℕ) (run : PageRun) : Type 0 where
+  pub next : run_given pages run.count ≡ Some run.first
+  pub count : run.count ≡ pages_for words
+  pub is_run : IsPageRun run
 
 -- what it comes to where nothing but the want of pages refuses it
 abbrev pub segment_on_pages : Hierarchy → Subject → Place → ℕ → Bracketing → Modes → Option PlainObjectMap

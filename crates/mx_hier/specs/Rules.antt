@@ -31,8 +31,8 @@ onward (Err why) rest = Err why
 
 -- A call leaves the hierarchy that is meant, or is refused as is meant and changes nothing. Where memory was wanting,
 -- nothing has changed either.
-abbrev pub Answers : Result Hierarchy Refusal → Hierarchy → Result (Unit {0}) HierError → Hierarchy → Type 0
-Answers meant old (Ok done) new = meant ≡ Ok new
+abbrev pub Answers : {A : Type 0} → Result Hierarchy Refusal → Hierarchy → Result A HierError → Hierarchy → Type 0
+Answers meant old (Ok value) new = meant ≡ Ok new
 Answers meant old (Err (Refused why)) new = (meant ≡ Err why) × (new ≡ old)
 Answers meant old (Err Memory) new = new ≡ old
 

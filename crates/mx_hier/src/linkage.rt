@@ -42,11 +42,15 @@ impl Hier {
         Some(page as u16)
     }
 
-    /// Gives out the lowest free page. Where none is free, nothing changes.
-    pub fn take_page(&mut self)
-        ensures { self.new ≡ with_page_given self.old }
+    /// Gives out the lowest free page, and says which. Where none is free, nothing changes.
+    pub fn take_page(&mut self) -> Option<u16>
+        ensures page { result ≡ page_given self.old }
+        ensures after { self.new ≡ with_page_given self.old }
     {
-        let _page = self.pages.allot(1);
+        match self.pages.allot(1) {
+            Ok(page) => Some(page as u16),
+            Err(_) => None,
+        }
     }
 }
 

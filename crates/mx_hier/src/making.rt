@@ -17,7 +17,7 @@ ghost use Rattle.mx_hier.specs.Brackets.{bracketing, settable};
 ghost use Rattle.mx_hier.specs.CreateDirectory.{create_dir_at, create_dir};
 ghost use Rattle.mx_hier.specs.CreateSegment.{create_seg};
 ghost use Rattle.mx_hier.specs.CreateObject.{create_object};
-ghost use Rattle.mx_hier.specs.MakeSegment.{is_bad_length, reaches_beyond, segment_added, segment_on_pages, make_segment_at, make_segment};
+ghost use Rattle.mx_hier.specs.MakeSegment.{IsRunFor, is_bad_length, reaches_beyond, segment_added, segment_on_pages, make_segment_at, make_segment};
 ghost use Rattle.mx_hier.specs.CreateLink.{create_link_at, create_link};
 ghost use Rattle.mx_hier.specs.Listed.{listed_added};
 ghost use Rattle.mx_hier.specs.Objects.{object_of, with_object};
@@ -39,7 +39,7 @@ use indexmap::IndexMap;
 use mx_acl::{Acl, AclKind, Modes};
 use mx_name::{AclId, EntryName, Pathname};
 use mx_object::ObjectMap;
-use mx_pages::pages_for;
+use mx_pages::{PageRun, pages_for};
 use mx_sdw::{Brackets, Ring};
 use std::alloc::{AllocError, Global};
 
@@ -101,8 +101,9 @@ impl Hier {
     }
 
     /// Makes a segment of 1 to 1,024 words on whole pages, to which its maker has rw beside what the initial list of its
-    /// directory gives; its class is its maker's authorization. After the refusals of every making (above): `BadLength`,
-    /// then `BadBrackets` where the brackets are not in order or the first is below his ring, then `NoPages`.
+    /// directory gives; its class is its maker's authorization. Gives back the run of its pages. After the refusals of
+    /// every making (above): `BadLength`, then `BadBrackets` where the brackets are not in order or the first is below
+    /// his ring, then `NoPages`.
     pub fn create_seg(
         &mut self,
         alloc: Global,
@@ -110,16 +111,17 @@ impl Hier {
         path: &Pathname,
         words: u32,
         brackets: [Ring; 3],
-    ) -> Result<(), HierError>
+    ) -> Result<PageRun, HierError>
         ensures answer { Answers (create_seg self.old (caller who.now) path.now words brackets)
             self.old result self.new }
+        ensures run { IfOk result (IsRunFor self.old.pages words) }
         ensures told { TellsFirst (resolved (caller who.now) path.now) result }
     {
         self.make_segment(alloc, who, path, words, &brackets, Modes::Rw, None)
     }
 
     /// Makes an object segment: a segment as `create_seg` makes it, with an object map, to which its maker has re. The
-    /// refusals are the same; it is `BadLength` too where the map has more gates than there are words, or a definition
+    /// run and the refusals are the same; it is `BadLength` too where the map has more gates than there are words, or a definition
     /// at a word beyond them.
     pub fn create_object(
         &mut self,
@@ -129,9 +131,10 @@ impl Hier {
         words: u32,
         brackets: [Ring; 3],
         object: &ObjectMap,
-    ) -> Result<(), HierError>
+    ) -> Result<PageRun, HierError>
         ensures answer { Answers (create_object self.old (caller who.now) path.now words brackets object.now)
             self.old result self.new }
+        ensures run { IfOk result (IsRunFor self.old.pages words) }
         ensures told { TellsFirst (resolved (caller who.now) path.now) result }
     {
         self.make_segment(alloc, who, path, words, &brackets, Modes::Re, Some(object))
@@ -146,11 +149,12 @@ impl Hier {
         rings: &[Ring; 3],
         modes: Modes,
         object: Option<&ObjectMap>,
-    ) -> Result<(), HierError>
+    ) -> Result<PageRun, HierError>
         requires suit { suits AclKind.Segment modes ≡ true }
         ensures answer { Answers (make_segment self.old (caller who.now) path.now
             (record { words = words; rings = rings.now; modes = modes; object = option_copied object.entry }))
             self.old result self.new }
+        ensures run { IfOk result (IsRunFor self.old.pages words) }
         ensures told { TellsFirst (resolved (caller who.now) path.now) result }
     {
         match self.placed(alloc, who, path) {
@@ -168,11 +172,12 @@ impl Hier {
         rings: &[Ring; 3],
         modes: Modes,
         object: Option<&ObjectMap>,
-    ) -> Result<(), HierError>
+    ) -> Result<PageRun, HierError>
         requires suit { suits AclKind.Segment modes ≡ true }
         ensures answer { Answers (make_segment_at self.old (subject who.now) at.now
             (record { words = words; rings = rings.now; modes = modes; object = option_copied object.entry }))
             self.old result self.new }
+        ensures run { IfOk result (IsRunFor self.old.pages words) }
         ensures told { TellsFirst (make_segment_at self.old (subject who.now) at.now
             (record { words = words; rings = rings.now; modes = modes; object = option_copied object.entry })) result }
     {
@@ -198,7 +203,7 @@ impl Hier {
         brackets: Brackets,
         modes: Modes,
         object: Option<&ObjectMap>,
-    ) -> Result<(), HierError>
+    ) -> Result<PageRun, HierError>
         requires free { uid_in self.old.branches at.now.dir at.now.name ≡ None }
         requires below { at.now.dir < self.old.next }
         requires fit { is_bad_length words (option_copied object) ≡ false }
@@ -206,10 +211,12 @@ impl Hier {
         requires there { IsSome (directory_at self.old at.now.dir) }
         ensures answer { Answers (segment_on_pages self.old (subject who.now) at.now words brackets modes
             (option_copied object.entry)) self.old result self.new }
+        ensures run { IfOk result (IsRunFor self.old.pages words) }
         ensures told { TellsFirst (segment_on_pages self.old (subject who.now) at.now words brackets modes
             (option_copied object.entry)) result }
     {
-        let Some(page) = self.pages.next(pages_for(words)) else {
+        let pages = pages_for(words);
+        let Some(page) = self.pages.next(pages) else {
             return Err(HierError::Refused(Refusal::NoPages));
         };
         let acl = self.first_acl(at.dir, AclKind::Segment, who, modes)?;
@@ -221,7 +228,10 @@ impl Hier {
             page: page as u16,
         };
         self.put_segment(alloc, at, segment, object)?;
-        Ok(())
+        Ok(PageRun {
+            first: page as u16,
+            count: pages as u16,
+        })
     }
 
     /// Puts a segment at a place, on the pages that are given next. Where memory is wanting, nothing changes.

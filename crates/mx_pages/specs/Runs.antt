@@ -1,6 +1,7 @@
 -- Which pages of memory are free, and which run of them is given out next.
 use Rattle.std.specs.Prelude.{ℕ, ◌+◌, ◌/◌, ◌<◌, ◌≤◌, nat_le, nat_lt, Bool, true, false, ◌&&◌, if◌then◌else◌, List, map, slice_index_or, Option, Some, None, ◌≡◌, find}
 use Rattle.std.specs.List.{list_all, range_with_len}
+use Rattle.mx_pages.specs.declared.pages.PageRun.{PageRun}
 
 -- memory is 1,024 pages of 64 words each, numbered from 0: this model's own choice
 abbrev pub page_count : ℕ
@@ -69,3 +70,9 @@ after_run pages n None = pages
 -- the pages after a run was freed
 abbrev pub with_free : PageMap → ℕ → ℕ → PageMap
 with_free pages first n = with_run true pages first n
+
+-- a run of 1 to 16 pages, of those that there are
+pub record IsPageRun (run : PageRun) : Type 0 where
+  pub some : 1 ≤ run.count
+  pub most : run.count ≤ 16
+  pub within : run.first + run.count ≤ page_count

@@ -19,6 +19,13 @@ pub fn pages_for(words: u32) -> u32
 #[error("no run of free pages is long enough")]
 pub struct PagesFull;
 
+/// A run of pages: its first page, and how many pages it has.
+#[derive(Clone, Copy, Debug, PartialEq, Eq)]
+pub struct PageRun {
+    pub first: u16,
+    pub count: u16,
+}
+
 /// The pages of memory, some of them given out.
 #[derive(Debug, Drop)]
 pub struct Pages {

@@ -3,8 +3,8 @@ use Rattle.std.proofs.Common.{◌≡◌, ◌≢◌, ◌⊎◌, inl, inr, ℕ, ze
 use Rattle.std.specs.List.{slice_get}
 use Rattle.std.proofs.lemmas.Bool.{cases_eq, cases_lt}
 use Rattle.std.proofs.lemmas.Option.{slice_get_within}
-use Rattle.mx_reads.specs.Deeds.{CellUse, Deed, Deeds, Enters, Stores, Loads, Denies, Misses}
-use Rattle.mx_reads.specs.ReadRule.{Fronts, IsReplaced, IsOverwritten, IsSuperseded, IsSuch, IsFirstOther}
+use Rattle.mx_reads.specs.Deeds.{CellUse, Deed, Deeds, Enters, Stores, Loads, Refers, Misses}
+use Rattle.mx_reads.specs.ReadRule.{Fronts, known_by, IsReplaced, IsOverwritten, IsSuperseded, IsSuch, IsFirstOther}
 use Rattle.mx_reads.specs.Sightings.{Source, Sights, HasSighted, IsLatest, IsBeyond}
 use Rattle.mx_reads.proofs.CellUses.{same_cell}
 use Rattle.mx_reads.proofs.Decide.{Dec, IsFirst, first_below, last_below, IsStore, store_at}
@@ -31,7 +31,7 @@ module _ (count : ℕ) (done : Deeds) (front : Fronts) (idle : (u : ℕ) → cou
     ]
   ]
 
-  replaced : (u place : ℕ) (cell : CellUse) (q : ℕ) → Dec (IsReplaced done front u place cell q)
+  replaced : (u place : ℕ) (cell : CellUse) (q : ℕ) → Dec (IsReplaced done (known_by front) u place cell q)
   replaced u place cell q = elim (first_below (Replaces u place cell q) (length (done u)) (replaces u place cell q)) [
     | inl f ↦ inl (record {
       later = f.at;
@@ -77,7 +77,7 @@ module _ (count : ℕ) (done : Deeds) (front : Fronts) (idle : (u : ℕ) → cou
   abbrev OverwritesBy : ℕ → ℕ → CellUse → ℕ → ℕ → Type 0
   OverwritesBy u place cell q other = IsFirst (Overwrites u place cell q other) (length (done other))
 
-  overwritten : (u place : ℕ) (cell : CellUse) (q : ℕ) → Dec (IsOverwritten done front u place cell q)
+  overwritten : (u place : ℕ) (cell : CellUse) (q : ℕ) → Dec (IsOverwritten done (known_by front) u place cell q)
   overwritten u place cell q = elim (first_below (OverwritesBy u place cell q) count by) [
     | inl f ↦ let o = f.has.has in inl (record {
       other = f.at;
@@ -121,7 +121,7 @@ module _ (count : ℕ) (done : Deeds) (front : Fronts) (idle : (u : ℕ) → cou
             | inr none ↦ absurd (none at within o)
           ]
 
-  superseded : (u place : ℕ) (cell : CellUse) (q : ℕ) → Dec (IsSuperseded done front u place cell q)
+  superseded : (u place : ℕ) (cell : CellUse) (q : ℕ) → Dec (IsSuperseded done (known_by front) u place cell q)
   superseded u place cell q = elim (replaced u place cell q) [
     | inl r ↦ inl (inl r)
     | inr not_replaced ↦ elim (overwritten u place cell q) [
@@ -130,7 +130,7 @@ module _ (count : ℕ) (done : Deeds) (front : Fronts) (idle : (u : ℕ) → cou
     ]
   ]
 
-  such : (w place : ℕ) (cell : CellUse) (value stamp q : ℕ) → Dec (IsSuch done front w place cell value stamp q)
+  such : (w place : ℕ) (cell : CellUse) (value stamp q : ℕ) → Dec (IsSuch done (known_by front) w place cell value stamp q)
   such w place cell value stamp q = elim (store_at (done w) place cell) [
     | inr none ↦ inr (λ s. none (record { value = value; point = stamp; at = s.stored }))
     | inl store ↦ elim (cases_eq store.value value) [
@@ -162,7 +162,7 @@ module _ (count : ℕ) (done : Deeds) (front : Fronts) (idle : (u : ℕ) → cou
     sights_same h (Enters number) w j w' j' s t = absurd s
     sights_same h (Stores own value point) w j w' j' s t = (s.1 ∙ sym t.1, s.2 ∙ sym t.2)
     sights_same h (Loads own value writer stamp point) w j w' j' s t = (s.2 ∙ sym t.2, s.3 ∙ sym t.3)
-    sights_same h (Denies point) w j w' j' s t = absurd s
+    sights_same h (Refers point) w j w' j' s t = absurd s
     sights_same h (Misses segno by) w j w' j' s t = absurd s
 
     same_sighting : (h w j w' j' : ℕ) → HasSighted done source p h cell w j → HasSighted done source p h cell w' j'
@@ -197,7 +197,7 @@ module _ (count : ℕ) (done : Deeds) (front : Fronts) (idle : (u : ℕ) → cou
         })
       ]
     ]
-    sights_dec h (Denies point) at = inr (λ w j s. s)
+    sights_dec h (Refers point) at = inr (λ w j s. s)
     sights_dec h (Misses segno by) at = inr (λ w j s. s)
 
     sighting : (h : ℕ) → Dec (Sighting h)
@@ -353,11 +353,11 @@ module _ (count : ℕ) (done : Deeds) (front : Fronts) (idle : (u : ℕ) → cou
     -- the first that will do, where one will do
     pub record Choice (i w value stamp q : ℕ) : Type 0 where
       pub place : ℕ
-      pub first : IsFirstOther done front source p i w place cell value stamp q
+      pub first : IsFirstOther done (known_by front) source p i w place cell value stamp q
 
     record Fits (low w value stamp q place : ℕ) : Type 0 where
       pub high : low ≤ place
-      pub is : IsSuch done front w place cell value stamp q
+      pub is : IsSuch done (known_by front) w place cell value stamp q
 
     fits_dec : (low w value stamp q place : ℕ) → Dec (Fits low w value stamp q place)
     fits_dec low w value stamp q place = elim (cases_lt place low) [
@@ -368,7 +368,7 @@ module _ (count : ℕ) (done : Deeds) (front : Fronts) (idle : (u : ℕ) → cou
       ]
     ]
 
-    pub choose : (i w value stamp q place : ℕ) → IsSuch done front w place cell value stamp q
+    pub choose : (i w value stamp q place : ℕ) → IsSuch done (known_by front) w place cell value stamp q
         → IsBeyond done source p i cell w place
         → Choice i w value stamp q
     choose i w value stamp q place is beyond =

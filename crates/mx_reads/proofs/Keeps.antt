@@ -5,11 +5,11 @@ use Rattle.std.specs.List.{slice_get}
 use Rattle.std.proofs.lemmas.Bool.{cases_eq}
 use Rattle.std.proofs.lemmas.Option.{slice_get_within}
 use Rattle.std.proofs.lemmas.List.{length-append}
-use Rattle.mx_reads.specs.Deeds.{CellUse, Deed, Deeds, Enters, Stores, Loads, Denies, Misses}
+use Rattle.mx_reads.specs.Deeds.{CellUse, Deed, Deeds, Enters, Stores, Loads, Refers, Misses}
 use Rattle.mx_reads.specs.Growth.{Extends, IsWithin, AreWithin, IsQuiet, IsQuietWithin}
 use Rattle.mx_reads.specs.Held.{Held, IsHeld, AreRight}
 use Rattle.mx_reads.specs.KeepLaws.{IsNew, QuietLaw, StoreLaw}
-use Rattle.mx_reads.specs.ReadRule.{Fronts, IsRightRead}
+use Rattle.mx_reads.specs.ReadRule.{Fronts, known_by, IsRightRead}
 use Rattle.mx_reads.specs.Sightings.{Source, HasStored, Sights, IsLatest}
 use Rattle.mx_reads.proofs.CellUses.{same_cell}
 use Rattle.mx_reads.proofs.Moves.{IsApart, read_forth, held_apart}
@@ -19,14 +19,14 @@ within_more : (bound bound' : ℕ) (d : Deed) → bound ≤ bound' → IsWithin 
 within_more bound bound' (Enters number) more w = tt
 within_more bound bound' (Stores cell value point) more w = omega arith
 within_more bound bound' (Loads cell value writer stamp point) more w = omega arith
-within_more bound bound' (Denies point) more w = omega arith
+within_more bound bound' (Refers point) more w = omega arith
 within_more bound bound' (Misses segno by) more w = tt
 
 quiet_apart : (d : Deed) (cell : CellUse) → IsQuiet d → IsApart cell d
 quiet_apart (Enters number) cell q = tt
 quiet_apart (Stores own value point) cell q = absurd q
 quiet_apart (Loads own value writer stamp point) cell q = absurd q
-quiet_apart (Denies point) cell q = tt
+quiet_apart (Refers point) cell q = tt
 quiet_apart (Misses segno by) cell q = tt
 
 -- nobody but the processes below the count does anything
@@ -48,13 +48,13 @@ pub reads_still : (bound : ℕ) (old new : Deeds) (front front' : Fronts) (p : �
     → ((u h : ℕ) → h < length (old u) → source' u h ≡ source u h)
     → ((r i : ℕ) (cell : CellUse) (value writer stamp q : ℕ)
     → slice_get (old r) i ≡ Some (Loads cell value writer stamp q)
-    → IsRightRead old front source r i cell value writer stamp q)
+    → IsRightRead old (known_by front) source r i cell value writer stamp q)
     → ((r i : ℕ) (cell : CellUse) (value writer stamp q : ℕ) → r ≡ p → i ≡ length (old p)
     → Fresh (Loads cell value writer stamp q)
-    → IsRightRead new front' source' r i cell value writer stamp q)
+    → IsRightRead new (known_by front') source' r i cell value writer stamp q)
     → (r i : ℕ) (cell : CellUse) (value writer stamp q : ℕ)
     → slice_get (new r) i ≡ Some (Loads cell value writer stamp q)
-    → IsRightRead new front' source' r i cell value writer stamp q
+    → IsRightRead new (known_by front') source' r i cell value writer stamp q
 reads_still bound old new front front' p Fresh source source' g within low agree right here r i cell value writer stamp
     q h =
     elim (g.found r i (Loads cell value writer stamp q) h) [
@@ -144,7 +144,7 @@ pub record IsThere (done : Deeds) (w j : ℕ) (cell : CellUse) : Type 0 where
 pub sight_there : (done : Deeds) (front : Fronts) (source : Source)
     → ((r i : ℕ) (cell : CellUse) (value writer stamp q : ℕ)
     → slice_get (done r) i ≡ Some (Loads cell value writer stamp q)
-    → IsRightRead done front source r i cell value writer stamp q)
+    → IsRightRead done (known_by front) source r i cell value writer stamp q)
     → (p h : ℕ) (d : Deed) (cell : CellUse) (w j : ℕ) → slice_get (done p) h ≡ Some d → Sights source p h d cell w j
     → IsThere done w j cell
 sight_there done front source right p h (Enters number) cell w j at s = absurd s
@@ -169,7 +169,7 @@ sight_there done front source right p h (Loads own value writer stamp point) cel
           ((right p h own value writer stamp point at).own s.1 e).such.stored
       | inr n ↦ ((right p h own value writer stamp point at).another s.1 n).such.stored
     ]
-sight_there done front source right p h (Denies point) cell w j at s = absurd s
+sight_there done front source right p h (Refers point) cell w j at s = absurd s
 sight_there done front source right p h (Misses segno by) cell w j at s = absurd s
 
 pub store_no_load : (cell : CellUse) (value writer stamp q : ℕ) (c : CellUse) (v s : ℕ)

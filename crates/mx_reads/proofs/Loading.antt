@@ -8,7 +8,7 @@ use Rattle.mx_reads.specs.Deeds.{CellUse, Deed, Deeds, Stores, Loads}
 use Rattle.mx_reads.specs.Growth.{Extends, IsWithin}
 use Rattle.mx_reads.specs.Held.{Held, IsHeld, AreRight}
 use Rattle.mx_reads.specs.KeepLaws.{LoadLaw}
-use Rattle.mx_reads.specs.ReadRule.{Fronts, IsSuch, IsOwnLast, IsFirstOther, IsRightRead}
+use Rattle.mx_reads.specs.ReadRule.{Fronts, known_by, IsSuch, IsOwnLast, IsFirstOther, IsRightRead}
 use Rattle.mx_reads.specs.Sightings.{Source, HasStored, HasSighted, IsLatest, IsBeyond}
 use Rattle.mx_reads.proofs.CellUses.{same_cell}
 use Rattle.mx_reads.proofs.Moves.{IsApart, read_forth, held_apart, sighted_back, sighted_forth, beyond_forth, beyond_back}
@@ -85,7 +85,7 @@ module _ (count bound p : ℕ) (cell : CellUse) (q : ℕ) (old new : Deeds) (fro
   load_last = subst (λ (l : List Deed). slice_get l i ≡ Some load) (sym own) (place_last (old p) load)
 
   -- the store that the cell holds will do
-  such_held : writer ≢ 0 → IsSuch old front writer is.place cell value stamp q
+  such_held : writer ≢ 0 → IsSuch old (known_by front) writer is.place cell value stamp q
   such_held some = record {
     stored = is.stored some;
     current = λ s. elim s [
@@ -106,7 +106,7 @@ module _ (count bound p : ℕ) (cell : CellUse) (q : ℕ) (old new : Deeds) (fro
   record Chosen : Type 0 where
     place : ℕ
     mine : writer ≢ 0 → writer ≡ p → place ≡ is.place
-    foreign : writer ≢ 0 → writer ≢ p → IsFirstOther old front are.source p i writer place cell value stamp q
+    foreign : writer ≢ 0 → writer ≢ p → IsFirstOther old (known_by front) are.source p i writer place cell value stamp q
 
   chosen : Chosen
   chosen = elim (cases_eq writer 0) [
@@ -130,7 +130,7 @@ module _ (count bound p : ℕ) (cell : CellUse) (q : ℕ) (old new : Deeds) (fro
   agree u h l = source_else are.source p i chosen.place u h
       (λ e f. let a = ap (λ (v : ℕ). length (old v)) e in absurd (omega arith))
 
-  read_here : IsRightRead old front source p i cell value writer stamp q
+  read_here : IsRightRead old (known_by front) source p i cell value writer stamp q
   read_here = record {
     nobody = λ e. record {
       zero_value = is.zero_value e;
@@ -145,17 +145,17 @@ module _ (count bound p : ℕ) (cell : CellUse) (q : ℕ) (old new : Deeds) (fro
     own = λ some e.
         let same = at_load ∙ chosen.mine some e in
         let s = such_held some in
-        subst (λ (place : ℕ). IsOwnLast old front p i place cell value stamp q) (sym same) (record {
+        subst (λ (place : ℕ). IsOwnLast old (known_by front) p i place cell value stamp q) (sym same) (record {
           before = slice_get_within (old p) is.place (Stores cell value stamp)
               (subst (λ (u : ℕ). HasStored old u is.place cell value stamp) e s.stored);
-          such = subst (λ (u : ℕ). IsSuch old front u is.place cell value stamp q) e s;
+          such = subst (λ (u : ℕ). IsSuch old (known_by front) u is.place cell value stamp q) e s;
           last = λ later v point a b h.
               let most = is.last some later v point (subst (λ (u : ℕ). HasStored old u later cell v point) (sym e) h)
               in absurd (omega arith);
         });
     another = λ some n.
         let f = chosen.foreign some n in
-        subst (λ (place : ℕ). IsFirstOther old front source p i writer place cell value stamp q) (sym at_load) (record {
+        subst (λ (place : ℕ). IsFirstOther old (known_by front) source p i writer place cell value stamp q) (sym at_load) (record {
           such = f.such;
           beyond = beyond_forth bound old front old front p (λ d. ⊥) (still bound p old front) are.within are.low
               are.source source agree
@@ -217,7 +217,7 @@ module _ (count bound p : ℕ) (cell : CellUse) (q : ℕ) (old new : Deeds) (fro
       }
 
   same_load : (c : CellUse) (v w s point : ℕ) → Loads c v w s point ≡ load
-      → IsRightRead old front source p i c v w s point × (point ≤ bound)
+      → IsRightRead old (known_by front) source p i c v w s point × (point ≤ bound)
   same_load c v w s point e =
       let ec : c ≡ cell = cc in
       let ev : v ≡ value = cc in
@@ -239,8 +239,8 @@ module _ (count bound p : ℕ) (cell : CellUse) (q : ℕ) (old new : Deeds) (fro
         reads_still bound old new front front p (λ d. d ≡ load) are.source source g are.within are.low agree are.right
         (λ r k c v w s point a b f.
         let here = same_load c v w s point f in
-        subst (λ (u : ℕ). IsRightRead new front source u k c v w s point) (sym a)
-        (subst (λ (m : ℕ). IsRightRead new front source p m c v w s point) (sym b)
+        subst (λ (u : ℕ). IsRightRead new (known_by front) source u k c v w s point) (sym a)
+        (subst (λ (m : ℕ). IsRightRead new (known_by front) source p m c v w s point) (sym b)
         (read_forth bound old front new front p (λ d. d ≡ load) g are.within are.low source source (λ u h l. refl) p i
         c v w s point (omega arith) here.1 refl here.0)));
     held = λ c here_too. elim (same_cell c cell) [

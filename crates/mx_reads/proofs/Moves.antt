@@ -2,10 +2,10 @@
 use Rattle.std.proofs.Common.{◌≡◌, ◌≢◌, inl, inr, ℕ, ◌<◌, ◌≤◌, length, refl, ap, sym, ◌∙◌, subst, Some, arith}
 use Rattle.std.specs.List.{slice_get}
 use Rattle.std.proofs.lemmas.Option.{slice_get_within}
-use Rattle.mx_reads.specs.Deeds.{CellUse, Deed, Deeds, Enters, Stores, Loads, Denies, Misses}
+use Rattle.mx_reads.specs.Deeds.{CellUse, Deed, Deeds, Enters, Stores, Loads, Refers, Misses}
 use Rattle.mx_reads.specs.Growth.{Extends, AreWithin}
 use Rattle.mx_reads.specs.Held.{Held, IsHeld}
-use Rattle.mx_reads.specs.ReadRule.{Fronts, IsSuperseded, IsSuch, IsOwnLast, IsFirstOther, IsRightRead}
+use Rattle.mx_reads.specs.ReadRule.{Fronts, known_by, IsSuperseded, IsSuch, IsOwnLast, IsFirstOther, IsRightRead}
 use Rattle.mx_reads.specs.Sightings.{Source, HasStored, Sights, HasSighted, IsLatest, IsBeyond}
 
 -- a deed that neither stores in the cell nor loads from it
@@ -13,7 +13,7 @@ abbrev pub IsApart : CellUse → Deed → Type 0
 IsApart cell (Enters number) = Unit {0}
 IsApart cell (Stores own value point) = own ≢ cell
 IsApart cell (Loads own value writer stamp point) = own ≢ cell
-IsApart cell (Denies point) = Unit {0}
+IsApart cell (Refers point) = Unit {0}
 IsApart cell (Misses segno by) = Unit {0}
 
 pub apart_sights : (source : Source) (p i : ℕ) (d : Deed) (cell : CellUse) (w j : ℕ) → IsApart cell d
@@ -21,7 +21,7 @@ pub apart_sights : (source : Source) (p i : ℕ) (d : Deed) (cell : CellUse) (w 
 apart_sights source p i (Enters number) cell w j a s = s
 apart_sights source p i (Stores own value point) cell w j a s = a s.0
 apart_sights source p i (Loads own value writer stamp point) cell w j a s = a s.0
-apart_sights source p i (Denies point) cell w j a s = s
+apart_sights source p i (Refers point) cell w j a s = s
 apart_sights source p i (Misses segno by) cell w j a s = s
 
 pub sights_change : (source source' : Source) (p i : ℕ) (d : Deed) (cell : CellUse) (w j : ℕ) → source' p i ≡ source p i
@@ -29,7 +29,7 @@ pub sights_change : (source source' : Source) (p i : ℕ) (d : Deed) (cell : Cel
 sights_change source source' p i (Enters number) cell w j e s = s
 sights_change source source' p i (Stores own value point) cell w j e s = s
 sights_change source source' p i (Loads own value writer stamp point) cell w j e s = (s.0, s.1, s.2, s.3 ∙ sym e)
-sights_change source source' p i (Denies point) cell w j e s = s
+sights_change source source' p i (Refers point) cell w j e s = s
 sights_change source source' p i (Misses segno by) cell w j e s = s
 
 module _ (bound : ℕ) (old : Deeds) (front : Fronts) (new : Deeds) (front' : Fronts) (p : ℕ) (Fresh : Deed → Type 0)
@@ -41,8 +41,8 @@ module _ (bound : ℕ) (old : Deeds) (front : Fronts) (new : Deeds) (front' : Fr
     | inr b ↦ let same = ap (λ (v : ℕ). length (old v)) b.0 in let is = b.1 in absurd (omega arith)
   ]
 
-  pub superseded_forth : (u place : ℕ) (cell : CellUse) (q : ℕ) → q ≤ bound → IsSuperseded old front u place cell q
-      → IsSuperseded new front' u place cell q
+  pub superseded_forth : (u place : ℕ) (cell : CellUse) (q : ℕ) → q ≤ bound → IsSuperseded old (known_by front) u place cell q
+      → IsSuperseded new (known_by front') u place cell q
   superseded_forth u place cell q under s = elim s [
     | inl r ↦ let e = g.same u q under in let known = r.known in inl (record {
       later = r.later;
@@ -69,8 +69,8 @@ module _ (bound : ℕ) (old : Deeds) (front : Fronts) (new : Deeds) (front' : Fr
         })
   ]
 
-  pub superseded_back : (u place : ℕ) (cell : CellUse) (q : ℕ) → q ≤ bound → IsSuperseded new front' u place cell q
-      → IsSuperseded old front u place cell q
+  pub superseded_back : (u place : ℕ) (cell : CellUse) (q : ℕ) → q ≤ bound → IsSuperseded new (known_by front') u place cell q
+      → IsSuperseded old (known_by front) u place cell q
   superseded_back u place cell q under s = elim s [
     | inl r ↦
         let e = g.same u q under in
@@ -103,15 +103,15 @@ module _ (bound : ℕ) (old : Deeds) (front : Fronts) (new : Deeds) (front' : Fr
   ]
 
   pub such_forth : (w place : ℕ) (cell : CellUse) (value stamp q : ℕ) → q ≤ bound
-      → IsSuch old front w place cell value stamp q → IsSuch new front' w place cell value stamp q
+      → IsSuch old (known_by front) w place cell value stamp q → IsSuch new (known_by front') w place cell value stamp q
   such_forth w place cell value stamp q under s = record {
     stored = g.kept w place (Stores cell value stamp) s.stored;
     current = λ h. s.current (superseded_back w place cell q under h);
   }
 
   pub such_back : (w place : ℕ) (cell : CellUse) (value stamp q : ℕ) → q ≤ bound → place < length (old w)
-      → IsSuch new front' w place cell value stamp q
-      → IsSuch old front w place cell value stamp q
+      → IsSuch new (known_by front') w place cell value stamp q
+      → IsSuch old (known_by front) w place cell value stamp q
   such_back w place cell value stamp q under l s = record {
     stored = earlier w place (Stores cell value stamp) l s.stored;
     current = λ h. s.current (superseded_forth w place cell q under h);
@@ -171,8 +171,8 @@ module _ (bound : ℕ) (old : Deeds) (front : Fronts) (new : Deeds) (front' : Fr
 
     pub read_forth : (r i : ℕ) (cell : CellUse) (value writer stamp q : ℕ) → i ≤ length (old r) → q ≤ bound
         → source' r i ≡ source r i
-        → IsRightRead old front source r i cell value writer stamp q
-        → IsRightRead new front' source' r i cell value writer stamp q
+        → IsRightRead old (known_by front) source r i cell value writer stamp q
+        → IsRightRead new (known_by front') source' r i cell value writer stamp q
     read_forth r i cell value writer stamp q most under same read = record {
       nobody = λ e. let u = read.nobody e in record {
         zero_value = u.zero_value;
@@ -185,14 +185,14 @@ module _ (bound : ℕ) (old : Deeds) (front : Fronts) (new : Deeds) (front' : Fr
             (omega arith);
       };
       own = λ some e. let o = read.own some e in
-          subst (λ (place : ℕ). IsOwnLast new front' r i place cell value stamp q) (sym same) (record {
+          subst (λ (place : ℕ). IsOwnLast new (known_by front') r i place cell value stamp q) (sym same) (record {
             before = o.before;
             such = such_forth r (source r i) cell value stamp q under o.such;
             last = λ later value' point a b stored. o.last later value' point a b
                 (earlier r later (Stores cell value' point) (omega arith) stored);
           });
       another = λ some n. let o = read.another some n in
-          subst (λ (place : ℕ). IsFirstOther new front' source' r i writer place cell value stamp q) (sym same)
+          subst (λ (place : ℕ). IsFirstOther new (known_by front') source' r i writer place cell value stamp q) (sym same)
           (record {
             such = such_forth writer (source r i) cell value stamp q under o.such;
             beyond = beyond_forth r i cell writer (source r i) most o.beyond;

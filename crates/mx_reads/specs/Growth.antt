@@ -1,6 +1,6 @@
 -- How what was done and what is known grow together, from one step to the next.
 use Rattle.std.specs.Prelude.{◌≡◌, ◌≢◌, ◌⊎◌, ℕ, ◌+◌, ◌≤◌, length, Some, slice_get}
-use Rattle.mx_reads.specs.Deeds.{Deed, Deeds, Enters, Stores, Loads, Denies, Misses}
+use Rattle.mx_reads.specs.Deeds.{Deed, Deeds, Enters, Stores, Loads, Refers, Misses}
 use Rattle.mx_reads.specs.ReadRule.{Fronts}
 
 -- Process p did at most one deed more, of this kind, and nobody else did anything. Up to the bound the same is known.
@@ -19,7 +19,7 @@ abbrev pub IsWithin : ℕ → Deed → Type 0
 IsWithin bound (Enters number) = Unit {0}
 IsWithin bound (Stores cell value point) = point ≤ bound
 IsWithin bound (Loads cell value writer stamp point) = point ≤ bound
-IsWithin bound (Denies point) = point ≤ bound
+IsWithin bound (Refers point) = point ≤ bound
 IsWithin bound (Misses segno by) = Unit {0}
 
 abbrev pub AreWithin : ℕ → Deeds → Type 0
@@ -30,7 +30,7 @@ abbrev pub IsQuiet : Deed → Type 0
 IsQuiet (Enters number) = Unit {0}
 IsQuiet (Stores cell value point) = ⊥
 IsQuiet (Loads cell value writer stamp point) = ⊥
-IsQuiet (Denies point) = Unit {0}
+IsQuiet (Refers point) = Unit {0}
 IsQuiet (Misses segno by) = Unit {0}
 
 pub record IsQuietWithin (bound : ℕ) (d : Deed) : Type 0 where

@@ -2,7 +2,7 @@
 use Rattle.std.specs.Prelude.{Bool, IsTrue, ◌≡◌, ◌≢◌, ℕ, ◌<◌, ◌≤◌, length, Some, slice_get}
 use Rattle.mx_reads.specs.Deeds.{CellUse, Deeds, Loads}
 use Rattle.mx_reads.specs.Growth.{AreWithin}
-use Rattle.mx_reads.specs.ReadRule.{Fronts, IsRightRead}
+use Rattle.mx_reads.specs.ReadRule.{Fronts, known_by, IsRightRead}
 use Rattle.mx_reads.specs.Sightings.{Source, HasStored, HasSighted, IsLatest}
 
 -- the contents of a cell: a value, who stored it (0: nobody), and at which point
@@ -38,5 +38,5 @@ pub record AreRight (count bound : ℕ) (done : Deeds) (front : Fronts) (present
   pub source : Source
   pub right : (p i : ℕ) (cell : CellUse) (value writer stamp q : ℕ)
       → slice_get (done p) i ≡ Some (Loads cell value writer stamp q)
-      → IsRightRead done front source p i cell value writer stamp q
+      → IsRightRead done (known_by front) source p i cell value writer stamp q
   pub held : (cell : CellUse) → IsTrue (present cell) → IsHeld done front source cell (memory cell)

@@ -1,7 +1,7 @@
 -- Stores and sightings: what processes did with a cell in one of its uses. The deeds of all processes are given as a
 -- function from processes.
 use Rattle.std.specs.Prelude.{◌≡◌, ◌≢◌, ℕ, ◌<◌, ◌≤◌, Some, slice_get}
-use Rattle.mx_reads.specs.Deeds.{CellUse, Deed, Deeds, Enters, Stores, Loads, Denies, Misses}
+use Rattle.mx_reads.specs.Deeds.{CellUse, Deed, Deeds, Enters, Stores, Loads, Refers, Misses}
 
 -- the deed at a place of process u is a store of this value in this cell at this point
 abbrev pub HasStored : Deeds → ℕ → ℕ → CellUse → ℕ → ℕ → Type 0
@@ -18,7 +18,7 @@ Sights source p i (Enters number) cell w j = ⊥
 Sights source p i (Stores own value point) cell w j = (own ≡ cell) × (w ≡ p) × (j ≡ i)
 Sights source p i (Loads own value writer stamp point) cell w j =
     (own ≡ cell) × (writer ≢ 0) × (w ≡ writer) × (j ≡ source p i)
-Sights source p i (Denies point) cell w j = ⊥
+Sights source p i (Refers point) cell w j = ⊥
 Sights source p i (Misses segno by) cell w j = ⊥
 
 pub record HasSighted (done : Deeds) (source : Source) (p i : ℕ) (cell : CellUse) (w j : ℕ) : Type 0 where

@@ -25,4 +25,4 @@ pub use mx_kst::Known;
 pub use reading::{read_decimal, read_word_number};
 pub use replies::Reply;
 pub use requests::{Request, Requests};
-pub use versions::{has_classes, last_number};
+pub use versions::{has_classes, last_number, most_gates};

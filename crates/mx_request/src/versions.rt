@@ -1,7 +1,7 @@
 //! What a session of each version has besides those before it.
 
-ghost use Rattle.std.specs.Prelude.{◌≡◌};
-ghost use Rattle.mx_request.specs.Versions.{has_classes, last_number, since_version};
+ghost use Rattle.std.specs.Prelude.{◌≡◌, ◌≤◌};
+ghost use Rattle.mx_request.specs.Versions.{has_classes, last_number, most_gates, since_version};
 
 use crate::requests::Request;
 
@@ -17,6 +17,15 @@ pub fn last_number(version: u8) -> u16
     ensures { result ≡ last_number version }
 {
     if version >= 3 { 255 } else { 127 }
+}
+
+/// How many return gates a process may have, each of an upward call: 16 from version 4 on, and none before, where upward
+/// calls are denied.
+pub fn most_gates(version: u8) -> usize
+    ensures value { result ≡ most_gates version }
+    ensures limit { result ≤ 16 }
+{
+    if version >= 4 { 16 } else { 0 }
 }
 
 impl Request {

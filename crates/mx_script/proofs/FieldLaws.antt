@@ -71,8 +71,8 @@ version_small text n e = let most : 10 ^ 1 ≤ 2 ^ 64 = omega arith in (number_t
 pub version_takes : (text : List ℕ) (n : ℕ) → decimal_number 1 text ≡ Some n → decimal n ≡ text
 version_takes text n e = let most : 10 ^ 1 ≤ 2 ^ 64 = omega arith in (number_takes 1 text n most e).0
 
-small_version : (n : ℕ) → is_version n ≡ true → n ≤ 3
-small_version n e = at_most n 3 (both (nat_le 1 n) (nat_le n greatest_version) e).1
+small_version : (n : ℕ) → is_version n ≡ true → n ≤ 4
+small_version n e = at_most n 4 (both (nat_le 1 n) (nat_le n greatest_version) e).1
 
 pub version_again : (n : ℕ) → is_version n ≡ true → decimal_number 1 (decimal n) ≡ Some n
 version_again n e =

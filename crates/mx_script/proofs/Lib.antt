@@ -1,6 +1,5 @@
 pub mod FrontLaws
 pub mod FieldLaws
-pub mod VersionLaws
 pub mod OperandLaws
 pub mod RowLaws
 pub mod DraftLaws

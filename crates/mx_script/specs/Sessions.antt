@@ -134,9 +134,9 @@ abbrev pub is_limit : Option ℕ → Bool
 is_limit None = true
 is_limit (Some limit) = is_history limit
 
--- the versions of sessions are 1 to 3
+-- the versions of sessions are 1 to 4
 abbrev pub greatest_version : ℕ
-greatest_version = 3
+greatest_version = 4
 
 abbrev pub is_version : ℕ → Bool
 is_version version = nat_le 1 version && nat_le version greatest_version

@@ -2,7 +2,7 @@
 //!
 //! A session is a version, the journal's limit, where it sets one, a setup of path requests, and for each of 1 to 15
 //! processes its principal, its authorization and its script. Version 2 has classes of access isolation and the request
-//! that sets one, version 3 the requests on initial access lists.
+//! that sets one, version 3 the requests on initial access lists. Version 4 has no line of its own: its calls may go upward.
 //! An operand begins at a segment number or at a pointer register, and may be indirect.
 //! [`Session::new`] makes a session of parts exactly where they are those of one. [`read_session`] gives the one session that
 //! has a text, and for a text of no session the first bad line: the line after the greatest number of leading whole lines that

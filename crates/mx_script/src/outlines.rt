@@ -12,7 +12,7 @@ use mx_object::ObjectMap;
 use mx_request::{Entrant, Request, RequestClass, has_classes};
 
 /// The greatest version of a session.
-const GREATEST_VERSION: u8 = 3;
+const GREATEST_VERSION: u8 = 4;
 
 /// Whether sessions have this version.
 pub(crate) fn is_version(version: u8) -> bool

@@ -10,7 +10,7 @@ use mx_request::Requests;
 use std::marker::Model;
 
 /// A session: its version, the journal's limit where it sets one, what its setup asks for, and for each process its
-/// principal, its authorization and its script. A value always has a version from 1 to 3, a setup of requests on paths, and 1
+/// principal, its authorization and its script. A value always has a version from 1 to 4, a setup of requests on paths, and 1
 /// to 15 processes with a script each, which ends with its logout; authorizations and requests are those of the version.
 #[derive(Drop)]
 pub struct Session {
@@ -34,7 +34,7 @@ impl Model for Session {
 impl Session {
     ghost use Rattle.mx_script.specs.Sessions.{outline, session_of, IsSession};
 
-    /// The session of these parts, with a version from 1 to 3, 1 to 15 processes and a limit of 1 to 262,143 entries if any;
+    /// The session of these parts, with a version from 1 to 4, 1 to 15 processes and a limit of 1 to 262,143 entries if any;
     /// `None` exactly where they are not those of a session. A class other than the lowest is of version 2 on, and so is each
     /// request of its own version. Takes no memory.
     pub fn new(
@@ -64,7 +64,7 @@ impl Session {
         }
     }
 
-    /// The version of the session, from 1 to 3.
+    /// The version of the session, from 1 to 4.
     pub fn version(&self) -> u8
         ensures { result ≡ self.now.version }
     {

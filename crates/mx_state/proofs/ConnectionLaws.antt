@@ -1,5 +1,5 @@
 -- What `initiate` and `link` come to, where a segment becomes known and where it does not.
-use Rattle.std.proofs.Common.{◌≡◌, ◌≤◌, ◌-◌, ℕ, [], Option, Some, Result, Ok, Err, IfOk, refl, ap, sym, ◌∙◌, subst}
+use Rattle.std.proofs.Common.{◌≡◌, ◌≤◌, ◌-◌, ℕ, Option, None, Some, Result, Ok, Err, IfOk, refl, ap, sym, ◌∙◌, subst}
 use Rattle.std.specs.declared.alloc.AllocError.{AllocError}
 use Rattle.mx_hier.specs.declared.refusals.HierError.{HierError}
 use Rattle.mx_hier.specs.declared.refusals.HierError.TheVariants as fault
@@ -20,10 +20,11 @@ use Rattle.mx_state.specs.Known.{IsConnected, Leads, link_refusal}
 use Rattle.mx_state.specs.Knowing.{free_name, knowing_more, link, link_by, link_to, link_towards, linked}
 use Rattle.mx_state.specs.Linking.{link_at}
 use Rattle.mx_state.specs.Plain.{Plain, Answer, answer, process_at}
-use Rattle.mx_state.specs.Replies.{IsRefused}
+use Rattle.mx_state.specs.Replies.{IsRefused, alone}
 use Rattle.mx_state.specs.Serving.{Serves}
 use Rattle.mx_state.proofs.AnswerLaws.{nothing_is_bounded}
 use Rattle.mx_state.proofs.Descriptors.{nothing_changes, process_at_place}
+use Rattle.mx_state.proofs.GivenLaws.{none_given, none_freed, next_given, next_frees_none}
 use Rattle.mx_state.proofs.ProcessLaws.{to_process}
 
 -- the answer to a request on a process's own state is that to the process
@@ -37,12 +38,14 @@ pub connection_serves : (s new : Plain) (p : ℕ) (process : ProcessState) (mean
     (asks : ProcessState → Answer) (reply : Known → Reply) → 1 ≤ p → process_at s.processes p ≡ Some process
     → ((c : Connected) → meant ≡ Ok c → asks process ≡ answer (reply c.known) (knowing_more s p process c))
     → IsConnected s new p process meant connection
-    → Serves s new (on_process s p asks) (record { reply = reply connection.known; changes = connection.changes })
+    → Serves s new (on_process s p asks) (record { reply = reply connection.known; changes = connection.changes; given = connection.given; freed = None })
 connection_serves s new p process meant connection asks reply low there told is = record {
   as_meant = own_answer s p process asks low there ∙ told is.after is.as_meant
       ∙ ap (λ k. answer (reply k) (knowing_more s p process is.after)) (sym is.known)
       ∙ ap (answer (reply connection.known)) (sym is.state);
   changes = is.changes;
+  given = next_given s new connection.given is.given;
+  freed = next_frees_none s new connection.given is.given;
   bounded = is.bounded;
   version = ap (λ (t : Plain). t.version) is.state;
   count = is.count;
@@ -51,10 +54,12 @@ connection_serves s new p process meant connection asks reply low there told is 
 -- a request that is refused
 pub refusal_serves : (s new : Plain) (p : ℕ) (process : ProcessState) (why : Refusal) (applied : Applied) (asks : ProcessState → Answer)
     → 1 ≤ p → process_at s.processes p ≡ Some process → asks process ≡ answer (Refused why) s → new ≡ s
-    → applied ≡ record { reply = Refused why; changes = [] } → Serves s new (on_process s p asks) applied
+    → applied ≡ alone (Refused why) → Serves s new (on_process s p asks) applied
 refusal_serves s new p process why applied asks low there told same is = rw (is, same) (record {
   as_meant = own_answer s p process asks low there ∙ told;
   changes = nothing_changes s s (λ q m. refl);
+  given = none_given s s refl;
+  freed = none_freed s s refl;
   bounded = nothing_is_bounded _;
   version = refl;
   count = refl;
@@ -95,7 +100,7 @@ pub nowhere_serves : (s : Plain) (p ring segno word : ℕ) (process : ProcessSta
     → IfOk result (Serves s s (on_process s p (λ process. link s p ring process segno word)))
 nowhere_serves s p ring segno word process it (fault.Refused why) result low there at leads is =
     subst (λ r. IfOk r (Serves s s (on_process s p (λ process. link s p ring process segno word)))) (sym is)
-    (refusal_serves s s p process why (record { reply = Refused why; changes = [] }) (λ process. link s p ring process segno word) low there
+    (refusal_serves s s p process why (alone (Refused why)) (λ process. link s p ring process segno word) low there
     (link_leads_nowhere s p ring segno word process it why at leads) refl refl)
 nowhere_serves s p ring segno word process it fault.Memory (Ok applied) low there at leads is = absurd (cc)
 nowhere_serves s p ring segno word process it fault.Memory (Err e) low there at leads is = tt

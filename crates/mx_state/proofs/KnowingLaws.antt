@@ -23,6 +23,7 @@ use Rattle.mx_kst.specs.Terminating as end
 use Rattle.mx_kst.specs.declared.lots.Lot.{Lot}
 use Rattle.mx_kst.specs.declared.lots.Lot.TheVariants.{Free, Stack, Branch, Linkage}
 use Rattle.mx_mail.specs.Processes.{PlainProcess}
+use Rattle.mx_pages.specs.declared.pages.PageRun.{PageRun}
 use Rattle.mx_request.specs.Versions.{last_number}
 use Rattle.mx_request.specs.declared.replies.Reply.TheVariants.{Done}
 use Rattle.mx_state.specs.declared.states.ProcessState.{ProcessState}
@@ -32,7 +33,9 @@ use Rattle.mx_state.specs.Connecting.{connect, connect_refusals, with_section_pa
 use Rattle.mx_state.specs.Known.{IsConnected, knowing, section_or_refusal}
 use Rattle.mx_state.specs.Knowing.{terminate}
 use Rattle.mx_state.specs.Plain.{Plain, Answer, answer, process_at}
+use Rattle.mx_state.specs.NextRun.{section_run}
 use Rattle.mx_state.specs.Renewing.{held_two, renewed}
+use Rattle.mx_state.specs.Replies.{telling}
 use Rattle.mx_state.specs.Sections.{needs_section, section_by, section_made}
 use Rattle.mx_state.specs.Serving.{Serves}
 use Rattle.mx_state.specs.Sound.{IsSound, IsSoundProcess, HoldsSound}
@@ -40,6 +43,7 @@ use Rattle.mx_state.specs.Table.{descriptor}
 use Rattle.mx_state.proofs.ConnectingLaws.{connect_granted, connected_by, initiated_last, initiated_lots, lots_apart, made_by}
 use Rattle.mx_state.proofs.AnswerLaws.{plain_state}
 use Rattle.mx_state.proofs.Descriptors.{AreNumbered, process_at_place, changes_are_bounded, sound_numbered}
+use Rattle.mx_state.proofs.GivenLaws.{none_given, none_freed, section_next}
 use Rattle.mx_state.proofs.PageLaws.{known_once, ended_once}
 use Rattle.mx_state.proofs.ProcessLaws.{in_place, replaced_is_sound, replaced_numbered, others_stay, to_process}
 use Rattle.mx_state.proofs.RenewingLaws.{renewing_two}
@@ -142,10 +146,10 @@ module _ (version : ℕ) (h : Hierarchy) (mail : List PlainProcess) (processes :
 
     pub known_as_meant : (next : ℕ) (held changes : List Change) → next ≡ length process.known.lots → held ≡ held_two h processes p next
         → changes ≡ renewed paged (knowing processes i process given.after) held → All (λ c. IsAdmissible c.desc) changes
-        → IsSound old → section_or_refusal h process.known uid ring name ≡ Ok section
+        → IsSound old → section_or_refusal h process.known uid ring name ≡ Ok section → IfSome section (λ s. IsWithinPage s.page s.words)
         → IsConnected old (plain_state version paged mail (knowing processes i process given.after)) p process
-        (connect h process.known ring name uid) (record { known = given.known; changes = changes })
-    known_as_meant next held changes at was now admissible sound meant =
+        (connect h process.known ring name uid) (record { known = given.known; changes = changes; given = section_run h section })
+    known_as_meant next held changes at was now admissible sound meant within =
         let are = known_changes next held changes at was now in
         let count = length-set processes i (knower process given.after) in
         let numbered = replaced_numbered (last_number version) processes i (knower process given.after) (sound_numbered old sound)
@@ -156,6 +160,7 @@ module _ (version : ℕ) (h : Hierarchy) (mail : List PlainProcess) (processes :
           known = refl;
           state = ap (λ k. plain_state version paged mail (slice_set processes k (knower process given.after))) (sym here);
           changes = are;
+          given = section_next h section (on_page_given h process.known uid ring name section meant) within;
           bounded = changes_are_bounded old (plain_state version paged mail (knowing processes i process given.after)) changes sound numbered refl count are admissible;
           count = count;
         }
@@ -173,22 +178,22 @@ pub known_next : (k : KnownSegments) (last left : ℕ) → known.IsSound k → l
 known_next k last left sound same e = omega (arith, same, e, sound.within)
 
 pub connected_as : (version : ℕ) (h after : Hierarchy) (mail : List PlainProcess) (processes new : List ProcessState) (old : Plain) (p i : ℕ) (process own : ProcessState)
-    (uid ring next : ℕ) (name : Option (List ℕ)) (section : Option PlainSection) (given : Initiated) (held changes : List Change)
+    (uid ring next : ℕ) (name : Option (List ℕ)) (section : Option PlainSection) (given : Initiated) (held changes : List Change) (run : Option PageRun)
     → plain_state version h mail processes ≡ old → IsSound (plain_state version h mail processes) → 1 ≤ p → p - 1 ≡ i → slice_get processes i ≡ Some own
     → process_at old.processes p ≡ Some process → section_or_refusal h own.known uid ring name ≡ Ok section
     → kst.initiate own.known uid ring name section ≡ Ok given → new ≡ knowing processes i own given.after → after ≡ with_section_page h section
-    → next ≡ length own.known.lots → held ≡ held_two h processes p next → changes ≡ renewed after new held → All (λ c. IsAdmissible c.desc) changes
+    → run ≡ section_run h section → IfSome section (λ s. IsWithinPage s.page s.words) → next ≡ length own.known.lots → held ≡ held_two h processes p next → changes ≡ renewed after new held → All (λ c. IsAdmissible c.desc) changes
     → IsConnected old (plain_state version after mail new) p process (connect old.hierarchy process.known ring name uid)
-    (record { known = given.known; changes = changes })
-connected_as version h after mail processes new old p i process own uid ring next name section given held changes view sound first here place there meant asked set paged at was now admissible =
+    (record { known = given.known; changes = changes; given = run })
+connected_as version h after mail processes new old p i process own uid ring next name section given held changes run view sound first here place there meant asked set paged taken within at was now admissible =
     let same : process ≡ own =
     same_process processes p i process own first here (ap (λ (t : Plain). process_at t.processes p) view ∙ there) place in
     let is : IsConnected (plain_state version h mail processes) (plain_state version after mail new) p process (connect h process.known ring name uid)
-    (record { known = given.known; changes = changes }) =
-    rw (same, paged, set) (known_as_meant version h mail processes i own uid ring name section given place asked p first here next held changes at was
-    (now ∙ (λ k. renewed (paged k) (set k) held)) admissible sound meant) in
+    (record { known = given.known; changes = changes; given = run }) =
+    rw (same, paged, set, taken) (known_as_meant version h mail processes i own uid ring name section given place asked p first here next held changes at was
+    (now ∙ (λ k. renewed (paged k) (set k) held)) admissible sound meant within) in
     subst (λ (t : Plain). IsConnected t (plain_state version after mail new) p process (connect t.hierarchy process.known ring name uid)
-    (record { known = given.known; changes = changes })) view is
+    (record { known = given.known; changes = changes; given = run })) view is
 
 -- `terminate`: a segment's number, and its linkage section's, stand for nothing more
 pub ended_lots : (k after : KnownSegments) (segno : ℕ) → end.terminate k segno ≡ Some after
@@ -254,7 +259,7 @@ pub ended_serves : (version : ℕ) (h : Hierarchy) (mail : List PlainProcess) (p
     → end.terminate process.known segno ≡ Some after → new ≡ knowing processes i process after
     → held ≡ held_two h processes p segno → changes ≡ renewed h new held → All (λ c. IsAdmissible c.desc) changes
     → Serves (plain_state version h mail processes) (plain_state version h mail new) (on_process (plain_state version h mail processes) p ask)
-    (record { reply = Done; changes = changes })
+    (telling Done changes)
 ended_serves version h mail processes new p i process segno after held changes ask sound first here e meant ends set was now admissible =
     let s = plain_state version h mail processes in
     let own = sound.processes i process e in
@@ -273,6 +278,8 @@ ended_serves version h mail processes new p i process segno after held changes a
           ∙ ap (λ k. answer Done (plain_state version h mail (slice_set processes k (knower process after)))) here
           ∙ ap (λ xs. answer Done (plain_state version h mail xs)) (sym set);
       changes = are;
+      given = none_given s (plain_state version h mail new) refl;
+      freed = none_freed s (plain_state version h mail new) refl;
       bounded = changes_are_bounded s (plain_state version h mail new) changes sound numbered refl count are admissible;
       version = refl;
       count = count;

@@ -2,6 +2,7 @@ pub mod Lists
 pub mod NumberLaws
 pub mod SectionLaws
 pub mod PageLaws
+pub mod GivenLaws
 pub mod OpeningLaws
 pub mod SegmentLaws
 pub mod Descriptors
@@ -16,8 +17,10 @@ pub mod LeavingLaws
 pub mod ConnectingLaws
 pub mod LinkingLaws
 pub mod ToldLaws
+pub mod ComingLaws
 pub mod NumberedLaws
 pub mod InitialLaws
 pub mod VersionLaws
 pub mod MessageLaws
+pub mod AimLaws
 pub mod WaitingLaws

@@ -21,11 +21,12 @@ use Rattle.mx_state.specs.declared.states.ProcessState.{ProcessState}
 use Rattle.mx_state.specs.Askers.{on_process}
 use Rattle.mx_state.specs.Messages.{block, has_ended, sent, taken_reply, wakeup, wakeup_refusals}
 use Rattle.mx_state.specs.Plain.{Plain, Answer, answer}
-use Rattle.mx_state.specs.Replies.{SaysSent}
+use Rattle.mx_state.specs.Replies.{SaysSent, alone}
 use Rattle.mx_state.specs.Serving.{Serves}
 use Rattle.mx_state.specs.Sound.{HoldsSound}
 use Rattle.mx_state.proofs.AnswerLaws.{plain_state, nothing_is_bounded}
 use Rattle.mx_state.proofs.Descriptors.{nothing_changes}
+use Rattle.mx_state.proofs.GivenLaws.{none_given, none_freed}
 use Rattle.mx_state.proofs.Lists.{some_in}
 use Rattle.mx_state.proofs.ProcessLaws.{to_process}
 
@@ -47,7 +48,7 @@ mail_holds version h mail after processes principal root same holds = record {
 pub mail_serves : (version : ℕ) (h : Hierarchy) (mail after : List PlainProcess) (processes : List ProcessState) (p : ℕ)
     (given : Answer)
     (reply : Reply) (applied : Applied) → 1 ≤ p → p ≤ length processes
-    → given ≡ answer reply (plain_state version h after processes) → applied ≡ record { reply = reply; changes = [] }
+    → given ≡ answer reply (plain_state version h after processes) → applied ≡ alone reply
     → Serves (plain_state version h mail processes) (plain_state version h after processes)
     (on_process (plain_state version h mail processes) p (λ process. given)) applied
 mail_serves version h mail after processes p given reply applied low within meant e =
@@ -55,6 +56,8 @@ mail_serves version h mail after processes p given reply applied low within mean
     rw e (record {
       as_meant = to_process (plain_state version h mail processes) p (p - 1) w.0 (λ process. given) low refl w.1 ∙ meant;
       changes = nothing_changes (plain_state version h mail processes) (plain_state version h after processes) (λ q n. refl);
+      given = none_given (plain_state version h mail processes) (plain_state version h after processes) refl;
+      freed = none_freed (plain_state version h mail processes) (plain_state version h after processes) refl;
       bounded = nothing_is_bounded _;
       version = refl;
       count = refl;

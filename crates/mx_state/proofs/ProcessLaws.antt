@@ -17,11 +17,13 @@ use Rattle.mx_state.specs.Askers.{on_process}
 use Rattle.mx_state.specs.Changes.{AreChanges}
 use Rattle.mx_state.specs.Numbers.{stands_for}
 use Rattle.mx_state.specs.Plain.{Plain, Answer, answer, process_at, with_process}
+use Rattle.mx_state.specs.Replies.{alone}
 use Rattle.mx_state.specs.Serving.{Serves}
 use Rattle.mx_state.specs.Sound.{IsSound, IsSoundProcess, HoldsSound}
 use Rattle.mx_state.specs.Table.{descriptor, process_desc, standing_desc}
 use Rattle.mx_state.proofs.AnswerLaws.{plain_state, nothing_is_bounded}
 use Rattle.mx_state.proofs.Descriptors.{AreNumbered, process_at_place, descriptor_at, nothing_changes}
+use Rattle.mx_state.proofs.GivenLaws.{none_given, none_freed}
 use Rattle.mx_state.proofs.Lists.{slice_get-set, slice_get-set_other, slice_get-set_same, some_in}
 use Rattle.mx_state.proofs.NumberLaws.{stands_alike}
 use Rattle.mx_state.proofs.PageLaws.{kept_once}
@@ -143,7 +145,7 @@ pub kept_serves : (version : ℕ) (f : ProcessState → ProcessState) (h : Hiera
     → ((process : ProcessState) → slice_get processes i ≡ Some process → after ≡ slice_set processes i (f process))
     → ((process : ProcessState) → slice_get processes i ≡ Some process
     → given process ≡ answer reply (with_process (plain_state version h mail processes) p (f process)))
-    → applied ≡ record { reply = reply; changes = [] }
+    → applied ≡ alone reply
     → Serves (plain_state version h mail processes) (plain_state version h mail after) (on_process (plain_state version h mail processes) p given) applied
 kept_serves version f h mail processes after p i given reply applied known principal low at within set meant e =
     let w = some_in processes i within in
@@ -151,6 +153,8 @@ kept_serves version f h mail processes after p i given reply applied known princ
       as_meant = to_process (plain_state version h mail processes) p i w.0 given low at w.1 ∙ meant w.0 w.1
           ∙ ap (λ k. answer reply (plain_state version h mail (slice_set processes k (f w.0)))) at;
       changes = kept_changes (plain_state version h mail processes) p i w.0 (f w.0) low at w.1 (known w.0) (principal w.0);
+      given = none_given (plain_state version h mail processes) (plain_state version h mail (slice_set processes i (f w.0))) refl;
+      freed = none_freed (plain_state version h mail processes) (plain_state version h mail (slice_set processes i (f w.0))) refl;
       bounded = nothing_is_bounded _;
       version = refl;
       count = length-set processes i (f w.0);

@@ -21,6 +21,7 @@ use Rattle.mx_state.specs.Changes.{AreChanges, IsBounded}
 use Rattle.mx_state.specs.Connecting.{Connected, connect_refusals}
 use Rattle.mx_state.specs.Knowing.{knowing_more}
 use Rattle.mx_state.specs.Linking.{found_uid, link_target}
+use Rattle.mx_state.specs.NextRun.{IsNext}
 use Rattle.mx_state.specs.Plain.{Plain}
 use Rattle.mx_state.specs.Sections.{section_made}
 
@@ -34,7 +35,8 @@ abbrev pub section_or_refusal : Hierarchy → KnownSegments → ℕ → ℕ → 
 section_or_refusal h known uid ring name =
     unless (first_of (connect_refusals h known uid ring name)) (section_made h known uid)
 
--- a segment became known to process p as it is meant, and the descriptors are told that this changed
+-- a segment became known to process p as it is meant, and the descriptors are told that this changed, and the run of
+-- pages that was given out
 pub record IsConnected (old new : Plain) (p : ℕ) (process : ProcessState) (meant : Result Connected Refusal)
     (connection : Connection) : Type 0 where
   pub after : Connected
@@ -42,6 +44,7 @@ pub record IsConnected (old new : Plain) (p : ℕ) (process : ProcessState) (mea
   pub known : connection.known ≡ after.known
   pub state : new ≡ knowing_more old p process after
   pub changes : AreChanges old new connection.changes
+  pub given : IsNext old.hierarchy.pages new.hierarchy.pages connection.given
   pub bounded : All (IsBounded (last_number old.version)) connection.changes
   pub count : length new.processes ≡ length old.processes
 

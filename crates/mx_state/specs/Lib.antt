@@ -13,7 +13,10 @@ pub mod Table
 pub mod DecidingEntry
 pub mod Told
 pub mod Changes
+pub mod Given
+pub mod AimAlone
 pub mod History
+pub mod Coming
 pub mod Serving
 pub mod Laws
 pub mod Waiting
@@ -21,6 +24,7 @@ pub mod Pages
 pub mod Sound
 pub mod Calling
 pub mod Known
+pub mod NextRun
 pub mod Replies
 pub mod Changing
 pub mod Renewing

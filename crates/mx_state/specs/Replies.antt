@@ -1,7 +1,8 @@
 -- Helpers that only private contracts cite: what is replied where a request on the hierarchy or a message gives nothing
--- back, and where it is refused.
-use Rattle.std.specs.Prelude.{◌≡◌, [], Result, Ok, Err, IsErr}
+-- back, and where it is refused; and what a request comes to that gives out and frees no page.
+use Rattle.std.specs.Prelude.{◌≡◌, List, [], None, Result, Ok, Err, IsErr}
 use Rattle.std.specs.declared.alloc.AllocError.{AllocError}
+use Rattle.mx_core.specs.declared.changes.Change.{Change}
 use Rattle.mx_hier.specs.declared.refusals.HierError.{HierError}
 use Rattle.mx_hier.specs.declared.refusals.HierError.TheVariants as given
 use Rattle.mx_hier.specs.declared.refusals.Refusal.TheVariants.{NoProcess, Ended, MailFull}
@@ -11,7 +12,15 @@ use Rattle.mx_request.specs.declared.replies.Reply.{Reply}
 use Rattle.mx_request.specs.declared.replies.Reply.TheVariants.{Done, Refused, Sent}
 use Rattle.mx_state.specs.declared.applied.Applied.{Applied}
 
-abbrev pub Says : Result (Unit {0}) HierError → Result Reply AllocError → Type 0
+-- a reply and the descriptors that changed
+abbrev pub telling : Reply → List Change → Applied
+telling reply changes = record { reply = reply; changes = changes; given = None; freed = None }
+
+-- a reply alone
+abbrev pub alone : Reply → Applied
+alone reply = telling reply []
+
+abbrev pub Says : {A : Type 0} → Result A HierError → Result Reply AllocError → Type 0
 Says (Ok value) result = result ≡ Ok Done
 Says (Err (given.Refused why)) result = result ≡ Ok (Refused why)
 Says (Err given.Memory) result = IsErr result
@@ -25,5 +34,5 @@ SaysSent (Err mail.Full) result = result ≡ Ok (Refused MailFull)
 SaysSent (Err mail.Memory) result = IsErr result
 
 abbrev pub IsRefused : HierError → Result Applied AllocError → Type 0
-IsRefused (given.Refused why) result = result ≡ Ok (record { reply = Refused why; changes = [] })
+IsRefused (given.Refused why) result = result ≡ Ok (alone (Refused why))
 IsRefused given.Memory result = IsErr result

@@ -47,7 +47,12 @@ impl State {
         let given = alter(&mut self.hier, &who, uid, request);
         let reply = done(given)?;
         let changes = renewed(&self.hier, processes, held);
-        Ok(Applied { reply, changes })
+        Ok(Applied {
+            reply,
+            changes,
+            given: None,
+            freed: None,
+        })
     }
 }
 

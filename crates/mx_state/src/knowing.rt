@@ -11,6 +11,7 @@ ghost use Rattle.mx_request.specs.declared.requests.Request.TheVariants as ask;
 ghost use Rattle.mx_state.specs.Connecting.{connect, with_section_page};
 ghost use Rattle.mx_state.specs.Known.{knowing, section_or_refusal, Connects};
 ghost use Rattle.mx_state.specs.Knowing.{free_name};
+ghost use Rattle.mx_state.specs.NextRun.{section_run};
 ghost use Rattle.mx_state.specs.Plain.{process_at};
 ghost use Rattle.mx_state.specs.Requests.{plain};
 ghost use Rattle.mx_state.specs.Serving.{Serves};
@@ -27,15 +28,17 @@ use mx_core::Changes;
 use mx_hier::{Hier, Refusal};
 use mx_kst::{Known, Kst, KstError, Lot, Section};
 use mx_name::{EntryName, Pathname};
+use mx_pages::PageRun;
 use mx_request::Reply;
 use mx_sdw::Ring;
 use std::alloc::{AllocError, Global};
 
-/// How a segment is known now, and the descriptors that this changed.
+/// How a segment is known now, the descriptors that this changed, and the run of pages that it gave out.
 #[derive(Drop)]
 pub struct Connection {
     pub known: Known,
     pub changes: Changes,
+    pub given: Option<PageRun>,
 }
 
 impl State {
@@ -64,6 +67,8 @@ impl State {
             Ok(connection) => Ok(Applied {
                 reply: Reply::Segno(connection.known),
                 changes: connection.changes,
+                given: connection.given,
+                freed: None,
             }),
             Err(why) => Ok(Applied::unchanged(alloc, Reply::Refused(why))),
         }
@@ -103,6 +108,8 @@ impl State {
                     linkage: connection.known.linkage,
                 },
                 changes: connection.changes,
+                given: connection.given,
+                freed: None,
             }),
             Err(why) => Ok(Applied::unchanged(alloc, Reply::Refused(why))),
         }
@@ -138,9 +145,13 @@ impl State {
         let next = process.known.last() + 1 - process.known.left();
         let held = held_two(alloc, &self.hier, self.processes.as_slice(), p, next)?;
         let known = know(&mut self.processes, i, uid, ring, name, section)?;
-        give_page(&mut self.hier, &section);
+        let given = give_page(&mut self.hier, &section);
         let changes = renewed(&self.hier, self.processes.as_slice(), held);
-        Ok(Ok(Connection { known, changes }))
+        Ok(Ok(Connection {
+            known,
+            changes,
+            given,
+        }))
     }
 
     /// Takes a segment's number and names away, and its linkage section. The only descriptors that change are those of
@@ -168,6 +179,8 @@ impl State {
         Ok(Applied {
             reply: Reply::Done,
             changes,
+            given: None,
+            freed: None,
         })
     }
 }
@@ -226,13 +239,16 @@ fn know(
     }
 }
 
-// Gives out the page of a linkage section, if there is one.
-fn give_page(hier: &mut Hier, section: &Option<Section>)
-    ensures { hier.new ≡ with_section_page hier.old section.now }
+// Gives out the page of a linkage section, if there is one, and says which.
+fn give_page(hier: &mut Hier, section: &Option<Section>) -> Option<PageRun>
+    ensures run { result ≡ section_run hier.old section.now }
+    ensures after { hier.new ≡ with_section_page hier.old section.now }
 {
-    if section.is_some() {
-        hier.take_page();
+    if section.is_none() {
+        return None;
     }
+    let first = hier.take_page()?;
+    Some(PageRun { first, count: 1 })
 }
 
 // The name of a segment that is found, unless the ring has it already.

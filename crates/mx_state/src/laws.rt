@@ -1,5 +1,7 @@
 //! What follows from the definitions alone, and what is true of every state that the program reaches.
 
+ghost use Rattle.mx_state.specs.AimAlone.{OtherClassLaw, AimAloneLaw, AimToldLaw};
+ghost use Rattle.mx_state.specs.Coming.{SectionComesLaw, SectionWordsLaw};
 ghost use Rattle.mx_state.specs.Laws.{RefusalLaw, PathLaw, OwnLastLaw, UnknownLaw, SetInitialLaw, DeleteInitialLaw, VersionLaw};
 ghost use Rattle.mx_state.specs.Pages.{ArePagesHeldOnce};
 ghost use Rattle.mx_state.specs.Told.{NewSectionLaw, PathTellsLaw, SectionDescLaw, ResolvedLaw, OnlyLinkLaw, LinkRepliesLaw, OthersLaw, SectionsStayLaw};
@@ -26,6 +28,15 @@ pub fn an_initial_list_is_in_no_descriptor()
     ensures deleted { DeleteInitialLaw }
 {}
 
+/// The class of a segment alone changes a descriptor: it is another wherever the aim is another, even where nothing else
+/// of it is; and after `set_class` each process whose aim to the segment is another has a descriptor that is told as a
+/// change.
+pub fn aim_alone_changes_a_descriptor()
+    ensures other { OtherClassLaw }
+    ensures alone { AimAloneLaw }
+    ensures told { AimToldLaw }
+{}
+
 /// Only `status` asks the version: with another a request leaves the same state but for the version, and is replied the
 /// same; `status` the same but for the class of a segment.
 pub fn only_status_asks_the_version()
@@ -38,6 +49,12 @@ pub fn a_section_that_is_told_is_there()
     ensures told { NewSectionLaw }
     ensures on_path { PathTellsLaw }
     ensures descriptor { SectionDescLaw }
+{}
+
+/// A number of a process becomes a linkage section only where it stood for nothing, and every section has a word.
+pub fn a_section_comes_where_nothing_stood()
+    ensures comes { SectionComesLaw }
+    ensures words { SectionWordsLaw }
 {}
 
 /// Only `link` is answered that a link leads to a word, and every `link` of a process that is not refused is answered

@@ -5,6 +5,7 @@ ghost use Rattle.mx_hier.specs.Rules.{Answers};
 ghost use Rattle.mx_hier.specs.Who.{caller as caller_of, subject};
 ghost use Rattle.mx_request.specs.declared.requests.Request.TheVariants as ask;
 ghost use Rattle.mx_state.specs.Changing.{created, creation, amended_at, amendment};
+ghost use Rattle.mx_state.specs.NextRun.{IsNext};
 ghost use Rattle.mx_state.specs.Requests.{plain};
 ghost use Rattle.mx_state.specs.Serving.{Serves};
 ghost use Rattle.mx_state.specs.Shown.{shown, without_class};
@@ -13,8 +14,10 @@ use crate::applied::Applied;
 use crate::callers::caller;
 use crate::replies::{done, refused};
 use crate::states::State;
+use mx_core::Changes;
 use mx_hier::{Hier, HierError, Status, Who};
 use mx_name::Pathname;
+use mx_pages::PageRun;
 use mx_request::{Reply, Request, has_classes};
 use mx_sdw::Ring;
 use std::alloc::{AllocError, Global};
@@ -34,9 +37,16 @@ impl State {
     {
         let processes = self.processes.as_slice();
         let who = caller(&self.initializer, &self.root, processes, p, ring);
-        let given = create(&mut self.hier, alloc, &who, request);
-        let reply = done(given)?;
-        Ok(Applied::unchanged(alloc, reply))
+        let given = match create(&mut self.hier, alloc, &who, request) {
+            Ok(given) => given,
+            Err(error) => return refused(alloc, error),
+        };
+        Ok(Applied {
+            reply: Reply::Done,
+            changes: Changes::new(alloc),
+            given,
+            freed: None,
+        })
     }
 
     /// Answers `rename`, `set_dir_brackets` and what changes an initial access list. The last link of the path is
@@ -102,25 +112,43 @@ impl State {
     }
 }
 
-// Makes the entry that one of these requests asks for.
-fn create(hier: &mut Hier, alloc: Global, who: &Who, request: &Request) -> Result<(), HierError>
+// Makes the entry that one of these requests asks for, and says which pages it was given.
+fn create(
+    hier: &mut Hier,
+    alloc: Global,
+    who: &Who,
+    request: &Request,
+) -> Result<Option<PageRun>, HierError>
     ensures answer { Answers (created hier.old (caller_of who.now) request.now) hier.old result hier.new }
+    ensures run { IfOk result (IsNext hier.old.pages hier.new.pages) }
 {
     match request {
-        Request::CreateDir { path, d1, d2 } => hier.create_dir(alloc, who, path, *d1, *d2),
+        Request::CreateDir { path, d1, d2 } => {
+            hier.create_dir(alloc, who, path, *d1, *d2)?;
+            Ok(None)
+        }
         Request::CreateSeg {
             path,
             words,
             brackets,
-        } => hier.create_seg(alloc, who, path, *words, *brackets),
+        } => {
+            let given = hier.create_seg(alloc, who, path, *words, *brackets)?;
+            Ok(Some(given))
+        }
         Request::CreateObject {
             path,
             words,
             brackets,
             map,
-        } => hier.create_object(alloc, who, path, *words, *brackets, map),
-        Request::CreateLink { path, target } => hier.create_link(alloc, who, path, target),
-        _ => Ok(()),
+        } => {
+            let given = hier.create_object(alloc, who, path, *words, *brackets, map)?;
+            Ok(Some(given))
+        }
+        Request::CreateLink { path, target } => {
+            hier.create_link(alloc, who, path, target)?;
+            Ok(None)
+        }
+        _ => Ok(None),
     }
 }
 

@@ -6,6 +6,7 @@ ghost use Rattle.std.specs.Option.{option_map};
 ghost use Rattle.mx_sdw.specs.Admissible.{IsAdmissible};
 ghost use Rattle.mx_state.specs.Changes.{AreChanges, IsBounded};
 ghost use Rattle.mx_state.specs.DecidingEntry.{entry_behind, Explains};
+ghost use Rattle.mx_state.specs.Given.{AreGiven, AreFreed};
 ghost use Rattle.mx_state.specs.History.{opening, MayAsk};
 ghost use Rattle.mx_request.specs.declared.replies.Reply.TheVariants as reply;
 ghost use Rattle.mx_request.specs.declared.requests.Request.TheVariants as ask;
@@ -115,8 +116,9 @@ impl State {
     }
 
     /// Answers the request of process `p` in a ring as the plain supervisor does; process 0 is the initializer, which
-    /// makes requests on paths alone. The changes are exactly the descriptors that differ afterwards. A refusal changes
-    /// nothing, and nor does want of memory, the only error. Where a link leads is a place that a pointer can name.
+    /// makes requests on paths alone. The changes are exactly the descriptors that differ afterwards, and the runs of
+    /// pages exactly those that were given out and that were freed. A refusal changes nothing, and nor does want of
+    /// memory, the only error. Where a link leads is a place that a pointer can name.
     pub fn apply(
         &mut self,
         alloc: Global,
@@ -127,6 +129,8 @@ impl State {
         requires { MayAsk self.old p request.now }
         ensures answer { IfOk result (λ applied. plain self.old p ring request.now ≡ answer applied.reply self.new) }
         ensures changes { IfOk result (λ applied. AreChanges self.old self.new applied.changes) }
+        ensures given { IfOk result (λ applied. AreGiven self.old self.new applied.given) }
+        ensures freed { IfOk result (λ applied. AreFreed self.old self.new applied.freed) }
         ensures bounded { IfOk result (λ applied. All (IsBounded (last_number self.old.version)) applied.changes) }
         ensures refused { IfOk result (RefusesQuietly self.old self.new) }
         ensures linked { IfOk result (λ applied. IsLinkedWithin applied.reply) }

@@ -174,7 +174,7 @@ downreturned_stays_sound before after gate s g up r =
     } in
     subst IsSound (sym (one_downreturn before after gate s.eight r)) back
 
-packable_upcalled : (before : Registers) (target : PointerParts) (d : Descriptor) → ArePackable before → IsPackable target
+pub packable_upcalled : (before : Registers) (target : PointerParts) (d : Descriptor) → ArePackable before → IsPackable target
     → d.brackets.r1 ≤ 7 → ArePackable (upcalled before target d)
 packable_upcalled before target d a h low =
     let ring : ℕ = d.brackets.r1 in
@@ -194,12 +194,12 @@ pub upcalled_stays_packable : (before after : Registers) (target : PointerParts)
 upcalled_stays_packable before after target d gate eight a h low u =
     subst ArePackable (sym (one_upcall before target d eight gate after u)) (packable_upcalled before target d a h low)
 
+pub packable_downreturned : (before : Registers) (gate : ReturnGate) → ArePackable before → IsPackableGate gate
+    → ArePackable (downreturned before gate)
+packable_downreturned before gate a g =
+    record { ring = g.ring; procedure = g.procedure; pr = All-set IsPackable before.pr 0 gate.pr0 g.pr0 a.pr }
+
 pub downreturned_stays_packable : (before after : Registers) (gate : ReturnGate) → length before.pr ≡ 8 → ArePackable before
     → IsPackableGate gate → IsDownreturned before gate after → ArePackable after
 downreturned_stays_packable before after gate eight a g r =
-    let back : ArePackable (downreturned before gate) = record {
-      ring = g.ring;
-      procedure = g.procedure;
-      pr = All-set IsPackable before.pr 0 gate.pr0 g.pr0 a.pr;
-    } in
-    subst ArePackable (sym (one_downreturn before after gate eight r)) back
+    subst ArePackable (sym (one_downreturn before after gate eight r)) (packable_downreturned before gate a g)

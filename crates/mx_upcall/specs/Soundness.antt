@@ -2,6 +2,8 @@
 use Rattle.std.specs.Prelude.{◌≡◌, ◌<◌, ◌≤◌, false}
 use Rattle.std.specs.List.{All}
 use Rattle.mx_ptr.specs.Pointers.{IsPackable}
+use Rattle.mx_call.specs.Registers.{ArePackable}
+use Rattle.mx_upcall.specs.Control.{Control}
 use Rattle.mx_upcall.specs.Gates.{ReturnGate, ReturnGates}
 
 -- a gate leads to a lower ring, brings back no pointer of a ring below it, and none that asks for further indirection
@@ -22,3 +24,8 @@ AreSoundGates g = All IsSoundGate g.gates
 
 abbrev pub ArePackableGates : ReturnGates → Type 0
 ArePackableGates g = All IsPackableGate g.gates
+
+-- every pointer that passes from line to line can be stored
+pub record IsPackableControl (control : Control) : Type 0 where
+  pub registers : ArePackable control.registers
+  pub gates : ArePackableGates control.gates

@@ -22,7 +22,7 @@ pub returns-in-Err-clause-answer : goal.returns-in-Err-clause-answer
 returns-in-Err-clause-answer c =
     let h = c.args.self.now in
     let who = c.args.who.now in
-    not_placed (resolved (caller who) c.args.path.now) (λ path. place h (subject who) path) (λ at. create_dir_at h (subject who) at c.args.d1 c.args.d2)
+    not_placed (Unit {0}) (resolved (caller who) c.args.path.now) (λ path. place h (subject who) path) (λ at. create_dir_at h (subject who) at c.args.d1 c.args.d2)
     h c.in-Err.error c.in-Err.ensures.answer
 
 pub returns-in-Err-clause-told : goal.returns-in-Err-clause-told

@@ -1,4 +1,5 @@
 use Rattle.std.specs.Option.{option_copied}
+use Rattle.mx_pages.specs.declared.pages.PageRun.{PageRun}
 use Rattle.mx_hier.specs.declared.making.Place.{Place}
 use Rattle.mx_hier.specs.MakeSegment.{Wanted, make_segment_at}
 use Rattle.mx_hier.specs.Making.{place}
@@ -25,9 +26,9 @@ returns-in-Err-clause-answer c =
     let h = c.args.self.now in
     let who = c.args.who.now in
     let wanted : Wanted = record { words = c.args.words; rings = c.args.rings.now; modes = c.args.modes; object = option_copied c.args.object } in
-    not_placed (resolved (caller who) c.args.path.now) (λ path. place h (subject who) path) (λ at. make_segment_at h (subject who) at wanted)
+    not_placed PageRun (resolved (caller who) c.args.path.now) (λ path. place h (subject who) path) (λ at. make_segment_at h (subject who) at wanted)
     h c.in-Err.error c.in-Err.ensures.answer
 
 pub returns-in-Err-clause-told : goal.returns-in-Err-clause-told
 returns-in-Err-clause-told c =
-    told_alike Place (Unit {0}) (resolved (caller c.args.who.now) c.args.path.now) c.in-Err.error c.in-Err.ensures.told
+    told_alike Place PageRun (resolved (caller c.args.who.now) c.args.path.now) c.in-Err.error c.in-Err.ensures.told

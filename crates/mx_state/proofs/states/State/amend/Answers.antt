@@ -1,9 +1,11 @@
+use Rattle.std.proofs.Common.{None}
 use Rattle.mx_hier.specs.Rules.{onward}
 use Rattle.mx_hier.specs.Walks.{entry}
 use Rattle.mx_hier.specs.Who.{caller, subject}
 use Rattle.mx_state.specs.Changing.{amended_at, amendment}
 use Rattle.mx_state.proofs.AnswerLaws.{call_is_sound, of_old_by, found, quiet_serves}
 use Rattle.mx_state.proofs.ChangingLaws.{amended_leaves}
+use Rattle.mx_state.proofs.GivenLaws.{amended_keeps, pages_kept}
 use Rattle.mx_state.proofs.SegmentLaws.{Nothing}
 use Rattle.mx_state.proofs.states.State.amend.Goals as goal
 
@@ -23,6 +25,8 @@ returns-clause-served c =
     of_old_by s.version (λ s. amendment s c.args.p c.args.ring c.args.path.now c.args.follow request) s.hier s.mail s.processes.items _ _ c.unchanged.result c.self.view_is
     (quiet_serves s.version (λ who. onward (entry s.hier who c.args.path.now c.args.follow) (λ uid. amended_at s.hier who.subject uid request))
     (amended_at s.hier who.subject uid request) s.hier c.amend-given.new.hier s.mail s.processes.items c.args.p c.args.ring who
-    c.amend-given.result c.in_ok-reply.reply c.unchanged.result (rw c.as_slice-processes.ensures.value at c.caller-who.ensures)
+    c.amend-given.result c.in_ok-reply.reply None c.unchanged.result (rw c.as_slice-processes.ensures.value at c.caller-who.ensures)
     (found (entry s.hier who c.args.path.now c.args.follow) (λ uid. amended_at s.hier who.subject uid request) uid c.in-Ok.ensures.answer)
-    c.amend-given.ensures.answer c.in_ok-reply.ensures (amended_leaves s.hier who.subject uid request) c.self.invariant.sound c.unchanged.ensures)
+    c.amend-given.ensures.answer c.in_ok-reply.ensures (amended_leaves s.hier who.subject uid request)
+    (pages_kept (amended_at s.hier who.subject uid request) s.hier c.amend-given.new.hier c.amend-given.result c.amend-given.ensures.answer
+    (amended_keeps s.hier who.subject uid request)) c.self.invariant.sound c.unchanged.ensures)

@@ -30,7 +30,7 @@ invariant_of-self-2 c =
     let knows = c.in_ok-known.ensures.known own place in
     let given : Initiated = record { known = c.in_ok-known.known; after = knows.0 } in
     let below = subst (λ (t : Plain). c.args.uid < t.hierarchy.next) (sym c.self.view_is) c.requires.made in
-    rw (c.give_page.ensures, knows.2)
+    rw (c.give_page-given.ensures.after, knows.2)
     (known_holds s.version s.hier s.mail s.processes.items (c.from-i.result - 1) own c.args.uid c.args.ring (option_copied c.args.name) c.in-Ok.section given place knows.1
     s.initializer s.root c.self.invariant c.in-Ok.ensures.within below (sym c.section.ensures.value ∙ c.in-Ok.is))
 
@@ -40,9 +40,9 @@ returns-clause-connected c = λ process e.
     let own = c.process_in-process.result.now in
     let place = rw c.as_slice.ensures.value at c.process_in-process.ensures in
     let knows = c.in_ok-known.ensures.known own place in
-    connected_as s.version s.hier c.give_page.new.hier s.mail s.processes.items c.know.new.processes.items c.args.self.now c.args.p (c.from-i.result - 1) process own
+    connected_as s.version s.hier c.give_page-given.new.hier s.mail s.processes.items c.know.new.processes.items c.args.self.now c.args.p (c.from-i.result - 1) process own
     c.args.uid c.args.ring (c.last.result + 1 - c.left.result) (option_copied c.args.name) c.in-Ok.section (record { known = c.in_ok-known.known; after = knows.0 })
-    c.in_ok-held.held.items c.renewed-changes.result c.self.view_is c.self.invariant.sound c.requires.some (omega (arith, c.from-i.ensures)) place e
-    (sym c.section.ensures.value ∙ c.in-Ok.is) knows.1 knows.2 c.give_page.ensures (known_next own.known c.last.result c.left.result c.left.ensures.sound c.last.ensures.value c.left.ensures.value)
+    c.in_ok-held.held.items c.renewed-changes.result c.give_page-given.result c.self.view_is c.self.invariant.sound c.requires.some (omega (arith, c.from-i.ensures)) place e
+    (sym c.section.ensures.value ∙ c.in-Ok.is) knows.1 knows.2 c.give_page-given.ensures.after c.give_page-given.ensures.run c.in-Ok.ensures.within (known_next own.known c.last.result c.left.result c.left.ensures.sound c.last.ensures.value c.left.ensures.value)
     (rw c.as_slice-2.ensures.value at c.in_ok-held.ensures)
     (rw c.as_slice-3.ensures.value at c.renewed-changes.ensures.value) c.renewed-changes.ensures.admissible

@@ -1,7 +1,12 @@
-use Rattle.std.proofs.Common.{refl}
+use Rattle.std.proofs.Common.{List, None, Ok, IfOk, ap, refl, subst}
+use Rattle.mx_core.specs.declared.changes.Change.{Change}
 use Rattle.mx_hier.specs.Who.{caller}
+use Rattle.mx_request.specs.declared.replies.Reply.TheVariants.{Done}
+use Rattle.mx_state.specs.declared.applied.Applied.{Applied}
 use Rattle.mx_state.specs.Changing.{created, creation}
-use Rattle.mx_state.proofs.AnswerLaws.{call_is_sound, of_old_by, quiet_serves}
+use Rattle.mx_state.specs.Plain.{Plain}
+use Rattle.mx_state.specs.Serving.{Serves}
+use Rattle.mx_state.proofs.AnswerLaws.{call_is_sound, of_old_by, plain_state, quiet_refused, quiet_serves}
 use Rattle.mx_state.proofs.ChangingLaws.{created_leaves}
 use Rattle.mx_state.proofs.SegmentLaws.{Nothing}
 use Rattle.mx_state.proofs.states.State.create.Goals as goal
@@ -10,14 +15,27 @@ pub invariant_of-self-2 : goal.invariant_of-self-2
 invariant_of-self-2 c =
     let s = c.self.inside in
     let who = caller c.caller-who.result in
-    call_is_sound s.version Nothing (created s.hier who c.args.request.now) s.hier c.create-given.new.hier s.mail s.processes.items s.initializer s.root
-    c.create-given.result c.create-given.ensures.answer (created_leaves s.hier who c.args.request.now) c.self.invariant
+    call_is_sound s.version Nothing (created s.hier who c.args.request.now) s.hier c.create.new.hier s.mail s.processes.items s.initializer s.root
+    c.create.result c.create.ensures.answer (created_leaves s.hier who c.args.request.now) c.self.invariant
 
 pub returns-clause-served : goal.returns-clause-served
 returns-clause-served c =
     let s = c.self.inside in
     let who = caller c.caller-who.result in
-    of_old_by s.version (λ s. creation s c.args.p c.args.ring c.args.request.now) s.hier s.mail s.processes.items _ _ c.unchanged.result c.self.view_is
-    (quiet_serves s.version (λ who. created s.hier who c.args.request.now) (created s.hier who c.args.request.now) s.hier c.create-given.new.hier s.mail s.processes.items c.args.p c.args.ring who
-    c.create-given.result c.in_ok-reply.reply c.unchanged.result (rw c.as_slice-processes.ensures.value at c.caller-who.ensures) refl
-    c.create-given.ensures.answer c.in_ok-reply.ensures (created_leaves s.hier who c.args.request.now) c.self.invariant.sound c.unchanged.ensures)
+    let meant = created s.hier who c.args.request.now in
+    let applied : List Change → Applied = λ changes. record { reply = Done; changes = changes; given = c.in-Ok.given; freed = None } in
+    of_old_by s.version (λ s. creation s c.args.p c.args.ring c.args.request.now) s.hier s.mail s.processes.items _ _ (applied c.new.result) c.self.view_is
+    (quiet_serves s.version (λ who. created s.hier who c.args.request.now) meant s.hier c.create.new.hier s.mail s.processes.items c.args.p c.args.ring who
+    (Ok c.in-Ok.given) Done c.in-Ok.given (applied c.new.result) (rw c.as_slice-processes.ensures.value at c.caller-who.ensures) refl
+    c.in-Ok.ensures.answer refl (created_leaves s.hier who c.args.request.now) c.in-Ok.ensures.run c.self.invariant.sound (ap applied c.new.ensures))
+
+pub returns-in-Err-clause-served : goal.returns-in-Err-clause-served
+returns-in-Err-clause-served c =
+    let s = c.self.inside in
+    let who = caller c.caller-who.result in
+    let meant = created s.hier who c.args.request.now in
+    let new = plain_state s.version c.create.new.hier s.mail s.processes.items in
+    subst (λ (t : Plain). IfOk c.refused.result (Serves t new (creation t c.args.p c.args.ring c.args.request.now))) c.self.view_is
+    (quiet_refused s.version (λ who. created s.hier who c.args.request.now) meant s.hier c.create.new.hier s.mail s.processes.items c.args.p c.args.ring who
+    c.create.result c.in-Err.error c.refused.result (rw c.as_slice-processes.ensures.value at c.caller-who.ensures) refl c.in-Err.is
+    c.create.ensures.answer (created_leaves s.hier who c.args.request.now) c.self.invariant.sound c.refused.ensures)
