@@ -41,6 +41,7 @@ impl Places {
     }
 
     /// What it has of a number.
+    #[inline(always)]
     pub(crate) fn recall(&self, segno: u16) -> Option<Triple>
         ensures { result ≡ recalled segno self.now }
     {
@@ -51,6 +52,7 @@ impl Places {
     }
 
     /// The place of a number.
+    #[inline(always)]
     fn place(&self, segno: u16) -> Option<usize>
         ensures { MatchOption result (HasNot segno self.now) (IsAt segno self.now) }
     {

@@ -23,7 +23,7 @@ use Rattle.mx_desc.proofs.Seeing.{seen_then}
 pub waits_by : {S : Type 0} (x : Option Outcome) (u : Triple) (a : Asked) (w : PassView S)
     → AwaitsCellUnless x u a (judged_view x u a w)
 waits_by None u a w = record { basis = refl; hold = refl }
-waits_by (Some o) u a w = tt
+waits_by (Some o) u a w = refl
 
 module _ {S : Type 0} (numbers n floor : ℕ) (a : Asked) (v : PassView S) (at : v.floor ≡ floor) where
   -- what stands is judged

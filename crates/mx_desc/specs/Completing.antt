@@ -1,8 +1,5 @@
 -- Helpers: what is judged and not over at once is completed by its cell step.
-use Rattle.std.specs.Prelude.{◌≡◌, ℕ, ◌++◌, max, [], ◌∷◌, Option, Some, None, Ok}
-use Rattle.mx_sdw.specs.Descriptors.{Descriptor}
-use Rattle.mx_sdw.specs.Judging.{judgement}
-use Rattle.mx_sdw.specs.declared.descriptors.Cell.{Cell}
+use Rattle.std.specs.Prelude.{◌≡◌, ℕ, ◌++◌, max, [], ◌∷◌, Option, Some, None}
 use Rattle.mx_core.specs.Judging.{Agrees, at_once, stamp_read}
 use Rattle.mx_core.specs.Loading.{element_of}
 use Rattle.mx_core.specs.declared.elements.Kept.TheVariants.{Judged}
@@ -12,19 +9,14 @@ use Rattle.mx_core.specs.declared.words.Asked.{Asked}
 use Rattle.mx_core.specs.declared.words.Triple.{Triple}
 use Rattle.mx_rule.specs.declared.views.PassView.{PassView}
 
--- what is asked is granted
-pub record IsGrantedFor (d : Descriptor) (a : Asked) : Type 0 where
-  pub cell : Cell
-  pub granted : judgement d a.op a.ring a.word ≡ Ok cell
-
 -- a reference is held on the triple
 pub record AwaitsCell {E : Type 0} (on : Triple) (a : Asked) (v : PassView E) : Type 0 where
   pub basis : v.basis ≡ Some on
   pub hold : v.hold ≡ Some a
 
--- where what is asked is not over at once
+-- where what is asked is not over at once; else nothing is held
 abbrev pub AwaitsCellUnless : {E : Type 0} → Option Outcome → Triple → Asked → PassView E → Type 0
-AwaitsCellUnless (Some o) on a v = Unit {0}
+AwaitsCellUnless (Some o) on a v = v.hold ≡ None
 AwaitsCellUnless None on a v = AwaitsCell on a v
 
 pub record HasCell {E : Type 0} (on : Triple) (a : Asked) (value : ℕ) (v : PassView E) (o : Outcome)

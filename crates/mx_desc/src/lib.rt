@@ -7,6 +7,7 @@
 #![tactic(auto)]
 
 mod completing;
+mod ending;
 mod naming;
 mod notes;
 mod opening;
@@ -16,6 +17,7 @@ mod slots;
 mod supers;
 mod waiting;
 
+pub use ending::close;
 pub use naming::Naming;
 pub use notes::Note;
 pub use opening::{Passes, seats};

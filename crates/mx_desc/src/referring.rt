@@ -77,6 +77,7 @@ impl<E, B: Naming> Pass<E, B> {
     /// Refers to a word of a segment number by what the memory has of it: that descriptor is judged on, which stands
     /// since this entry. Conditions: the process is ready, its memory has just this of the number, and there is room
     /// for an event. It takes no memory, and waits for nobody.
+    #[inline(always)]
     pub fn recall(
         &mut self,
         shared: &Board<E>,
@@ -114,6 +115,7 @@ impl<E, B: Naming> Pass<E, B> {
 
 /// What a descriptor word gives to judge on, to a process that was told of so many entries; or by which entry it is
 /// missed.
+#[inline(always)]
 fn standing(segno: u16, found: &DescView, floor: u32) -> Result<Triple, u32>
     requires { IsCodable (word_by found.now) }
     ensures on { (u : TripleValue) → result ≡ Ok u → StandsAt segno floor (word_by found.now) u }
@@ -127,6 +129,7 @@ fn standing(segno: u16, found: &DescView, floor: u32) -> Result<Triple, u32>
     }
 }
 
+#[inline(always)]
 fn standing_on(segno: u16, number: u32, desc: &Desc, floor: u32) -> Result<Triple, u32>
     ensures on { (u : TripleValue) → result ≡ Ok u → StandsAt segno floor (Valid number desc.now) u }
     ensures missed { (by : ℕ) → result ≡ Err by → IsMissedAt floor (Valid number desc.now) by }
@@ -137,6 +140,7 @@ fn standing_on(segno: u16, number: u32, desc: &Desc, floor: u32) -> Result<Tripl
     Ok(triple(segno, number, desc))
 }
 
+#[inline(always)]
 fn triple(segno: u16, number: u32, desc: &Desc) -> Triple
     ensures { result ≡ record { segno = segno; number = number; desc = desc.now } }
 {
@@ -147,6 +151,7 @@ fn triple(segno: u16, number: u32, desc: &Desc) -> Triple
     }
 }
 
+#[inline(always)]
 fn element(on: &Triple, asked: &Asked, point: u32, outcome: Outcome) -> Element
     ensures { result ≡ element_of on.now.segno asked.now point outcome }
 {
@@ -160,18 +165,21 @@ fn element(on: &Triple, asked: &Asked, point: u32, outcome: Outcome) -> Element
     }
 }
 
+#[inline(always)]
 fn some(on: &Triple) -> Option<Triple>
     ensures { result ≡ Some on.now }
 {
     Some(*on)
 }
 
+#[inline(always)]
 fn seen(element: &Element) -> Referred
     ensures { result ≡ Seen element.now }
 {
     Referred::Seen(*element)
 }
 
+#[inline(always)]
 fn kept(element: &Element, asked: &Asked, on: &Triple) -> Kept
     ensures { result ≡ Judged element.now asked.now.op on.now.desc }
 {
@@ -182,6 +190,7 @@ fn kept(element: &Element, asked: &Asked, on: &Triple) -> Kept
     }
 }
 
+#[inline(always)]
 fn asked_of(op: &Op, ring: &Ring, word: u16) -> Asked
     ensures { result ≡ record { op = op.now; ring = ring.now; word = word } }
 {
@@ -193,6 +202,7 @@ fn asked_of(op: &Op, ring: &Ring, word: u16) -> Asked
 }
 
 /// Keeps an event, for which there is room.
+#[inline(always)]
 fn push(trace: &mut Vec<Kept>, event: Kept)
     requires { vec_len trace.old < vec_capacity trace.old }
     ensures items { trace.new.items ≡ trace.old.items ++ event ∷ [] }

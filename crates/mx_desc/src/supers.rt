@@ -20,7 +20,7 @@ use crate::passes::Pass;
 use crate::slots::{Slot, put_changes, set_fault, slot_of};
 use crate::waiting::wait;
 use mx_core::{Changes, Runs};
-use mx_rule::{Board, SuperSeat};
+use mx_rule::{Board, Layout, SuperSeat};
 use std::marker::{Model, PhantomData};
 use std::sync::Wait;
 use std::sync::ledger::Share;
@@ -47,6 +47,22 @@ impl<E, B: Naming> Model for Super<E, B> {
 }
 
 impl<E, B: Naming> Super<E, B> {
+    /// Which word is which: the supervisor has the processes and numbers of the run's table.
+    pub fn layout(&self) -> Layout
+        ensures layout { result ≡ B.layout }
+        ensures processes { self.now.processes ≡ B.layout.processes }
+        ensures numbers { self.now.numbers ≡ B.layout.numbers }
+    {
+        self.seat.layout
+    }
+
+    /// How many entries there are.
+    pub fn length(&self) -> u32
+        ensures { result ≡ self.now.length }
+    {
+        self.seat.length
+    }
+
     /// Adds an entry of a process, whose changes are then pending. Condition: nothing is pending, and what `MayAppend`
     /// says of the entry. The entry is announced and not kept: it stands in the history as contracts see it, with its
     /// mark.

@@ -1,6 +1,6 @@
 -- What the end tells is right.
 use Rattle.std.proofs.Common.{◌≡◌, ℕ, ◌<◌, List, [], ◌∷◌, length, map, refl, ap, sym, subst, arith}
-use Rattle.mx_reads.specs.ReadRule.{AreRightReads}
+use Rattle.mx_reads.specs.ReadRule.{known_by, AreRightReads}
 use Rattle.mx_core.specs.Deeds.{deed_of, front}
 use Rattle.mx_core.specs.RightWords.{IsWord}
 use Rattle.mx_core.specs.Traces.{IsGoodTrace}
@@ -37,6 +37,6 @@ end_is_right S y s v id r at =
           (subst (λ (x : Office). x.processes < p) (sym k.1) beyond));
       shown = λ i u has. ap (λ (x : PassView S). x.trace) (k.3 i u has).2.rest;
       reads = subst (λ (x : Office). AreRightReads (λ p. map (deed_of x.start x.given) (w.trace p))
-          (front x.start x.entry)) k.1
+          (known_by (front x.start x.entry))) k.1
           (record { source = r.good.reads.source; right = r.good.reads.right });
     }

@@ -3,7 +3,7 @@ use Rattle.std.specs.Prelude.{◌≡◌, ℕ, ◌<◌, ◌≤◌, List, [], Some
 use mathlib.Core.Option.{some}
 use lib.ListN.{get_elem?}
 use Rattle.atomic_table.specs.Table.{State}
-use Rattle.mx_reads.specs.ReadRule.{AreRightReads}
+use Rattle.mx_reads.specs.ReadRule.{known_by, AreRightReads}
 use Rattle.mx_core.specs.Deeds.{deed_of, front}
 use Rattle.mx_core.specs.Traces.{IsGoodTrace}
 use Rattle.mx_core.specs.declared.elements.Kept.{Kept}
@@ -30,7 +30,7 @@ pub record IsRightEnd {E : Type 0} (v : SuperView E) : Type 0 where
   pub more : (p : ℕ) → v.processes < p → trace p ≡ []
   pub shown : (i : ℕ) (u : PassView E) → slice_get v.retired i ≡ Some u → trace u.process ≡ u.trace
   pub reads : AreRightReads (λ p. map (deed_of (office_of v).start (office_of v).given) (trace p))
-      (front (office_of v).start (office_of v).entry)
+      (known_by (front (office_of v).start (office_of v).entry))
 
 abbrev pub EndIsRight : Type 0 → Type 0
 EndIsRight S = (y : Layout) (s : State S (View S)) (v : SuperView S) (id : ℕ) → Holds y s

@@ -1,9 +1,9 @@
 //! The cell step of a granted reference: the cell is read, or a value stored in it.
 
-ghost use Rattle.std.specs.Prelude.{◌≡◌, ◌≤◌, []};
+ghost use Rattle.std.specs.Prelude.{◌≡◌, ◌≤◌, [], is_some};
 ghost use Rattle.mx_core.specs.Judging.{loads};
 ghost use Rattle.mx_rule.specs.Codes.{IsCellCode};
-ghost use Rattle.mx_rule.specs.Holding.{IsHeld, read_held, stored_held};
+ghost use Rattle.mx_rule.specs.Holding.{IsHeld, held_at, read_held, stored_held};
 ghost use Rattle.mx_rule.specs.Seats.{pass_of};
 ghost use Rattle.mx_rule.specs.declared.views.View.TheVariants.{Pass};
 ghost use Rattle.mx_sdw.specs.CellWords.{value_in};
@@ -31,7 +31,16 @@ impl<E> Play<E, View<E>> for Stores {
 }
 
 impl<E> PassSeat<E> {
+    /// Whether a read or write is held: it was granted, and its cell step is still to come.
+    #[inline(always)]
+    pub fn holds(&self) -> bool
+        ensures { result ≡ is_some (held_at (pass_of self.now.seat.me.0).basis (pass_of self.now.seat.me.0).hold) }
+    {
+        self.cell.is_some()
+    }
+
     /// Reads the cell of the read that was granted, and gives what it holds. Condition: a read is held.
+    #[inline(always)]
     pub fn load_cell(&mut self, shared: &Board<E>) -> CellWord
         requires fits { self.old.seat.table_id ≡ shared.now.table_id }
         requires layout { shared.now.key.layout ≡ self.old.layout }
@@ -52,6 +61,7 @@ impl<E> PassSeat<E> {
 
     /// Stores a value in the cell of the write that was granted, with the process and its floor. Condition: a write is
     /// held.
+    #[inline(always)]
     pub fn store_cell(&mut self, shared: &Board<E>, value: Word)
         requires fits { self.old.seat.table_id ≡ shared.now.table_id }
         requires layout { shared.now.key.layout ≡ self.old.layout }

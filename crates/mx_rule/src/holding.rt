@@ -14,6 +14,7 @@ use mx_core::Asked;
 use mx_sdw::{CellWord, Desc, DescView, DescWord, Op, Word, judge};
 
 /// What a descriptor word says.
+#[inline(always)]
 pub(crate) fn said(found: u64) -> DescView
     requires { IsWordCode found }
     ensures word { word_by result ≡ word_said found }
@@ -26,6 +27,7 @@ pub(crate) fn said(found: u64) -> DescView
 }
 
 /// What a cell word says.
+#[inline(always)]
 pub(crate) fn cell_in(found: u64) -> CellWord
     requires { IsCellCode found }
     ensures { result ≡ found }
@@ -37,6 +39,7 @@ pub(crate) fn cell_in(found: u64) -> CellWord
 }
 
 /// Whether what is asked is granted.
+#[inline(always)]
 fn is_granted(desc: &Desc, asked: &Asked) -> bool
     ensures { MatchBool result ((cell : CellValue) × (judgement desc.now asked.now.op asked.now.ring asked.now.word
         ≡ Ok cell))
@@ -49,6 +52,7 @@ fn is_granted(desc: &Desc, asked: &Asked) -> bool
 }
 
 /// Whether it is a call or a return.
+#[inline(always)]
 fn transfers(asked: &Asked) -> bool
     ensures { result ≡ transfers asked.now.op }
 {
@@ -58,6 +62,7 @@ fn transfers(asked: &Asked) -> bool
     }
 }
 
+#[inline(always)]
 fn word_in(asked: &Asked) -> u16
     ensures { result ≡ asked.now.word }
 {
@@ -65,6 +70,7 @@ fn word_in(asked: &Asked) -> u16
 }
 
 /// The cell of what is asked, where that is granted and waits for its cell step.
+#[inline(always)]
 pub(crate) fn held_cell(desc: &Desc, asked: &Asked) -> Option<u16>
     requires { IsAdmissible desc.now }
     ensures { result ≡ waiting_cell desc.now asked.now }
@@ -80,6 +86,7 @@ pub(crate) fn held_cell(desc: &Desc, asked: &Asked) -> Option<u16>
 }
 
 /// The same on a descriptor that stands since an entry, for a process that was told of so many.
+#[inline(always)]
 fn standing_cell(number: u32, desc: &Desc, floor: u32, asked: &Asked) -> Option<u16>
     requires { IsAdmissible desc.now }
     ensures { result ≡ cell_on (Valid number desc.now) floor asked.now }
@@ -91,6 +98,7 @@ fn standing_cell(number: u32, desc: &Desc, floor: u32, asked: &Asked) -> Option<
 }
 
 /// The same on what a descriptor word says.
+#[inline(always)]
 pub(crate) fn found_cell(view: &DescView, floor: u32, asked: &Asked) -> Option<u16>
     requires { IsCodable (word_by view.now) }
     ensures { result ≡ cell_on (word_by view.now) floor asked.now }

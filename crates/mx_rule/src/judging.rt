@@ -80,6 +80,7 @@ impl<E, J: Asking> Play<E, View<E>> for Recalls<J> {
 impl<E> PassSeat<E> {
     /// Reads the descriptor word of a number, and judges on it: what the word says. A word that is missed is news to the
     /// process. A number that the table has not is unknown since the opening. Condition: the process is ready.
+    #[inline(always)]
     pub fn load_desc(
         &mut self,
         shared: &Board<E>,
@@ -108,6 +109,7 @@ impl<E> PassSeat<E> {
         }
     }
 
+    #[inline(always)]
     fn load_word<J: Asking>(&mut self, shared: &Board<E>, segno: u16, asked: &Asked) -> DescView
         requires fits { self.old.seat.table_id ≡ shared.now.table_id }
         requires layout { shared.now.key.layout ≡ self.old.layout }
@@ -149,6 +151,7 @@ impl<E> PassSeat<E> {
 
     /// Judges on an entry of the memory, and reads the own flag. Condition: the process is ready, and its memory has
     /// this descriptor of the number, since this entry.
+    #[inline(always)]
     pub fn recall(
         &mut self,
         shared: &Board<E>,
@@ -175,6 +178,7 @@ impl<E> PassSeat<E> {
         self.recall_on::<Brand>(shared, segno, number, desc, &asked);
     }
 
+    #[inline(always)]
     fn recall_on<J: Asking>(
         &mut self,
         shared: &Board<E>,

@@ -38,6 +38,7 @@ impl Layout {
     }
 
     /// The flag of a process.
+    #[inline(always)]
     pub fn flag(&self, process: u8) -> usize
         ensures { result ≡ number_in self.now (Flag process) }
     {
@@ -52,6 +53,7 @@ impl Layout {
     }
 
     /// The descriptor word of a number of a process.
+    #[inline(always)]
     pub fn descriptor(&self, process: u8, segno: u16) -> usize
         requires { 1 ≤ process }
         ensures { result ≡ number_in self.now (DescriptorAt process segno) }
@@ -61,6 +63,7 @@ impl Layout {
     }
 
     /// The word of a cell.
+    #[inline(always)]
     pub fn cell(&self, cell: u16) -> usize
         ensures { result ≡ number_in self.now (CellAt cell) }
     {

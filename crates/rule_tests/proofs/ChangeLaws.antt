@@ -14,19 +14,24 @@ use Rattle.mx_rule.specs.Appending.{MayAppend, appended_view}
 use Rattle.mx_rule.specs.Dealing.{opening_view, dealing_view}
 use Rattle.mx_rule.specs.Notes.{noting_view, reported_view}
 use Rattle.mx_rule.specs.Shown.{Office, office_of}
-use Rattle.mx_rule.specs.Striking.{MayStrike, struck_view, MaySettle, settled_view}
+use Rattle.mx_rule.specs.Striking.{Changes, MayStrike, struck_view, MaySettle, settled_view}
 use Rattle.mx_rule.specs.declared.views.SuperView.{SuperView}
 use Rattle.mx_rule.specs.declared.views.ReportView.{ReportView}
 use Rattle.mx_desc.specs.Supers.{IsWaiting}
 use Rattle.rule_tests.specs.Turning.{AreTurned}
 use Rattle.rule_tests.specs.Changing.{HasPair, IsAtRest, IsChanging, IsStruck, IsConnected, HasLeft, IsUnsettled, present}
 
-first_is : (c a : Change) (i : ℕ) → slice_get (c ∷ []) i ≡ Some a → (i ≡ 0) × (c ≡ a)
+pub first_is : (c a : Change) (i : ℕ) → slice_get (c ∷ []) i ≡ Some a → (i ≡ 0) × (c ≡ a)
 first_is c a zero e = (refl, cc)
 first_is c a (suc i) e = cc
 
-no_run : (i : ℕ) (a : Run) → slice_get {X = Run} [] i ≡ Some a → ⊥
+pub no_run : (i : ℕ) (a : Run) → slice_get {X = Run} [] i ≡ Some a → ⊥
 no_run i a e = cc
+
+-- the pending entry changes this pair, and no other
+pub record ChangesAlone (x : Office) (p n : ℕ) : Type 0 where
+  pub changed : Changes x p n
+  pub only : (q m : ℕ) → Changes x q m → (q ≡ p) × (m ≡ n)
 
 module _ {E : Type 0} (v : SuperView E) where
   abbrev x : Office
@@ -50,18 +55,17 @@ module _ {E : Type 0} (v : SuperView E) where
         covered = λ page covered. rest.ready page;
       }
 
-  pub appended : (p n who : ℕ) (d : Descriptor) (entry : E) → IsAtRest x → HasPair x p n → present x p n ≢ d
-      → IsChanging (office_of (appended_view who (record { process = p; segno = n; desc = d } ∷ []) [] entry v)) p n
-  appended p n who d entry rest pair other =
-      let low = rest.low in let high = rest.rest in
-      let same : v.answered ≡ v.length = omega arith in
+  -- an entry that changes one pair changes no other, whatever it gives out
+  pub changed_alone : (p n who : ℕ) (d : Descriptor) (given : List Run) (entry : E) → v.answered ≡ v.length
+      → present x p n ≢ d
+      → ChangesAlone (office_of (appended_view who (record { process = p; segno = n; desc = d } ∷ []) given entry v))
+      p n
+  changed_alone p n who d given entry same other =
       let t = x.table v.length in
       let f = put t p (put (t p) n d) in
       let now : put x.table (v.length + 1) f (v.length + 1) ≡ f = put_here x.table (v.length + 1) f in
       let before : put x.table (v.length + 1) f v.answered ≡ t =
       put_else x.table (v.length + 1) f v.answered (λ e. omega arith) ∙ ap x.table same in record {
-        pair = record { low = pair.low; high = pair.high; number = pair.number };
-        pending = omega arith;
         changed = λ e. other (sym (sym (ap (λ (g : ℕ → _). g n) (put_here t p (put (t p) n d))
             ∙ put_here (t p) n d) ∙ sym (ap (λ (g : ℕ → ℕ → _). g p n) now) ∙ e ∙ ap (λ (g : ℕ → ℕ → _). g p n) before));
         only = λ q m change. elim (cases_eq q p) [
@@ -76,6 +80,17 @@ module _ {E : Type 0} (v : SuperView E) where
                 ∙ sym (ap (λ (g : ℕ → ℕ → _). g q m) before)))
           ]
         ];
+      }
+
+  pub appended : (p n who : ℕ) (d : Descriptor) (entry : E) → IsAtRest x → HasPair x p n → present x p n ≢ d
+      → IsChanging (office_of (appended_view who (record { process = p; segno = n; desc = d } ∷ []) [] entry v)) p n
+  appended p n who d entry rest pair other =
+      let low = rest.low in let high = rest.rest in
+      let alone = changed_alone p n who d [] entry (omega arith) other in record {
+        pair = record { low = pair.low; high = pair.high; number = pair.number };
+        pending = omega arith;
+        changed = alone.changed;
+        only = alone.only;
         ready = rest.ready;
       }
 

@@ -1,3 +1,5 @@
 pub mod Changing
+pub mod Passing
 pub mod Referring
 pub mod Turning
+pub mod Reusing

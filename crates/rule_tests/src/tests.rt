@@ -13,9 +13,15 @@ mod cams;
 mod changing;
 mod greatest;
 mod memories;
+mod pages;
+mod passing;
 mod referring;
+mod reusing;
 mod revocation;
+mod revoking;
+mod supervising;
 mod turning;
+mod working;
 
 use mx_core::{Change, Changes};
 use mx_list::Sequence;

@@ -1,21 +1,23 @@
 //! A process judges through its cam on what it remembers while the word is struck, misses once it has left, and is
 //! denied once the word settled and the process was told.
 
-ghost use Rattle.std.specs.Prelude.{◌≡◌, ◌≢◌, ◌≤◌, ◌<◌, [], ◌∷◌, MatchOption};
-ghost use Rattle.mx_core.specs.declared.words.Stage.TheVariants.{Outside, Ready};
-ghost use Rattle.mx_desc.specs.Openings.{AreFreshPasses, IsOpening};
+ghost use Rattle.std.specs.Prelude.{◌≡◌, ◌≢◌, ◌≤◌, ◌<◌, [], ◌∷◌};
+ghost use Rattle.mx_core.specs.declared.words.Stage.TheVariants.{Outside};
+ghost use Rattle.mx_desc.specs.Openings.{IsOpening};
 ghost use Rattle.mx_desc.specs.Slots.{IsPair};
 ghost use Rattle.mx_rule.specs.Openings.{ArePlaced};
 ghost use Rattle.mx_rule.specs.Seats.{super_of};
 ghost use Rattle.mx_rule.specs.Shown.{office_of};
 ghost use Rattle.mx_sdw.specs.Admissible.{IsAdmissible};
-ghost use Rattle.rule_tests.specs.Changing.{HasLeft, HasPair, IsAtRest, IsChanging, IsConnected, IsStruck, IsUnsettled, present};
+ghost use Rattle.rule_tests.specs.Changing.{HasPair, IsAtRest, present};
 
+use super::passing::{came, leave, opened_passes, take_last};
 use super::referring::Seen;
+use super::supervising::{answer, append, note, settle, strike, tell};
 use super::{data, one, opened, ring, word};
 use mx_cam::Cam;
 use mx_core::{Changes, Outcome, Runs};
-use mx_desc::{Naming, Pass, Passes, Referred, Super, seats};
+use mx_desc::{Naming, Pass, Super, seats};
 use mx_rule::{Board, SuperSeat, Words, open};
 use mx_sdw::{Denial, Desc, Op, Ring, Word};
 use std::alloc::{AllocError, Global};
@@ -23,119 +25,6 @@ use std::marker::Brand;
 use std::sync::Wait;
 use std::sync::ledger::Blank;
 use std::test::Fail;
-
-fn came(referred: &Referred) -> Seen {
-    match referred {
-        Referred::Seen(element) => Seen::At(element.point, element.outcome),
-        Referred::Missing { by } => Seen::Missed(*by),
-    }
-}
-
-// An entry of process 1 that gives one pair another descriptor.
-fn append<B: Naming>(
-    shared: &Board<u32>,
-    chief: &mut Super<u32, B>,
-    changes: &Changes,
-    none: &Runs,
-    process: u8,
-    segno: u16,
-    desc: &Desc,
-)
-    requires place { shared.now.table_id ≡ B.table }
-    requires layout { shared.now.key.layout ≡ B.layout }
-    requires rest { IsAtRest (office_of chief.old) }
-    requires pair { HasPair (office_of chief.old) process segno }
-    requires room { (office_of chief.old).length < 262143 }
-    requires one { changes.now ≡ (record { process = process; segno = segno; desc = desc.now }) ∷ [] }
-    requires none { none.now ≡ [] }
-    requires admissible { IsAdmissible desc.now }
-    requires other { present (office_of chief.old) process segno ≢ desc.now }
-    ensures changing { IsChanging (office_of chief.new) process segno }
-{
-    chief.append(shared, 1, changes, none, &0);
-}
-
-fn strike<B: Naming>(shared: &Board<u32>, chief: &mut Super<u32, B>, process: u8, segno: u16)
-    requires place { shared.now.table_id ≡ B.table }
-    requires layout { shared.now.key.layout ≡ B.layout }
-    requires changing { IsChanging (office_of chief.old) process segno }
-    ensures struck { IsStruck (office_of chief.new) process segno }
-{
-    chief.strike(shared, process, segno);
-}
-
-// The process is told, and found to have left.
-fn tell<R: Wait, B: Naming>(
-    rt: &R,
-    shared: &Board<u32>,
-    chief: &mut Super<u32, B>,
-    process: u8,
-    segno: u16,
-)
-    requires place { shared.now.table_id ≡ B.table }
-    requires layout { shared.now.key.layout ≡ B.layout }
-    requires struck { IsStruck (office_of chief.old) process segno }
-    ensures left { HasLeft (office_of chief.new) process segno }
-{
-    connect(shared, chief, process, segno);
-    wait(rt, shared, chief, process, segno);
-}
-
-fn connect<B: Naming>(shared: &Board<u32>, chief: &mut Super<u32, B>, process: u8, segno: u16)
-    requires place { shared.now.table_id ≡ B.table }
-    requires layout { shared.now.key.layout ≡ B.layout }
-    requires struck { IsStruck (office_of chief.old) process segno }
-    ensures connected { IsConnected (office_of chief.new) process segno }
-{
-    chief.connect(shared, process);
-}
-
-fn wait<R: Wait, B: Naming>(
-    rt: &R,
-    shared: &Board<u32>,
-    chief: &mut Super<u32, B>,
-    process: u8,
-    segno: u16,
-)
-    requires place { shared.now.table_id ≡ B.table }
-    requires layout { shared.now.key.layout ≡ B.layout }
-    requires connected { IsConnected (office_of chief.old) process segno }
-    ensures left { HasLeft (office_of chief.new) process segno }
-{
-    chief.acknowledge(rt, shared, process);
-}
-
-fn answer<B: Naming>(shared: &Board<u32>, chief: &mut Super<u32, B>, process: u8, segno: u16)
-    requires place { shared.now.table_id ≡ B.table }
-    requires layout { shared.now.key.layout ≡ B.layout }
-    requires left { HasLeft (office_of chief.old) process segno }
-    ensures unsettled { IsUnsettled (office_of chief.new) process segno }
-{
-    chief.answer(shared);
-}
-
-// The word is settled, and the process told of that.
-fn settle<B: Naming>(shared: &Board<u32>, chief: &mut Super<u32, B>, process: u8, segno: u16)
-    requires place { shared.now.table_id ≡ B.table }
-    requires layout { shared.now.key.layout ≡ B.layout }
-    requires pair { IsPair B.layout process segno }
-    requires unsettled { IsUnsettled (office_of chief.old) process segno }
-    ensures rest { IsAtRest (office_of chief.new) }
-{
-    chief.settle(shared, process, segno);
-}
-
-fn note<B: Naming>(shared: &Board<u32>, chief: &mut Super<u32, B>, pass: &mut Pass<u32, B>)
-    requires place { shared.now.table_id ≡ B.table }
-    requires layout { shared.now.key.layout ≡ B.layout }
-    requires rest { IsAtRest (office_of chief.old) }
-    ensures stage { pass.new.view.stage ≡ pass.old.view.stage }
-    ensures memory { pass.new.view.memory ≡ pass.old.view.memory }
-    ensures spare { pass.new.spare ≡ pass.old.spare }
-{
-    let note = chief.split(shared);
-    pass.join(shared, note);
-}
 
 // What came of a write through the cam while the word was struck, of a read after the entry was answered, and of a write
 // after the process was told.
@@ -184,26 +73,6 @@ fn remembered<R: Wait, B: Naming>(
     (came(&recalled), came(&missed), came(&after))
 }
 
-fn leave<B: Naming>(pass: &mut Pass<u32, B>, shared: &Board<u32>)
-    requires place { shared.now.table_id ≡ B.table }
-    requires layout { shared.now.key.layout ≡ B.layout }
-    requires ready { pass.old.view.stage ≡ Ready }
-    ensures outside { pass.new.view.stage ≡ Outside }
-    ensures memory { pass.new.view.memory ≡ pass.old.view.memory }
-    ensures spare { pass.new.spare ≡ pass.old.spare }
-{
-    pass.leave(shared);
-}
-
-// The pass of the last process.
-fn last<B: Naming>(passes: Passes<u32, B>) -> Option<Pass<u32, B>>
-    requires { AreFreshPasses B.start 1 passes }
-    ensures { MatchOption result (Unit {0}) (λ pass. (pass.view.stage ≡ Outside) × (pass.view.memory ≡ [])) }
-{
-    let mut passes = passes.into_items();
-    passes.pop()
-}
-
 // In a run that `B` names. `None` where there is no process.
 fn run<R: Wait, B: Naming>(
     rt: &R,
@@ -239,7 +108,8 @@ fn run<R: Wait, B: Naming>(
 {
     let (_book, share) = blank.open::<B>();
     let (mut chief, passes) = seats(alloc, shared, chief, base, share)?;
-    let Some(mut pass) = last(passes) else {
+    let mut passes = opened_passes(passes);
+    let Some(mut pass) = take_last(&mut passes) else {
         return Ok(None);
     };
     pass.reserve(4)?;

@@ -1,7 +1,7 @@
 use Rattle.std.proofs.Common.{sym, subst}
 use Rattle.mx_desc.specs.Openings.{AreFreshPasses}
-use Rattle.rule_tests.proofs.CamLaws.{popped_last}
-use Rattle.rule_tests.proofs.tests.cams.last.Goals as goal
+use Rattle.one_reference.proofs.Lasts.{popped_last}
+use Rattle.one_reference.proofs.referring.last.Goals as goal
 
 pub returns : goal.returns
 returns g c = popped_last g.B.Naming.start c.into_items-passes.result.items c.pop.new.self.items c.pop.result

@@ -1,0 +1,9 @@
+use Rattle.std.proofs.Common.{sym, subst}
+use Rattle.mx_rule.specs.Openings.{ArePlaced}
+use Rattle.mx_rule.specs.declared.layout.Layout.{Layout}
+use Rattle.rule_tests.proofs.tests.revoking.a_revocation_is_kept_in_both_traces.Goals as goal
+
+pub run-requires-clause-placed : goal.run-requires-clause-placed
+run-requires-clause-placed g c =
+    subst (λ (y : Layout). ArePlaced y c.in_ok-key.key.base) (sym (λ i. (c.in_ok-words.ensures.key i).layout))
+    c.in_ok-key.ensures.may.each
