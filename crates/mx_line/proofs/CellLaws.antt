@@ -3,7 +3,7 @@ use Rattle.std.proofs.Common.{◌≡◌, ◌≢◌, ℕ, zero, suc, ◌<◌, ◌
 use Rattle.std.proofs.lemmas.Bool.{eqb-true}
 use Rattle.std.specs.List.{slice_set, slice_index_or}
 use Rattle.mx_reads.specs.Deeds.{CellUse}
-use Rattle.mx_ties.specs.Uses.{use_of}
+use Rattle.mx_transcript.specs.References.{use_of}
 use Rattle.mx_line.specs.Cells.{contents_at, empty_contents, held, held_when, held_in}
 use Rattle.mx_line.specs.declared.memory.Contents.{Contents}
 

@@ -2,14 +2,14 @@
 use Rattle.std.proofs.Common.{◌≡◌, ℕ, zero, suc, ◌+◌, ◌<◌, ◌≤◌, nat_lt, Bool, true, false, if◌then◌else◌, List, [], ◌∷◌, ◌++◌, length, Option, Some, None, refl, sym, ◌∙◌, ap, subst, arith, append-nil, length-append}
 use Rattle.std.proofs.lemmas.Bool.Decides.{nat_tests}
 use Rattle.std.specs.List.{slice_get}
-use Rattle.mx_call.specs.Registers.{Registers}
-use Rattle.mx_legal.proofs.DueLaws.{section_word_law}
-use Rattle.mx_legal.specs.Asking.{next, answered, first_due, result_of}
-use Rattle.mx_legal.specs.Courses.{Answer, Judged}
-use Rattle.mx_legal.specs.Filling.{fill, link_words, section_words, snapped, writes_for, links_of, due}
-use Rattle.mx_legal.specs.Next.{Reference, Fills, Ends}
-use Rattle.mx_legal.specs.declared.transcripts.Result2.{Result2}
-use Rattle.mx_legal.specs.declared.transcripts.Result2.TheVariants as result
+use Rattle.mx_upcall.specs.Control.{Control}
+use Rattle.mx_transcript.proofs.DueLaws.{section_word_law}
+use Rattle.mx_transcript.specs.Asking.{next, answered, first_due, result_of}
+use Rattle.mx_transcript.specs.Courses.{Answer, Judged}
+use Rattle.mx_transcript.specs.Filling.{fill, link_words, section_words, snapped, writes_for, links_of, due}
+use Rattle.mx_transcript.specs.Next.{Reference, Fills, Ends}
+use Rattle.mx_transcript.specs.declared.transcripts.Result2.{Result2}
+use Rattle.mx_transcript.specs.declared.transcripts.Result2.TheVariants as result
 use Rattle.mx_ptr.specs.Pointers.{link_word}
 use Rattle.mx_request.specs.Sections.{section_in}
 use Rattle.mx_request.specs.declared.replies.Reply.{Reply}
@@ -61,7 +61,7 @@ more_links (j ∷ rest) words next links count below =
     let bound : j.desc.bound ≡ words = links j rest refl in omega (arith, bound, count, below)
 
 -- the next write is due
-pub due_fill : (g : Registers) (l : Line) (entry : journaled.Entry) (filled : List Judged) (it : Fill) → IsFilling g l entry filled it
+pub due_fill : (g : Control) (l : Line) (entry : journaled.Entry) (filled : List Judged) (it : Fill) → IsFilling g l entry filled it
     → due entry filled ≡ Some (write_of it)
 due_fill g l entry filled (Words words) is =
     let stored = is.0 in
@@ -75,7 +75,7 @@ due_fill g l entry filled (Pointer snap) is =
     ∙ ap (slice_get (section_words (section_in entry.reply) (links_of filled) ++ fill snap.segno snap.word snap.value ∷ [])) (sym all)
     ∙ behind_all (section_words (section_in entry.reply) (links_of filled)) (fill snap.segno snap.word snap.value)
 
-pub asks_fill : (g : Registers) (l : Line) (entry : journaled.Entry) (filled : List Judged) (it : Fill) → IsFilling g l entry filled it
+pub asks_fill : (g : Control) (l : Line) (entry : journaled.Entry) (filled : List Judged) (it : Fill) → IsFilling g l entry filled it
     → next g l (Answer entry filled) ≡ Fills (write_of it)
 asks_fill g l entry filled it is =
     ap (λ (d : Option Reference). first_due d (answered g l entry.request entry.reply)) (due_fill g l entry filled it is)
@@ -110,7 +110,7 @@ all_stored entry filled words j stored bound last later =
     ∙ words_count words.section 0 (links_of ((filled ++ j ∷ []) ++ later)) ∙ links ∙ sym last ∙ sym count
 
 -- what the process keeps after a write
-abbrev pub IsAfter : Registers → Line → journaled.Entry → List Judged → Filled → Type 0
+abbrev pub IsAfter : Control → Line → journaled.Entry → List Judged → Filled → Type 0
 IsAfter g l entry filled (More it) = IsFilling g l entry filled it
 IsAfter g l entry filled Anew = IsAnew g l entry filled
 IsAfter g l entry filled Done = next g l (Answer entry filled) ≡ Ends result.Done g
@@ -132,7 +132,7 @@ all_is : (entry : journaled.Entry) (filled : List Judged) → AreAll entry fille
 all_is entry filled all =
     ap (λ (f : List Judged). length (section_words (section_in entry.reply) (links_of f))) (sym (append-nil filled)) ∙ all []
 
-behind_words : (g : Registers) (l : Line) (entry : journaled.Entry) (filled : List Judged) (snap : Option Snap) → AreAll entry filled
+behind_words : (g : Control) (l : Line) (entry : journaled.Entry) (filled : List Judged) (snap : Option Snap) → AreAll entry filled
     → Follows g l entry snap → IsAfter g l entry filled (behind snap)
 behind_words g l entry filled (Some snap) all follows = (all, follows)
 behind_words g l entry filled None all follows =
@@ -141,7 +141,7 @@ behind_words g l entry filled None all follows =
     (none_due entry filled [] follows.0 (omega (arith, full)))
     ∙ follows.2
 
-pub after_write : (g : Registers) (l : Line) (entry : journaled.Entry) (filled : List Judged) (it : Fill) (j : Judged)
+pub after_write : (g : Control) (l : Line) (entry : journaled.Entry) (filled : List Judged) (it : Fill) (j : Judged)
     → IsFilling g l entry filled it → Bounds it j → IsAfter g l entry (filled ++ j ∷ []) (after_fill it)
 after_write g l entry filled (Words words) j is bound = by_test (nat_lt (words.next + 1) words.words) refl
   where
@@ -232,7 +232,7 @@ section_done reply.Nobody n e = refl
 section_done reply.Waiting n e = refl
 
 -- what follows the first write
-follows_first : (g : Registers) (l : Line) (entry : journaled.Entry) (snap : Option Snap)
+follows_first : (g : Control) (l : Line) (entry : journaled.Entry) (snap : Option Snap)
     → IsAnsweredBy g l entry.ring entry.request entry.reply → (l ≡ line.Ask ask.Logout → ⊥)
     → snap_writes snap ≡ snapped entry.request entry.ring entry.reply → (n : ℕ) → section_in entry.reply ≡ Some n
     → Follows g l entry snap
@@ -242,7 +242,7 @@ follows_first g l entry (Some snap) by stays writes n section =
     let anew = by.anew (fill snap.segno snap.word snap.value) (sym writes) in (sym writes, anew.0, anew.1)
 
 -- the first write is due after the entry
-pub first_filling : (s : Plain) (p : ℕ) (g : Registers) (l : Line) (entry : journaled.Entry) (it : Fill)
+pub first_filling : (s : Plain) (p : ℕ) (g : Control) (l : Line) (entry : journaled.Entry) (it : Fill)
     → AsksToFill s p entry.ring entry.request entry.reply (Some it) → IsAnsweredBy g l entry.ring entry.request entry.reply
     → (l ≡ line.Ask ask.Logout → ⊥) → IsShort it
     → IsFilling g l entry [] it
@@ -280,7 +280,7 @@ first_filling s p g l entry it asks by stays short = by_parts (section_in entry.
         )
 
 -- a `logout` stores nothing
-pub fills_no_logout : (g : Registers) (l : Line) (entry : journaled.Entry) (filled : List Judged) (it : Fill) → IsFilling g l entry filled it
+pub fills_no_logout : (g : Control) (l : Line) (entry : journaled.Entry) (filled : List Judged) (it : Fill) → IsFilling g l entry filled it
     → l ≡ line.Ask ask.Logout → ⊥
 fills_no_logout g l entry filled (Words words) is out = by_snap words.snap is.1
   where

@@ -5,9 +5,9 @@ use Rattle.std.proofs.lemmas.Bool.Decides.{nat_tests}
 use Rattle.mx_core.specs.declared.elements.Element.{Element}
 use Rattle.mx_core.specs.declared.elements.Outcome.{Outcome}
 use Rattle.mx_core.specs.declared.elements.Outcome.TheVariants.{Read, Written, Entered, Denied}
-use Rattle.mx_legal.specs.Elements.{IsJudged, Gives, Agrees}
-use Rattle.mx_legal.specs.Filling.{fill, snapped}
-use Rattle.mx_legal.specs.Next.{Reference}
+use Rattle.mx_transcript.specs.Elements.{IsJudged, Gives, Agrees}
+use Rattle.mx_transcript.specs.Filling.{fill, snapped}
+use Rattle.mx_transcript.specs.Next.{Reference}
 use Rattle.mx_ptr.specs.Pointers.{pointer_word}
 use Rattle.mx_request.specs.Sections.{section_in}
 use Rattle.mx_request.specs.declared.replies.Reply.{Reply}
@@ -34,7 +34,7 @@ use Rattle.mx_line.specs.declared.fills.Fill.TheVariants.{Words, Pointer}
 use Rattle.mx_line.specs.declared.fills.Filled.{Filled}
 use Rattle.mx_line.specs.declared.fills.Filled.TheVariants.{More, Anew, Done}
 use Rattle.mx_line.specs.declared.fills.Snap.{Snap}
-use Rattle.mx_legal.specs.Courses.{Judged}
+use Rattle.mx_transcript.specs.Courses.{Judged}
 
 -- what asks for two things of which the second is not so
 neither_way : (b : Bool) → b && false ≡ false

@@ -1,23 +1,30 @@
 -- One process of a list is changed in its place.
 use Rattle.std.proofs.Common.{◌≡◌, ◌⊎◌, inl, inr, ℕ, zero, suc, ◌<◌, ◌+◌, ◌^◌, Bool, IsTrue, IsFalse, List, [], ◌∷◌, ◌++◌, length, Option, Some, refl, sym, ◌∙◌, ap, subst, arith, length-append}
 use Rattle.std.specs.List.{slice_get, slice_set, slice_index_or}
-use Rattle.mx_call.specs.Registers.{Registers, ArePackable}
-use Rattle.mx_legal.specs.Denials.{last_denial}
-use Rattle.mx_legal.specs.Openings.{opening_registers}
-use Rattle.mx_legal.specs.Recorded.{Recorded, IsStill as IsStillRecorded}
-use Rattle.mx_legal.specs.Scripts.{first_line}
-use Rattle.mx_legal.specs.declared.transcripts.Event2.{Event2}
-use Rattle.mx_legal.specs.declared.transcripts.Result2.{Result2}
+use Rattle.mx_call.specs.Registers.{Registers}
+use Rattle.mx_upcall.specs.Changes.{Fits, keeping, changed}
+use Rattle.mx_upcall.specs.Control.{Control}
+use Rattle.mx_upcall.specs.Soundness.{IsPackableControl}
+use Rattle.mx_upcall.specs.declared.controls.Change.{Change}
+use Rattle.mx_upcall.specs.declared.controls.GateStep.{GateStep}
+use Rattle.mx_transcript.specs.Denials.{last_denial}
+use Rattle.mx_transcript.specs.Openings.{opening_control}
+use Rattle.mx_transcript.specs.Recorded.{Recorded, IsStill as IsStillRecorded}
+use Rattle.mx_transcript.specs.Scripts.{first_line}
+use Rattle.mx_transcript.specs.declared.transcripts.Event2.{Event2}
+use Rattle.mx_transcript.specs.declared.transcripts.Result2.{Result2}
 use Rattle.mx_script.specs.Sessions.{Outline}
 use Rattle.mx_script.specs.declared.lines.Line.{Line}
 use Rattle.mx_script.specs.declared.lines.Operand.{Operand}
 use Rattle.mx_sdw.specs.declared.denials.Denial.{Denial}
 use Rattle.mx_line.proofs.SeatLaws.{set_here}
-use Rattle.mx_line.specs.Operands.{IsGoodProgress, AsksFor, IsGoodAsked, IsLed}
-use Rattle.mx_line.specs.Processes.{IsFresh, AreFreshUpTo, IsStill, HasRoom, IsCountable, IsGoodAt, IsLedAt, IsFed, HasAsked, HasFed, HasEnded, HasGoneOn, HasProgress, ReadsOperand, StoresNothing, HasFill, HasRegisters, HasLines, HasNumber, HasLastDenial, fill_of}
+use Rattle.mx_line.specs.Operands.{walk_at, IsGoodProgress, AsksFor, IsGoodAsked, IsLed}
+use Rattle.mx_line.specs.Processes.{IsFresh, AreFreshUpTo, IsStill, HasRoom, IsCountable, IsGoodAt, IsLedAt, IsFed, Feeds, Goes, HasAsked, HasFed, HasEnded, HasGoneOn, HasProgress, ReadsOperand, StoresNothing, HasFill, HasRegisters, HasControl, HasGateRoom, HasLines, HasNumber, HasLastDenial, fill_of}
 use Rattle.mx_line.specs.declared.steps.Stepped.{Stepped}
 use Rattle.mx_line.specs.declared.fills.Fill.{Fill}
 use Rattle.mx_line.specs.declared.operands.Asked.{Asked}
+use Rattle.mx_effring.specs.Chains as chains
+use Rattle.mx_line.specs.declared.operands.Onward.{Onward}
 use Rattle.mx_line.specs.declared.operands.Place.{Place}
 use Rattle.mx_line.specs.declared.operands.Progress.{Progress}
 use Rattle.mx_line.specs.declared.operands.Progress.TheVariants.{Before, Waiting, Filling}
@@ -29,7 +36,7 @@ get_at (x ∷ xs) zero d h = refl
 get_at (x ∷ xs) (suc i) d h = get_at xs i d (omega (arith, h))
 
 abbrev pub with_recording : Process → Recorded → Process
-with_recording p r = record { first = p.first; registers = p.registers; recording = r; progress = p.progress }
+with_recording p r = record { first = p.first; control = p.control; recording = r; progress = p.progress }
 
 pub reserved_still : (processes : List Process) (i : ℕ) (q : Process) (r : Recorded) → i < length processes
     → IsStillRecorded (slice_index_or processes i q).recording r → IsStill processes i (slice_set processes i (with_recording (slice_index_or processes i q) r))
@@ -38,7 +45,7 @@ reserved_still processes i q r h s = record {
   at = get_at processes i q h;
   after = with_recording (slice_index_or processes i q) r;
   first = refl;
-  registers = refl;
+  control = refl;
   steps = s.steps;
   events = s.events;
   progress = refl;
@@ -72,12 +79,13 @@ pub number_of : (processes : List Process) (i : ℕ) (q : Process) → i < lengt
 number_of processes i q h c =
     subst (λ (p : Process). p.first + length p.recording.steps < 2 ^ 32) (same_at processes i q c.process h c.at) c.number
 
-pub has_ended : (processes : List Process) (i : ℕ) (q p : Process) (events : List Event2) (ends : Result2) (registers : Registers)
-    → i < length processes → p.first ≡ (slice_index_or processes i q).first → p.registers ≡ registers
+pub has_ended : (processes : List Process) (i : ℕ) (q p : Process) (events : List Event2) (ends : Result2) (change : Change)
+    → i < length processes → p.first ≡ (slice_index_or processes i q).first
+    → p.control ≡ changed (slice_index_or processes i q).control change
     → p.recording.steps ≡ (slice_index_or processes i q).recording.steps
     ++ ((slice_index_or processes i q).first + length (slice_index_or processes i q).recording.steps, (slice_index_or processes i q).recording.events ++ events, ends) ∷ []
-    → p.recording.events ≡ [] → p.progress ≡ Before → HasEnded processes i events ends registers (slice_set processes i p)
-has_ended processes i q p events ends registers h first done steps idle fresh = record {
+    → p.recording.events ≡ [] → p.progress ≡ Before → HasEnded processes i events ends change (slice_set processes i p)
+has_ended processes i q p events ends change h first done steps idle fresh = record {
   before = slice_index_or processes i q;
   at = get_at processes i q h;
   after = p;
@@ -89,18 +97,41 @@ has_ended processes i q p events ends registers h first done steps idle fresh = 
   set = refl;
 }
 
+pub ended_keeping : (processes new : List Process) (i : ℕ) (events : List Event2) (ends : Result2) (change : Change) (registers : Registers)
+    → change ≡ keeping registers → HasEnded processes i events ends change new → HasEnded processes i events ends (keeping registers) new
+ended_keeping processes new i events ends change registers e is = subst (λ (c : Change). HasEnded processes i events ends c new) e is
+
+-- it was fed, where this was taken from it
+pub fed_so : (before after : Process) (middle : Control) (l : Line) (o : Operand) (walk : chains.Operand) (value r1 : ℕ) (event : Event2)
+    (onward : Onward) (stepped : Stepped) → walk_at before.control.registers o before.progress ≡ Some walk → middle ≡ before.control
+    → Feeds middle l walk value r1 onward → Goes before event onward after stepped → IsFed before l o value r1 event after stepped
+fed_so before after middle l o walk value r1 event onward stepped walks same feeds goes = record {
+  walk = walk;
+  walks = walks;
+  onward = onward;
+  feeds = subst (λ (g : Control). Feeds g l walk value r1 onward) same feeds;
+  goes = goes;
+}
+
+pub steps_alike : (first first' : ℕ) (recorded recorded' : Recorded) (event : Event2) (ends : Result2) → first ≡ first' → recorded ≡ recorded'
+    → recorded.steps ++ (first + length recorded.steps, recorded.events ++ event ∷ [], ends) ∷ []
+    ≡ recorded'.steps ++ (first' + length recorded'.steps, recorded'.events ++ event ∷ [], ends) ∷ []
+steps_alike first first' recorded recorded' event ends e f =
+    ap (λ n. recorded.steps ++ (n + length recorded.steps, recorded.events ++ event ∷ [], ends) ∷ []) e
+    ∙ ap (λ (r : Recorded). r.steps ++ (first' + length r.steps, r.events ++ event ∷ [], ends) ∷ []) f
+
 -- it has gone on
 pub has_gone_on : (processes : List Process) (i : ℕ) (q p : Process) (event : Event2) (progress : Progress) → i < length processes
-    → p.first ≡ (slice_index_or processes i q).first → p.registers ≡ (slice_index_or processes i q).registers
+    → p.first ≡ (slice_index_or processes i q).first → p.control ≡ (slice_index_or processes i q).control
     → p.recording.steps ≡ (slice_index_or processes i q).recording.steps
     → p.recording.events ≡ (slice_index_or processes i q).recording.events ++ event ∷ [] → p.progress ≡ progress
     → HasGoneOn processes i (event ∷ []) progress (slice_set processes i p)
-has_gone_on processes i q p event progress h first registers steps more come = record {
+has_gone_on processes i q p event progress h first control steps more come = record {
   before = slice_index_or processes i q;
   at = get_at processes i q h;
   after = p;
   first = first;
-  registers = registers;
+  control = control;
   steps = steps;
   more = more;
   progress_is = come;
@@ -129,8 +160,23 @@ pub reads_of : (processes : List Process) (i : ℕ) (q : Process) → i < length
     → (slice_index_or processes i q).progress ≡ Waiting → ⊥
 reads_of processes i q h reads = reads (slice_index_or processes i q) (get_at processes i q h)
 
-pub registers_of : (processes : List Process) (i : ℕ) (q : Process) → i < length processes → HasRegisters processes i (slice_index_or processes i q).registers
-registers_of processes i q h = record { process = slice_index_or processes i q; at = get_at processes i q h; registers = refl }
+pub registers_of : (processes : List Process) (i : ℕ) (g : Registers) (q : Process) → i < length processes
+    → g ≡ (slice_index_or processes i q).control.registers → HasRegisters processes i g
+registers_of processes i g q h e = record { process = slice_index_or processes i q; at = get_at processes i q h; registers = e }
+
+pub control_of : (processes : List Process) (i : ℕ) (q : Process) → i < length processes → HasControl processes i (slice_index_or processes i q).control
+control_of processes i q h = record { process = slice_index_or processes i q; at = get_at processes i q h; control = refl }
+
+pub fits_of : (processes : List Process) (i : ℕ) (q : Process) (step : GateStep) → i < length processes → HasGateRoom processes i step
+    → Fits (slice_index_or processes i q).control.gates step
+fits_of processes i q step h room =
+    subst (λ (p : Process). Fits p.control.gates step) (same_at processes i q room.process h room.at) room.fits
+
+-- gates that stay as they are always fit
+pub fits_still : (processes : List Process) (i : ℕ) (change : Change) (registers : Registers) → HasRoom processes i → change ≡ keeping registers
+    → HasGateRoom processes i change.gates
+fits_still processes i change registers room e =
+    record { process = room.process; at = room.at; fits = subst (λ (c : Change). Fits room.process.control.gates c.gates) (sym e) tt }
 
 pub lines_of_one : (processes : List Process) (i n : ℕ) (q : Process) → i < length processes
     → n ≡ length (slice_index_or processes i q).recording.steps → HasLines processes i n
@@ -142,22 +188,22 @@ number_of_one processes i n q h e = record { process = slice_index_or processes 
 
 -- what is good, asked and led of the one that is read
 pub good_of : (processes : List Process) (i : ℕ) (q : Process) → i < length processes → IsGoodAt processes i
-    → ArePackable (slice_index_or processes i q).registers
-    × IsGoodProgress (slice_index_or processes i q).registers (slice_index_or processes i q).progress
+    → IsPackableControl (slice_index_or processes i q).control
+    × IsGoodProgress (slice_index_or processes i q).control.registers (slice_index_or processes i q).progress
 good_of processes i q h good =
     let same = same_at processes i q good.process h good.at in (
-      subst (λ (p : Process). ArePackable p.registers) same good.packable,
-      subst (λ (p : Process). IsGoodProgress p.registers p.progress) same good.progress,
+      subst (λ (p : Process). IsPackableControl p.control) same good.packable,
+      subst (λ (p : Process). IsGoodProgress p.control.registers p.progress) same good.progress,
     )
 
 pub led_of : (processes : List Process) (i : ℕ) (q : Process) (o : Operand) (place : Place) → i < length processes → IsLedAt processes i o place
-    → IsLed (slice_index_or processes i q).registers o (slice_index_or processes i q).progress place
+    → IsLed (slice_index_or processes i q).control.registers o (slice_index_or processes i q).progress place
 led_of processes i q o place h led =
-    subst (λ (p : Process). IsLed p.registers o p.progress place) (same_at processes i q led.process h led.at) led.led
+    subst (λ (p : Process). IsLed p.control.registers o p.progress place) (same_at processes i q led.process h led.at) led.led
 
 pub has_asked : (processes : List Process) (i : ℕ) (q : Process) (o : Operand) (asked : Asked) → i < length processes
-    → AsksFor (slice_index_or processes i q).registers o (slice_index_or processes i q).progress asked
-    → IsGoodAsked (slice_index_or processes i q).registers asked → HasAsked processes i o asked
+    → AsksFor (slice_index_or processes i q).control.registers o (slice_index_or processes i q).progress asked
+    → IsGoodAsked (slice_index_or processes i q).control.registers asked → HasAsked processes i o asked
 has_asked processes i q o asked h asks good = record {
   process = slice_index_or processes i q;
   at = get_at processes i q h;
@@ -188,9 +234,9 @@ place_in (q ∷ processes) p found (suc i) e = elim (place_in processes p found 
 ]
 
 pub fresh_more : (x : Outline) (count : ℕ) (processes processes' : List Process) (p : Process) → AreFreshUpTo x count processes
-    → p.first ≡ first_line x (count + 1) → p.registers ≡ opening_registers 1 → ArePackable p.registers → p.recording.steps ≡ []
+    → p.first ≡ first_line x (count + 1) → p.control ≡ opening_control x 1 → IsPackableControl p.control → p.recording.steps ≡ []
     → p.recording.events ≡ [] → p.progress ≡ Before → processes' ≡ processes ++ p ∷ [] → AreFreshUpTo x (count + 1) processes'
-fresh_more x count processes processes' p f first registers packable steps events progress more = record {
+fresh_more x count processes processes' p f first control packable steps events progress more = record {
   count = ap length more ∙ length-append processes (p ∷ []) ∙ ap (λ n. n + 1) f.count;
   each = λ i found e. elim (place_in processes p found i (ap (λ (l : List Process). slice_get l i) (sym more) ∙ e)) [
     | inl old ↦ f.each i found old
@@ -206,9 +252,9 @@ fresh_more x count processes processes' p f first registers packable steps event
       good = record {
         first = first ∙ ap (first_line x) (next count ∙ ap suc (sym e));
         packable = packable;
-        progress = subst (IsGoodProgress p.registers) (sym progress) tt;
+        progress = subst (IsGoodProgress p.control.registers) (sym progress) tt;
       };
-      registers = registers;
+      control = control;
       steps = steps;
       events = events;
       progress = progress;

@@ -1,20 +1,19 @@
 -- A process that is told how long the journal is has a higher floor, and keeps all that it had.
 use Rattle.std.proofs.Common.{nat_le, Bool, true, ◌≡◌, ℕ, ◌≤◌, List, length, refl, arith}
-use Rattle.mx_call.specs.Registers.{Registers}
-use Rattle.mx_legal.proofs.Extending.{extends_law}
-use Rattle.mx_legal.specs.Courses.{Course}
-use Rattle.mx_legal.specs.Deeds.{Deed, Enters, Stores, Loads, Refers, Misses}
-use Rattle.mx_legal.specs.Legal.{setup_entries}
-use Rattle.mx_legal.specs.Openings.{opening_registers}
-use Rattle.mx_legal.specs.Points.{ArePoints}
-use Rattle.mx_legal.specs.Scripts.{lines_of}
-use Rattle.mx_legal.specs.Standing.{own_setting}
-use Rattle.mx_legal.specs.Transcripts.{Step}
-use Rattle.mx_legal.specs.declared.transcripts.Event2.{Event2}
+use Rattle.mx_upcall.specs.Control.{Control}
+use Rattle.mx_transcript.proofs.Extending.{extends_law}
+use Rattle.mx_transcript.specs.Courses.{Course}
+use Rattle.mx_transcript.specs.Legal.{setup_entries}
+use Rattle.mx_transcript.specs.Openings.{opening_control}
+use Rattle.mx_transcript.specs.Points.{ArePoints}
+use Rattle.mx_transcript.specs.Scripts.{lines_of}
+use Rattle.mx_transcript.specs.Standing.{own_setting}
+use Rattle.mx_transcript.specs.Transcripts.{Step}
+use Rattle.mx_transcript.specs.declared.transcripts.Event2.{Event2}
 use Rattle.mx_script.specs.Sessions.{Outline, limit_of}
 use Rattle.mx_script.specs.declared.lines.Line.{Line}
 use Rattle.mx_state.specs.declared.journal.Entry as journaled
-use Rattle.mx_reads.specs.Deeds.{CellUse}
+use Rattle.mx_reads.specs.Deeds.{CellUse, Deed, Enters, Stores, Loads, Refers, Misses}
 use Rattle.mx_ties.specs.Bench.{IsBench}
 use Rattle.mx_ties.specs.BenchGoing.{IsBenched}
 use Rattle.mx_ties.specs.Closed.{followed}
@@ -58,13 +57,13 @@ going_more x journal start p done floor floor' told l g = record {
 }
 
 pub raised : (x : Outline) (setup : List journaled.Entry) (p : ℕ) (steps : List Step) (number : ℕ) (line : Line) (left : List (ℕ × Line))
-    (now : Registers) (events : List Event2) (course : Course) (v : View) (floor : ℕ) → v.floor ≤ floor
+    (now : Control) (events : List Event2) (course : Course) (v : View) (floor : ℕ) → v.floor ≤ floor
     → IsBenched x setup p steps number line left now events course v
     → IsBenched x setup p steps number line left now events course (record v { floor = floor })
 raised x setup p steps number line left now events course v floor l r = record {
   lines = λ d agrees.
       extends_law (own_setting x (followed setup v.history) v.floor p d) (own_setting x (followed setup v.history) floor p d)
-      (opening_registers p) now (lines_of x p) left steps number line events course (record {
+      (opening_control x p) now (lines_of x p) left steps number line events course (record {
         process = refl;
         entries = λ n entry h. h;
         full = λ full. full_more (limit_of x) v.floor floor l full;

@@ -1,16 +1,15 @@
 -- Helpers: the writes in ring 0 that a reply asks for, as a process at work keeps them: what is stored next, what
 -- follows it, and what of the line's rule this stands for.
 use Rattle.std.specs.Prelude.{◌≡◌, ℕ, ◌+◌, ◌-◌, ◌<◌, ◌≤◌, nat_lt, List, [], ◌∷◌, ◌++◌, length, Option, Some, None, if◌then◌else◌}
-use Rattle.mx_call.specs.Registers.{Registers}
-use Rattle.mx_legal.specs.Asking.{answered, attempts, result_of}
-use Rattle.mx_legal.specs.Courses.{Judged}
-use Rattle.mx_legal.specs.Filling.{fill, section_words, snapped, links_of, due}
-use Rattle.mx_legal.specs.Next.{Reference, Ends}
-use Rattle.mx_legal.specs.declared.transcripts.Result2.TheVariants as result
+use Rattle.mx_upcall.specs.Control.{Control}
+use Rattle.mx_transcript.specs.Asking.{answered, attempts, result_of}
+use Rattle.mx_transcript.specs.Courses.{Judged}
+use Rattle.mx_transcript.specs.Filling.{fill, section_words, snapped, links_of, due}
+use Rattle.mx_transcript.specs.Next.{Reference, Ends}
+use Rattle.mx_transcript.specs.declared.transcripts.Result2.TheVariants as result
 use Rattle.mx_ptr.specs.Pointers.{link_word}
 use Rattle.mx_request.specs.Sections.{section_in}
 use Rattle.mx_request.specs.declared.replies.Reply.{Reply}
-use Rattle.mx_request.specs.declared.replies.Reply.TheVariants as reply
 use Rattle.mx_request.specs.declared.requests.Request.{Request}
 use Rattle.mx_request.specs.declared.requests.Request.TheVariants.{Logout}
 use Rattle.mx_script.specs.declared.lines.Line.{Line}
@@ -73,13 +72,13 @@ pub record AsksToFill (s : Plain) (p ring : ℕ) (request : Request) (given : Re
   pub admissible : (section : ℕ) → section_in given ≡ Some section → IsAdmissible (descriptor s p section)
 
 -- After the reply to a call a line ends, but begins anew where its link was snapped.
-pub record IsAnsweredBy (g : Registers) (l : Line) (ring : ℕ) (request : Request) (reply : Reply) : Type 0 where
+pub record IsAnsweredBy (g : Control) (l : Line) (ring : ℕ) (request : Request) (reply : Reply) : Type 0 where
   pub ends : snapped request ring reply ≡ [] → answered g l request reply ≡ Ends (result_of reply) g
   pub anew : (write : Reference) → snapped request ring reply ≡ write ∷ []
       → IsNoRequest l × (answered g l request reply ≡ attempts g l [])
 
 -- once all is stored a line whose link was snapped begins anew, and another ends, which is no `logout`
-abbrev pub Follows : Registers → Line → journaled.Entry → Option Snap → Type 0
+abbrev pub Follows : Control → Line → journaled.Entry → Option Snap → Type 0
 Follows g l entry None =
     (snapped entry.request entry.ring entry.reply ≡ []) × (l ≡ line.Ask Logout → ⊥)
     × (answered g l entry.request entry.reply ≡ Ends result.Done g)
@@ -100,12 +99,12 @@ AreAll entry filled = (later : List Judged)
     → length (section_words (section_in entry.reply) (links_of (filled ++ later))) ≡ length filled
 
 -- after these writes since the entry this is the next
-abbrev pub IsFilling : Registers → Line → journaled.Entry → List Judged → Fill → Type 0
+abbrev pub IsFilling : Control → Line → journaled.Entry → List Judged → Fill → Type 0
 IsFilling g l entry filled (Words words) = AreStored entry filled words × Follows g l entry words.snap
 IsFilling g l entry filled (Pointer snap) = AreAll entry filled × Follows g l entry (Some snap)
 
 -- after all of them the line begins anew
-pub record IsAnew (g : Registers) (l : Line) (entry : journaled.Entry) (filled : List Judged) : Type 0 where
+pub record IsAnew (g : Control) (l : Line) (entry : journaled.Entry) (filled : List Judged) : Type 0 where
   pub none : due entry filled ≡ None
   pub other : IsNoRequest l
   pub anew : answered g l entry.request entry.reply ≡ attempts g l []

@@ -6,17 +6,20 @@ use Rattle.mx_core.specs.declared.elements.Kind.{Kind}
 use Rattle.mx_core.specs.declared.elements.Kind.TheVariants.{Ind}
 use Rattle.mx_core.specs.declared.elements.Outcome.{Outcome}
 use Rattle.mx_core.specs.declared.elements.Outcome.TheVariants.{Read, Entered, Denied}
-use Rattle.mx_legal.specs.Courses.{Judged}
-use Rattle.mx_legal.specs.Elements.{IsJudged}
-use Rattle.mx_legal.specs.Next.{Reference, Ends}
-use Rattle.mx_legal.specs.Targets.{after_target}
-use Rattle.mx_legal.specs.declared.transcripts.Result2.TheVariants as result
+use Rattle.mx_transcript.specs.Courses.{Judged}
+use Rattle.mx_transcript.specs.Elements.{IsJudged}
+use Rattle.mx_transcript.specs.Next.{Reference, Ends}
+use Rattle.mx_transcript.specs.Targets.{after_target}
+use Rattle.mx_transcript.specs.declared.transcripts.Result2.TheVariants as result
 use Rattle.mx_ptr.specs.Pointers.{PointerParts}
 use Rattle.mx_script.specs.declared.lines.Line.{Line}
 use Rattle.mx_script.specs.declared.lines.Line.TheVariants as lines
 use Rattle.mx_sdw.specs.Descriptors.{Descriptor}
 use Rattle.mx_sdw.specs.declared.denials.Denial.{Denial}
 use Rattle.mx_sdw.specs.declared.operations.Op.TheVariants as op
+use Rattle.mx_upcall.specs.Changes.{Fits, keeping, changed}
+use Rattle.mx_upcall.specs.Control.{Control}
+use Rattle.mx_upcall.specs.declared.controls.Change.{Change}
 use Rattle.mx_line.specs.Access.{IsAccess}
 use Rattle.mx_line.specs.declared.memory.Contents.{Contents}
 use Rattle.mx_line.specs.declared.operands.Place.{Place}
@@ -47,10 +50,10 @@ element kind target point outcome = record {
   outcome = outcome;
 }
 
-abbrev pub moved : Kind → PointerParts → ℕ → Registers → Made
+abbrev pub moved : Kind → PointerParts → ℕ → Change → Made
 moved kind target point after = record {
-  element = element kind target point (Entered after.ring);
-  ends = result.Moved after.ring after.procedure;
+  element = element kind target point (Entered after.registers.ring);
+  ends = result.Moved after.registers.ring after.registers.procedure;
   after = after;
 }
 
@@ -58,7 +61,7 @@ abbrev pub denied : Kind → PointerParts → Registers → ℕ → Denial → M
 denied kind target g point denial = record {
   element = element kind target point (Denied denial);
   ends = result.Denied denial;
-  after = g;
+  after = keeping g;
 }
 
 -- an indirect word
@@ -96,10 +99,11 @@ abbrev pub beside : Made → Descriptor → Judged
 beside m d = record { element = m.element; desc = d }
 
 -- it is the reference that was asked for, judged on the descriptor; it did with the cells what it tells, and its line ends
-pub record IsMade (line : Line) (asked : Reference) (g : Registers) (d : Descriptor) (target : PointerParts) (p point : ℕ)
+pub record IsMade (line : Line) (asked : Reference) (g : Control) (d : Descriptor) (target : PointerParts) (p point : ℕ)
     (cells cells' : List Contents) (m : Made) : Type 0 where
   pub judged : IsJudged asked d m.element
   pub segno : m.element.segno ≡ target.segno
   pub point_is : m.element.point ≡ point
   pub access : length cells ≡ 65536 → IsAccess cells cells' p (beside m d)
-  pub end : after_target g line target d m.element.outcome ≡ Ends m.ends m.after
+  pub end : after_target g line target d m.element.outcome ≡ Ends m.ends (changed g m.after)
+  pub fits : Fits g.gates m.after.gates

@@ -1,16 +1,17 @@
 -- Helpers: how far the line at work has come, and what its operand asks for.
 use Rattle.std.specs.Prelude.{◌≡◌, ℕ, ◌-◌, ◌<◌, ◌≤◌, true, false, List, [], Option, Some, None, length, slice_get}
 use Rattle.mx_call.specs.Registers.{Registers, ArePackable}
+use Rattle.mx_upcall.specs.Control.{Control, with_registers}
 use Rattle.mx_effring.specs.Chains as chains
 use Rattle.mx_effring.specs.Chains.{IsBounded}
 use Rattle.mx_effring.specs.Walks.{wanted}
 use Rattle.mx_effring.specs.declared.walks.Want.{Want}
 use Rattle.mx_effring.specs.declared.walks.Want.TheVariants as want
-use Rattle.mx_legal.specs.Attempts.{attempt}
-use Rattle.mx_legal.specs.Courses.{Judged}
-use Rattle.mx_legal.specs.Next.{Calls, Ends}
-use Rattle.mx_legal.specs.Operands.{operand_walk}
-use Rattle.mx_legal.specs.Standing.{IsWalked}
+use Rattle.mx_transcript.specs.Attempts.{attempt}
+use Rattle.mx_transcript.specs.Courses.{Judged}
+use Rattle.mx_transcript.specs.Next.{Calls, Ends}
+use Rattle.mx_transcript.specs.Operands.{operand_walk}
+use Rattle.mx_transcript.specs.Standing.{IsWalked}
 use Rattle.mx_ptr.specs.Pointers.{PointerParts, IsPackable, pointer_word}
 use Rattle.mx_request.specs.declared.requests.Request.TheVariants.{Link}
 use Rattle.mx_script.specs.declared.lines.Line.{Line}
@@ -52,7 +53,7 @@ walk_at g o Waiting = None
 walk_at g o (Filling fill) = None
 
 -- after all this was seen, the operand has come so far
-abbrev pub HasWalked : Registers → Line → List Judged → Progress → Type 0
+abbrev pub HasWalked : Control → Line → List Judged → Progress → Type 0
 HasWalked g l seen Before = seen ≡ []
 HasWalked g l seen (Walking walk) = IsWalked g l seen walk
 HasWalked g l seen (AtLink place) = attempt g l seen ≡ Calls place.ring (Link place.segno place.word)
@@ -60,7 +61,7 @@ HasWalked g l seen Waiting = ⊥
 HasWalked g l seen (Filling fill) = ⊥
 
 -- and a line without an operand has seen nothing
-abbrev pub IsPlaced : Registers → Line → List Judged → Progress → Type 0
+abbrev pub IsPlaced : Control → Line → List Judged → Progress → Type 0
 IsPlaced g l seen progress = HasWalked g l seen progress × (operand_of l ≡ None → seen ≡ [])
 
 -- a walk began in the current ring, at a pointer that has a word
@@ -116,9 +117,9 @@ pub record IsLed (g : Registers) (o : Operand) (progress : Progress) (p : Place)
   pub wants : wanted walk ≡ want.Word p.segno p.word p.ring
 
 -- after all this was seen the line goes on, or has ended
-abbrev pub IsOnward : Registers → Line → List Judged → Onward → Type 0
+abbrev pub IsOnward : Control → Line → List Judged → Onward → Type 0
 IsOnward g l seen (More progress) = HasWalked g l seen progress
-IsOnward g l seen (End ends after) = attempt g l seen ≡ Ends ends after
+IsOnward g l seen (End ends after) = attempt g l seen ≡ Ends ends (with_registers g after)
 
 abbrev pub IsGoodOnward : Registers → Onward → Type 0
 IsGoodOnward g (More progress) = IsGoodProgress g progress

@@ -1,16 +1,21 @@
 -- Helpers: the processes of a bench, and what is recorded of one as it goes on.
 use Rattle.std.specs.Prelude.{◌≡◌, ℕ, suc, ◌+◌, ◌-◌, ◌<◌, ◌^◌, Bool, IsTrue, IsFalse, List, [], ◌∷◌, ◌++◌, Option, Some, None, length, slice_get, slice_set}
-use Rattle.mx_call.specs.Registers.{Registers, ArePackable}
+use Rattle.mx_call.specs.Registers.{Registers}
+use Rattle.mx_upcall.specs.Changes.{Fits, changed}
+use Rattle.mx_upcall.specs.Control.{Control, with_registers}
+use Rattle.mx_upcall.specs.Soundness.{IsPackableControl}
+use Rattle.mx_upcall.specs.declared.controls.Change.{Change}
+use Rattle.mx_upcall.specs.declared.controls.GateStep.{GateStep}
 use Rattle.mx_core.specs.declared.elements.Outcome.TheVariants.{Read}
 use Rattle.mx_effring.specs.Chains as chains
-use Rattle.mx_legal.specs.Courses.{Judged}
-use Rattle.mx_legal.specs.Denials.{last_denial}
-use Rattle.mx_legal.specs.Openings.{opening_registers}
-use Rattle.mx_legal.specs.Scripts.{first_line}
-use Rattle.mx_legal.specs.Standing.{IsWalked}
-use Rattle.mx_legal.specs.Transcripts.{Step}
-use Rattle.mx_legal.specs.declared.transcripts.Event2.{Event2}
-use Rattle.mx_legal.specs.declared.transcripts.Result2.{Result2}
+use Rattle.mx_transcript.specs.Courses.{Judged}
+use Rattle.mx_transcript.specs.Denials.{last_denial}
+use Rattle.mx_transcript.specs.Openings.{opening_control}
+use Rattle.mx_transcript.specs.Scripts.{first_line}
+use Rattle.mx_transcript.specs.Standing.{IsWalked}
+use Rattle.mx_transcript.specs.Transcripts.{Step}
+use Rattle.mx_transcript.specs.declared.transcripts.Event2.{Event2}
+use Rattle.mx_transcript.specs.declared.transcripts.Result2.{Result2}
 use Rattle.mx_script.specs.Sessions.{Outline}
 use Rattle.mx_script.specs.declared.lines.Line.{Line}
 use Rattle.mx_script.specs.declared.lines.Operand.{Operand}
@@ -31,7 +36,7 @@ use Rattle.mx_line.specs.declared.processes.Process.{Process}
 -- a process as contracts see it
 abbrev pub seat_in : Process → Seat
 seat_in p = record {
-  registers = p.registers;
+  control = p.control;
   steps = p.recording.steps;
   events = p.recording.events;
   progress = p.progress;
@@ -40,12 +45,12 @@ seat_in p = record {
 abbrev pub recorded_steps : Process → List Step
 recorded_steps p = p.recording.steps
 
--- the next line's number is the first one's and the lines done; each pointer in the registers has a word, and a walk
--- began at one
+-- the next line's number is the first one's and the lines done; each pointer in the registers and gates has a word,
+-- and a walk began at one
 pub record IsGood (x : Outline) (i : ℕ) (p : Process) : Type 0 where
   pub first : p.first ≡ first_line x (suc i)
-  pub packable : ArePackable p.registers
-  pub progress : IsGoodProgress p.registers p.progress
+  pub packable : IsPackableControl p.control
+  pub progress : IsGoodProgress p.control.registers p.progress
 
 abbrev pub AreGood : Outline → List Process → Type 0
 AreGood x processes = (i : ℕ) (p : Process) → slice_get processes i ≡ Some p → IsGood x i p
@@ -53,7 +58,7 @@ AreGood x processes = (i : ℕ) (p : Process) → slice_get processes i ≡ Some
 -- before its first line
 pub record IsFresh (x : Outline) (i : ℕ) (p : Process) : Type 0 where
   pub good : IsGood x i p
-  pub registers : p.registers ≡ opening_registers (suc i)
+  pub control : p.control ≡ opening_control x (suc i)
   pub steps : p.recording.steps ≡ []
   pub events : p.recording.events ≡ []
   pub progress : p.progress ≡ Before
@@ -71,7 +76,7 @@ pub record IsStill (old : List Process) (i : ℕ) (new : List Process) : Type 0 
   pub at : slice_get old i ≡ Some before
   pub after : Process
   pub first : after.first ≡ before.first
-  pub registers : after.registers ≡ before.registers
+  pub control : after.control ≡ before.control
   pub steps : after.recording.steps ≡ before.recording.steps
   pub events : after.recording.events ≡ before.recording.events
   pub progress : after.progress ≡ before.progress
@@ -121,7 +126,18 @@ StoresNothing processes i = (process : Process) (fill : Fill) → slice_get proc
 pub record HasRegisters (processes : List Process) (i : ℕ) (g : Registers) : Type 0 where
   pub process : Process
   pub at : slice_get processes i ≡ Some process
-  pub registers : g ≡ process.registers
+  pub registers : g ≡ process.control.registers
+
+pub record HasControl (processes : List Process) (i : ℕ) (g : Control) : Type 0 where
+  pub process : Process
+  pub at : slice_get processes i ≡ Some process
+  pub control : g ≡ process.control
+
+-- process i leaves a gate only where one more may stand
+pub record HasGateRoom (processes : List Process) (i : ℕ) (step : GateStep) : Type 0 where
+  pub process : Process
+  pub at : slice_get processes i ≡ Some process
+  pub fits : Fits process.control.gates step
 
 pub record HasLines (processes : List Process) (i n : ℕ) : Type 0 where
   pub process : Process
@@ -145,12 +161,12 @@ events_in None = []
 events_in (Some event) = event ∷ []
 
 -- process i has done its line
-pub record HasEnded (old : List Process) (i : ℕ) (events : List Event2) (ends : Result2) (registers : Registers) (new : List Process) : Type 0 where
+pub record HasEnded (old : List Process) (i : ℕ) (events : List Event2) (ends : Result2) (change : Change) (new : List Process) : Type 0 where
   pub before : Process
   pub at : slice_get old i ≡ Some before
   pub after : Process
   pub first : after.first ≡ before.first
-  pub done : after.registers ≡ registers
+  pub done : after.control ≡ changed before.control change
   pub steps : after.recording.steps ≡ before.recording.steps
       ++ (before.first + length before.recording.steps, before.recording.events ++ events, ends) ∷ []
   pub idle : after.recording.events ≡ []
@@ -163,7 +179,7 @@ pub record HasGoneOn (old : List Process) (i : ℕ) (events : List Event2) (prog
   pub at : slice_get old i ≡ Some before
   pub after : Process
   pub first : after.first ≡ before.first
-  pub registers : after.registers ≡ before.registers
+  pub control : after.control ≡ before.control
   pub steps : after.recording.steps ≡ before.recording.steps
   pub more : after.recording.events ≡ before.recording.events ++ events
   pub progress_is : after.progress ≡ progress
@@ -173,34 +189,34 @@ pub record HasGoneOn (old : List Process) (i : ℕ) (events : List Event2) (prog
 pub record IsGoodAt (processes : List Process) (i : ℕ) : Type 0 where
   pub process : Process
   pub at : slice_get processes i ≡ Some process
-  pub packable : ArePackable process.registers
-  pub progress : IsGoodProgress process.registers process.progress
+  pub packable : IsPackableControl process.control
+  pub progress : IsGoodProgress process.control.registers process.progress
 
 pub record HasAsked (processes : List Process) (i : ℕ) (o : Operand) (asked : Asked) : Type 0 where
   pub process : Process
   pub at : slice_get processes i ≡ Some process
-  pub asks : AsksFor process.registers o process.progress asked
-  pub good : IsGoodAsked process.registers asked
+  pub asks : AsksFor process.control.registers o process.progress asked
+  pub good : IsGoodAsked process.control.registers asked
 
 pub record IsLedAt (processes : List Process) (i : ℕ) (o : Operand) (place : Place) : Type 0 where
   pub process : Process
   pub at : slice_get processes i ≡ Some process
-  pub led : IsLed process.registers o process.progress place
+  pub led : IsLed process.control.registers o process.progress place
 
 -- what an indirect word makes of the line at work, by the walk that asked for it
-pub record Feeds (g : Registers) (l : Line) (walk : chains.Operand) (value r1 : ℕ) (onward : Onward) : Type 0 where
+pub record Feeds (g : Control) (l : Line) (walk : chains.Operand) (value r1 : ℕ) (onward : Onward) : Type 0 where
   pub leads : (seen : List Judged) (j : Judged) (writer stamp : ℕ) → IsWalked g l seen walk
       → j.element.outcome ≡ Read value writer stamp → j.desc.brackets.r1 ≡ r1 → IsOnward g l (seen ++ j ∷ []) onward
-  pub good : IsGoodOnward g onward
+  pub good : IsGoodOnward g.registers onward
   pub closer : IsCloser (9 - length walk.chain) onward
 
 -- one process, fed
 abbrev pub Goes : Process → Event2 → Onward → Process → Stepped → Type 0
 Goes before event (More progress) after stepped = (stepped ≡ went.More) × (after.first ≡ before.first)
-    × (after.registers ≡ before.registers) × (after.recording.steps ≡ before.recording.steps)
+    × (after.control ≡ before.control) × (after.recording.steps ≡ before.recording.steps)
     × (after.recording.events ≡ before.recording.events ++ event ∷ []) × (after.progress ≡ progress)
 Goes before event (End ends registers) after stepped = (stepped ≡ went.LineDone) × (after.first ≡ before.first)
-    × (after.registers ≡ registers)
+    × (after.control ≡ with_registers before.control registers)
     × (after.recording.steps ≡ before.recording.steps
     ++ (before.first + length before.recording.steps, before.recording.events ++ event ∷ [], ends) ∷ [])
     × (after.recording.events ≡ []) × (after.progress ≡ Before)
@@ -208,9 +224,9 @@ Goes before event (End ends registers) after stepped = (stepped ≡ went.LineDon
 pub record IsFed (before : Process) (l : Line) (o : Operand) (value r1 : ℕ) (event : Event2) (after : Process)
     (stepped : Stepped) : Type 0 where
   pub walk : chains.Operand
-  pub walks : walk_at before.registers o before.progress ≡ Some walk
+  pub walks : walk_at before.control.registers o before.progress ≡ Some walk
   pub onward : Onward
-  pub feeds : Feeds before.registers l walk value r1 onward
+  pub feeds : Feeds before.control l walk value r1 onward
   pub goes : Goes before event onward after stepped
 
 -- process i, fed

@@ -2,8 +2,8 @@
 //! snapped link.
 
 ghost use Rattle.std.specs.Prelude.{◌≡◌, false};
-ghost use Rattle.mx_legal.specs.Filling.{snapped, stored_into};
-ghost use Rattle.mx_legal.specs.Next.{storing};
+ghost use Rattle.mx_transcript.specs.Filling.{snapped, stored_into};
+ghost use Rattle.mx_transcript.specs.Next.{storing};
 ghost use Rattle.mx_ptr.specs.Pointers.{IsPackable};
 ghost use Rattle.mx_request.specs.Sections.{section_in};
 ghost use Rattle.mx_state.specs.Told.{IsLinkedWithin};

@@ -5,7 +5,7 @@
 //! of it ([`Progress`], [`Asked`], [`Processes::feed`]), a reference that is judged on a descriptor and made on the cells of
 //! a [`Memory`] ([`look`], [`refer`], [`store`]), and the writes that a reply asks for ([`Fill`]). Nothing here knows who
 //! makes the entries, or in which order processes step. Stands on `mx_script` (sessions), `mx_call` (registers), `mx_effring`
-//! (the walk of an operand), `mx_legal` (the rule of a line, transcripts) and `mx_ties` (what is known of cells).
+//! (the walk of an operand), `mx_transcript` (the rule of a line, transcripts) and `mx_ties` (what is known of cells).
 #![tactic(auto)]
 
 mod fills;

@@ -6,10 +6,10 @@ ghost use Rattle.mx_call.specs.Registers.{ArePackable, going_on};
 ghost use Rattle.mx_core.specs.declared.elements.Outcome.TheVariants.{Read as WasRead};
 ghost use Rattle.mx_effring.specs.Walks.{wanted};
 ghost use Rattle.mx_effring.specs.declared.walks.Want.TheVariants.{Word as WantsWord};
-ghost use Rattle.mx_legal.specs.Courses.{Judged};
-ghost use Rattle.mx_legal.specs.Operands.{base_of, beyond, operand_walk};
-ghost use Rattle.mx_legal.specs.Standing.{IsWalked};
-ghost use Rattle.mx_legal.specs.declared.transcripts.Result2.TheVariants as results;
+ghost use Rattle.mx_transcript.specs.Courses.{Judged};
+ghost use Rattle.mx_transcript.specs.Operands.{base_of, beyond, operand_walk};
+ghost use Rattle.mx_transcript.specs.Standing.{IsWalked};
+ghost use Rattle.mx_transcript.specs.declared.transcripts.Result2.TheVariants as results;
 ghost use Rattle.mx_ptr.specs.Pointers.{IsPackable};
 ghost use Rattle.mx_script.specs.Sessions.{is_address};
 ghost use Rattle.mx_line.specs.Operands.{HasBegun, IsGoodWalk, IsGoodProgress, IsTarget, asked_by, AsksFor, IsGoodAsked, IsOnward, IsGoodOnward, IsCloser, IsRegisterWord, IsSayable};
@@ -20,10 +20,11 @@ ghost use Rattle.mx_line.specs.declared.operands.Progress.TheVariants.{Waiting, 
 use crate::fills::Fill;
 use mx_call::Regs;
 use mx_effring::{Stuck, Walk, Want};
-use mx_legal::Result2;
 use mx_ptr::Pointer;
 use mx_script::{Base, Line, Operand};
 use mx_sdw::{Denial, Ring, Word};
+use mx_transcript::Result2;
+use mx_upcall::Control;
 
 /// A word of memory, referred to at an effective ring.
 #[derive(Clone, Copy)]
@@ -146,47 +147,47 @@ fn asked_by(registers: &Regs, walk: &Walk) -> Asked
 /// What the indirect word at a place makes of a walk that asked for it, where its segment has the first bracket `r1`.
 pub(crate) fn feed(
     line: &Line,
-    registers: &Regs,
+    control: &Control,
     mut walk: Walk,
     place: Place,
     value: Word,
     r1: Ring,
 ) -> Onward
     requires line { IsSayable line.now }
-    requires packable { ArePackable registers.now }
-    requires good { IsGoodWalk registers.now walk }
+    requires packable { ArePackable control.now.registers }
+    requires good { IsGoodWalk control.now.registers walk }
     requires wants { wanted walk ≡ WantsWord place.segno place.word place.ring }
-    ensures onward { (seen : List Judged) (j : Judged) (writer stamp : ℕ) → IsWalked registers.now line.now seen walk
+    ensures onward { (seen : List Judged) (j : Judged) (writer stamp : ℕ) → IsWalked control.now line.now seen walk
         → j.element.outcome ≡ WasRead value writer stamp → j.desc.brackets.r1 ≡ r1
-        → IsOnward registers.now line.now (seen ++ j ∷ []) result }
-    ensures good { IsGoodOnward registers.now result }
+        → IsOnward control.now line.now (seen ++ j ∷ []) result }
+    ensures good { IsGoodOnward control.now.registers result }
     ensures closer { IsCloser (9 - length walk.chain) result }
 {
     match walk.feed(value, r1) {
-        Ok(()) => led(line, registers, walk),
+        Ok(()) => led(line, control, walk),
         Err(Stuck::Link) => Onward::More(Progress::AtLink(place)),
-        Err(Stuck::NotPointer) => denied(registers, Denial::NotPointer),
-        Err(Stuck::Limit) => denied(registers, Denial::IndirectLimit),
+        Err(Stuck::NotPointer) => denied(control, Denial::NotPointer),
+        Err(Stuck::Limit) => denied(control, Denial::IndirectLimit),
     }
 }
 
-fn denied(registers: &Regs, denial: Denial) -> Onward
-    ensures { result ≡ End (results.Denied denial) registers.now }
+fn denied(control: &Control, denial: Denial) -> Onward
+    ensures { result ≡ End (results.Denied denial) control.now.registers }
 {
     Onward::End {
         ends: Result2::Denied(denial),
-        after: *registers,
+        after: control.registers,
     }
 }
 
 // A walk was led on: `epp` ends where it is done, and the other lines refer to their target.
-fn led(line: &Line, registers: &Regs, walk: Walk) -> Onward
+fn led(line: &Line, control: &Control, walk: Walk) -> Onward
     requires line { IsSayable line.now }
-    requires packable { ArePackable registers.now }
-    requires begun { HasBegun registers.now walk }
-    ensures onward { (seen : List Judged) → IsWalked registers.now line.now seen walk
-        → IsOnward registers.now line.now seen result }
-    ensures good { IsGoodOnward registers.now result }
+    requires packable { ArePackable control.now.registers }
+    requires begun { HasBegun control.now.registers walk }
+    ensures onward { (seen : List Judged) → IsWalked control.now line.now seen walk
+        → IsOnward control.now line.now seen result }
+    ensures good { IsGoodOnward control.now.registers result }
     ensures closer { IsCloser (10 - length walk.chain) result }
 {
     match walk.want() {
@@ -197,7 +198,7 @@ fn led(line: &Line, registers: &Regs, walk: Walk) -> Onward
                     n: *n,
                     pointer: target,
                 },
-                after: loaded(registers, *n, &target),
+                after: loaded(&control.registers, *n, &target),
             },
             _ => Onward::More(Progress::Walking(walk)),
         },

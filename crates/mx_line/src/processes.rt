@@ -1,30 +1,34 @@
-//! Processes: their registers, and what was recorded of them.
+//! Processes: their registers and return gates, and what was recorded of them.
 
 ghost use Rattle.std.specs.Prelude.{◌≡◌, ◌<◌, ◌+◌, ◌^◌, true, [], ◌∷◌, ◌++◌, IfOk, IsTrue, IsFalse, IsSome, OnOk, Some, length};
-ghost use Rattle.mx_call.specs.Registers.{ArePackable};
+ghost use Rattle.mx_upcall.specs.Changes.{Fits, keeping, changed};
+ghost use Rattle.mx_upcall.specs.Soundness.{IsPackableControl};
 ghost use Rattle.mx_script.specs.Sessions.{IsSession, is_address};
-ghost use Rattle.mx_line.specs.Operands.{IsGoodProgress, IsGoodWalk, IsLed, walk_at, IsSayable};
-ghost use Rattle.mx_line.specs.Processes.{AreFresh, IsStill, HasRoom, IsCountable, IsGoodAt, HasEnded, HasGoneOn, HasFed, IsFed, HasProgress, ReadsOperand, StoresNothing, HasRegisters, HasLines, HasNumber, HasLastDenial, HasAsked, HasFill, IsLedAt, fill_of, events_in};
-ghost use Rattle.mx_line.specs.declared.operands.Progress.TheVariants.{Before, Waiting};
+ghost use Rattle.mx_line.specs.Operands.{AsksFor, IsGoodAsked, IsGoodProgress, IsGoodWalk, IsLed, walk_at, IsSayable};
+ghost use Rattle.mx_line.specs.Processes.{AreFresh, IsStill, HasRoom, IsCountable, IsGoodAt, HasGateRoom, HasEnded, HasGoneOn, HasFed, IsFed, HasProgress, ReadsOperand, StoresNothing, HasRegisters, HasControl, HasLines, HasNumber, HasLastDenial, HasAsked, HasFill, IsLedAt, fill_of, events_in};
+ghost use Rattle.mx_line.specs.declared.operands.Progress.TheVariants.{Before, Filling, Waiting};
+ghost use Rattle.mx_line.specs.declared.fills.Fill.{Fill as PlainFill};
 
 use crate::fills::Fill;
 use crate::operands::{Asked, Onward, Place, Progress, asks, feed, start};
 use crate::steps::Stepped;
 use mx_call::Regs;
 use mx_effring::Walk;
-use mx_legal::{Event2, Recording, Result2, Transcript, first_line};
+use mx_request::most_gates;
 use mx_script::{Line, Operand, Session};
 use mx_sdw::{Denial, Ring, Word};
+use mx_transcript::{Event2, Recording, Result2, Transcript, first_line};
+use mx_upcall::{Change, Control};
 use std::alloc::{AllocError, Global};
 use std::marker::Model;
 use std::mem;
 
-/// A process: the number of its first line in the session text, its registers at the start of the line at work, what was
-/// recorded of its lines, and how far the line at work has come.
+/// A process: the number of its first line in the session text, its registers and return gates at the start of the line at
+/// work, what was recorded of its lines, and how far the line at work has come.
 #[derive(Drop)]
 pub struct Process {
     pub first: u32,
-    pub registers: Regs,
+    pub control: Control,
     pub recording: Recording,
     pub progress: Progress,
 }
@@ -69,6 +73,14 @@ impl Processes {
         registers_at(&self.items, i)
     }
 
+    /// The registers and return gates of a process.
+    pub fn control(&self, i: usize) -> &Control
+        requires { i < length self.now }
+        ensures { HasControl self.now i result.now }
+    {
+        control_at(&self.items, i)
+    }
+
     /// How many lines a process has done.
     pub fn lines(&self, i: usize) -> usize
         requires { i < length self.now }
@@ -103,14 +115,25 @@ impl Processes {
         reserve(self.items.as_mut_slice(), i)
     }
 
-    /// The line at work of a process ends, with this event if there is one.
+    /// The line at work of a process ends, with this event if there is one, and with these registers.
     pub fn end_line(&mut self, i: usize, event: Option<Event2>, ends: Result2, after: &Regs)
         requires within { i < length self.old }
         requires room { HasRoom self.old i }
         requires number { IsCountable self.old i }
-        ensures { HasEnded self.old i (events_in event) ends after.now self.new }
+        ensures { HasEnded self.old i (events_in event) ends (keeping after.now) self.new }
     {
         end_line(self.items.as_mut_slice(), i, event, ends, after);
+    }
+
+    /// The line at work of a process ends, with this event if there is one, and with such registers and return gates.
+    pub fn end_with(&mut self, i: usize, event: Option<Event2>, ends: Result2, after: &Change)
+        requires within { i < length self.old }
+        requires room { HasRoom self.old i }
+        requires number { IsCountable self.old i }
+        requires gate { HasGateRoom self.old i after.now.gates }
+        ensures { HasEnded self.old i (events_in event) ends after.now self.new }
+    {
+        end_with(self.items.as_mut_slice(), i, event, ends, after);
     }
 
     /// The line at work of a process has this event, and has come so far.
@@ -200,7 +223,7 @@ fn fresh_processes(alloc: Global, session: &Session) -> Result<Vec<Process>, All
     for (i, script) in scripts.iter().enumerate() {
         let process = Process {
             first: first_line(session, i as u8 + 1),
-            registers: Regs::opening(),
+            control: Control::opening(most_gates(session.version())),
             recording: Recording::with_room(alloc, script.items().len())?,
             progress: Progress::Before,
         };
@@ -213,7 +236,14 @@ fn registers_at(processes: &[Process], i: usize) -> Regs
     requires { i < length processes.now }
     ensures { HasRegisters processes.now i result }
 {
-    processes[i].registers
+    processes[i].registers()
+}
+
+fn control_at(processes: &[Process], i: usize) -> &Control
+    requires { i < length processes.now }
+    ensures { HasControl processes.now i result.now }
+{
+    &processes[i].control
 }
 
 fn lines_at(processes: &[Process], i: usize) -> usize
@@ -284,7 +314,7 @@ fn asks_at(processes: &[Process], i: usize, operand: &Operand) -> Asked
     requires address { is_address operand.now ≡ true }
     ensures { HasAsked processes.now i operand.now result }
 {
-    asks(&processes[i].registers, operand, &processes[i].progress)
+    processes[i].asks(operand)
 }
 
 fn feed_at(
@@ -321,6 +351,22 @@ fn end_line(processes: &mut [Process], i: usize, event: Option<Event2>, ends: Re
     requires within { i < length processes.old }
     requires room { HasRoom processes.old i }
     requires number { IsCountable processes.old i }
+    ensures { HasEnded processes.old i (events_in event) ends (keeping after.now) processes.new }
+{
+    end_with(processes, i, event, ends, &Change::keeping(after));
+}
+
+fn end_with(
+    processes: &mut [Process],
+    i: usize,
+    event: Option<Event2>,
+    ends: Result2,
+    after: &Change,
+)
+    requires within { i < length processes.old }
+    requires room { HasRoom processes.old i }
+    requires number { IsCountable processes.old i }
+    requires gate { HasGateRoom processes.old i after.now.gates }
     ensures { HasEnded processes.old i (events_in event) ends after.now processes.new }
 {
     processes[i].end_line(event, ends, after);
@@ -335,6 +381,25 @@ impl Process {
         recording.finish()
     }
 
+    fn registers(&self) -> Regs
+        ensures { result ≡ self.now.control.registers }
+    {
+        self.control.registers
+    }
+
+    // What its operand asks for.
+    fn asks(&self, operand: &Operand) -> Asked
+        requires packable { IsPackableControl self.now.control }
+        requires progress { IsGoodProgress self.now.control.registers self.now.progress }
+        requires reads { self.now.progress ≡ Waiting → ⊥ }
+        requires unfilled { (fill : PlainFill) → self.now.progress ≡ Filling fill → ⊥ }
+        requires address { is_address operand.now ≡ true }
+        ensures asks { AsksFor self.now.control.registers operand.now self.now.progress result }
+        ensures good { IsGoodAsked self.now.control.registers result }
+    {
+        asks(&self.control.registers, operand, &self.progress)
+    }
+
     // The number of its next line.
     fn number(&self) -> u32
         requires { self.now.first + length self.now.recording.steps < 2 ^ 32 }
@@ -344,12 +409,13 @@ impl Process {
     }
 
     // Its line at work ends.
-    fn end_line(&mut self, event: Option<Event2>, ends: Result2, after: &Regs)
+    fn end_line(&mut self, event: Option<Event2>, ends: Result2, after: &Change)
         requires event { IsTrue self.old.recording.event_room }
         requires line { IsTrue self.old.recording.line_room }
         requires number { self.old.first + length self.old.recording.steps < 2 ^ 32 }
+        requires fits { Fits self.old.control.gates after.now.gates }
         ensures first { self.new.first ≡ self.old.first }
-        ensures done { self.new.registers ≡ after.now }
+        ensures done { self.new.control ≡ changed self.old.control after.now }
         ensures steps { self.new.recording.steps ≡ self.old.recording.steps
             ++ (self.old.first + length self.old.recording.steps, self.old.recording.events ++ events_in event, ends) ∷ [] }
         ensures idle { self.new.recording.events ≡ [] }
@@ -358,7 +424,7 @@ impl Process {
         let number = self.number();
         push_if(&mut self.recording, event);
         self.recording.end_line(number, ends);
-        self.registers = *after;
+        self.control.change(after);
         self.progress = Progress::Before;
     }
 
@@ -366,7 +432,7 @@ impl Process {
     fn go_on(&mut self, event: Event2, progress: Progress)
         requires event { IsTrue self.old.recording.event_room }
         ensures first { self.new.first ≡ self.old.first }
-        ensures registers { self.new.registers ≡ self.old.registers }
+        ensures control { self.new.control ≡ self.old.control }
         ensures steps { self.new.recording.steps ≡ self.old.recording.steps }
         ensures more { self.new.recording.events ≡ self.old.recording.events ++ event ∷ [] }
         ensures progress { self.new.progress ≡ progress }
@@ -388,23 +454,22 @@ impl Process {
         requires event { IsTrue self.old.recording.event_room }
         requires room { IsTrue self.old.recording.line_room }
         requires number { self.old.first + length self.old.recording.steps < 2 ^ 32 }
-        requires packable { ArePackable self.old.registers }
-        requires progress { IsGoodProgress self.old.registers self.old.progress }
+        requires packable { IsPackableControl self.old.control }
+        requires progress { IsGoodProgress self.old.control.registers self.old.progress }
         requires line { IsSayable line.now }
         requires address { is_address operand.now ≡ true }
-        requires led { IsLed self.old.registers operand.now self.old.progress place }
+        requires led { IsLed self.old.control.registers operand.now self.old.progress place }
         ensures { IsFed self.old line.now operand.now value r1 event self.new result }
     {
-        let registers = self.registers;
         let walk = self.take_walk(operand);
-        match feed(line, &registers, walk, place, value, r1) {
+        match feed(line, &self.control, walk, place, value, r1) {
             Onward::More(progress) => {
                 self.recording.push(event);
                 self.progress = progress;
                 Stepped::More
             }
             Onward::End { ends, after } => {
-                self.end_line(Some(event), ends, &after);
+                self.end_line(Some(event), ends, &Change::keeping(&after));
                 Stepped::LineDone
             }
         }
@@ -412,18 +477,18 @@ impl Process {
 
     // The walk that its operand is at, taken out.
     fn take_walk(&mut self, operand: &Operand) -> Walk
-        requires packable { ArePackable self.old.registers }
-        requires progress { IsGoodProgress self.old.registers self.old.progress }
+        requires packable { IsPackableControl self.old.control }
+        requires progress { IsGoodProgress self.old.control.registers self.old.progress }
         requires address { is_address operand.now ≡ true }
-        requires led { IsSome (walk_at self.old.registers operand.now self.old.progress) }
-        ensures walk { walk_at self.old.registers operand.now self.old.progress ≡ Some result }
-        ensures good { IsGoodWalk self.old.registers result }
+        requires led { IsSome (walk_at self.old.control.registers operand.now self.old.progress) }
+        ensures walk { walk_at self.old.control.registers operand.now self.old.progress ≡ Some result }
+        ensures good { IsGoodWalk self.old.control.registers result }
         ensures first { self.new.first ≡ self.old.first }
-        ensures registers { self.new.registers ≡ self.old.registers }
+        ensures control { self.new.control ≡ self.old.control }
         ensures recording { self.new.recording ≡ self.old.recording }
     {
         match mem::replace(&mut self.progress, Progress::Before) {
-            Progress::Before => start(&self.registers, operand),
+            Progress::Before => start(&self.control.registers, operand),
             Progress::Walking(walk) => walk,
             Progress::AtLink(_) | Progress::Waiting | Progress::Filling(_) => unreachable!(),
         }

@@ -1,9 +1,9 @@
 //! References to memory: judged, made on the cells, and what they make of the registers.
 
 ghost use Rattle.std.specs.Prelude.{◌≡◌, ◌<◌, ℕ, List, length, IfOk};
-ghost use Rattle.mx_call.specs.Transfers.{calling};
-ghost use Rattle.mx_legal.specs.Next.{Reference, Asks, at_place, storing};
-ghost use Rattle.mx_legal.specs.Targets.{at_target};
+ghost use Rattle.mx_upcall.specs.Control.{calling, returning};
+ghost use Rattle.mx_transcript.specs.Next.{Reference, Asks, at_place, storing};
+ghost use Rattle.mx_transcript.specs.Targets.{at_target};
 ghost use Rattle.mx_script.specs.declared.lines.Operand.{Operand as PlainOperand};
 ghost use Rattle.mx_script.specs.declared.lines.Line.TheVariants as lines;
 ghost use Rattle.mx_sdw.specs.Admissible.{IsAdmissible};
@@ -14,18 +14,19 @@ ghost use Rattle.mx_line.specs.declared.memory.Contents.{Contents as PlainConten
 
 use crate::memory::{Contents, Memory};
 use crate::operands::Place;
-use mx_call::{Regs, call, ret};
-use mx_legal::{Element, Kind, Outcome, Result2};
+use mx_call::Regs;
 use mx_ptr::Pointer;
 use mx_script::Line;
 use mx_sdw::{Cell, Denial, Desc, Op, Ring, Word, judge};
+use mx_transcript::{Element, Kind, Outcome, Result2};
+use mx_upcall::{Change, Control};
 
-/// A reference that was made: its element, and the result of its line and the registers after it.
+/// A reference that was made: its element, the result of its line, and what it makes of the registers and return gates.
 #[derive(Clone, Copy)]
 pub struct Made {
     pub element: Element,
     pub ends: Result2,
-    pub after: Regs,
+    pub after: Change,
 }
 
 /// An indirect word that was read: its element, and the word, or why it was denied.
@@ -79,28 +80,28 @@ pub fn refer(
     desc: &Desc,
     line: &Line,
     target: &Pointer,
-    registers: &Regs,
+    control: &Control,
     point: u32,
 ) -> Made
     requires desc { IsAdmissible desc.now }
     requires line { IsReferring line.now }
-    ensures { (asked : Reference) (p : ℕ) → at_target registers.now line.now target.now ≡ Asks asked
-        → IsMade line.now asked registers.now desc.now target.now p point cells.now cells.now result }
+    ensures { (asked : Reference) (p : ℕ) → at_target control.now line.now target.now ≡ Asks asked
+        → IsMade line.now asked control.now desc.now target.now p point cells.now cells.now result }
 {
     match line {
-        Line::Lda { .. } => load(cells, desc, target, registers, point),
-        Line::Fetch => fetch(cells, desc, target, registers, point),
-        Line::Call { .. } => enter(desc, target, registers, point),
-        Line::Return { .. } => go_back(desc, target, registers, point),
+        Line::Lda { .. } => load(cells, desc, target, control, point),
+        Line::Fetch => fetch(cells, desc, target, control, point),
+        Line::Call { .. } => enter(desc, target, control, point),
+        Line::Return { .. } => go_back(desc, target, control, point),
         Line::Ask(_) | Line::Set { .. } | Line::Epp { .. } | Line::Sta { .. } | Line::Spri { .. } =>
             unreachable!(),
     }
 }
 
 // Reads the word at the target: A becomes it.
-fn load(cells: &Memory, desc: &Desc, target: &Pointer, registers: &Regs, point: u32) -> Made
+fn load(cells: &Memory, desc: &Desc, target: &Pointer, control: &Control, point: u32) -> Made
     requires { IsAdmissible desc.now }
-    ensures { (o : PlainOperand) → (p : ℕ) → IsMade (lines.Lda o) (at_place ops.Read target.now) registers.now desc.now target.now p point cells.now cells.now result }
+    ensures { (o : PlainOperand) → (p : ℕ) → IsMade (lines.Lda o) (at_place ops.Read target.now) control.now desc.now target.now p point cells.now cells.now result }
 {
     match ruling(desc, Op::Read, target.ring, target.word) {
         Ok(cell) => {
@@ -113,20 +114,20 @@ fn load(cells: &Memory, desc: &Desc, target: &Pointer, registers: &Regs, point: 
             Made {
                 element: element(Kind::Read, target, point, outcome),
                 ends: Result2::A(held.value),
-                after: Regs {
+                after: Change::keeping(&Regs {
                     a: held.value,
-                    ..*registers
-                },
+                    ..control.registers
+                }),
             }
         }
-        Err(denial) => denied(Kind::Read, target, registers, point, denial),
+        Err(denial) => denied(Kind::Read, target, &control.registers, point, denial),
     }
 }
 
 // Fetches the word at the target.
-fn fetch(cells: &Memory, desc: &Desc, target: &Pointer, registers: &Regs, point: u32) -> Made
+fn fetch(cells: &Memory, desc: &Desc, target: &Pointer, control: &Control, point: u32) -> Made
     requires { IsAdmissible desc.now }
-    ensures { (p : ℕ) → IsMade lines.Fetch (at_place ops.Fetch target.now) registers.now desc.now target.now p point cells.now cells.now result }
+    ensures { (p : ℕ) → IsMade lines.Fetch (at_place ops.Fetch target.now) control.now desc.now target.now p point cells.now cells.now result }
 {
     match ruling(desc, Op::Fetch, target.ring, target.word) {
         Ok(cell) => {
@@ -139,30 +140,31 @@ fn fetch(cells: &Memory, desc: &Desc, target: &Pointer, registers: &Regs, point:
             Made {
                 element: element(Kind::Fetch, target, point, outcome),
                 ends: Result2::Done,
-                after: *registers,
+                after: Change::keeping(&control.registers),
             }
         }
-        Err(denial) => denied(Kind::Fetch, target, registers, point, denial),
+        Err(denial) => denied(Kind::Fetch, target, &control.registers, point, denial),
     }
 }
 
 // Calls the target: the process goes on there.
-fn enter(desc: &Desc, target: &Pointer, registers: &Regs, point: u32) -> Made
-    ensures { (o : PlainOperand) (p : ℕ) (cells : List PlainContents) → IsMade (lines.Call o) (at_place (calling registers.now target.now) target.now) registers.now desc.now target.now p point cells cells result }
+fn enter(desc: &Desc, target: &Pointer, control: &Control, point: u32) -> Made
+    ensures { (o : PlainOperand) (p : ℕ) (cells : List PlainContents) → IsMade (lines.Call o) (at_place (calling control.now target.now) target.now) control.now desc.now target.now p point cells cells result }
 {
-    match call(registers, target, desc) {
-        Ok(after) => moved(Kind::Call, target, point, after),
-        Err(denial) => denied(Kind::Call, target, registers, point, denial),
+    match control.call(target, desc) {
+        Ok(after) => moved(Kind::Call, target, point, &after),
+        Err(denial) => denied(Kind::Call, target, &control.registers, point, denial),
     }
 }
 
-// Returns to the target: the process goes on there.
-fn go_back(desc: &Desc, target: &Pointer, registers: &Regs, point: u32) -> Made
-    ensures { (o : PlainOperand) (p : ℕ) (cells : List PlainContents) → IsMade (lines.Return o) (at_place ops.Return target.now) registers.now desc.now target.now p point cells cells result }
+// Returns to the target: the process goes on there, or through a gate where its caller was.
+fn go_back(desc: &Desc, target: &Pointer, control: &Control, point: u32) -> Made
+    ensures { (o : PlainOperand) (p : ℕ) (cells : List PlainContents) → IsMade (lines.Return o) (at_place ops.Return (returning control.now target.now)) control.now desc.now target.now p point cells cells result }
 {
-    match ret(registers, target, desc) {
-        Ok(after) => moved(Kind::Return, target, point, after),
-        Err(denial) => denied(Kind::Return, target, registers, point, denial),
+    let asked = control.returning(target);
+    match control.ret(target, desc) {
+        Ok(after) => moved(Kind::Return, &asked, point, &after),
+        Err(denial) => denied(Kind::Return, &asked, &control.registers, point, denial),
     }
 }
 
@@ -172,13 +174,13 @@ pub fn store(
     desc: &Desc,
     target: &Pointer,
     value: Word,
-    registers: &Regs,
+    control: &Control,
     p: u8,
     point: u32,
 ) -> Made
     requires { IsAdmissible desc.now }
-    ensures sta { (o : PlainOperand) → IsMade (lines.Sta o) (storing value target.now) registers.now desc.now target.now p point cells.old cells.new result }
-    ensures spri { (n : ℕ) → (o : PlainOperand) → IsMade (lines.Spri n o) (storing value target.now) registers.now desc.now target.now p point cells.old cells.new result }
+    ensures sta { (o : PlainOperand) → IsMade (lines.Sta o) (storing value target.now) control.now desc.now target.now p point cells.old cells.new result }
+    ensures spri { (n : ℕ) → (o : PlainOperand) → IsMade (lines.Spri n o) (storing value target.now) control.now desc.now target.now p point cells.old cells.new result }
     ensures wide { length cells.new ≡ length cells.old }
 {
     match ruling(desc, Op::Write, target.ring, target.word) {
@@ -194,10 +196,10 @@ pub fn store(
             Made {
                 element: element(Kind::Write, target, point, Outcome::Written { value }),
                 ends: Result2::Done,
-                after: *registers,
+                after: Change::keeping(&control.registers),
             }
         }
-        Err(denial) => denied(Kind::Write, target, registers, point, denial),
+        Err(denial) => denied(Kind::Write, target, &control.registers, point, denial),
     }
 }
 
@@ -224,26 +226,33 @@ fn element(kind: Kind, target: &Pointer, point: u32, outcome: Outcome) -> Elemen
 }
 
 // The process goes on with these registers.
-fn moved(kind: Kind, target: &Pointer, point: u32, after: Regs) -> Made
-    ensures { result ≡ moved kind target.now point after }
+fn moved(kind: Kind, target: &Pointer, point: u32, after: &Change) -> Made
+    ensures { result ≡ moved kind target.now point after.now }
 {
     Made {
-        element: element(kind, target, point, Outcome::Entered { ring: after.ring }),
+        element: element(
+            kind,
+            target,
+            point,
+            Outcome::Entered {
+                ring: after.registers.ring,
+            },
+        ),
         ends: Result2::Moved {
-            ring: after.ring,
-            procedure: after.procedure,
+            ring: after.registers.ring,
+            procedure: after.registers.procedure,
         },
-        after,
+        after: *after,
     }
 }
 
-// A denial leaves the registers as they were.
+// A denial leaves the registers and the return gates as they were.
 fn denied(kind: Kind, target: &Pointer, registers: &Regs, point: u32, denial: Denial) -> Made
     ensures { result ≡ denied kind target.now registers.now point denial }
 {
     Made {
         element: element(kind, target, point, Outcome::Denied(denial)),
         ends: Result2::Denied(denial),
-        after: *registers,
+        after: Change::keeping(registers),
     }
 }

@@ -3,12 +3,12 @@ use Rattle.std.proofs.Common.{◌≡◌, ◌⊎◌, inl, inr, ℕ, zero, suc, �
 use Rattle.std.proofs.lemmas.List.{map-append, take-append-le, length-map}
 use Rattle.std.specs.List.{slice_get}
 use Rattle.std.specs.Option.{option_map}
-use Rattle.mx_legal.specs.Legal.{call_of, setup_entries}
-use Rattle.mx_legal.specs.Settings.{entry_at}
+use Rattle.mx_transcript.specs.Legal.{call_of, setup_entries}
+use Rattle.mx_transcript.specs.Settings.{entry_at}
 use Rattle.mx_request.specs.declared.replies.Reply.{Reply}
 use Rattle.mx_request.specs.declared.requests.Request.{Request}
 use Rattle.mx_script.specs.Sessions.{Outline, limit_of}
-use Rattle.mx_legal.specs.Opened.{opening_of}
+use Rattle.mx_transcript.specs.Opened.{opening_of}
 use Rattle.mx_state.specs.History.{replay, IsRight, IsRightEntry}
 use Rattle.mx_state.specs.Plain.{Plain, answer}
 use Rattle.mx_state.specs.Requests.{plain}

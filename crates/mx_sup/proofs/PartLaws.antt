@@ -3,33 +3,33 @@ use Rattle.std.proofs.Common.{◌≡◌, ℕ, zero, suc, ◌<◌, ◌≤◌, ◌
 use Rattle.std.proofs.lemmas.Bool.Decides.{nat_tests}
 use Rattle.std.proofs.lemmas.List.{drop_all}
 use Rattle.std.specs.List.{slice_get}
-use Rattle.mx_call.specs.Registers.{Registers}
-use Rattle.mx_legal.specs.Asking.{next, result_of}
-use Rattle.mx_legal.specs.Courses.{Attempt, Answer}
-use Rattle.mx_legal.specs.Legal.{Call, call_of, setup_call, setup_entries}
-use Rattle.mx_legal.specs.Lines.{IsEnd}
-use Rattle.mx_legal.specs.Next.{Next, Calls, Ends}
-use Rattle.mx_legal.specs.Openings.{opening_registers}
-use Rattle.mx_legal.specs.Parts.{AreDone}
-use Rattle.mx_legal.specs.Scripts.{numbered, first_line}
-use Rattle.mx_legal.specs.Settings.{Setting, entry_at}
-use Rattle.mx_legal.specs.Standing.{own_setting}
-use Rattle.mx_legal.specs.Transcripts.{Step, events_of, entries_named, numbers_from}
-use Rattle.mx_legal.specs.declared.transcripts.Event2.{Event2}
-use Rattle.mx_legal.specs.declared.transcripts.Event2.TheVariants.{Entry}
-use Rattle.mx_legal.specs.declared.transcripts.Result2.TheVariants.{HistoryFull}
+use Rattle.mx_upcall.specs.Control.{Control}
+use Rattle.mx_transcript.specs.Asking.{next, result_of}
+use Rattle.mx_transcript.specs.Courses.{Attempt, Answer}
+use Rattle.mx_transcript.specs.Legal.{Call, call_of, setup_call, setup_entries}
+use Rattle.mx_transcript.specs.Lines.{IsEnd}
+use Rattle.mx_transcript.specs.Next.{Next, Calls, Ends}
+use Rattle.mx_transcript.specs.Openings.{opening_control}
+use Rattle.mx_transcript.specs.Parts.{AreDone}
+use Rattle.mx_transcript.specs.Scripts.{numbered, first_line}
+use Rattle.mx_transcript.specs.Settings.{Setting, entry_at}
+use Rattle.mx_transcript.specs.Standing.{own_setting}
+use Rattle.mx_transcript.specs.Transcripts.{Step, events_of, entries_named, numbers_from}
+use Rattle.mx_transcript.specs.declared.transcripts.Event2.{Event2}
+use Rattle.mx_transcript.specs.declared.transcripts.Event2.TheVariants.{Entry}
+use Rattle.mx_transcript.specs.declared.transcripts.Result2.TheVariants.{HistoryFull}
 use Rattle.mx_request.specs.declared.replies.Reply.{Reply}
 use Rattle.mx_request.specs.declared.replies.Reply.TheVariants as reply
 use Rattle.mx_request.specs.declared.requests.Request.{Request}
 use Rattle.mx_script.specs.Sessions.{Outline, limit_of}
 use Rattle.mx_script.specs.declared.lines.Line.TheVariants.{Ask}
 use Rattle.mx_state.specs.declared.journal.Entry as journaled
-use Rattle.mx_legal.specs.Opened.{opening_of}
+use Rattle.mx_transcript.specs.Opened.{opening_of}
 use Rattle.mx_state.specs.History.{IsRight}
 use Rattle.mx_state.specs.Plain.{Plain}
 use Rattle.mx_state.specs.Requests.{plain}
 use Rattle.mx_sup.specs.Setups.{setup_step, setup_steps, setup_part}
-use Rattle.mx_legal.proofs.FinalReplies.{IsFinal, final_ends, path_final}
+use Rattle.mx_transcript.proofs.FinalReplies.{IsFinal, final_ends, path_final}
 use Rattle.mx_ties.specs.Ran.{IsSetUp}
 use Rattle.mx_ties.specs.Views.{cores}
 
@@ -55,13 +55,13 @@ same_full full [] e = tt
 same_full full (request ∷ requests) e = e
 
 -- a line ends with each of their replies
-abbrev AreLast : Registers → List journaled.Entry → Type 0
+abbrev AreLast : Control → List journaled.Entry → Type 0
 AreLast g [] = Unit {0}
 AreLast g (entry ∷ entries) =
     (next g (Ask entry.request) (Answer entry []) ≡ Ends (result_of entry.reply) g) × AreLast g entries
 
-lines_done : (s : Setting) (g : Registers) (number first : ℕ) (entries : List journaled.Entry) (requests : List Request)
-    → s.process ≡ 0 → g.ring ≡ 0 → AreLast g entries → AreCalls entries requests → StandFrom s.journal first entries → IsFullWhere s.full entries requests
+lines_done : (s : Setting) (g : Control) (number first : ℕ) (entries : List journaled.Entry) (requests : List Request)
+    → s.process ≡ 0 → g.registers.ring ≡ 0 → AreLast g entries → AreCalls entries requests → StandFrom s.journal first entries → IsFullWhere s.full entries requests
     → AreDone s g (numbered number (map Ask requests)) (setup_steps number first entries requests) [] g
 lines_done s g number first entries [] p r last calls stand full = (refl, refl)
 lines_done s g number first [] (request ∷ requests) p r last calls stand full = (
@@ -81,7 +81,7 @@ lines_done s g number first (entry ∷ entries) (request ∷ requests) p r last 
         entry = entry;
         there = stand.0;
         maker = ap (λ (c : Call). c.process) calls.0 ∙ sym p;
-        next = same_call entry request g.ring r calls.0;
+        next = same_call entry request g.registers.ring r calls.0;
         leads = refl;
       },
       refl,
@@ -192,7 +192,7 @@ full_where limit [] (request ∷ requests) most h = let e : limit ≤ most = h (
 full_where limit (entry ∷ entries) (request ∷ requests) most h = full_where limit entries requests most (λ l. h (omega (arith, l)))
 
 -- the initializer's lines end with the replies to its requests on paths
-are_last : (g : Registers) (s : Plain) (entries : List journaled.Entry) (requests : List Request) → IsRight s entries
+are_last : (g : Control) (s : Plain) (entries : List journaled.Entry) (requests : List Request) → IsRight s entries
     → AreCalls entries requests → AreLast g entries
 are_last g s [] requests right calls = tt
 are_last g s (entry ∷ entries) [] right calls = absurd calls
@@ -208,11 +208,11 @@ pub part_is_set_up : (x : Outline) (journal : List journaled.Entry) → length j
 part_is_set_up x journal n c right =
     let first = first_line x 0 in
     let calls = are_calls journal x.setup (setup_entries x) n c in
-    let last = are_last (opening_registers 0) (opening_of x) journal x.setup right calls in
+    let last = are_last (opening_control x 0) (opening_of x) journal x.setup right calls in
     record {
-      after = opening_registers 0;
+      after = opening_control x 0;
       lines = λ d agrees.
-          lines_done (own_setting x journal (length journal) 0 d) (opening_registers 0) first 1 journal x.setup refl refl last calls (stand [] journal)
+          lines_done (own_setting x journal (length journal) 0 d) (opening_control x 0) first 1 journal x.setup refl refl last calls (stand [] journal)
           (full_where (limit_of x) journal x.setup (length journal) (λ l. omega (arith, n, l)));
       full = record { each = λ place step h e. (full_past first 1 journal x.setup place step (omega (arith, n, h)) e).0 };
       none_after_full = record {

@@ -9,12 +9,12 @@ use Rattle.mx_link.specs.declared.resolving.LinkError.TheVariants.{SegmentNotFou
 use Rattle.mx_link.specs.declared.resolving.Target.{Target}
 use Rattle.mx_mail.specs.Processes.{PlainProcess}
 use Rattle.mx_mail.specs.Taking.{taken_from, nobody_else, messages_of}
-use Rattle.mx_call.specs.Registers.{Registers}
-use Rattle.mx_legal.proofs.AwaitLaws.{IsLinked}
-use Rattle.mx_legal.specs.Asking.{next, answered, first_due}
-use Rattle.mx_legal.specs.Courses.{Answer as Answering}
-use Rattle.mx_legal.specs.Filling.{section_words, snapped}
-use Rattle.mx_legal.specs.Next.{Reference}
+use Rattle.mx_upcall.specs.Control.{Control}
+use Rattle.mx_transcript.proofs.AwaitLaws.{IsLinked}
+use Rattle.mx_transcript.specs.Asking.{next, answered, first_due}
+use Rattle.mx_transcript.specs.Courses.{Answer as Answering}
+use Rattle.mx_transcript.specs.Filling.{section_words, snapped}
+use Rattle.mx_transcript.specs.Next.{Reference}
 use Rattle.mx_request.specs.Classes.{class_of}
 use Rattle.mx_request.specs.Sections.{section_in}
 use Rattle.mx_request.specs.declared.classes.RequestClass.{RequestClass}
@@ -160,7 +160,7 @@ linked_only s p ring request reply.Nobody e is = absurd is
 linked_only s p ring request reply.Waiting e is = absurd is
 
 -- where a reply asks for no writes its line goes on as it is answered
-pub next_answered : (g : Registers) (l : Line) (entry : journaled.Entry) → section_in entry.reply ≡ None
+pub next_answered : (g : Control) (l : Line) (entry : journaled.Entry) → section_in entry.reply ≡ None
     → snapped entry.request entry.ring entry.reply ≡ []
     → next g l (Answering entry []) ≡ answered g l entry.request entry.reply
 next_answered g l entry none nothing =

@@ -3,13 +3,13 @@ use Rattle.std.proofs.Common.{◌≡◌, ℕ, zero, suc, ◌<◌, ◌+◌, ◌^�
 use Rattle.std.proofs.lemmas.List.{map-append}
 use Rattle.std.proofs.lemmas.Option.{slice_get_within}
 use Rattle.std.specs.List.{slice_get}
-use Rattle.mx_legal.specs.Legal.{Call, call_of, setup_call, setup_entries}
-use Rattle.mx_legal.specs.Scripts.{first_line}
-use Rattle.mx_legal.specs.Transcripts.{Step}
+use Rattle.mx_transcript.specs.Legal.{Call, call_of, setup_call, setup_entries}
+use Rattle.mx_transcript.specs.Scripts.{first_line}
+use Rattle.mx_transcript.specs.Transcripts.{Step}
 use Rattle.mx_request.specs.declared.replies.Reply.{Reply}
 use Rattle.mx_request.specs.declared.requests.Request.{Request}
 use Rattle.mx_script.specs.Sessions.{Outline, IsSession}
-use Rattle.mx_legal.specs.Opened.{opening_of}
+use Rattle.mx_transcript.specs.Opened.{opening_of}
 use Rattle.mx_state.specs.History.{replay, IsRight, IsRightEntry, MayAsk}
 use Rattle.mx_state.specs.Plain.{Plain, answer}
 use Rattle.mx_state.specs.Requests.{plain}

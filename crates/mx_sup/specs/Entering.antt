@@ -1,7 +1,7 @@
 -- What a supervisor does: it opens with the setup, and enters one call after another.
 use Rattle.std.specs.Prelude.{◌≡◌, ℕ, ◌+◌, ◌<◌, List, [], ◌∷◌, ◌++◌, length}
-use Rattle.mx_legal.specs.Legal.{setup_entries}
-use Rattle.mx_legal.specs.Transcripts.{Step}
+use Rattle.mx_transcript.specs.Legal.{setup_entries}
+use Rattle.mx_transcript.specs.Transcripts.{Step}
 use Rattle.mx_request.specs.declared.replies.Reply.{Reply}
 use Rattle.mx_request.specs.declared.requests.Request.{Request}
 use Rattle.mx_script.specs.Sessions.{Outline, limit_of}

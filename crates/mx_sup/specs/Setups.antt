@@ -1,16 +1,16 @@
 -- Helpers: the setup's entries, and the initializer's part of the run, which they determine.
 use Rattle.std.specs.Prelude.{◌≡◌, ℕ, suc, ◌+◌, Option, Some, None, List, [], ◌∷◌, ◌++◌, map, take, length}
-use Rattle.mx_legal.specs.Asking.{result_of}
-use Rattle.mx_legal.specs.Legal.{call_of, setup_call}
-use Rattle.mx_legal.specs.Scripts.{first_line}
-use Rattle.mx_legal.specs.Transcripts.{Step}
-use Rattle.mx_legal.specs.declared.transcripts.Event2.{Event2}
-use Rattle.mx_legal.specs.declared.transcripts.Event2.TheVariants.{Entry}
-use Rattle.mx_legal.specs.declared.transcripts.Result2.TheVariants.{HistoryFull}
+use Rattle.mx_transcript.specs.Asking.{result_of}
+use Rattle.mx_transcript.specs.Legal.{call_of, setup_call}
+use Rattle.mx_transcript.specs.Scripts.{first_line}
+use Rattle.mx_transcript.specs.Transcripts.{Step}
+use Rattle.mx_transcript.specs.declared.transcripts.Event2.{Event2}
+use Rattle.mx_transcript.specs.declared.transcripts.Event2.TheVariants.{Entry}
+use Rattle.mx_transcript.specs.declared.transcripts.Result2.TheVariants.{HistoryFull}
 use Rattle.mx_request.specs.declared.replies.Reply.{Reply}
 use Rattle.mx_request.specs.declared.requests.Request.{Request}
 use Rattle.mx_script.specs.Sessions.{Outline}
-use Rattle.mx_legal.specs.Opened.{opening_of}
+use Rattle.mx_transcript.specs.Opened.{opening_of}
 use Rattle.mx_state.specs.History.{replay, IsRight, IsRightEntry}
 use Rattle.mx_state.specs.Plain.{Plain}
 use Rattle.mx_state.specs.Requests.{plain}

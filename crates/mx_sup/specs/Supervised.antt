@@ -1,8 +1,8 @@
 -- What a supervisor has entered for a session: one history of the plain supervisor, which begins with the setup.
 use Rattle.std.specs.Prelude.{◌≡◌, ℕ, ◌≤◌, List, map, take, length, Some, slice_get}
-use Rattle.mx_legal.specs.Legal.{setup_entries, call_of, setup_call}
+use Rattle.mx_transcript.specs.Legal.{setup_entries, call_of, setup_call}
 use Rattle.mx_script.specs.Sessions.{Outline, IsSession, limit_of}
-use Rattle.mx_legal.specs.Opened.{opening_of}
+use Rattle.mx_transcript.specs.Opened.{opening_of}
 use Rattle.mx_state.specs.History.{replay, IsRight}
 use Rattle.mx_state.specs.Plain.{Plain}
 use Rattle.mx_state.specs.declared.journal.Entry as journaled

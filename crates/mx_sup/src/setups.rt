@@ -2,18 +2,18 @@
 
 ghost use Rattle.std.specs.Prelude.{◌≡◌, ◌<◌, ◌+◌, ◌^◌, [], ◌∷◌, ◌++◌, IsTrue, IfOk, OnOk, slice_get, vec_capacity, vec_len};
 ghost use Rattle.std.specs.Option.{option_map};
-ghost use Rattle.mx_legal.specs.Legal.{setup_entries};
-ghost use Rattle.mx_legal.specs.Opened.{opening_of};
+ghost use Rattle.mx_transcript.specs.Legal.{setup_entries};
+ghost use Rattle.mx_transcript.specs.Opened.{opening_of};
 ghost use Rattle.mx_script.specs.Sessions.{IsSession};
 ghost use Rattle.mx_state.specs.History.{MayAsk};
 ghost use Rattle.mx_sup.specs.Setups.{HasSetUp, IsEntered, setup_step, setup_part};
 
 use crate::answering::answered;
-use mx_legal::{Event2, Recording, Result2, Transcript, first_line, setup_entries};
 use mx_request::Request;
 use mx_script::Session;
 use mx_sdw::Ring;
 use mx_state::{Entry, State};
+use mx_transcript::{Event2, Recording, Result2, Transcript, first_line, setup_entries};
 use std::alloc::{AllocError, Global};
 
 /// Enters the setup's requests in order, as far as the limit allows: the journal after them.

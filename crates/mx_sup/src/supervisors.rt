@@ -2,7 +2,7 @@
 
 ghost use Rattle.std.specs.Prelude.{◌≡◌, ◌≤◌, ◌+◌, ◌↔◌, length, Err, Some, IfOk, OnErr};
 ghost use Rattle.std.specs.Option.{option_map};
-ghost use Rattle.mx_legal.specs.Settings.{entry_at};
+ghost use Rattle.mx_transcript.specs.Settings.{entry_at};
 ghost use Rattle.mx_script.specs.Sessions.{limit_of};
 ghost use Rattle.mx_sdw.specs.Admissible.{IsAdmissible};
 ghost use Rattle.mx_state.specs.Messages.{is_ready};
@@ -13,12 +13,12 @@ ghost use Rattle.mx_sup.specs.declared.supervisors.EnterError.TheVariants.{Memor
 
 use crate::answering::answered;
 use crate::setups::{enter_setup, entry_in, setup_part};
-use mx_legal::Transcript;
 use mx_list::Sequence;
 use mx_request::{Reply, Request};
 use mx_script::Session;
 use mx_sdw::{Desc, Ring};
 use mx_state::{Entry, Journal, State};
+use mx_transcript::Transcript;
 use std::alloc::{AllocError, Global};
 use std::marker::Model;
 use thiserror::Error;

@@ -1,7 +1,7 @@
 -- The acts of a list of deeds and their places.
 use Rattle.std.proofs.Common.{◌≡◌, ℕ, zero, suc, ◌<◌, ◌≤◌, List, [], ◌∷◌, refl, ap, sym, subst, Some, arith}
 use Rattle.std.specs.List.{slice_get}
-use Rattle.mx_legal.specs.Deeds.{Deed, Enters, Stores, Loads, Refers, Misses}
+use Rattle.mx_reads.specs.Deeds.{Deed, Enters, Stores, Loads, Refers, Misses}
 use Rattle.mx_ties.specs.Acts.{IsAct, acts, one_more, acts_before, place_of}
 
 no_entry : (number : ℕ) (d : Deed) → IsAct d → Some (Enters number) ≡ Some d → ⊥
@@ -13,10 +13,10 @@ pub act_at : (done : List Deed) (place : ℕ) (d : Deed) → IsAct d → slice_g
 act_at [] place d a h = cc
 act_at (Enters number ∷ done) zero d a h = absurd (no_entry number d a h)
 act_at (Enters number ∷ done) (suc place) d a h = act_at done place d a h
-act_at (Stores spot value point ∷ done) zero d a h = h
-act_at (Stores spot value point ∷ done) (suc place) d a h = act_at done place d a h
-act_at (Loads spot value writer stamp point ∷ done) zero d a h = h
-act_at (Loads spot value writer stamp point ∷ done) (suc place) d a h = act_at done place d a h
+act_at (Stores cell value point ∷ done) zero d a h = h
+act_at (Stores cell value point ∷ done) (suc place) d a h = act_at done place d a h
+act_at (Loads cell value writer stamp point ∷ done) zero d a h = h
+act_at (Loads cell value writer stamp point ∷ done) (suc place) d a h = act_at done place d a h
 act_at (Refers point ∷ done) zero d a h = h
 act_at (Refers point ∷ done) (suc place) d a h = act_at done place d a h
 act_at (Misses segno by ∷ done) zero d a h = h
@@ -27,10 +27,10 @@ pub at_place : (done : List Deed) (i : ℕ) (d : Deed) → slice_get (acts done)
     → slice_get done (place_of done i) ≡ Some d
 at_place [] i d h = cc
 at_place (Enters number ∷ done) i d h = at_place done i d h
-at_place (Stores spot value point ∷ done) zero d h = h
-at_place (Stores spot value point ∷ done) (suc i) d h = at_place done i d h
-at_place (Loads spot value writer stamp point ∷ done) zero d h = h
-at_place (Loads spot value writer stamp point ∷ done) (suc i) d h = at_place done i d h
+at_place (Stores cell value point ∷ done) zero d h = h
+at_place (Stores cell value point ∷ done) (suc i) d h = at_place done i d h
+at_place (Loads cell value writer stamp point ∷ done) zero d h = h
+at_place (Loads cell value writer stamp point ∷ done) (suc i) d h = at_place done i d h
 at_place (Refers point ∷ done) zero d h = h
 at_place (Refers point ∷ done) (suc i) d h = at_place done i d h
 at_place (Misses segno by ∷ done) zero d h = h
@@ -40,10 +40,10 @@ pub before_place : (done : List Deed) (i : ℕ) (d : Deed) → slice_get (acts d
     → acts_before done (place_of done i) ≡ i
 before_place [] i d h = cc
 before_place (Enters number ∷ done) i d h = before_place done i d h
-before_place (Stores spot value point ∷ done) zero d h = refl
-before_place (Stores spot value point ∷ done) (suc i) d h = ap suc (before_place done i d h)
-before_place (Loads spot value writer stamp point ∷ done) zero d h = refl
-before_place (Loads spot value writer stamp point ∷ done) (suc i) d h = ap suc (before_place done i d h)
+before_place (Stores cell value point ∷ done) zero d h = refl
+before_place (Stores cell value point ∷ done) (suc i) d h = ap suc (before_place done i d h)
+before_place (Loads cell value writer stamp point ∷ done) zero d h = refl
+before_place (Loads cell value writer stamp point ∷ done) (suc i) d h = ap suc (before_place done i d h)
 before_place (Refers point ∷ done) zero d h = refl
 before_place (Refers point ∷ done) (suc i) d h = ap suc (before_place done i d h)
 before_place (Misses segno by ∷ done) zero d h = refl
@@ -52,11 +52,11 @@ before_place (Misses segno by ∷ done) (suc i) d h = ap suc (before_place done 
 pub is_act : (done : List Deed) (i : ℕ) (d : Deed) → slice_get (acts done) i ≡ Some d → IsAct d
 is_act [] i d h = cc
 is_act (Enters number ∷ done) i d h = is_act done i d h
-is_act (Stores spot value point ∷ done) zero d h = let e : Stores spot value point ≡ d = cc in subst IsAct e tt
-is_act (Stores spot value point ∷ done) (suc i) d h = is_act done i d h
-is_act (Loads spot value writer stamp point ∷ done) zero d h =
-    let e : Loads spot value writer stamp point ≡ d = cc in subst IsAct e tt
-is_act (Loads spot value writer stamp point ∷ done) (suc i) d h = is_act done i d h
+is_act (Stores cell value point ∷ done) zero d h = let e : Stores cell value point ≡ d = cc in subst IsAct e tt
+is_act (Stores cell value point ∷ done) (suc i) d h = is_act done i d h
+is_act (Loads cell value writer stamp point ∷ done) zero d h =
+    let e : Loads cell value writer stamp point ≡ d = cc in subst IsAct e tt
+is_act (Loads cell value writer stamp point ∷ done) (suc i) d h = is_act done i d h
 is_act (Refers point ∷ done) zero d h = let e : Refers point ≡ d = cc in subst IsAct e tt
 is_act (Refers point ∷ done) (suc i) d h = is_act done i d h
 is_act (Misses segno by ∷ done) zero d h = let e : Misses segno by ≡ d = cc in subst IsAct e tt
@@ -65,22 +65,22 @@ is_act (Misses segno by ∷ done) (suc i) d h = is_act done i d h
 -- the number of acts before a place grows with the place, and from an act's place on strictly
 more_grows : (d : Deed) (a b : ℕ) → a ≤ b → one_more d a ≤ one_more d b
 more_grows (Enters number) a b l = l
-more_grows (Stores spot value point) a b l = omega arith
-more_grows (Loads spot value writer stamp point) a b l = omega arith
+more_grows (Stores cell value point) a b l = omega arith
+more_grows (Loads cell value writer stamp point) a b l = omega arith
 more_grows (Refers point) a b l = omega arith
 more_grows (Misses segno by) a b l = omega arith
 
 more_rises : (d : Deed) (a b : ℕ) → a < b → one_more d a < one_more d b
 more_rises (Enters number) a b l = l
-more_rises (Stores spot value point) a b l = omega arith
-more_rises (Loads spot value writer stamp point) a b l = omega arith
+more_rises (Stores cell value point) a b l = omega arith
+more_rises (Loads cell value writer stamp point) a b l = omega arith
 more_rises (Refers point) a b l = omega arith
 more_rises (Misses segno by) a b l = omega arith
 
 act_counts : (d : Deed) (n : ℕ) → IsAct d → 0 < one_more d n
 act_counts (Enters number) n a = absurd a
-act_counts (Stores spot value point) n a = omega arith
-act_counts (Loads spot value writer stamp point) n a = omega arith
+act_counts (Stores cell value point) n a = omega arith
+act_counts (Loads cell value writer stamp point) n a = omega arith
 act_counts (Refers point) n a = omega arith
 act_counts (Misses segno by) n a = omega arith
 

@@ -3,8 +3,8 @@ use Rattle.std.proofs.Common.{◌≡◌, inl, inr, ℕ, suc, ◌+◌, List, [], 
 use Rattle.std.specs.List.{slice_get}
 use Rattle.std.proofs.lemmas.Bool.{cases_eq}
 use Rattle.mx_script.specs.Sessions.{limit_of}
-use Rattle.mx_legal.specs.declared.transcripts.Event2.TheVariants.{Entry}
-use Rattle.mx_legal.specs.Courses.{Answer}
+use Rattle.mx_transcript.specs.declared.transcripts.Event2.TheVariants.{Entry}
+use Rattle.mx_transcript.specs.Courses.{Answer}
 use Rattle.mx_reads.specs.Deeds.{Stores}
 use Rattle.mx_ties.specs.Bench.{entered_view}
 use Rattle.mx_ties.specs.BenchGoing.{IsBenched, BenchCallLaw, BenchLookLaw, BenchFillLaw, BenchStampLaw, BenchOthersLaw}

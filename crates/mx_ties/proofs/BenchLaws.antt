@@ -3,21 +3,21 @@ use Rattle.std.proofs.Common.{◌≡◌, ◌≢◌, inl, inr, ℕ, zero, suc, �
 use Rattle.std.specs.List.{slice_get}
 use Rattle.std.proofs.lemmas.Bool.{cases_eq}
 use Rattle.std.proofs.lemmas.List.{map-append, append-nil, take-append-le, length-append, length-map}
-use Rattle.mx_legal.specs.Opened.{opening_of}
+use Rattle.mx_transcript.specs.Opened.{opening_of}
 use Rattle.mx_state.specs.History.{replay, IsRight, IsRightEntry}
 use Rattle.mx_state.specs.Plain.{Plain}
 use Rattle.mx_state.specs.Requests.{plain}
 use Rattle.mx_state.specs.declared.journal.Entry as journaled
 use Rattle.mx_script.specs.Sessions.{Outline, limit_of}
-use Rattle.mx_legal.specs.Courses.{Judged}
+use Rattle.mx_transcript.specs.Courses.{Judged}
 use Rattle.mx_ties.specs.Bench.{entered_view, referred_view, IsReferred}
 use Rattle.mx_ties.specs.Closed.{IsClosed, IsRetired, entry_in, maker, followed, traces}
 use Rattle.mx_ties.specs.Fronts.{front_after}
 use Rattle.mx_ties.specs.Counting.{AreProcesses, total}
-use Rattle.mx_legal.specs.Access.{descriptor_at, descriptor_of}
-use Rattle.mx_legal.specs.Legal.{setup_entries, call_of, Call}
-use Rattle.mx_legal.specs.Misses.{IsChanged}
-use Rattle.mx_reads.specs.ReadRule.{AreRightReads}
+use Rattle.mx_transcript.specs.Access.{descriptor_at, descriptor_of}
+use Rattle.mx_transcript.specs.Legal.{setup_entries, call_of, Call}
+use Rattle.mx_transcript.specs.Misses.{IsChanged}
+use Rattle.mx_reads.specs.ReadRule.{known_by, AreRightReads}
 use Rattle.mx_ties.specs.Views.{Kept, Referred, Missed, Marked, View}
 use Rattle.mx_ties.proofs.Places.{place_found}
 use Rattle.mx_ties.proofs.JournalLists.{followed_more, followed_length, descriptor_kept, total_alike}
@@ -67,7 +67,7 @@ module _ (x : Outline) (setup : List journaled.Entry) (history : List Marked) (v
     → j.element.point ≤ length (followed setup history))
     (mine : views' p ≡ entered_view (views p) (history ++ marked ∷ []) (length (followed setup history) + 1))
     (others : (u : ℕ) → u ≢ p → views' u ≡ views u)
-    (reads : AreRightReads (traces views') (front_after (length setup) (history ++ marked ∷ []))) where
+    (reads : AreRightReads (traces views') (known_by (front_after (length setup) (history ++ marked ∷ [])))) where
   abbrev journal : List journaled.Entry
   journal = followed setup history
 
@@ -173,7 +173,7 @@ module _ (x : Outline) (setup : List journaled.Entry) (history : List Marked) (v
 module _ (x : Outline) (setup : List journaled.Entry) (history : List Marked) (views views' : ℕ → View) (p : ℕ)
     (j : Judged)
     (closed : IsClosed x setup history views) (is : IsReferred x setup history views views' p j)
-    (reads : AreRightReads (traces views') (front_after (length setup) history)) where
+    (reads : AreRightReads (traces views') (known_by (front_after (length setup) history))) where
   apart_zero : 0 ≢ p
   apart_zero e = let some = is.some in absurd (omega arith)
 

@@ -4,16 +4,15 @@ use Rattle.std.specs.List.{slice_get}
 use Rattle.std.proofs.lemmas.Bool.{cases_eq}
 use Rattle.std.proofs.lemmas.List.{append-nil, map-append, length-append, length-map}
 use Rattle.mx_state.specs.declared.journal.Entry as journaled
-use Rattle.mx_legal.specs.Opened.{opening_of}
+use Rattle.mx_transcript.specs.Opened.{opening_of}
 use Rattle.mx_state.specs.History.{replay, IsRight, IsRightEntry}
 use Rattle.mx_script.specs.Sessions.{Outline, limit_of}
 use Rattle.mx_core.specs.declared.elements.Outcome.{Outcome}
 use Rattle.mx_core.specs.declared.elements.Outcome.TheVariants as outcome
-use Rattle.mx_legal.specs.Courses.{Judged}
-use Rattle.mx_legal.specs.Legal.{setup_entries, call_of}
-use Rattle.mx_legal.specs.Deeds.{Spot}
-use Rattle.mx_legal.specs.References.{reference, spot_by}
+use Rattle.mx_transcript.specs.Courses.{Judged}
+use Rattle.mx_transcript.specs.Legal.{setup_entries, call_of}
 use Rattle.mx_reads.specs.Deeds.{CellUse, Deed, Stores, Loads}
+use Rattle.mx_transcript.specs.References.{reference, cell_by}
 use Rattle.mx_reads.specs.Growth.{IsWithin, IsQuiet, IsQuietWithin}
 use Rattle.mx_reads.specs.Held.{Held, AreRight}
 use Rattle.mx_reads.specs.KeepLaws.{IsNew}
@@ -24,16 +23,15 @@ use Rattle.mx_ties.specs.Bench.{IsBench, entered_view, IsReferred, BenchEntryLaw
 use Rattle.mx_ties.specs.Counting.{total}
 use Rattle.mx_ties.specs.Closed.{followed, traces}
 use Rattle.mx_ties.specs.Fronts.{front_after}
-use Rattle.mx_ties.specs.Uses.{as_known}
-use Rattle.mx_ties.specs.Views.{Referred, Missed, Marked, View, known_kept}
+use Rattle.mx_ties.specs.Views.{Referred, Missed, Marked, View, deed_kept}
 use Rattle.mx_ties.proofs.BenchLaws.{still_closed, closed_referred}
 use Rattle.mx_ties.proofs.Fronts.{front_same, front_low}
 use Rattle.mx_ties.proofs.JournalLists.{followed_more, followed_length}
 use Rattle.mx_ties.proofs.Places.{map_at, place_kept, place_found}
 
 -- a point of a trace is within the journal
-point_within : (bound : ℕ) (spot : Option Spot) (came : Outcome) (point : ℕ)
-    → IsWithin bound (as_known (reference spot came point)) → point ≤ bound
+point_within : (bound : ℕ) (cell : Option CellUse) (came : Outcome) (point : ℕ)
+    → IsWithin bound (reference cell came point) → point ≤ bound
 point_within bound None (outcome.Read value writer stamp) point h = h
 point_within bound None (outcome.Written value) point h = h
 point_within bound None (outcome.Entered ring) point h = h
@@ -43,8 +41,8 @@ point_within bound (Some at) (outcome.Written value) point h = h
 point_within bound (Some at) (outcome.Entered ring) point h = h
 point_within bound (Some at) (outcome.Denied denial) point h = h
 
-within_point : (bound : ℕ) (spot : Option Spot) (came : Outcome) (point : ℕ) → point ≤ bound
-    → IsWithin bound (as_known (reference spot came point))
+within_point : (bound : ℕ) (cell : Option CellUse) (came : Outcome) (point : ℕ) → point ≤ bound
+    → IsWithin bound (reference cell came point)
 within_point bound None (outcome.Read value writer stamp) point h = h
 within_point bound None (outcome.Written value) point h = h
 within_point bound None (outcome.Entered ring) point h = h
@@ -67,9 +65,9 @@ module _ (x : Outline) (setup : List journaled.Entry) (history : List Marked) (v
     (others : (u : ℕ) → u ≢ p → views' u ≡ views u) where
   same : (u : ℕ) → traces views' u ≡ traces views u
   same u = elim (cases_eq u p) [
-    | inl e ↦ ap (λ (k : ℕ). traces views' k) e ∙ ap (λ (v : View). map known_kept v.trace) mine
+    | inl e ↦ ap (λ (k : ℕ). traces views' k) e ∙ ap (λ (v : View). map deed_kept v.trace) mine
         ∙ ap (λ (k : ℕ). traces views k) (sym e)
-    | inr n ↦ ap (λ (v : View). map known_kept v.trace) (others u n)
+    | inr n ↦ ap (λ (v : View). map deed_kept v.trace) (others u n)
   ]
 
   longer : length (followed setup (history ++ marked ∷ [])) ≡ length (followed setup history) + 1
@@ -84,7 +82,7 @@ module _ (x : Outline) (setup : List journaled.Entry) (history : List Marked) (v
         let l = ap (λ (n : Marked). n.mark) new.1 in
         let maker : m.entry.process ≡ p = ap (λ (n : Marked). n.entry.process) new.1 ∙ own in
         let e = ap (λ (u : ℕ). length (traces views' u)) maker ∙ ap length (same p)
-        ∙ length-map (views p).trace known_kept in omega arith
+        ∙ length-map (views p).trace deed_kept in omega arith
   ]
 
   right' : AreRight (suc (length x.principals)) (length (followed setup (history ++ marked ∷ []))) (traces views')
@@ -110,8 +108,8 @@ module _ (x : Outline) (setup : List journaled.Entry) (history : List Marked) (v
   within : (u i : ℕ) (j : Judged) → slice_get (views u).trace i ≡ Some (Referred j)
       → j.element.point ≤ length (followed setup history)
   within u i j h = point_within (length (followed setup history))
-      (spot_by j.desc j.element.kind j.element.ring j.element.word) j.element.outcome j.element.point
-      (b.right.within u i (known_kept (Referred j)) (map_at known_kept (views u).trace i (Referred j) h))
+      (cell_by j.desc j.element.kind j.element.ring j.element.word) j.element.outcome j.element.point
+      (b.right.within u i (deed_kept (Referred j)) (map_at deed_kept (views u).trace i (Referred j) h))
 
   pub entered : IsBench x setup (history ++ marked ∷ []) views' present' memory
   entered = record {
@@ -131,11 +129,11 @@ module _ (x : Outline) (setup : List journaled.Entry) (history : List Marked) (v
     (present : CellUse → Bool)
     (memory : CellUse → Held) (p : ℕ) (j : Judged)
     (b : IsBench x setup history views present memory) (is : IsReferred x setup history views views' p j) where
-  one_more : traces views' p ≡ traces views p ++ known_kept (Referred j) ∷ []
-  one_more = ap (λ (v : View). map known_kept v.trace) is.own ∙ map-append known_kept (views p).trace (Referred j ∷ [])
+  one_more : traces views' p ≡ traces views p ++ deed_kept (Referred j) ∷ []
+  one_more = ap (λ (v : View). map deed_kept v.trace) is.own ∙ map-append deed_kept (views p).trace (Referred j ∷ [])
 
   rest : (u : ℕ) → u ≢ p → traces views' u ≡ traces views u
-  rest u n = ap (λ (v : View). map known_kept v.trace) (is.others u n)
+  rest u n = ap (λ (v : View). map deed_kept v.trace) (is.others u n)
 
   low : p < suc (length x.principals)
   low = let most = is.most in omega arith
@@ -143,7 +141,7 @@ module _ (x : Outline) (setup : List journaled.Entry) (history : List Marked) (v
   longer_trace : (u : ℕ) → length (traces views u) ≤ length (traces views' u)
   longer_trace u = elim (cases_eq u p) [
     | inl e ↦
-        let l = ap length one_more ∙ length-append (traces views p) (known_kept (Referred j) ∷ []) in
+        let l = ap length one_more ∙ length-append (traces views p) (deed_kept (Referred j) ∷ []) in
         let a = ap (λ (w : ℕ). length (traces views w)) e in
         let c = ap (λ (w : ℕ). length (traces views' w)) e in omega arith
     | inr n ↦ let l = ap length (rest u n) in omega arith
@@ -161,7 +159,7 @@ module _ (x : Outline) (setup : List journaled.Entry) (history : List Marked) (v
   }
 
   pub stored : (memory' : CellUse → Held) (cell : CellUse) (value : ℕ)
-      → known_kept (Referred j) ≡ Stores cell value (length (followed setup history))
+      → deed_kept (Referred j) ≡ Stores cell value (length (followed setup history))
       → memory' cell ≡ record { value = value; writer = p; stamp = length (followed setup history) }
       → ((c : CellUse) → c ≢ cell → memory' c ≡ memory c) → IsBench x setup history views' present memory'
   stored memory' cell value deed here elsewhere = together memory'
@@ -171,7 +169,7 @@ module _ (x : Outline) (setup : List journaled.Entry) (history : List Marked) (v
       (one_more ∙ ap (λ (d : Deed). traces views p ++ d ∷ []) deed) rest here (λ c n t. (t, elsewhere c n)) b.right)
 
   pub loaded : (cell : CellUse) → IsTrue (present cell)
-      → known_kept (Referred j) ≡ Loads cell (memory cell).value (memory cell).writer (memory cell).stamp
+      → deed_kept (Referred j) ≡ Loads cell (memory cell).value (memory cell).writer (memory cell).stamp
       (length (followed setup history))
       → IsBench x setup history views' present memory
   loaded cell there deed = together memory
@@ -180,20 +178,20 @@ module _ (x : Outline) (setup : List journaled.Entry) (history : List Marked) (v
       (front_after (length setup) history) present memory there low (omega arith)
       (one_more ∙ ap (λ (d : Deed). traces views p ++ d ∷ []) deed) rest b.right)
 
-  quiet_within : IsQuiet (known_kept (Referred j)) → IsQuietWithin (length (followed setup history))
-      (known_kept (Referred j))
+  quiet_within : IsQuiet (deed_kept (Referred j)) → IsQuietWithin (length (followed setup history))
+      (deed_kept (Referred j))
   quiet_within quiet = record {
     quiet = quiet;
     within = within_point (length (followed setup history))
-        (spot_by j.desc j.element.kind j.element.ring j.element.word) j.element.outcome j.element.point
+        (cell_by j.desc j.element.kind j.element.ring j.element.word) j.element.outcome j.element.point
         (let e = is.point in omega arith);
   }
 
-  found_more : IsQuiet (known_kept (Referred j)) → (u i : ℕ) (d : Deed) → slice_get (traces views' u) i ≡ Some d
+  found_more : IsQuiet (deed_kept (Referred j)) → (u i : ℕ) (d : Deed) → slice_get (traces views' u) i ≡ Some d
       → (slice_get (traces views u) i ≡ Some d) ⊎
       ((u ≡ p) × (i ≡ length (traces views p)) × IsQuietWithin (length (followed setup history)) d)
   found_more quiet u i d h = elim (cases_eq u p) [
-    | inl e ↦ elim (place_found (traces views p) (known_kept (Referred j)) d i
+    | inl e ↦ elim (place_found (traces views p) (deed_kept (Referred j)) d i
         (subst (λ (l : List Deed). slice_get l i ≡ Some d) (ap (traces views') e ∙ one_more) h)) [
           | inl old ↦ inl (subst (λ (w : ℕ). slice_get (traces views w) i ≡ Some d) (sym e) old)
           | inr new ↦ inr
@@ -205,12 +203,12 @@ module _ (x : Outline) (setup : List journaled.Entry) (history : List Marked) (v
   kept_more : (u i : ℕ) (d : Deed) → slice_get (traces views u) i ≡ Some d → slice_get (traces views' u) i ≡ Some d
   kept_more u i d h = elim (cases_eq u p) [
     | inl e ↦ subst (λ (l : List Deed). slice_get l i ≡ Some d) (sym (ap (traces views') e ∙ one_more))
-        (place_kept (traces views p) (known_kept (Referred j) ∷ []) i d
+        (place_kept (traces views p) (deed_kept (Referred j) ∷ []) i d
         (subst (λ (w : ℕ). slice_get (traces views w) i ≡ Some d) e h))
     | inr n ↦ subst (λ (l : List Deed). slice_get l i ≡ Some d) (sym (rest u n)) h
   ]
 
-  pub quieted : IsQuiet (known_kept (Referred j)) → IsBench x setup history views' present memory
+  pub quieted : IsQuiet (deed_kept (Referred j)) → IsBench x setup history views' present memory
   quieted quiet = together memory
       (quiet_law (suc (length x.principals)) (length (followed setup history)) (length (followed setup history)) p
       (traces views) (traces views')
@@ -222,7 +220,7 @@ module _ (x : Outline) (setup : List journaled.Entry) (history : List Marked) (v
         longer = longer_trace;
         length_others = λ u n. ap length (rest u n);
         length_own = let l = ap length one_more ∙ length-append (traces views p)
-            (known_kept (Referred j) ∷ []) in omega arith;
+            (deed_kept (Referred j) ∷ []) in omega arith;
       })
       (λ u q l. let f = b.right.low u q l in let more = longer_trace u in omega arith)
       (λ cell t. inl t) b.right)

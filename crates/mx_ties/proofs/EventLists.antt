@@ -1,25 +1,24 @@
 -- Events of a transcript, the trace that they are tied to, and their deeds.
 use Rattle.std.proofs.Common.{◌≡◌, ℕ, zero, suc, List, [], ◌∷◌, ◌++◌, map, refl, ap, ◌∙◌, subst, Option, Some, None}
 use Rattle.std.specs.List.{slice_get}
-use Rattle.mx_legal.specs.Courses.{Judged}
+use Rattle.mx_transcript.specs.Courses.{Judged}
 use Rattle.mx_core.specs.declared.elements.Element.{Element}
 use Rattle.mx_core.specs.declared.elements.Event.{Event}
 use Rattle.mx_core.specs.declared.elements.Event.TheVariants.{Seen, Missing}
 use Rattle.mx_core.specs.declared.elements.Outcome.{Outcome}
 use Rattle.mx_core.specs.declared.elements.Outcome.TheVariants as outcome
-use Rattle.mx_legal.specs.declared.transcripts.Event2.{Event2}
-use Rattle.mx_legal.specs.declared.transcripts.Event2.TheVariants.{Core, Entry}
+use Rattle.mx_transcript.specs.declared.transcripts.Event2.{Event2}
+use Rattle.mx_transcript.specs.declared.transcripts.Event2.TheVariants.{Core, Entry}
 use Rattle.mx_ties.specs.Acts.{acts, one_more, acts_before}
-use Rattle.mx_legal.specs.Deeds.{Spot, Deed, Enters, Misses}
-use Rattle.mx_legal.specs.References.{reference, spot_by, deed_by}
-use Rattle.mx_legal.specs.Transcripts.{Step, events_of, entries_named}
-use Rattle.mx_reads.specs.Deeds as known
-use Rattle.mx_ties.specs.Uses.{as_known}
-use Rattle.mx_ties.specs.Views.{Kept, Referred, Missed, event_of, deed_kept, known_kept, judged_in, cores, cores_before}
+use Rattle.mx_reads.specs.Deeds.{CellUse, Deed, Enters, Stores, Loads, Refers, Misses}
+use Rattle.mx_transcript.specs.References.{reference, cell_by, deed_by}
+use Rattle.mx_transcript.specs.Transcripts.{Step, events_of, entries_named}
+use Rattle.mx_ties.specs.Uses.{renamed, same_use}
+use Rattle.mx_ties.specs.Views.{Kept, Referred, Missed, event_of, deed_kept, judged_in, cores, cores_before}
 
 -- a reference is an act, and no entry or miss
-acts_reference : (spot : Option Spot) (came : Outcome) (point : ℕ) (done : List Deed)
-    → acts (reference spot came point ∷ done) ≡ reference spot came point ∷ acts done
+acts_reference : (cell : Option CellUse) (came : Outcome) (point : ℕ) (done : List Deed)
+    → acts (reference cell came point ∷ done) ≡ reference cell came point ∷ acts done
 acts_reference None (outcome.Read value writer stamp) point done = refl
 acts_reference None (outcome.Written value) point done = refl
 acts_reference None (outcome.Entered ring) point done = refl
@@ -29,7 +28,7 @@ acts_reference (Some at) (outcome.Written value) point done = refl
 acts_reference (Some at) (outcome.Entered ring) point done = refl
 acts_reference (Some at) (outcome.Denied denial) point done = refl
 
-more_reference : (spot : Option Spot) (came : Outcome) (point n : ℕ) → one_more (reference spot came point) n ≡ suc n
+more_reference : (cell : Option CellUse) (came : Outcome) (point n : ℕ) → one_more (reference cell came point) n ≡ suc n
 more_reference None (outcome.Read value writer stamp) point n = refl
 more_reference None (outcome.Written value) point n = refl
 more_reference None (outcome.Entered ring) point n = refl
@@ -39,8 +38,8 @@ more_reference (Some at) (outcome.Written value) point n = refl
 more_reference (Some at) (outcome.Entered ring) point n = refl
 more_reference (Some at) (outcome.Denied denial) point n = refl
 
-reference_no_entry : (spot : Option Spot) (came : Outcome) (point number : ℕ)
-    → Some (reference spot came point) ≡ Some (Enters number) → ⊥
+reference_no_entry : (cell : Option CellUse) (came : Outcome) (point number : ℕ)
+    → Some (reference cell came point) ≡ Some (Enters number) → ⊥
 reference_no_entry None (outcome.Read value writer stamp) point number h = cc
 reference_no_entry None (outcome.Written value) point number h = cc
 reference_no_entry None (outcome.Entered ring) point number h = cc
@@ -50,8 +49,8 @@ reference_no_entry (Some at) (outcome.Written value) point number h = cc
 reference_no_entry (Some at) (outcome.Entered ring) point number h = cc
 reference_no_entry (Some at) (outcome.Denied denial) point number h = cc
 
-reference_no_miss : (spot : Option Spot) (came : Outcome) (point segno by : ℕ)
-    → Some (reference spot came point) ≡ Some (Misses segno by) → ⊥
+reference_no_miss : (cell : Option CellUse) (came : Outcome) (point segno by : ℕ)
+    → Some (reference cell came point) ≡ Some (Misses segno by) → ⊥
 reference_no_miss None (outcome.Read value writer stamp) point segno by h = cc
 reference_no_miss None (outcome.Written value) point segno by h = cc
 reference_no_miss None (outcome.Entered ring) point segno by h = cc
@@ -61,46 +60,54 @@ reference_no_miss (Some at) (outcome.Written value) point segno by h = cc
 reference_no_miss (Some at) (outcome.Entered ring) point segno by h = cc
 reference_no_miss (Some at) (outcome.Denied denial) point segno by h = cc
 
--- the spots are those of the descriptors that the trace keeps
-abbrev pub HasSpots : (Element → Option Spot) → List Kept → Type 0
-HasSpots spot trace = (i : ℕ) (j : Judged) → slice_get trace i ≡ Some (Referred j)
-    → spot j.element ≡ spot_by j.desc j.element.kind j.element.ring j.element.word
+-- the cells are those of the descriptors that the trace keeps
+abbrev pub HasCells : (Element → Option CellUse) → List Kept → Type 0
+HasCells cell trace = (i : ℕ) (j : Judged) → slice_get trace i ≡ Some (Referred j)
+    → cell j.element ≡ cell_by j.desc j.element.kind j.element.ring j.element.word
 
-spots_rest : (spot : Element → Option Spot) (kept : Kept) (trace : List Kept) → HasSpots spot (kept ∷ trace)
-    → HasSpots spot trace
-spots_rest spot kept trace spots i j h = spots (suc i) j h
+cells_rest : (cell : Element → Option CellUse) (kept : Kept) (trace : List Kept) → HasCells cell (kept ∷ trace)
+    → HasCells cell trace
+cells_rest cell kept trace cells i j h = cells (suc i) j h
 
-pub acts_kept : (spot : Element → Option Spot) (events : List Event2) (trace : List Kept)
-    → cores events ≡ map event_of trace → HasSpots spot trace
-    → acts (map (deed_by spot) events) ≡ map deed_kept trace
-acts_kept spot [] [] h spots = refl
-acts_kept spot [] (kept ∷ trace) h spots = cc
-acts_kept spot (Entry number ∷ events) trace h spots = acts_kept spot events trace h spots
-acts_kept spot (Core (Seen e) ∷ events) [] h spots = cc
-acts_kept spot (Core (Seen e) ∷ events) (Missed segno by ∷ trace) h spots = cc
-acts_kept spot (Core (Seen e) ∷ events) (Referred j ∷ trace) h spots =
+pub acts_kept : (cell : Element → Option CellUse) (events : List Event2) (trace : List Kept)
+    → cores events ≡ map event_of trace → HasCells cell trace
+    → acts (map (deed_by cell) events) ≡ map deed_kept trace
+acts_kept cell [] [] h cells = refl
+acts_kept cell [] (kept ∷ trace) h cells = cc
+acts_kept cell (Entry number ∷ events) trace h cells = acts_kept cell events trace h cells
+acts_kept cell (Core (Seen e) ∷ events) [] h cells = cc
+acts_kept cell (Core (Seen e) ∷ events) (Missed segno by ∷ trace) h cells = cc
+acts_kept cell (Core (Seen e) ∷ events) (Referred j ∷ trace) h cells =
     let same : e ≡ j.element = cc in
     let rest : cores events ≡ map event_of trace = cc in
-    let here = spots 0 j refl in
-    let more = acts_kept spot events trace rest (spots_rest spot (Referred j) trace spots) in
-    acts_reference (spot e) e.outcome e.point (map (deed_by spot) events)
-    ∙ ap (λ (a : Element). reference (spot a) a.outcome a.point ∷ acts (map (deed_by spot) events)) same
-    ∙ ap (λ (o : Option Spot). reference o j.element.outcome j.element.point ∷ acts (map (deed_by spot) events)) here
+    let here = cells 0 j refl in
+    let more = acts_kept cell events trace rest (cells_rest cell (Referred j) trace cells) in
+    acts_reference (cell e) e.outcome e.point (map (deed_by cell) events)
+    ∙ ap (λ (a : Element). reference (cell a) a.outcome a.point ∷ acts (map (deed_by cell) events)) same
+    ∙ ap (λ (o : Option CellUse). reference o j.element.outcome j.element.point ∷ acts (map (deed_by cell) events)) here
     ∙ ap (λ (l : List Deed). deed_kept (Referred j) ∷ l) more
-acts_kept spot (Core (Missing segno by) ∷ events) [] h spots = cc
-acts_kept spot (Core (Missing segno by) ∷ events) (Referred j ∷ trace) h spots = cc
-acts_kept spot (Core (Missing segno by) ∷ events) (Missed segno' by' ∷ trace) h spots =
+acts_kept cell (Core (Missing segno by) ∷ events) [] h cells = cc
+acts_kept cell (Core (Missing segno by) ∷ events) (Referred j ∷ trace) h cells = cc
+acts_kept cell (Core (Missing segno by) ∷ events) (Missed segno' by' ∷ trace) h cells =
     let segnos : segno ≡ segno' = cc in
     let bys : by ≡ by' = cc in
     let rest : cores events ≡ map event_of trace = cc in
-    let more = acts_kept spot events trace rest (spots_rest spot (Missed segno' by') trace spots) in
-    ap (λ (n : ℕ). Misses n by ∷ acts (map (deed_by spot) events)) segnos
-    ∙ ap (λ (n : ℕ). Misses segno' n ∷ acts (map (deed_by spot) events)) bys
+    let more = acts_kept cell events trace rest (cells_rest cell (Missed segno' by') trace cells) in
+    ap (λ (n : ℕ). Misses n by ∷ acts (map (deed_by cell) events)) segnos
+    ∙ ap (λ (n : ℕ). Misses segno' n ∷ acts (map (deed_by cell) events)) bys
     ∙ ap (λ (l : List Deed). Misses segno' by' ∷ l) more
 
-pub known_same : (trace : List Kept) → map as_known (map deed_kept trace) ≡ map known_kept trace
-known_same [] = refl
-known_same (kept ∷ trace) = ap (λ (l : List known.Deed). known_kept kept ∷ l) (known_same trace)
+-- deeds whose cells are named as they were
+renamed_one : (d : Deed) → renamed same_use d ≡ d
+renamed_one (Enters number) = refl
+renamed_one (Stores cell value point) = refl
+renamed_one (Loads cell value writer stamp point) = refl
+renamed_one (Refers point) = refl
+renamed_one (Misses segno by) = refl
+
+pub renamed_same : (done : List Deed) → map (renamed same_use) done ≡ done
+renamed_same [] = refl
+renamed_same (d ∷ done) = λ i. renamed_one d i ∷ renamed_same done i
 
 -- the elements of a trace stand in it
 pub judged_back : (trace : List Kept) (place : ℕ) (j : Judged) → slice_get (judged_in trace) place ≡ Some j
@@ -114,47 +121,47 @@ judged_back (Referred first ∷ trace) zero j h = (0, ap (λ (o : Option Judged)
     referred (Some k) = Some (Referred k)
 judged_back (Referred first ∷ trace) (suc place) j h = let k = judged_back trace place j h in (suc k.0, k.1)
 
-pub before_same : (spot : Element → Option Spot) (events : List Event2) (place : ℕ)
-    → acts_before (map (deed_by spot) events) place ≡ cores_before events place
-before_same spot [] place = refl
-before_same spot (Entry number ∷ events) zero = refl
-before_same spot (Core event ∷ events) zero = refl
-before_same spot (Entry number ∷ events) (suc place) = before_same spot events place
-before_same spot (Core (Seen e) ∷ events) (suc place) =
-    more_reference (spot e) e.outcome e.point (acts_before (map (deed_by spot) events) place)
-    ∙ ap suc (before_same spot events place)
-before_same spot (Core (Missing segno by) ∷ events) (suc place) = ap suc (before_same spot events place)
+pub before_same : (cell : Element → Option CellUse) (events : List Event2) (place : ℕ)
+    → acts_before (map (deed_by cell) events) place ≡ cores_before events place
+before_same cell [] place = refl
+before_same cell (Entry number ∷ events) zero = refl
+before_same cell (Core event ∷ events) zero = refl
+before_same cell (Entry number ∷ events) (suc place) = before_same cell events place
+before_same cell (Core (Seen e) ∷ events) (suc place) =
+    more_reference (cell e) e.outcome e.point (acts_before (map (deed_by cell) events) place)
+    ∙ ap suc (before_same cell events place)
+before_same cell (Core (Missing segno by) ∷ events) (suc place) = ap suc (before_same cell events place)
 
 -- entries and misses among the deeds are those among the events
-pub entry_back : (spot : Element → Option Spot) (events : List Event2) (place number : ℕ)
-    → slice_get (map (deed_by spot) events) place ≡ Some (Enters number) → slice_get events place ≡ Some (Entry number)
-entry_back spot [] place number h = cc
-entry_back spot (Entry n ∷ events) zero number h = let e : n ≡ number = cc in ap (λ (m : ℕ). Some (Entry m)) e
-entry_back spot (Core (Seen e) ∷ events) zero number h = absurd (reference_no_entry (spot e) e.outcome e.point number h)
-entry_back spot (Core (Missing segno by) ∷ events) zero number h = cc
-entry_back spot (Entry n ∷ events) (suc place) number h = entry_back spot events place number h
-entry_back spot (Core event ∷ events) (suc place) number h = entry_back spot events place number h
+pub entry_back : (cell : Element → Option CellUse) (events : List Event2) (place number : ℕ)
+    → slice_get (map (deed_by cell) events) place ≡ Some (Enters number) → slice_get events place ≡ Some (Entry number)
+entry_back cell [] place number h = cc
+entry_back cell (Entry n ∷ events) zero number h = let e : n ≡ number = cc in ap (λ (m : ℕ). Some (Entry m)) e
+entry_back cell (Core (Seen e) ∷ events) zero number h = absurd (reference_no_entry (cell e) e.outcome e.point number h)
+entry_back cell (Core (Missing segno by) ∷ events) zero number h = cc
+entry_back cell (Entry n ∷ events) (suc place) number h = entry_back cell events place number h
+entry_back cell (Core event ∷ events) (suc place) number h = entry_back cell events place number h
 
-pub entry_forth : (spot : Element → Option Spot) (events : List Event2) (place number : ℕ)
-    → slice_get events place ≡ Some (Entry number) → slice_get (map (deed_by spot) events) place ≡ Some (Enters number)
-entry_forth spot [] place number h = cc
-entry_forth spot (event ∷ events) zero number h = let e : event ≡ Entry number = cc in ap
-    (λ (v : Event2). Some (deed_by spot v)) e
-entry_forth spot (event ∷ events) (suc place) number h = entry_forth spot events place number h
+pub entry_forth : (cell : Element → Option CellUse) (events : List Event2) (place number : ℕ)
+    → slice_get events place ≡ Some (Entry number) → slice_get (map (deed_by cell) events) place ≡ Some (Enters number)
+entry_forth cell [] place number h = cc
+entry_forth cell (event ∷ events) zero number h = let e : event ≡ Entry number = cc in ap
+    (λ (v : Event2). Some (deed_by cell v)) e
+entry_forth cell (event ∷ events) (suc place) number h = entry_forth cell events place number h
 
-pub miss_back : (spot : Element → Option Spot) (events : List Event2) (place segno by : ℕ)
-    → slice_get (map (deed_by spot) events) place ≡ Some (Misses segno by)
+pub miss_back : (cell : Element → Option CellUse) (events : List Event2) (place segno by : ℕ)
+    → slice_get (map (deed_by cell) events) place ≡ Some (Misses segno by)
     → slice_get events place ≡ Some (Core (Missing segno by))
-miss_back spot [] place segno by h = cc
-miss_back spot (Entry n ∷ events) zero segno by h = cc
-miss_back spot (Core (Seen e) ∷ events) zero segno by h = absurd
-    (reference_no_miss (spot e) e.outcome e.point segno by h)
-miss_back spot (Core (Missing s b) ∷ events) zero segno by h =
+miss_back cell [] place segno by h = cc
+miss_back cell (Entry n ∷ events) zero segno by h = cc
+miss_back cell (Core (Seen e) ∷ events) zero segno by h = absurd
+    (reference_no_miss (cell e) e.outcome e.point segno by h)
+miss_back cell (Core (Missing s b) ∷ events) zero segno by h =
     let es : s ≡ segno = cc in
     let eb : b ≡ by = cc in
     ap (λ (n : ℕ). Some (Core (Missing n b))) es ∙ ap (λ (n : ℕ). Some (Core (Missing segno n))) eb
-miss_back spot (Entry n ∷ events) (suc place) segno by h = miss_back spot events place segno by h
-miss_back spot (Core event ∷ events) (suc place) segno by h = miss_back spot events place segno by h
+miss_back cell (Entry n ∷ events) (suc place) segno by h = miss_back cell events place segno by h
+miss_back cell (Core event ∷ events) (suc place) segno by h = miss_back cell events place segno by h
 
 -- an event of a transcript that is no entry stands in the trace
 pub record IsKept (trace : List Kept) (event : Event) : Type 0 where

@@ -3,10 +3,10 @@ use Rattle.std.proofs.Common.{◌≡◌, ℕ, zero, suc, ◌+◌, ◌<◌, ◌�
 use Rattle.std.specs.List.{slice_get}
 use Rattle.std.proofs.lemmas.List.{append-nil}
 use Rattle.mx_core.specs.declared.elements.Event.{Event}
-use Rattle.mx_legal.specs.declared.transcripts.Event2.{Event2}
-use Rattle.mx_legal.specs.declared.transcripts.Event2.TheVariants.{Core, Entry}
-use Rattle.mx_legal.specs.Courses.{Judged}
-use Rattle.mx_legal.specs.Transcripts.{Step, events_of, entries_named}
+use Rattle.mx_transcript.specs.declared.transcripts.Event2.{Event2}
+use Rattle.mx_transcript.specs.declared.transcripts.Event2.TheVariants.{Core, Entry}
+use Rattle.mx_transcript.specs.Courses.{Judged}
+use Rattle.mx_transcript.specs.Transcripts.{Step, events_of, entries_named}
 use Rattle.mx_ties.specs.Counting.{IsRising}
 use Rattle.mx_ties.specs.Views.{Kept, Referred, Missed, judged_in, cores, cores_before}
 

@@ -4,7 +4,7 @@ use Rattle.std.specs.Prelude.{◌==◌, codes}
 use Rattle.std.proofs.lemmas.Bool.{cases_eq}
 use Rattle.mx_sdw.specs.Judging.{judgement}
 use Rattle.mx_sdw.specs.declared.operations.Op.TheVariants as op
-use Rattle.mx_call.specs.Registers.{Registers}
+use Rattle.mx_upcall.specs.Control.{Control}
 use Rattle.mx_request.specs.declared.requests.Request.TheVariants as ask
 use Rattle.mx_request.specs.declared.replies.Reply.TheVariants as reply
 use Rattle.mx_aim.specs.Classes.{lowest}
@@ -17,21 +17,21 @@ use Rattle.mx_core.specs.declared.elements.Element.{Element}
 use Rattle.mx_core.specs.declared.elements.Event.TheVariants.{Seen}
 use Rattle.mx_core.specs.declared.elements.Kind.TheVariants as kind
 use Rattle.mx_core.specs.declared.elements.Outcome.TheVariants as outcome
-use Rattle.mx_legal.specs.declared.transcripts.Event2.TheVariants.{Core, Entry}
-use Rattle.mx_legal.specs.declared.transcripts.Result2.TheVariants as result
-use Rattle.mx_legal.specs.Access.{descriptor_of}
-use Rattle.mx_legal.specs.Courses.{Judged, Attempt, Answer}
-use Rattle.mx_legal.specs.Elements.{IsJudged}
-use Rattle.mx_legal.specs.Next.{Reference}
-use Rattle.mx_legal.specs.Openings.{opening_registers}
-use Rattle.mx_legal.specs.Transcripts.{Step, part}
+use Rattle.mx_transcript.specs.declared.transcripts.Event2.TheVariants.{Core, Entry}
+use Rattle.mx_transcript.specs.declared.transcripts.Result2.TheVariants as result
+use Rattle.mx_transcript.specs.Access.{descriptor_of}
+use Rattle.mx_transcript.specs.Courses.{Judged, Attempt, Answer}
+use Rattle.mx_transcript.specs.Elements.{IsJudged}
+use Rattle.mx_transcript.specs.Next.{Reference}
+use Rattle.mx_transcript.specs.Openings.{opening_control}
+use Rattle.mx_transcript.specs.Transcripts.{Step, part}
 use Rattle.mx_reads.specs.Deeds.{CellUse, Stores}
 use Rattle.mx_reads.specs.Held.{Held}
 use Rattle.mx_ties.specs.Bench.{IsBench, opening_view, clear, entered_view, referred_view}
 use Rattle.mx_ties.specs.Ran.{HasRun, IsSetUp}
 use Rattle.mx_ties.specs.Sample.{Sample}
 use Rattle.mx_ties.specs.SoFar.{HasRunSoFar}
-use Rattle.mx_ties.specs.Views.{Referred, Marked, View, known_kept}
+use Rattle.mx_ties.specs.Views.{Referred, Marked, View, deed_kept}
 use Rattle.mx_ties.proofs.BenchSteps.{bench_opening_law, bench_store_law, bench_entry_law}
 use Rattle.mx_ties.proofs.Finishes.{finished_law}
 use Rattle.mx_ties.proofs.SoFarLaws.{first_line_law, seen_step_law, entry_step_law, line_step_law, last_line_law}
@@ -119,7 +119,7 @@ apart_first v zero n = refl
 apart_first v (suc zero) n = absurd (n refl)
 apart_first v (suc (suc u)) n = refl
 
-deed : known_kept (Referred j) ≡ Stores cell 0 0
+deed : deed_kept (Referred j) ≡ Stores cell 0 0
 unfolding judgement
 deed = refl
 
@@ -143,8 +143,8 @@ after_entry = bench_entry_law x [] [] (views_after view_stored) (views_after vie
     (record { maker = (omega arith, λ z. absurd (omega arith)); reply = refl })
     (λ c t. inl t) refl (apart view_out view_stored)
 
-abbrev g : Registers
-g = opening_registers 1
+abbrev g : Control
+g = opening_control x 1
 
 abbrev asked : Reference
 asked = record { op = op.Write; segno = 4; word = 7; ring = 4; stores = Some 0 }
@@ -184,7 +184,7 @@ ran = last_line_law x [] 1 ((3, Core (Seen e) ∷ [], result.Done) ∷ []) 4 log
 
 set_up : IsSetUp x [] []
 set_up = record {
-  after = opening_registers 0;
+  after = opening_control x 0;
   lines = λ d agrees. (refl, refl);
   full = record { each = λ place step low h. absurd cc };
   none_after_full = record { none = λ place later full step h f l k. absurd cc };

@@ -3,43 +3,41 @@ use Rattle.std.proofs.Common.{◌≡◌, inl, inr, ℕ, zero, suc, ◌+◌, ◌<
 use Rattle.std.specs.List.{slice_get}
 use Rattle.std.proofs.lemmas.Bool.{cases_lt}
 use Rattle.std.proofs.lemmas.Option.{slice_get_within}
-use Rattle.mx_call.specs.Registers.{Registers}
+use Rattle.mx_upcall.specs.Control.{Control}
 use Rattle.mx_state.specs.declared.journal.Entry as journaled
 use Rattle.mx_script.specs.Sessions.{Outline, limit_of}
 use Rattle.mx_core.specs.declared.elements.Element.{Element}
 use Rattle.mx_core.specs.declared.elements.Event.TheVariants.{Missing}
-use Rattle.mx_legal.specs.declared.transcripts.Event2.{Event2}
-use Rattle.mx_legal.specs.declared.transcripts.Event2.TheVariants.{Entry}
-use Rattle.mx_legal.specs.Access.{descriptor_of}
-use Rattle.mx_legal.specs.Deeds.{Spot, Deed, Deeds, Misses}
-use Rattle.mx_legal.specs.FullJournal.{HasNoneAfterFull}
-use Rattle.mx_legal.specs.Legal.{IsLegal, deeds, setting_of, setup_entries}
-use Rattle.mx_legal.specs.Misses.{IsChanged, IsRightMiss, AreRightMisses}
-use Rattle.mx_legal.specs.Openings.{opening_registers}
-use Rattle.mx_legal.specs.Parts.{AreLines}
-use Rattle.mx_legal.specs.Points.{ArePoints}
-use Rattle.mx_legal.specs.Stores.{IsKnown}
-use Rattle.mx_legal.specs.References.{spot_of}
-use Rattle.mx_legal.specs.Scripts.{lines_of}
-use Rattle.mx_legal.specs.Settings.{entry_at}
-use Rattle.mx_legal.specs.Standing.{AgreesWith}
-use Rattle.mx_legal.specs.Transcripts.{Step, part, events_of, entries_named, numbers_of}
-use Rattle.mx_legal.proofs.Growing.{promise_law}
-use Rattle.mx_reads.specs.Deeds as known
-use Rattle.mx_reads.specs.Deeds.{CellUse}
+use Rattle.mx_transcript.specs.declared.transcripts.Event2.{Event2}
+use Rattle.mx_transcript.specs.declared.transcripts.Event2.TheVariants.{Entry}
+use Rattle.mx_transcript.specs.Access.{descriptor_of}
+use Rattle.mx_reads.specs.Deeds.{CellUse, Deed, Deeds, Misses}
+use Rattle.mx_transcript.specs.FullJournal.{HasNoneAfterFull}
+use Rattle.mx_transcript.specs.Legal.{IsLegal, deeds, setting_of, setup_entries}
+use Rattle.mx_transcript.specs.Misses.{IsChanged, IsRightMiss, AreRightMisses}
+use Rattle.mx_transcript.specs.Openings.{opening_control}
+use Rattle.mx_transcript.specs.Parts.{AreLines}
+use Rattle.mx_transcript.specs.Points.{ArePoints}
+use Rattle.mx_transcript.specs.Reads.{IsKnown}
+use Rattle.mx_transcript.specs.References.{cell_of}
+use Rattle.mx_transcript.specs.Scripts.{lines_of}
+use Rattle.mx_transcript.specs.Settings.{entry_at}
+use Rattle.mx_transcript.specs.Standing.{AgreesWith}
+use Rattle.mx_transcript.specs.Transcripts.{Step, part, events_of, entries_named, numbers_of}
+use Rattle.mx_transcript.proofs.Growing.{promise_law}
 use Rattle.mx_ties.specs.Acts.{IsAct, acts, acts_before}
 use Rattle.mx_ties.specs.Closed.{IsClosed, entry_in, maker, followed, traces}
 use Rattle.mx_ties.specs.Fronts.{front_after}
 use Rattle.mx_ties.specs.Finished.{FinishedLaw}
 use Rattle.mx_ties.specs.Ran.{IsOwnEntry, HasRun, IsSetUp}
 use Rattle.mx_ties.specs.Matching.{Matches}
-use Rattle.mx_ties.specs.Uses.{use_of, as_known}
-use Rattle.mx_ties.specs.Views.{Kept, Marked, View, known_kept, judged_in, cores, cores_before}
+use Rattle.mx_ties.specs.Uses.{renamed, same_use}
+use Rattle.mx_ties.specs.Views.{Kept, Marked, View, deed_kept, judged_in, cores, cores_before}
 use Rattle.mx_ties.proofs.ActLists.{act_at, before_grows, before_rises}
 use Rattle.mx_ties.proofs.Transport.{transport_law}
 use Rattle.mx_ties.proofs.EventLists.{IsEntryAt, judged_back, before_same, entry_back, entry_forth, miss_back, kept_event, missed, named_at, line_entry, no_core}
-use Rattle.mx_ties.proofs.NumberLists.{numbers_same, among, process_at}
-use Rattle.mx_ties.proofs.JournalLists.{by_cases, there, no_number, followed_more, followed_length, changed_front, points_within, no_points}
+use Rattle.mx_ties.proofs.NumberLists.{among, process_at}
+use Rattle.mx_ties.proofs.JournalLists.{by_cases, there, no_number, followed_more, points_within, no_points}
 use Rattle.mx_ties.proofs.Fronts.{covered, fronted}
 use Rattle.mx_ties.proofs.Places.{map_at}
 use Rattle.mx_ties.proofs.Naming as naming
@@ -65,43 +63,46 @@ module _ (x : Outline) (setup : List journaled.Entry) (history : List Marked) (t
   abbrev owners : List ℕ
   owners = map maker (map entry_in history)
 
-  abbrev spots : ℕ → Element → Option Spot
-  spots p = spot_of (descriptor_of x journal p)
+  abbrev cells : ℕ → Element → Option CellUse
+  cells p = cell_of (descriptor_of x journal p)
+
+  kept : (p : ℕ) → 1 ≤ p → p ≤ length x.principals → naming.HasKept x setup p (part transcripts p) (views p)
+  kept p some most = naming.kept_of x setup p (part transcripts p) (views p) (ran p some most)
 
   empty : (p : ℕ) → count < p → part transcripts p ≡ []
-  empty = naming.empty x setup history transcripts views parts closed set_up ran
+  empty = naming.empty x setup history transcripts views parts closed set_up kept
 
   long : length journal ≡ length setup + length history
-  long = naming.long x setup history transcripts views parts closed set_up ran
+  long = naming.long x setup history transcripts views parts closed set_up kept
 
   own_entry : (p : ℕ) → 1 ≤ p → (place number : ℕ) → slice_get (events p) place ≡ Some (Entry number)
       → IsOwnEntry (length setup) history p number (cores_before (events p) place)
-  own_entry = naming.own_entry x setup history transcripts views parts closed set_up ran
+  own_entry = naming.own_entry x setup history transcripts views parts closed set_up kept
 
-  traced : (p : ℕ) → map as_known (acts (done p)) ≡ traces views p
-  traced = naming.traced x setup history transcripts views parts closed set_up ran
+  traced : (p : ℕ) → map (renamed same_use) (acts (done p)) ≡ traces views p
+  traced = naming.traced x setup history transcripts views parts closed set_up kept
 
   calls : (p : ℕ) → entries_named (events p) ≡ numbers_of p journal
-  calls = naming.calls x setup history transcripts views parts closed set_up ran
+  calls = naming.calls x setup history transcripts views parts closed set_up kept
 
   -- the same stores are known
   acting : (u place : ℕ) (d : Deed) → IsAct d → slice_get (done u) place ≡ Some d → 1 ≤ u
   acting zero place d a h = absurd
-      (nothing (subst (λ (l : List known.Deed). slice_get l (acts_before (done 0) place) ≡ Some (as_known d))
-      (traced 0 ∙ ap (λ (l : List Kept). map known_kept l) closed.quiet)
-      (map_at as_known (acts (done 0)) (acts_before (done 0) place) d (act_at (done 0) place d a h))))
+      (nothing (subst (λ (l : List Deed). slice_get l (acts_before (done 0) place) ≡ Some (renamed same_use d))
+      (traced 0 ∙ ap (λ (l : List Kept). map deed_kept l) closed.quiet)
+      (map_at (renamed same_use) (acts (done 0)) (acts_before (done 0) place) d (act_at (done 0) place d a h))))
     where
-      nothing : None ≡ Some (as_known d) → ⊥
+      nothing : None ≡ Some (renamed same_use d) → ⊥
       nothing h = cc
   acting (suc u) place d a h = omega arith
 
   known_to : (u place q : ℕ) (d : Deed) → IsAct d → slice_get (done u) place ≡ Some d → IsKnown done u place q
       → acts_before (done u) place < front_after (length setup) history u q
   known_to u place q d a h k =
-      let at = entry_back (spots u) (events u) k.later k.number k.entry in
+      let at = entry_back (cells u) (events u) k.later k.number k.entry in
       let o = own_entry u (acting u place d a h) k.later k.number at in
       let less = before_rises (done u) place k.later d a h k.after in
-      let same = before_same (spots u) (events u) k.later in
+      let same = before_same (cells u) (events u) k.later in
       let mark = o.mark in
       let is = o.is in
       let within = k.within in
@@ -115,7 +116,7 @@ module _ (x : Outline) (setup : List journaled.Entry) (history : List Marked) (t
       subst (λ (n : ℕ). IsEntryAt (events u) n) (omega arith)
       (named_at (events u) k.i (length setup + 1 + i)
       (subst (λ (l : List ℕ). slice_get l k.i ≡ Some (length setup + 1 + i))
-      (sym (naming.all_named x setup history transcripts views parts closed set_up ran u some most)) k.at))
+      (sym (naming.all_named x setup history transcripts views parts closed set_up kept u some most)) k.at))
 
   same_entry : (u : ℕ) (i : ℕ) (a b : Marked) → slice_get history i ≡ Some a → slice_get history i ≡ Some b → a ≡ b
   same_entry u i a b h k = some_same (sym h ∙ k)
@@ -128,7 +129,7 @@ module _ (x : Outline) (setup : List journaled.Entry) (history : List Marked) (t
   known_from u place q d a h l =
       let c = covered (length setup) history u (acts_before (done u) place) q l in
       let some = acting u place d a h in
-      let owned = naming.owner_at x setup history transcripts views parts closed set_up ran c.place c.marked c.at
+      let owned = naming.owner_at x setup history transcripts views parts closed set_up kept c.place c.marked c.at
       ∙ ap Some c.own in
       let within_count = process_at count owners closed.makers c.place u owned in
       let n = entry_of u some within_count.1 c.place owned in
@@ -138,7 +139,7 @@ module _ (x : Outline) (setup : List journaled.Entry) (history : List Marked) (t
       let same_marked = same_entry u c.place o.marked c.marked
       (subst (λ (i : ℕ). slice_get history i ≡ Some o.marked) same_place o.at) c.at in
       let same_mark = ap (λ (m : Marked). m.mark) same_marked in
-      let same = before_same (spots u) (events u) n.place in
+      let same = before_same (cells u) (events u) n.place in
       let mark = o.mark in
       let under = c.under in record {
         later = n.place;
@@ -147,14 +148,13 @@ module _ (x : Outline) (setup : List journaled.Entry) (history : List Marked) (t
           | inl low ↦ low
           | inr high ↦ let more = before_grows (done u) n.place place high in absurd (omega arith)
         ];
-        entry = entry_forth (spots u) (events u) n.place (length setup + suc c.place) n.at;
+        entry = entry_forth (cells u) (events u) n.place (length setup + suc c.place) n.at;
         within = c.within;
       }
 
-  matches : Matches use_of done (traces views) (front_after (length setup) history)
+  matches : Matches same_use done (traces views) (front_after (length setup) history)
   matches = record {
-    apart = λ a b here there same. ap
-        (λ (c : CellUse). c.cell) same;
+    apart = λ a b here there same. same;
     traced = traced;
     known_to = known_to;
     known_from = known_from;
@@ -170,11 +170,11 @@ module _ (x : Outline) (setup : List journaled.Entry) (history : List Marked) (t
       let b = judged_back (views p).trace place j h in sym ((closed.retired p some most).elements b.0 j b.1)
 
   lines : (p : ℕ) → p < length transcripts
-      → (after : Registers) × AreLines (setting_of x journal p) (opening_registers p) (lines_of x p)
+      → (after : Control) × AreLines (setting_of x journal p) (opening_control x p) (lines_of x p)
       (part transcripts p) after
   lines = by_cases count
-      (λ (p : ℕ). p < length transcripts → (after : Registers)
-      × AreLines (setting_of x journal p) (opening_registers p) (lines_of x p) (part transcripts p) after)
+      (λ (p : ℕ). p < length transcripts → (after : Control)
+      × AreLines (setting_of x journal p) (opening_control x p) (lines_of x p) (part transcripts p) after)
       (λ low. (
         set_up.after,
         promise_law x setup (map entry_in history) (length setup) 0 [] (part transcripts 0) set_up.after set_up.lines
@@ -185,7 +185,7 @@ module _ (x : Outline) (setup : List journaled.Entry) (history : List Marked) (t
       let own = closed.retired p some most in
       let same = front p some most in (
         r.after,
-        subst (λ (j : List journaled.Entry). AreLines (setting_of x j p) (opening_registers p) (lines_of x p)
+        subst (λ (j : List journaled.Entry). AreLines (setting_of x j p) (opening_control x p) (lines_of x p)
             (part transcripts p) r.after) (sym same)
             (promise_law x (followed setup (views p).history) (map entry_in own.later) (views p).floor p
             (judged_in (views p).trace) (part transcripts p) r.after r.lines
@@ -198,22 +198,22 @@ module _ (x : Outline) (setup : List journaled.Entry) (history : List Marked) (t
 
   points : (p : ℕ) → ArePoints (setup_entries x) (length journal) (done p)
   points = by_cases count (λ (p : ℕ). ArePoints (setup_entries x) (length journal) (done p))
-      (λ place deed q h e. absurd (no_points (spots 0) (events 0) set_up.quiet place deed q h e))
+      (λ place deed q h e. absurd (no_points (cells 0) (events 0) set_up.quiet place deed q h e))
       (λ p some most. points_within (setup_entries x) (views p).floor (length journal) (done p)
       (closed.retired p some most).floor
-      ((ran p some most).points (spots p)))
-      (λ p above place deed q h e. absurd (no_points (spots p) (events p)
+      ((ran p some most).points (cells p)))
+      (λ p above place deed q h e. absurd (no_points (cells p) (events p)
       (ap (λ (l : List Step). cores (events_of l)) (empty p above)) place deed q h e))
 
   -- a process's own entries stand in its own front
   misses_of : (p : ℕ) → 1 ≤ p → p ≤ count → (place segno by : ℕ) → slice_get (done p) place ≡ Some (Misses segno by)
-      → IsRightMiss x journal p (done p) place segno by
+      → IsRightMiss journal (IsChanged x journal p) p (done p) place segno by
   misses_of p some most place segno by h =
       let r = closed.retired p some most in
-      let m = (ran p some most).misses (spots p) in
+      let m = (ran p some most).misses (cells p) in
       let k = kept_event (events p) (views p).trace
-      (naming.cored x setup history transcripts views parts closed set_up ran p) place (Missing segno by)
-      (miss_back (spots p) (events p) place segno by h) in
+      (naming.cored x setup history transcripts views parts closed set_up kept p) place (Missing segno by)
+      (miss_back (cells p) (events p) place segno by h) in
       let c = r.misses k.i segno by (missed (views p).trace segno by k) in
       let low = c.0 in
       let next = c.1.next in
@@ -221,37 +221,22 @@ module _ (x : Outline) (setup : List journaled.Entry) (history : List Marked) (t
       record {
         entry = t.0;
         at = subst (λ (n : ℕ). entry_at journal n ≡ Some t.0) (sym next) t.1;
-        other = λ e.
-            let owned : slice_get (map maker journal) c.1.before ≡ Some p = map_at maker journal c.1.before t.0 t.1
-            ∙ ap Some e in
-            let a = among (map maker journal) 1 p c.1.before owned in
-            let here : slice_get (entries_named (events p)) a.i ≡ Some (1 + c.1.before) =
-            subst (λ (l : List ℕ). slice_get l a.i ≡ Some (1 + c.1.before))
-            (sym (calls p ∙ numbers_same 1 p journal)) a.at in
-            let n = named_at (events p) a.i (1 + c.1.before) here in
-            let at : slice_get (events p) n.place ≡ Some (Entry by) = subst
-            (λ (i : ℕ). slice_get (events p) n.place ≡ Some (Entry i)) (omega arith) n.at in
-            let o = (ran p some most).own n.place by at in
-            let is = o.is in
-            let short = slice_get_within (views p).history o.place o.marked o.at in
-            let own_long = followed_length setup (views p).history in
-            m.others place segno by n.place h (entry_forth (spots p) (events p) n.place by at)
-            (changed_front x (followed setup (views p).history) (map entry_in r.later) p segno by (omega arith)
-            (subst (λ (j : List journaled.Entry). IsChanged x j p segno by) (front p some most) c.1));
+        other = naming.not_own x setup history transcripts views parts closed set_up kept p some most place segno by
+            c.1.before next h c.1 t.0 t.1;
         changed = c.1;
         rising = λ before earlier b g. m.rising place segno by before earlier h b g;
         before_next = λ number n. m.before_next place segno by number h n;
       }
 
-  misses : (p : ℕ) → AreRightMisses x journal p (done p)
-  misses = by_cases count (λ (p : ℕ). AreRightMisses x journal p (done p))
+  misses : (p : ℕ) → AreRightMisses journal (IsChanged x journal p) p (done p)
+  misses = by_cases count (λ (p : ℕ). AreRightMisses journal (IsChanged x journal p) p (done p))
       (λ place segno by h. absurd
       (no_core (events 0) set_up.quiet place (Missing segno by)
-      (miss_back (spots 0) (events 0) place segno by h)))
+      (miss_back (cells 0) (events 0) place segno by h)))
       misses_of
       (λ p above place segno by h. absurd
       (no_core (events p) (ap (λ (l : List Step). cores (events_of l)) (empty p above)) place (Missing segno by)
-      (miss_back (spots p) (events p) place segno by h)))
+      (miss_back (cells p) (events p) place segno by h)))
 
   none_after : (p : ℕ) → HasNoneAfterFull (part transcripts p)
   none_after = by_cases count (λ (p : ℕ). HasNoneAfterFull (part transcripts p))
@@ -281,7 +266,7 @@ module _ (x : Outline) (setup : List journaled.Entry) (history : List Marked) (t
     none_after_full = none_after;
     misses = misses;
     points = points;
-    reads = transport_law use_of done (traces views) (front_after (length setup) history) matches closed.reads;
+    reads = transport_law same_use done (traces views) (front_after (length setup) history) matches closed.reads;
   }
 
 pub finished_law : FinishedLaw

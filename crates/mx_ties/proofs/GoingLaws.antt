@@ -3,25 +3,27 @@ use Rattle.std.proofs.Common.{◌≡◌, ◌⊎◌, inl, inr, ℕ, ◌<◌, ◌�
 use Rattle.std.specs.List.{slice_get}
 use Rattle.std.proofs.lemmas.Option.{slice_get_within}
 use Rattle.std.proofs.lemmas.List.{length-append}
-use Rattle.mx_legal.specs.Deeds.{Deed, Enters, Stores, Loads, Refers, Misses, point_of}
-use Rattle.mx_ties.specs.Going.{IsLow, IsReference, SeenLaw, MissLaw, EnteredLaw}
-use Rattle.mx_legal.specs.Misses.{IsChanged}
-use Rattle.mx_legal.specs.Points.{IsNextEntry, IsPoint, ArePoints}
-use Rattle.mx_ties.proofs.JournalLists.{changed_front}
+use Rattle.mx_reads.specs.Deeds.{Deed, Enters, Stores, Loads, Refers, Misses, point_of}
+use Rattle.mx_state.specs.declared.journal.Entry as journaled
+use Rattle.mx_script.specs.Sessions.{Outline}
+use Rattle.mx_ties.specs.Going.{IsLow, IsGoing, IsReference, SeenLaw, MissLaw, EnteredLaw}
+use Rattle.mx_transcript.specs.Misses.{IsChanged}
+use Rattle.mx_transcript.specs.Points.{IsNextEntry, IsPoint, ArePoints}
+use Rattle.mx_ties.proofs.JournalLists.{changed_front, points_within}
 use Rattle.mx_ties.proofs.Places.{place_found, place_kept}
 
 low_more : (floor floor' : ℕ) (d : Deed) → floor ≤ floor' → IsLow floor d → IsLow floor' d
 low_more floor floor' (Enters number) more l = omega arith
-low_more floor floor' (Stores spot value point) more l = omega arith
-low_more floor floor' (Loads spot value writer stamp point) more l = let a = l.0 in let b = l.1 in
+low_more floor floor' (Stores cell value point) more l = omega arith
+low_more floor floor' (Loads cell value writer stamp point) more l = let a = l.0 in let b = l.1 in
     (omega arith, omega arith)
 low_more floor floor' (Refers point) more l = omega arith
 low_more floor floor' (Misses segno by) more l = omega arith
 
 low_point : (floor : ℕ) (d : Deed) (q : ℕ) → point_of d ≡ Some q → IsLow floor d → q ≤ floor
 low_point floor (Enters number) q e l = cc
-low_point floor (Stores spot value point) q e l = let same : point ≡ q = cc in omega arith
-low_point floor (Loads spot value writer stamp point) q e l = let same : point ≡ q = cc in let b = l.1 in omega arith
+low_point floor (Stores cell value point) q e l = let same : point ≡ q = cc in omega arith
+low_point floor (Loads cell value writer stamp point) q e l = let same : point ≡ q = cc in let b = l.1 in omega arith
 low_point floor (Refers point) q e l = let same : point ≡ q = cc in omega arith
 low_point floor (Misses segno by) q e l = cc
 
@@ -66,9 +68,9 @@ old_point start floor floor' done deed place q more above at is =
       after_entries = λ before number b h. is.after_entries before number b
           (old_at done deed (Enters number) before (omega arith) h);
       rising = λ before d earlier b h e. is.rising before d earlier b (old_at done deed d before (omega arith) h) e;
-      after_stamps = λ before spot value writer stamp point b h.
-          is.after_stamps before spot value writer stamp point b
-          (old_at done deed (Loads spot value writer stamp point) before (omega arith) h);
+      after_stamps = λ before cell value writer stamp point b h.
+          is.after_stamps before cell value writer stamp point b
+          (old_at done deed (Loads cell value writer stamp point) before (omega arith) h);
       after_misses = λ before segno by b h. is.after_misses before segno by b
           (old_at done deed (Misses segno by) before (omega arith) h);
       within = omega arith;
@@ -100,9 +102,9 @@ points_more start floor floor' done deed begun more above at low are place d q h
             rising = λ before d' earlier b h e'.
                 let l = low_point floor d' earlier e'
                 (low before d' (old_at done deed d' before (omega arith) h)) in omega arith;
-            after_stamps = λ before spot value writer stamp point b h.
-                let l = (low before (Loads spot value writer stamp point)
-                (old_at done deed (Loads spot value writer stamp point) before (omega arith) h)).0 in omega arith;
+            after_stamps = λ before cell value writer stamp point b h.
+                let l = (low before (Loads cell value writer stamp point)
+                (old_at done deed (Loads cell value writer stamp point) before (omega arith) h)).0 in omega arith;
             after_misses = λ before segno by b h.
                 let l : by ≤ floor = low before (Misses segno by)
                 (old_at done deed (Misses segno by) before (omega arith) h) in omega arith;
@@ -117,6 +119,30 @@ reference_no_entry d number r e = subst IsReference e r
 
 reference_no_miss : (d : Deed) (segno by : ℕ) → IsReference d → d ≡ Misses segno by → ⊥
 reference_no_miss d segno by r e = subst IsReference e r
+
+-- more is told, and nothing done
+pub told_law : (x : Outline) (journal more : List journaled.Entry) (start p : ℕ) (done : List Deed) (floor floor' : ℕ)
+    (told told' : ℕ → ℕ) → floor ≤ floor' → ((n : ℕ) → told n ≤ told' n)
+    → IsGoing x journal start p done floor told → IsGoing x (journal ++ more) start p done floor' told'
+told_law x journal more start p done floor floor' told told' rise told_more g = record {
+  begun = let b = g.begun in omega arith;
+  points = points_within start floor floor' done rise g.points;
+  misses = record {
+    rising = g.misses.rising;
+    before_next = g.misses.before_next;
+    others = λ place segno by other h k c. g.misses.others place segno by other h k
+        (changed_front x journal more p segno by (g.within other by k) c);
+    above = λ place segno by other number h b k c. g.misses.above place segno by other number h b k
+        (changed_front x journal more p segno number (g.within other number k) c);
+  };
+  low = λ place d h. low_more floor floor' d rise (g.low place d h);
+  within = λ place number h. let w = g.within place number h in let l = length-append journal more in omega arith;
+  told_own = λ place number segno h c.
+      let t = g.told_own place number segno h (changed_front x journal more p segno number (g.within place number h) c) in
+      let m = told_more segno in omega arith;
+  told_misses = λ place segno by h.
+      let t = g.told_misses place segno by h in let m = told_more segno in omega arith;
+}
 
 pub seen_law : SeenLaw
 seen_law x journal start p done floor floor' told deed q reference is high under lows g = record {
@@ -144,6 +170,12 @@ seen_law x journal start p done floor floor' told deed q reference is high under
         | inl old' ↦ g.misses.others place segno by other old old' c
         | inr new ↦ absurd (reference_no_entry deed by reference (sym new.1))
       ]
+      | inr new ↦ absurd (reference_no_miss deed segno by reference (sym new.1))
+    ];
+    above = λ place segno by other number h b k c. elim (place_found done deed (Misses segno by) place h) [
+      | inl old ↦
+          let l = slice_get_within done place (Misses segno by) old in
+          g.misses.above place segno by other number old b (old_at done deed (Enters number) other (omega arith) k) c
       | inr new ↦ absurd (reference_no_miss deed segno by reference (sym new.1))
     ];
   };
@@ -216,6 +248,21 @@ miss_law x journal more start p done floor floor' told told' segno0 by0 above un
                 let byes = same.1 in absurd (omega arith)
           ]
     ];
+    above = λ place segno by other number h b k c. elim (place_found done (Misses segno0 by0) (Misses segno by) place h) [
+      | inl old ↦
+          let l = slice_get_within done place (Misses segno by) old in
+          let k' = old_at done (Misses segno0 by0) (Enters number) other (omega arith) k in
+          g.misses.above place segno by other number old b k'
+          (changed_front x journal more p segno number (g.within other number k') c)
+      | inr new ↦
+          let is = new.0 in
+          let same = same_miss segno by segno0 by0 new.1 in
+          let k' = old_at done (Misses segno0 by0) (Enters number) other (omega arith) k in
+          let t = g.told_own other number segno k'
+          (changed_front x journal more p segno number (g.within other number k') c) in
+          let at = ap told same.0 in
+          let byes = same.1 in omega arith
+    ];
   };
   low = λ place d h. elim (place_found done (Misses segno0 by0) d place h) [
     | inl old ↦ low_more floor floor' d rise (g.low place d old)
@@ -276,6 +323,14 @@ entered_law x journal more start p done floor floor' told told' number0 above un
                 let same = same_entry by number0 new.1 in
                 let l : by ≤ floor = g.low place (Misses segno by) old in absurd (omega arith)
           ]
+        ];
+        above = λ place segno by other number h b k c. elim (place_found done (Enters number0) (Misses segno by) place h) [
+          | inr new ↦ absurd (entry_no_miss number0 segno by (sym new.1))
+          | inl old ↦
+              let l = slice_get_within done place (Misses segno by) old in
+              let k' = old_at done (Enters number0) (Enters number) other (omega arith) k in
+              g.misses.above place segno by other number old b k'
+              (changed_front x journal more p segno number (g.within other number k') c)
         ];
       };
       low = λ place d h. elim (place_found done (Enters number0) d place h) [

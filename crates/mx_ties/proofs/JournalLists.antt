@@ -3,22 +3,22 @@ use Rattle.std.proofs.Common.{◌≡◌, inl, inr, ℕ, zero, suc, ◌+◌, ◌<
 use Rattle.std.specs.List.{slice_get}
 use Rattle.std.proofs.lemmas.Bool.{cases_lt}
 use Rattle.std.proofs.lemmas.List.{map-append, take-append-le, length-append, length-map}
-use Rattle.mx_legal.specs.Opened.{opening_of}
+use Rattle.mx_transcript.specs.Opened.{opening_of}
 use Rattle.mx_state.specs.History.{replay}
 use Rattle.mx_state.specs.Table.{descriptor}
 use Rattle.mx_state.specs.declared.journal.Entry as journaled
 use Rattle.mx_script.specs.Sessions.{Outline}
 use Rattle.mx_core.specs.declared.elements.Element.{Element}
-use Rattle.mx_legal.specs.declared.transcripts.Event2.{Event2}
-use Rattle.mx_legal.specs.declared.transcripts.Event2.TheVariants.{Core, Entry}
+use Rattle.mx_transcript.specs.declared.transcripts.Event2.{Event2}
+use Rattle.mx_transcript.specs.declared.transcripts.Event2.TheVariants.{Core, Entry}
 use Rattle.mx_ties.specs.Closed.{entry_in, followed}
 use Rattle.mx_ties.specs.Counting.{total}
-use Rattle.mx_legal.specs.Deeds.{Spot, Deed, Enters, point_of}
-use Rattle.mx_legal.specs.Access.{descriptor_at}
-use Rattle.mx_legal.specs.Misses.{IsChanged}
-use Rattle.mx_legal.specs.Points.{ArePoints}
-use Rattle.mx_legal.specs.References.{deed_by}
-use Rattle.mx_legal.specs.Transcripts.{Step, part}
+use Rattle.mx_reads.specs.Deeds.{CellUse, Deed, Enters, point_of}
+use Rattle.mx_transcript.specs.Access.{descriptor_at}
+use Rattle.mx_transcript.specs.Misses.{IsChanged}
+use Rattle.mx_transcript.specs.Points.{ArePoints}
+use Rattle.mx_transcript.specs.References.{deed_by}
+use Rattle.mx_transcript.specs.Transcripts.{Step, part}
 use Rattle.mx_ties.specs.Views.{Marked, cores}
 
 -- processes: the initializer, those of the session, and none
@@ -86,17 +86,17 @@ points_within setup entries entries' done more are place d q h e =
     }
 
 -- entries alone have no points
-pub no_points : (spot : Element → Option Spot) (events : List Event2) → cores events ≡ []
+pub no_points : (cell : Element → Option CellUse) (events : List Event2) → cores events ≡ []
     → (place : ℕ) (deed : Deed) (q : ℕ)
-    → slice_get (map (deed_by spot) events) place ≡ Some deed → point_of deed ≡ Some q → ⊥
-no_points spot [] none place deed q h e = cc
-no_points spot (Core event ∷ events) none place deed q h e = cc
-no_points spot (Entry number ∷ events) none zero deed q h e =
+    → slice_get (map (deed_by cell) events) place ≡ Some deed → point_of deed ≡ Some q → ⊥
+no_points cell [] none place deed q h e = cc
+no_points cell (Core event ∷ events) none place deed q h e = cc
+no_points cell (Entry number ∷ events) none zero deed q h e =
     let is : Enters number ≡ deed = cc in nothing (ap point_of is ∙ e)
   where
     nothing : None ≡ Some q → ⊥
     nothing h = cc
-no_points spot (Entry number ∷ events) none (suc place) deed q h e = no_points spot events none place deed q h e
+no_points cell (Entry number ∷ events) none (suc place) deed q h e = no_points cell events none place deed q h e
 
 pub total_alike : (n : ℕ) (f g : ℕ → ℕ) → ((p : ℕ) → 1 ≤ p → p ≤ n → f p ≡ g p) → total n f ≡ total n g
 total_alike zero f g e = refl

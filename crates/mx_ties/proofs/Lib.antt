@@ -17,3 +17,9 @@ pub mod SoFarLaws
 pub mod BenchSteps
 pub mod Example
 pub mod BenchGoingLaws
+pub mod SpoiltLaws
+pub mod WorkingLaws
+pub mod SectionLaws
+pub mod DueCases
+pub mod EventPlaces
+pub mod Refuting

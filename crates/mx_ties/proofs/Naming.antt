@@ -2,36 +2,62 @@
 use Rattle.std.proofs.Common.{◌≡◌, ◌≢◌, inl, inr, ℕ, zero, suc, ◌+◌, ◌<◌, ◌≤◌, List, [], ◌++◌, map, length, ap, sym, ◌∙◌, subst, Option, Some, None, arith}
 use Rattle.std.specs.List.{slice_get}
 use Rattle.std.proofs.lemmas.Bool.{cases_lt}
+use Rattle.std.proofs.lemmas.Option.{slice_get_within}
 use Rattle.std.proofs.lemmas.List.{map-append, append-nil, length-map}
 use Rattle.mx_sdw.specs.Descriptors.{Descriptor}
 use Rattle.mx_state.specs.declared.journal.Entry as journaled
 use Rattle.mx_script.specs.Sessions.{Outline}
 use Rattle.mx_core.specs.declared.elements.Element.{Element}
-use Rattle.mx_legal.specs.declared.transcripts.Event2.{Event2}
-use Rattle.mx_legal.specs.declared.transcripts.Event2.TheVariants.{Entry}
-use Rattle.mx_legal.specs.Access.{descriptor_of}
-use Rattle.mx_legal.specs.Deeds.{Spot, Deeds}
-use Rattle.mx_legal.specs.Legal.{deeds}
-use Rattle.mx_legal.specs.References.{spot_by, spot_of}
-use Rattle.mx_legal.specs.Transcripts.{Step, part, events_of, entries_named, numbers_of}
+use Rattle.mx_transcript.specs.declared.transcripts.Event2.{Event2}
+use Rattle.mx_transcript.specs.declared.transcripts.Event2.TheVariants.{Entry}
+use Rattle.mx_transcript.specs.Access.{descriptor_of}
+use Rattle.mx_reads.specs.Deeds.{CellUse, Deeds, Misses}
+use Rattle.mx_transcript.specs.Legal.{setup_entries, deeds}
+use Rattle.mx_transcript.specs.Misses.{IsChanged}
+use Rattle.mx_transcript.specs.Points.{ArePoints}
+use Rattle.mx_transcript.specs.References.{deed_by, cell_by, cell_of}
+use Rattle.mx_transcript.specs.Transcripts.{Step, part, events_of, entries_named, numbers_of}
 use Rattle.mx_ties.specs.Acts.{acts}
 use Rattle.mx_ties.specs.Closed.{IsClosed, entry_in, maker, followed, traces}
 use Rattle.mx_ties.specs.Counting.{numbers_in, IsRising, IsOwn, AreOwn, total}
-use Rattle.mx_ties.specs.Ran.{IsOwnEntry, HasRun, IsSetUp}
-use Rattle.mx_ties.specs.Uses.{as_known}
+use Rattle.mx_ties.specs.Ran.{IsOwnEntry, AreMisses, HasRun, IsSetUp}
+use Rattle.mx_ties.specs.Uses.{renamed, same_use}
 use Rattle.mx_ties.specs.Views.{Kept, Referred, Marked, View, event_of, cores, cores_before}
 use Rattle.mx_ties.proofs.Counts.{counting_law}
-use Rattle.mx_ties.proofs.EventLists.{HasSpots, acts_kept, known_same, named_at}
-use Rattle.mx_ties.proofs.NumberLists.{numbers_same, numbers_both, numbers_none, all_own, process_at}
-use Rattle.mx_ties.proofs.JournalLists.{by_cases, part_beyond, followed_length, total_alike}
+use Rattle.mx_ties.proofs.EventLists.{HasCells, acts_kept, renamed_same, named_at, entry_forth}
+use Rattle.mx_ties.proofs.NumberLists.{numbers_same, numbers_both, numbers_none, all_own, among, process_at}
+use Rattle.mx_ties.proofs.JournalLists.{by_cases, part_beyond, followed_more, followed_length, changed_front, total_alike}
 use Rattle.mx_ties.proofs.Places.{place_kept, map_at, map_back}
+
+-- what a process tells when it has run, but for its lines
+pub record HasKept (x : Outline) (setup : List journaled.Entry) (p : ℕ) (steps : List Step) (v : View) : Type 0 where
+  pub traced : cores (events_of steps) ≡ map event_of v.trace
+  pub own : (place number : ℕ) → slice_get (events_of steps) place ≡ Some (Entry number)
+      → IsOwnEntry (length setup) v.history p number (cores_before (events_of steps) place)
+  pub rising : IsRising (length setup + 1) (entries_named (events_of steps))
+  pub amount : length (entries_named (events_of steps)) ≡ v.amount
+  pub points : (cell : Element → Option CellUse) → ArePoints (setup_entries x) v.floor
+      (map (deed_by cell) (events_of steps))
+  pub misses : (cell : Element → Option CellUse) → AreMisses x (followed setup v.history) p
+      (map (deed_by cell) (events_of steps))
+
+pub kept_of : (x : Outline) (setup : List journaled.Entry) (p : ℕ) (steps : List Step) (v : View)
+    → HasRun x setup p steps v → HasKept x setup p steps v
+kept_of x setup p steps v r = record {
+  traced = r.traced;
+  own = r.own;
+  rising = r.rising;
+  amount = r.amount;
+  points = r.points;
+  misses = r.misses;
+}
 
 module _ (x : Outline) (setup : List journaled.Entry) (history : List Marked) (transcripts : List (List Step))
     (views : ℕ → View)
     (parts : length transcripts ≡ 1 + length x.principals)
     (closed : IsClosed x setup history views)
     (set_up : IsSetUp x setup (part transcripts 0))
-    (ran : (p : ℕ) → 1 ≤ p → p ≤ length x.principals → HasRun x setup p (part transcripts p) (views p)) where
+    (ran : (p : ℕ) → 1 ≤ p → p ≤ length x.principals → HasKept x setup p (part transcripts p) (views p)) where
   abbrev count : ℕ
   count = length x.principals
 
@@ -47,8 +73,8 @@ module _ (x : Outline) (setup : List journaled.Entry) (history : List Marked) (t
   abbrev owners : List ℕ
   owners = map maker (map entry_in history)
 
-  abbrev spots : ℕ → Element → Option Spot
-  spots p = spot_of (descriptor_of x journal p)
+  abbrev cells : ℕ → Element → Option CellUse
+  cells p = cell_of (descriptor_of x journal p)
 
   pub empty : (p : ℕ) → count < p → part transcripts p ≡ []
   empty p above = part_beyond transcripts p (omega arith)
@@ -70,19 +96,18 @@ module _ (x : Outline) (setup : List journaled.Entry) (history : List Marked) (t
       nothing : None ≡ Some kept → ⊥
       nothing h = cc
 
-  spotted : (p : ℕ) → HasSpots (spots p) (views p).trace
-  spotted = by_cases count (λ (p : ℕ). HasSpots (spots p) (views p).trace)
+  cells_kept : (p : ℕ) → HasCells (cells p) (views p).trace
+  cells_kept = by_cases count (λ (p : ℕ). HasCells (cells p) (views p).trace)
       (λ i j h. absurd (nowhere 0 i (Referred j) closed.quiet h))
-      (λ p some most i j h. ap (λ (d : Descriptor). spot_by d j.element.kind j.element.ring j.element.word)
+      (λ p some most i j h. ap (λ (d : Descriptor). cell_by d j.element.kind j.element.ring j.element.word)
       (sym ((closed.retired p some most).elements i j h)))
       (λ p above i j h. absurd (nowhere p i (Referred j) (closed.beyond p above) h))
 
-  pub traced : (p : ℕ) → map as_known (acts (done p)) ≡ traces views p
-  traced p = ap (map as_known) (acts_kept (spots p) (events p) (views p).trace (cored p) (spotted p))
-      ∙ known_same (views p).trace
+  pub traced : (p : ℕ) → map (renamed same_use) (acts (done p)) ≡ traces views p
+  traced p = renamed_same (acts (done p)) ∙ acts_kept (cells p) (events p) (views p).trace (cored p) (cells_kept p)
 
   -- own entries
-  history_at : (p : ℕ) → 1 ≤ p → p ≤ count → (i : ℕ) (marked : Marked) → slice_get (views p).history i ≡ Some marked
+  pub history_at : (p : ℕ) → 1 ≤ p → p ≤ count → (i : ℕ) (marked : Marked) → slice_get (views p).history i ≡ Some marked
       → slice_get history i ≡ Some marked
   history_at p some most i marked h =
       let r = closed.retired p some most in
@@ -198,3 +223,51 @@ module _ (x : Outline) (setup : List journaled.Entry) (history : List Marked) (t
       ∙ ap (λ (l : List ℕ). [] ++ l) (sym (owners_none p (λ owner some most e. absurd (omega arith))))
       ∙ ap (λ (l : List ℕ). l ++ numbers_in (length setup + 1) p owners) (sym (setup_none p (omega arith)))
       ∙ sym (numbers_split p))
+
+  -- own entries of the journal are named among the events
+  pub record IsNamed (p number : ℕ) : Type 0 where
+    pub at : ℕ
+    pub is : slice_get (events p) at ≡ Some (Entry number)
+
+  pub own_named : (p i : ℕ) (entry : journaled.Entry) → slice_get journal i ≡ Some entry → entry.process ≡ p
+      → IsNamed p (suc i)
+  own_named p i entry h own =
+      let owned : slice_get (map maker journal) i ≡ Some p = map_at maker journal i entry h ∙ ap Some own in
+      let a = among (map maker journal) 1 p i owned in
+      let here : slice_get (entries_named (events p)) a.i ≡ Some (1 + i) =
+      subst (λ (l : List ℕ). slice_get l a.i ≡ Some (1 + i)) (sym (calls p ∙ numbers_same 1 p journal)) a.at in
+      let n = named_at (events p) a.i (1 + i) here in
+      record {
+        at = n.place;
+        is = subst (λ (k : ℕ). slice_get (events p) n.place ≡ Some (Entry k))
+            (let e : 1 + i ≡ suc i = omega arith in e) n.at;
+      }
+
+  -- what changed a descriptor changed it in the process's own front too, where it stands there
+  pub own_front : (p : ℕ) → 1 ≤ p → p ≤ count → (segno number : ℕ)
+      → number ≤ length (followed setup (views p).history) → IsChanged x journal p segno number
+      → IsChanged x (followed setup (views p).history) p segno number
+  own_front p some most segno number low c =
+      let r = closed.retired p some most in
+      changed_front x (followed setup (views p).history) (map entry_in r.later) p segno number low
+      (subst (λ (j : List journaled.Entry). IsChanged x j p segno number)
+      (followed_more setup history (views p).history r.later r.told) c)
+
+  pub own_within : (p : ℕ) → 1 ≤ p → p ≤ count → (at number : ℕ) → slice_get (events p) at ≡ Some (Entry number)
+      → number ≤ length (followed setup (views p).history)
+  own_within p some most at number h =
+      let o = (ran p some most).own at number h in
+      let is = o.is in
+      let short = slice_get_within (views p).history o.place o.marked o.at in
+      let long = followed_length setup (views p).history in omega arith
+
+  -- the entry by which a process missed is not its own
+  pub not_own : (p : ℕ) → 1 ≤ p → p ≤ count → (place segno by before : ℕ) → by ≡ suc before
+      → slice_get (done p) place ≡ Some (Misses segno by) → IsChanged x journal p segno by
+      → (entry : journaled.Entry) → slice_get journal before ≡ Some entry → entry.process ≢ p
+  not_own p some most place segno by before next missed changed entry h own =
+      let n = own_named p before entry h own in
+      let is = subst (λ (k : ℕ). slice_get (events p) n.at ≡ Some (Entry k)) (sym next) n.is in
+      ((ran p some most).misses (cells p)).others place segno by n.at missed
+      (entry_forth (cells p) (events p) n.at by is)
+      (own_front p some most segno by (own_within p some most n.at by is) changed)

@@ -5,7 +5,7 @@ use Rattle.std.specs.List.{slice_get}
 use Rattle.mx_state.specs.declared.journal.Entry as journaled
 use Rattle.mx_ties.specs.Closed.{maker}
 use Rattle.mx_ties.specs.Counting.{numbers_in, IsOwn, AreOwn, AreProcesses}
-use Rattle.mx_legal.specs.Transcripts.{numbers_from}
+use Rattle.mx_transcript.specs.Transcripts.{numbers_from}
 
 pub numbers_same : (first p : ℕ) (journal : List journaled.Entry)
     → numbers_from first p journal ≡ numbers_in first p (map maker journal)

@@ -10,14 +10,14 @@ use Rattle.mx_core.specs.declared.elements.Event.{Event}
 use Rattle.mx_core.specs.declared.elements.Event.TheVariants.{Seen, Missing}
 use Rattle.mx_core.specs.declared.elements.Outcome.{Outcome}
 use Rattle.mx_core.specs.declared.elements.Outcome.TheVariants as outcome
-use Rattle.mx_legal.specs.declared.transcripts.Event2.{Event2}
-use Rattle.mx_legal.specs.declared.transcripts.Event2.TheVariants.{Core, Entry}
-use Rattle.mx_legal.specs.Courses.{Judged}
-use Rattle.mx_legal.specs.Deeds.{Spot, Deed, Enters, point_of}
-use Rattle.mx_legal.specs.Legal.{setup_entries}
-use Rattle.mx_legal.specs.Misses.{IsChanged}
-use Rattle.mx_legal.specs.References.{reference, deed_by}
-use Rattle.mx_legal.specs.Transcripts.{entries_named}
+use Rattle.mx_transcript.specs.declared.transcripts.Event2.{Event2}
+use Rattle.mx_transcript.specs.declared.transcripts.Event2.TheVariants.{Core, Entry}
+use Rattle.mx_transcript.specs.Courses.{Judged}
+use Rattle.mx_reads.specs.Deeds.{CellUse, Deed, Enters, point_of}
+use Rattle.mx_transcript.specs.Legal.{setup_entries}
+use Rattle.mx_transcript.specs.Misses.{IsChanged}
+use Rattle.mx_transcript.specs.References.{reference, deed_by}
+use Rattle.mx_transcript.specs.Transcripts.{entries_named}
 use Rattle.mx_ties.specs.Closed.{followed, entry_in}
 use Rattle.mx_ties.specs.Counting.{IsRising}
 use Rattle.mx_ties.specs.Going.{IsLow, IsGoing, IsReference}
@@ -30,8 +30,8 @@ use Rattle.mx_ties.proofs.GoingLaws as going
 use Rattle.mx_ties.proofs.JournalLists.{followed_more, followed_length}
 use Rattle.mx_ties.proofs.Places.{place_kept, place_found}
 
--- a reference, whatever its spot
-is_reference : (spot : Option Spot) (came : Outcome) (point : ℕ) → IsReference (reference spot came point)
+-- a reference, whatever its cell
+is_reference : (cell : Option CellUse) (came : Outcome) (point : ℕ) → IsReference (reference cell came point)
 is_reference None (outcome.Read value writer stamp) point = tt
 is_reference None (outcome.Written value) point = tt
 is_reference None (outcome.Entered ring) point = tt
@@ -41,7 +41,7 @@ is_reference (Some at) (outcome.Written value) point = tt
 is_reference (Some at) (outcome.Entered ring) point = tt
 is_reference (Some at) (outcome.Denied denial) point = tt
 
-has_point : (spot : Option Spot) (came : Outcome) (point : ℕ) → point_of (reference spot came point) ≡ Some point
+pub has_point : (cell : Option CellUse) (came : Outcome) (point : ℕ) → point_of (reference cell came point) ≡ Some point
 has_point None (outcome.Read value writer stamp) point = refl
 has_point None (outcome.Written value) point = refl
 has_point None (outcome.Entered ring) point = refl
@@ -51,9 +51,9 @@ has_point (Some at) (outcome.Written value) point = refl
 has_point (Some at) (outcome.Entered ring) point = refl
 has_point (Some at) (outcome.Denied denial) point = refl
 
-is_low : (spot : Option Spot) (came : Outcome) (point floor : ℕ) → point ≤ floor
+is_low : (cell : Option CellUse) (came : Outcome) (point floor : ℕ) → point ≤ floor
     → ((value writer stamp : ℕ) → came ≡ outcome.Read value writer stamp → stamp ≤ floor)
-    → IsLow floor (reference spot came point)
+    → IsLow floor (reference cell came point)
 is_low None (outcome.Read value writer stamp) point floor l stamps = l
 is_low None (outcome.Written value) point floor l stamps = l
 is_low None (outcome.Entered ring) point floor l stamps = l
@@ -63,9 +63,9 @@ is_low (Some at) (outcome.Written value) point floor l stamps = l
 is_low (Some at) (outcome.Entered ring) point floor l stamps = l
 is_low (Some at) (outcome.Denied denial) point floor l stamps = l
 
-deeds_more : (spot : Element → Option Spot) (events : List Event2) (event : Event2)
-    → map (deed_by spot) events ++ deed_by spot event ∷ [] ≡ map (deed_by spot) (events ++ event ∷ [])
-deeds_more spot events event = sym (map-append (deed_by spot) events (event ∷ []))
+deeds_more : (cell : Element → Option CellUse) (events : List Event2) (event : Event2)
+    → map (deed_by cell) events ++ deed_by cell event ∷ [] ≡ map (deed_by cell) (events ++ event ∷ [])
+deeds_more cell events event = sym (map-append (deed_by cell) events (event ∷ []))
 
 -- old own entries are there still, in a longer history
 own_old : (start : ℕ) (history more : List Marked) (p number : ℕ) (events : List Event2) (event : Event2) (place : ℕ)
@@ -105,13 +105,35 @@ module _ (x : Outline) (setup : List journaled.Entry) (p : ℕ) (events : List E
     ];
     rising = subst (IsRising (length setup + 1)) (sym (named_same events (Seen j.element))) tied.rising;
     amount = ap length (named_same events (Seen j.element)) ∙ tied.amount;
-    going = λ spot. let e = j.element in
+    going = λ cell. let e = j.element in
         subst (λ (done : List Deed). IsGoing x (followed setup v.history) (setup_entries x) p done floor told)
-        (deeds_more spot events (Core (Seen j.element)))
-        (going.seen_law x (followed setup v.history) (setup_entries x) p (map (deed_by spot) events) v.floor floor told
-        (reference (spot e) e.outcome e.point) e.point (is_reference (spot e) e.outcome e.point)
-        (has_point (spot e) e.outcome e.point)
-        low high (is_low (spot e) e.outcome e.point floor high stamps) (tied.going spot));
+        (deeds_more cell events (Core (Seen j.element)))
+        (going.seen_law x (followed setup v.history) (setup_entries x) p (map (deed_by cell) events) v.floor floor told
+        (reference (cell e) e.outcome e.point) e.point (is_reference (cell e) e.outcome e.point)
+        (has_point (cell e) e.outcome e.point)
+        low high (is_low (cell e) e.outcome e.point floor high stamps) (tied.going cell));
+  }
+
+  -- more is told, and no event came
+  pub told_tied : (told' : ℕ → ℕ) (floor : ℕ) (more : List Marked) → v.floor ≤ floor → ((n : ℕ) → told n ≤ told' n)
+      → AreTied x setup p events (record v { history = v.history ++ more; floor = floor }) told'
+  told_tied told' floor more rise told_more = record {
+    traced = tied.traced;
+    own = λ place number h. let o = tied.own place number h in record {
+      place = o.place;
+      is = o.is;
+      marked = o.marked;
+      at = place_kept v.history more o.place o.marked o.at;
+      own = o.own;
+      mark = o.mark;
+    };
+    rising = tied.rising;
+    amount = tied.amount;
+    going = λ cell.
+        subst (λ (j : List journaled.Entry). IsGoing x j (setup_entries x) p (map (deed_by cell) events) floor told')
+        (sym (followed_more setup (v.history ++ more) v.history more refl))
+        (going.told_law x (followed setup v.history) (map entry_in more) (setup_entries x) p
+        (map (deed_by cell) events) v.floor floor told told' rise told_more (tied.going cell));
   }
 
   pub miss_tied : (told' : ℕ → ℕ) (segno by floor : ℕ) (more : List Marked) → told segno < by → by ≤ floor
@@ -132,15 +154,15 @@ module _ (x : Outline) (setup : List journaled.Entry) (p : ℕ) (events : List E
     ];
     rising = subst (IsRising (length setup + 1)) (sym (named_same events (Missing segno by))) tied.rising;
     amount = ap length (named_same events (Missing segno by)) ∙ tied.amount;
-    going = λ spot.
+    going = λ cell.
         subst (λ (j : List journaled.Entry). IsGoing x j (setup_entries x) p
-        (map (deed_by spot) (events ++ Core (Missing segno by) ∷ [])) floor told')
+        (map (deed_by cell) (events ++ Core (Missing segno by) ∷ [])) floor told')
         (sym (followed_more setup (v.history ++ more) v.history more refl))
         (subst (λ (done : List Deed). IsGoing x (followed setup v.history ++ map entry_in more)
-        (setup_entries x) p done floor told') (deeds_more spot events (Core (Missing segno by)))
+        (setup_entries x) p done floor told') (deeds_more cell events (Core (Missing segno by)))
         (going.miss_law x (followed setup v.history) (map entry_in more) (setup_entries x) p
-        (map (deed_by spot) events) v.floor floor told told' segno by
-        above under rise told_by told_more (tied.going spot)));
+        (map (deed_by cell) events) v.floor floor told told' segno by
+        above under rise told_by told_more (tied.going cell)));
   }
 
   pub entry_tied : (told' : ℕ → ℕ) (more : List Marked) (marked : Marked) (place floor : ℕ)
@@ -182,17 +204,17 @@ module _ (x : Outline) (setup : List journaled.Entry) (p : ℕ) (events : List E
             tied.rising);
         amount = ap length (named_more events (Entry number ∷ [])) ∙ length-append (entries_named events) (number ∷ [])
             ∙ (let a = tied.amount in omega arith);
-        going = λ spot.
+        going = λ cell.
             subst (λ (j : List journaled.Entry). IsGoing x j (setup_entries x) p
-            (map (deed_by spot) (events ++ Entry number ∷ [])) floor told') (sym grown)
+            (map (deed_by cell) (events ++ Entry number ∷ [])) floor told') (sym grown)
             (subst (λ (done : List Deed). IsGoing x (followed setup v.history ++ map entry_in more)
-            (setup_entries x) p done floor told') (deeds_more spot events (Entry number))
+            (setup_entries x) p done floor told') (deeds_more cell events (Entry number))
             (going.entered_law x (followed setup v.history) (map entry_in more) (setup_entries x) p
-            (map (deed_by spot) events) v.floor floor told told' number
+            (map (deed_by cell) events) v.floor floor told told' number
             above under (subst (λ (j : List journaled.Entry). number ≤ length j) grown (omega arith)) told_more
             (λ segno c. told_here segno
             (subst (λ (j : List journaled.Entry). IsChanged x j p segno number) (sym grown) c))
-            (tied.going spot)));
+            (tied.going cell)));
       }
     where
       same_number : (a b : ℕ) → Entry a ≡ Entry b → a ≡ b

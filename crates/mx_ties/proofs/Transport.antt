@@ -2,28 +2,24 @@
 use Rattle.std.proofs.Common.{◌≡◌, ◌≢◌, inl, inr, ℕ, ◌<◌, refl, ap, sym, ◌∙◌, subst, Option, Some, None, arith}
 use Rattle.std.specs.List.{slice_get}
 use Rattle.std.proofs.lemmas.Bool.{cases_eq}
-use Rattle.mx_legal.specs.Deeds.{Spot, Deed, Deeds, Enters, Stores, Loads, Refers, Misses}
-use Rattle.mx_legal.specs.Sightings.{Source, Sights, HasSighted, IsLatest, IsBeyond}
-use Rattle.mx_legal.specs.Reads as transcript
-use Rattle.mx_reads.specs.Deeds.{CellUse}
-use Rattle.mx_reads.specs.Deeds as known
-use Rattle.mx_reads.specs.ReadRule.{Fronts}
-use Rattle.mx_reads.specs.ReadRule as rule
-use Rattle.mx_reads.specs.Sightings as sighting
+use Rattle.mx_reads.specs.Deeds.{CellUse, Deed, Deeds, Enters, Stores, Loads, Refers, Misses}
+use Rattle.mx_reads.specs.ReadRule.{Fronts, known_by, IsOwnLast, IsFirstOther, IsRightRead, AreRightReads}
+use Rattle.mx_reads.specs.Sightings.{Source, Sights, HasSighted, IsLatest, IsBeyond}
+use Rattle.mx_transcript.specs.Reads.{IsKnown}
 use Rattle.mx_ties.specs.Acts.{IsAct, acts_before, place_of}
 use Rattle.mx_ties.specs.Matching.{Matches, TransportLaw}
-use Rattle.mx_ties.specs.Uses.{as_known_by}
+use Rattle.mx_ties.specs.Uses.{renamed}
 use Rattle.mx_ties.proofs.ActLists.{before_grows, before_rises}
 use Rattle.mx_ties.proofs.StoresAlike as alike
 use Rattle.mx_ties.proofs.StoresAlike.{IsBack}
 
-record IsThere (trace : known.Deeds) (w l : ℕ) : Type 0 where
-  deed : known.Deed
+record IsThere (trace : Deeds) (w l : ℕ) : Type 0 where
+  deed : Deed
   at : slice_get (trace w) l ≡ Some deed
 
-module _ (use_at : Spot → CellUse) (done : Deeds) (trace : known.Deeds) (front : Fronts)
+module _ (use_at : CellUse → CellUse) (done trace : Deeds) (front : Fronts)
     (m : Matches use_at done trace front) where
-  abbrev IsNear : Spot → Type 0
+  abbrev IsNear : CellUse → Type 0
   IsNear = alike.IsNear use_at done trace front m
 
   abbrev rank : ℕ → ℕ → ℕ
@@ -33,13 +29,13 @@ module _ (use_at : Spot → CellUse) (done : Deeds) (trace : known.Deeds) (front
   slot u i = place_of (done u) i
 
   forth : (u place : ℕ) (d : Deed) → IsAct d → slice_get (done u) place ≡ Some d
-      → slice_get (trace u) (rank u place) ≡ Some (as_known_by use_at d)
+      → slice_get (trace u) (rank u place) ≡ Some (renamed use_at d)
   forth = alike.forth use_at done trace front m
 
-  back : (u i : ℕ) (d : known.Deed) → slice_get (trace u) i ≡ Some d → IsBack use_at done u i d
+  back : (u i : ℕ) (d : Deed) → slice_get (trace u) i ≡ Some d → IsBack use_at done u i d
   back = alike.back use_at done trace front m
 
-  rank_slot : (u i : ℕ) (d : known.Deed) → slice_get (trace u) i ≡ Some d → rank u (slot u i) ≡ i
+  rank_slot : (u i : ℕ) (d : Deed) → slice_get (trace u) i ≡ Some d → rank u (slot u i) ≡ i
   rank_slot = alike.rank_slot use_at done trace front m
 
   less_back : (u a b : ℕ) → rank u a < rank u b → a < b
@@ -54,38 +50,38 @@ module _ (use_at : Spot → CellUse) (done : Deeds) (trace : known.Deeds) (front
   meant (Some (Refers point)) k = k
   meant (Some (Misses segno by)) k = k
 
-  module _ (reads : rule.AreRightReads trace front) where
+  module _ (reads : AreRightReads trace (known_by front)) where
     abbrev source : Source
     source p i = meant (slice_get (done p) i) (reads.source p (rank p i))
 
     -- the store that a read of a written word stands for is there
     read_of : (p i : ℕ) (cell : CellUse) (value writer stamp q : ℕ)
-        → slice_get (trace p) i ≡ Some (known.Loads cell value writer stamp q) → writer ≢ 0
-        → slice_get (trace writer) (reads.source p i) ≡ Some (known.Stores cell value stamp)
+        → slice_get (trace p) i ≡ Some (Loads cell value writer stamp q) → writer ≢ 0
+        → slice_get (trace writer) (reads.source p i) ≡ Some (Stores cell value stamp)
     read_of p i cell value writer stamp q h some = elim (cases_eq writer p) [
-      | inl e ↦ subst (λ (u : ℕ). slice_get (trace u) (reads.source p i) ≡ Some (known.Stores cell value stamp)) (sym e)
+      | inl e ↦ subst (λ (u : ℕ). slice_get (trace u) (reads.source p i) ≡ Some (Stores cell value stamp)) (sym e)
           ((reads.right p i cell value writer stamp q h).own some e).such.stored
       | inr n ↦ ((reads.right p i cell value writer stamp q h).another some n).such.stored
     ]
 
     -- sightings
-    act_sights : (p i : ℕ) (d : Deed) (cell : Spot) (w j : ℕ) → Sights source p i d cell w j → IsAct d
+    act_sights : (p i : ℕ) (d : Deed) (cell : CellUse) (w j : ℕ) → Sights source p i d cell w j → IsAct d
     act_sights p i (Enters number) cell w j s = absurd s
     act_sights p i (Stores own value point) cell w j s = tt
     act_sights p i (Loads own value writer stamp point) cell w j s = tt
     act_sights p i (Refers point) cell w j s = absurd s
     act_sights p i (Misses segno by) cell w j s = absurd s
 
-    sights_to : (p i : ℕ) (d : Deed) (cell : Spot) (w j : ℕ) → slice_get (done p) i ≡ Some d
+    sights_to : (p i : ℕ) (d : Deed) (cell : CellUse) (w j : ℕ) → slice_get (done p) i ≡ Some d
         → Sights source p i d cell w j
-        → sighting.Sights reads.source p (rank p i) (as_known_by use_at d) (use_at cell) w (rank w j)
+        → Sights reads.source p (rank p i) (renamed use_at d) (use_at cell) w (rank w j)
     sights_to p i (Enters number) cell w j h s = absurd s
     sights_to p i (Stores own value point) cell w j h s =
         (ap use_at s.0, s.1, ap (λ (u : ℕ). rank u j) s.1 ∙ ap (λ (n : ℕ). rank p n) s.2)
     sights_to p i (Loads own value writer stamp point) cell w j h s =
         let there = forth p i (Loads own value writer stamp point) tt h in
         let stood = read_of p (rank p i) (use_at own) value writer stamp point there s.1 in
-        let back = rank_slot writer (reads.source p (rank p i)) (known.Stores (use_at own) value stamp) stood in
+        let back = rank_slot writer (reads.source p (rank p i)) (Stores (use_at own) value stamp) stood in
         let at : source p i ≡ slot writer (reads.source p (rank p i)) = ap
         (λ (o : Option Deed). meant o (reads.source p (rank p i))) h in
         (ap use_at s.0, s.1, s.2, ap (λ (u : ℕ). rank u j) s.2 ∙ ap (λ (n : ℕ). rank writer n) (s.3 ∙ at) ∙ back)
@@ -93,7 +89,7 @@ module _ (use_at : Spot → CellUse) (done : Deeds) (trace : known.Deeds) (front
     sights_to p i (Misses segno by) cell w j h s = absurd s
 
     -- an act at its place in the transcript, where it is a load
-    source_slot : (p k : ℕ) (d : known.Deed) (own : Spot) (value writer stamp point : ℕ)
+    source_slot : (p k : ℕ) (d : Deed) (own : CellUse) (value writer stamp point : ℕ)
         → slice_get (trace p) k ≡ Some d
         → slice_get (done p) (slot p k) ≡ Some (Loads own value writer stamp point)
         → source p (slot p k) ≡ slot writer (reads.source p k)
@@ -101,9 +97,9 @@ module _ (use_at : Spot → CellUse) (done : Deeds) (trace : known.Deeds) (front
         ap (λ (o : Option Deed). meant o (reads.source p (rank p (slot p k)))) at
         ∙ ap (λ (n : ℕ). slot writer (reads.source p n)) (rank_slot p k d h)
 
-    sights_from : (p k : ℕ) (d : known.Deed) (own : Deed) (cell : Spot) (near : IsNear cell) (w l : ℕ)
+    sights_from : (p k : ℕ) (d : Deed) (own : Deed) (cell : CellUse) (near : IsNear cell) (w l : ℕ)
         → slice_get (trace p) k ≡ Some d
-        → slice_get (done p) (slot p k) ≡ Some own → sighting.Sights reads.source p k (as_known_by use_at own)
+        → slice_get (done p) (slot p k) ≡ Some own → Sights reads.source p k (renamed use_at own)
         (use_at cell) w l
         → Sights source p (slot p k) own cell w (slot w l)
     sights_from p k d (Enters number) cell near w l h at s = absurd s
@@ -123,45 +119,45 @@ module _ (use_at : Spot → CellUse) (done : Deeds) (trace : known.Deeds) (front
     sights_from p k d (Refers point) cell near w l h at s = absurd s
     sights_from p k d (Misses segno by) cell near w l h at s = absurd s
 
-    sighted_to : (p i : ℕ) (cell : Spot) (w j : ℕ) → HasSighted done source p i cell w j
-        → sighting.HasSighted trace reads.source p (rank p i) (use_at cell) w (rank w j)
+    sighted_to : (p i : ℕ) (cell : CellUse) (w j : ℕ) → HasSighted done source p i cell w j
+        → HasSighted trace reads.source p (rank p i) (use_at cell) w (rank w j)
     sighted_to p i cell w j s = record {
-      deed = as_known_by use_at s.deed;
+      deed = renamed use_at s.deed;
       at = forth p i s.deed (act_sights p i s.deed cell w j s.sights) s.at;
       sights = sights_to p i s.deed cell w j s.at s.sights;
     }
 
-    sighted_from : (p k : ℕ) (cell : Spot) (near : IsNear cell) (w l : ℕ)
-        → sighting.HasSighted trace reads.source p k (use_at cell) w l
+    sighted_from : (p k : ℕ) (cell : CellUse) (near : IsNear cell) (w l : ℕ)
+        → HasSighted trace reads.source p k (use_at cell) w l
         → HasSighted done source p (slot p k) cell w (slot w l)
     sighted_from p k cell near w l s =
         let b = back p k s.deed s.at in record {
           deed = b.deed;
           at = b.at;
           sights = sights_from p k s.deed b.deed cell near w l s.at b.at
-              (subst (λ (d : known.Deed). sighting.Sights reads.source p k d (use_at cell) w l) (sym b.is) s.sights);
+              (subst (λ (d : Deed). Sights reads.source p k d (use_at cell) w l) (sym b.is) s.sights);
         }
 
     -- the store that was sighted is there
-    sighted_store : (p k : ℕ) (d : known.Deed) (cell : CellUse) (w l : ℕ) → slice_get (trace p) k ≡ Some d
-        → sighting.Sights reads.source p k d cell w l → IsThere trace w l
-    sighted_store p k (known.Enters number) cell w l h s = absurd s
-    sighted_store p k (known.Stores own value point) cell w l h s = record {
-      deed = known.Stores own value point;
-      at = subst (λ (u : ℕ). slice_get (trace u) l ≡ Some (known.Stores own value point)) (sym s.1)
-          (subst (λ (n : ℕ). slice_get (trace p) n ≡ Some (known.Stores own value point)) (sym s.2) h);
+    sighted_store : (p k : ℕ) (d : Deed) (cell : CellUse) (w l : ℕ) → slice_get (trace p) k ≡ Some d
+        → Sights reads.source p k d cell w l → IsThere trace w l
+    sighted_store p k (Enters number) cell w l h s = absurd s
+    sighted_store p k (Stores own value point) cell w l h s = record {
+      deed = Stores own value point;
+      at = subst (λ (u : ℕ). slice_get (trace u) l ≡ Some (Stores own value point)) (sym s.1)
+          (subst (λ (n : ℕ). slice_get (trace p) n ≡ Some (Stores own value point)) (sym s.2) h);
     }
-    sighted_store p k (known.Loads own value writer stamp point) cell w l h s = record {
-      deed = known.Stores own value stamp;
-      at = subst (λ (u : ℕ). slice_get (trace u) l ≡ Some (known.Stores own value stamp)) (sym s.2)
-          (subst (λ (n : ℕ). slice_get (trace writer) n ≡ Some (known.Stores own value stamp)) (sym s.3)
+    sighted_store p k (Loads own value writer stamp point) cell w l h s = record {
+      deed = Stores own value stamp;
+      at = subst (λ (u : ℕ). slice_get (trace u) l ≡ Some (Stores own value stamp)) (sym s.2)
+          (subst (λ (n : ℕ). slice_get (trace writer) n ≡ Some (Stores own value stamp)) (sym s.3)
           (read_of p k own value writer stamp point h s.1));
     }
-    sighted_store p k (known.Denies point) cell w l h s = absurd s
-    sighted_store p k (known.Misses segno by) cell w l h s = absurd s
+    sighted_store p k (Refers point) cell w l h s = absurd s
+    sighted_store p k (Misses segno by) cell w l h s = absurd s
 
-    latest_to : (p i : ℕ) (cell : Spot) (near : IsNear cell) (h w j : ℕ) → IsLatest done source p i cell h w j
-        → sighting.IsLatest trace reads.source p (rank p i) (use_at cell) (rank p h) w (rank w j)
+    latest_to : (p i : ℕ) (cell : CellUse) (near : IsNear cell) (h w j : ℕ) → IsLatest done source p i cell h w j
+        → IsLatest trace reads.source p (rank p i) (use_at cell) (rank p h) w (rank w j)
     latest_to p i cell near h w j l =
         let s = l.sighted in
         let here = act_sights p h s.deed cell w j s.sights in
@@ -175,8 +171,8 @@ module _ (use_at : Spot → CellUse) (done : Deeds) (trace : known.Deeds) (front
               (sighted_from p later cell near w' j' t);
         }
 
-    latest_from : (p i : ℕ) (cell : Spot) (near : IsNear cell) (k w l : ℕ)
-        → sighting.IsLatest trace reads.source p (rank p i) (use_at cell) k w l
+    latest_from : (p i : ℕ) (cell : CellUse) (near : IsNear cell) (k w l : ℕ)
+        → IsLatest trace reads.source p (rank p i) (use_at cell) k w l
         → IsLatest done source p i cell (slot p k) w (slot w l)
     latest_from p i cell near k w l t =
         let s = t.sighted in
@@ -193,8 +189,8 @@ module _ (use_at : Spot → CellUse) (done : Deeds) (trace : known.Deeds) (front
               t.last (rank p later) w' (rank w' j') (omega arith) second (sighted_to p later cell w' j' r);
         }
 
-    beyond_to : (p i : ℕ) (cell : Spot) (near : IsNear cell) (w place : ℕ) → IsBeyond done source p i cell w place
-        → sighting.IsBeyond trace reads.source p (rank p i) (use_at cell) w (rank w place)
+    beyond_to : (p i : ℕ) (cell : CellUse) (near : IsNear cell) (w place : ℕ) → IsBeyond done source p i cell w place
+        → IsBeyond trace reads.source p (rank p i) (use_at cell) w (rank w place)
     beyond_to p i cell near w place b = record {
       again = λ k l t.
           let s = t.sighted in
@@ -213,9 +209,9 @@ module _ (use_at : Spot → CellUse) (done : Deeds) (trace : known.Deeds) (front
           let more = before_rises (done w) (slot w l) place act.deed act.act act.at less in omega arith;
     }
 
-    beyond_from : (p i : ℕ) (cell : Spot) (near : IsNear cell) (w place : ℕ) (d : Deed) → IsAct d
+    beyond_from : (p i : ℕ) (cell : CellUse) (near : IsNear cell) (w place : ℕ) (d : Deed) → IsAct d
         → slice_get (done w) place ≡ Some d
-        → sighting.IsBeyond trace reads.source p (rank p i) (use_at cell) w (rank w place)
+        → IsBeyond trace reads.source p (rank p i) (use_at cell) w (rank w place)
         → IsBeyond done source p i cell w place
     beyond_from p i cell near w place d a at b = record {
       again = λ h j t. alike.most_back use_at done trace front m w j place d a at
@@ -228,9 +224,9 @@ module _ (use_at : Spot → CellUse) (done : Deeds) (trace : known.Deeds) (front
           (before_rises (done p) h i s.deed here s.at low) (sighted_to p h cell w j s));
     }
 
-    read_from : (p i : ℕ) (cell : Spot) (value writer stamp q : ℕ)
+    read_from : (p i : ℕ) (cell : CellUse) (value writer stamp q : ℕ)
         → slice_get (done p) i ≡ Some (Loads cell value writer stamp q)
-        → transcript.IsRightRead done source p i (source p i) cell value writer stamp q
+        → IsRightRead done (IsKnown done) source p i cell value writer stamp q
     read_from p i cell value writer stamp q h =
         let near : IsNear cell = λ own touched same. m.apart own cell touched
         (record { process = p; place = i; deed = Loads cell value writer stamp q; at = h; touches = refl }) same in
@@ -253,10 +249,10 @@ module _ (use_at : Spot → CellUse) (done : Deeds) (trace : known.Deeds) (front
           own = λ some e.
               let o = right.own some e in
               let k = reads.source p (rank p i) in
-              let same = rank_slot p k (known.Stores (use_at cell) value stamp) o.such.stored in
+              let same = rank_slot p k (Stores (use_at cell) value stamp) o.such.stored in
               let mine : slot p k ≡ source p i = ap (λ (u : ℕ). slot u k) (sym e) ∙ sym at in
               let low = o.before in
-              subst (λ (place : ℕ). transcript.IsOwnLast done p i place cell value stamp q) mine (record {
+              subst (λ (place : ℕ). IsOwnLast done (IsKnown done) p i place cell value stamp q) mine (record {
                 before = less_back p (slot p k) i (omega arith);
                 such = alike.such_from use_at done trace front m p k cell near value stamp q o.such;
                 last = λ later value' point a b stored.
@@ -269,13 +265,13 @@ module _ (use_at : Spot → CellUse) (done : Deeds) (trace : known.Deeds) (front
           another = λ some n.
               let o = right.another some n in
               let k = reads.source p (rank p i) in
-              let same = rank_slot writer k (known.Stores (use_at cell) value stamp) o.such.stored in
+              let same = rank_slot writer k (Stores (use_at cell) value stamp) o.such.stored in
               let stored = alike.store_slot use_at done trace front m writer k cell near value stamp o.such.stored in
-              subst (λ (place : ℕ). transcript.IsFirstOther done source p i writer place cell value stamp q) (sym at)
+              subst (λ (place : ℕ). IsFirstOther done (IsKnown done) source p i writer place cell value stamp q) (sym at)
               (record {
                 such = alike.such_from use_at done trace front m writer k cell near value stamp q o.such;
                 beyond = beyond_from p i cell near writer (slot writer k) (Stores cell value stamp) tt stored
-                    (subst (λ (l : ℕ). sighting.IsBeyond trace reads.source p (rank p i) (use_at cell) writer l)
+                    (subst (λ (l : ℕ). IsBeyond trace reads.source p (rank p i) (use_at cell) writer l)
                     (sym same) o.beyond);
                 first = λ earlier a s b.
                     let less = before_rises (done writer) earlier (slot writer k)
@@ -286,7 +282,7 @@ module _ (use_at : Spot → CellUse) (done : Deeds) (trace : known.Deeds) (front
               });
         }
 
-    pub reads_from : transcript.AreRightReads done
+    pub reads_from : AreRightReads done (IsKnown done)
     reads_from = record { source = source; right = read_from }
 
 pub transport_law : TransportLaw

@@ -1,20 +1,20 @@
 -- Under one lock: the journal is the bench's, cells hold what they should, and what is closed now is still so after a
 -- step of process p. Nothing is said of what other processes have run: it does not change.
 use Rattle.std.specs.Prelude.{Bool, true, IsTrue, map, take, ◌≡◌, ◌≢◌, ◌⊎◌, ℕ, suc, ◌+◌, ◌<◌, ◌≤◌, List, [], ◌∷◌, ◌++◌, length, Some, slice_get}
-use Rattle.mx_legal.specs.Opened.{opening_of}
+use Rattle.mx_transcript.specs.Opened.{opening_of}
 use Rattle.mx_state.specs.History.{replay, IsRight, IsRightEntry}
 use Rattle.mx_state.specs.declared.journal.Entry as journaled
 use Rattle.mx_script.specs.Sessions.{Outline, limit_of}
-use Rattle.mx_legal.specs.Access.{descriptor_of}
-use Rattle.mx_legal.specs.Courses.{Judged}
-use Rattle.mx_legal.specs.Legal.{setup_entries, call_of, setup_call}
+use Rattle.mx_transcript.specs.Access.{descriptor_of}
+use Rattle.mx_transcript.specs.Courses.{Judged}
+use Rattle.mx_transcript.specs.Legal.{setup_entries, call_of, setup_call}
 use Rattle.mx_reads.specs.Deeds.{CellUse, Stores, Loads}
 use Rattle.mx_reads.specs.Growth.{IsQuiet}
 use Rattle.mx_reads.specs.Held.{Held, AreRight}
 use Rattle.mx_reads.specs.KeepLaws.{IsNew}
 use Rattle.mx_ties.specs.Closed.{IsClosed, followed, traces}
 use Rattle.mx_ties.specs.Fronts.{front_after}
-use Rattle.mx_ties.specs.Views.{Referred, Marked, View, known_kept}
+use Rattle.mx_ties.specs.Views.{Referred, Marked, View, deed_kept}
 
 -- what is true of the bench: the journal, the passes and the cells under its lock
 pub record IsBench (x : Outline) (setup : List journaled.Entry) (history : List Marked) (views : ℕ → View)
@@ -78,7 +78,7 @@ abbrev pub BenchStoreLaw : Type 0
 BenchStoreLaw = (x : Outline) (setup : List journaled.Entry) (history : List Marked) (views views' : ℕ → View)
     (present : CellUse → Bool) (memory memory' : CellUse → Held) (p : ℕ) (j : Judged) (cell : CellUse) (value : ℕ)
     → IsBench x setup history views present memory → IsReferred x setup history views views' p j
-    → known_kept (Referred j) ≡ Stores cell value (length (followed setup history))
+    → deed_kept (Referred j) ≡ Stores cell value (length (followed setup history))
     → memory' cell ≡ record { value = value; writer = p; stamp = length (followed setup history) }
     → ((c : CellUse) → c ≢ cell → memory' c ≡ memory c)
     → IsBench x setup history views' present memory'
@@ -89,7 +89,7 @@ BenchLoadLaw = (x : Outline) (setup : List journaled.Entry) (history : List Mark
     (present : CellUse → Bool) (memory : CellUse → Held) (p : ℕ) (j : Judged) (cell : CellUse)
     → IsBench x setup history views present memory → IsReferred x setup history views views' p j
     → IsTrue (present cell)
-    → known_kept (Referred j) ≡ Loads cell (memory cell).value (memory cell).writer (memory cell).stamp
+    → deed_kept (Referred j) ≡ Loads cell (memory cell).value (memory cell).writer (memory cell).stamp
     (length (followed setup history))
     → IsBench x setup history views' present memory
 
@@ -98,5 +98,5 @@ abbrev pub BenchQuietLaw : Type 0
 BenchQuietLaw = (x : Outline) (setup : List journaled.Entry) (history : List Marked) (views views' : ℕ → View)
     (present : CellUse → Bool) (memory : CellUse → Held) (p : ℕ) (j : Judged)
     → IsBench x setup history views present memory → IsReferred x setup history views views' p j
-    → IsQuiet (known_kept (Referred j))
+    → IsQuiet (deed_kept (Referred j))
     → IsBench x setup history views' present memory

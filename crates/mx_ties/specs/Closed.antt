@@ -1,19 +1,19 @@
 -- What the office, which keeps the journal for all processes, tells when it is closed: of the journal, and of the
 -- passes that it took back.
 use Rattle.std.specs.Prelude.{◌≡◌, ℕ, ◌<◌, ◌≤◌, List, [], ◌++◌, map, take, length, Some, slice_get}
-use Rattle.mx_legal.specs.Opened.{opening_of}
+use Rattle.mx_transcript.specs.Opened.{opening_of}
 use Rattle.mx_state.specs.History.{IsRight}
 use Rattle.mx_state.specs.declared.journal.Entry as journaled
 use Rattle.mx_script.specs.Sessions.{Outline, limit_of}
-use Rattle.mx_legal.specs.Courses.{Judged}
+use Rattle.mx_transcript.specs.Courses.{Judged}
 use Rattle.mx_ties.specs.Counting.{AreProcesses, total}
 use Rattle.mx_reads.specs.Deeds.{Deeds}
-use Rattle.mx_legal.specs.Access.{descriptor_of}
-use Rattle.mx_legal.specs.Legal.{setup_entries, call_of, setup_call}
-use Rattle.mx_legal.specs.Misses.{IsChanged}
-use Rattle.mx_reads.specs.ReadRule.{AreRightReads}
+use Rattle.mx_transcript.specs.Access.{descriptor_of}
+use Rattle.mx_transcript.specs.Legal.{setup_entries, call_of, setup_call}
+use Rattle.mx_transcript.specs.Misses.{IsChanged}
+use Rattle.mx_reads.specs.ReadRule.{known_by, AreRightReads}
 use Rattle.mx_ties.specs.Fronts.{front_after}
-use Rattle.mx_ties.specs.Views.{Referred, Missed, Marked, View, known_kept}
+use Rattle.mx_ties.specs.Views.{Referred, Missed, Marked, View, deed_kept}
 
 abbrev pub entry_in : Marked → journaled.Entry
 entry_in marked = marked.entry
@@ -27,7 +27,7 @@ followed setup history = setup ++ map entry_in history
 
 -- the traces as deeds; the initializer has none
 abbrev pub traces : (ℕ → View) → Deeds
-traces views p = map known_kept (views p).trace
+traces views p = map deed_kept (views p).trace
 
 -- what holds of the pass of process p: its history is a front of the whole one, its floor within the journal; the
 -- descriptor beside each element is that of the tables, and each miss names an entry that changed its pair
@@ -59,6 +59,6 @@ pub record IsClosed (x : Outline) (setup : List journaled.Entry) (history : List
   -- each pass is tied to the journal
   pub retired : (p : ℕ) → 1 ≤ p → p ≤ length x.principals → IsRetired x setup history p (views p)
   -- each word read is the store that the read rule gives, by what is known in traces
-  pub reads : AreRightReads (traces views) (front_after (length setup) history)
+  pub reads : AreRightReads (traces views) (known_by (front_after (length setup) history))
   -- the ledger's sum: the passes count as many entries as there are
   pub counted : total (length x.principals) (λ p. (views p).amount) ≡ length history

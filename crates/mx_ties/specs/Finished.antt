@@ -3,9 +3,9 @@ use Rattle.std.specs.Prelude.{◌≡◌, ℕ, ◌+◌, ◌≤◌, List, length}
 use Rattle.mx_state.specs.declared.journal.Entry as journaled
 use Rattle.mx_script.specs.Sessions.{Outline}
 use Rattle.mx_ties.specs.Closed.{followed, IsClosed}
-use Rattle.mx_legal.specs.Legal.{IsLegal}
+use Rattle.mx_transcript.specs.Legal.{IsLegal}
 use Rattle.mx_ties.specs.Ran.{HasRun, IsSetUp}
-use Rattle.mx_legal.specs.Transcripts.{Step, part}
+use Rattle.mx_transcript.specs.Transcripts.{Step, part}
 use Rattle.mx_ties.specs.Views.{Marked, View}
 
 abbrev pub FinishedLaw : Type 0

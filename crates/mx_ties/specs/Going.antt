@@ -2,16 +2,16 @@
 use Rattle.std.specs.Prelude.{◌≡◌, ℕ, ◌<◌, ◌≤◌, List, [], ◌∷◌, ◌++◌, length, Some, slice_get}
 use Rattle.mx_state.specs.declared.journal.Entry as journaled
 use Rattle.mx_script.specs.Sessions.{Outline}
-use Rattle.mx_legal.specs.Deeds.{Deed, Enters, Stores, Loads, Refers, Misses, point_of}
-use Rattle.mx_legal.specs.Misses.{IsChanged}
-use Rattle.mx_legal.specs.Points.{ArePoints}
+use Rattle.mx_reads.specs.Deeds.{Deed, Enters, Stores, Loads, Refers, Misses, point_of}
+use Rattle.mx_transcript.specs.Misses.{IsChanged}
+use Rattle.mx_transcript.specs.Points.{ArePoints}
 use Rattle.mx_ties.specs.Ran.{AreMisses}
 
 -- no number in a deed exceeds the floor
 abbrev pub IsLow : ℕ → Deed → Type 0
 IsLow floor (Enters number) = number ≤ floor
-IsLow floor (Stores spot value point) = point ≤ floor
-IsLow floor (Loads spot value writer stamp point) = (stamp ≤ floor) × (point ≤ floor)
+IsLow floor (Stores cell value point) = point ≤ floor
+IsLow floor (Loads cell value writer stamp point) = (stamp ≤ floor) × (point ≤ floor)
 IsLow floor (Refers point) = point ≤ floor
 IsLow floor (Misses segno by) = by ≤ floor
 
@@ -29,8 +29,8 @@ pub record IsGoing (x : Outline) (journal : List journaled.Entry) (start p : ℕ
 -- neither an entry nor a miss
 abbrev pub IsReference : Deed → Type 0
 IsReference (Enters number) = ⊥
-IsReference (Stores spot value point) = Unit {0}
-IsReference (Loads spot value writer stamp point) = Unit {0}
+IsReference (Stores cell value point) = Unit {0}
+IsReference (Loads cell value writer stamp point) = Unit {0}
 IsReference (Refers point) = Unit {0}
 IsReference (Misses segno by) = ⊥
 

@@ -13,6 +13,10 @@ pub mod Matching
 pub mod Going
 pub mod SoFar
 pub mod Steps
+-- laws: and whose lines are right unless a write failed
+pub mod AtWork
+pub mod Spoilt
+pub mod Working
 pub mod Bench
 pub mod BenchGoing
 -- an example

@@ -1,23 +1,23 @@
 -- A process with a line at work: what it keeps of its transcript so far and of its pass.
 use Rattle.std.specs.Prelude.{◌≡◌, ℕ, ◌+◌, ◌<◌, ◌≤◌, Option, List, ◌++◌, map, length, Some, slice_get}
 use Rattle.mx_sdw.specs.Descriptors.{Descriptor}
-use Rattle.mx_call.specs.Registers.{Registers}
+use Rattle.mx_upcall.specs.Control.{Control}
 use Rattle.mx_state.specs.declared.journal.Entry as journaled
 use Rattle.mx_script.specs.Sessions.{Outline, limit_of}
 use Rattle.mx_script.specs.declared.lines.Line.{Line}
 use Rattle.mx_core.specs.declared.elements.Element.{Element}
-use Rattle.mx_legal.specs.declared.transcripts.Event2.{Event2}
-use Rattle.mx_legal.specs.declared.transcripts.Event2.TheVariants.{Entry}
-use Rattle.mx_legal.specs.declared.transcripts.Result2.TheVariants.{HistoryFull}
-use Rattle.mx_legal.specs.Courses.{Course, Judged}
-use Rattle.mx_legal.specs.Deeds.{Spot}
-use Rattle.mx_legal.specs.Legal.{setup_entries}
-use Rattle.mx_legal.specs.Openings.{opening_registers}
-use Rattle.mx_legal.specs.References.{deed_by}
-use Rattle.mx_legal.specs.Scripts.{lines_of}
-use Rattle.mx_legal.specs.SoFar.{IsPartSoFar}
-use Rattle.mx_legal.specs.Standing.{AgreesWith, own_setting}
-use Rattle.mx_legal.specs.Transcripts.{Step, events_of, entries_named}
+use Rattle.mx_transcript.specs.declared.transcripts.Event2.{Event2}
+use Rattle.mx_transcript.specs.declared.transcripts.Event2.TheVariants.{Entry}
+use Rattle.mx_transcript.specs.declared.transcripts.Result2.TheVariants.{HistoryFull}
+use Rattle.mx_transcript.specs.Courses.{Course, Judged}
+use Rattle.mx_reads.specs.Deeds.{CellUse}
+use Rattle.mx_transcript.specs.Legal.{setup_entries}
+use Rattle.mx_transcript.specs.Openings.{opening_control}
+use Rattle.mx_transcript.specs.References.{deed_by}
+use Rattle.mx_transcript.specs.Scripts.{lines_of}
+use Rattle.mx_transcript.specs.SoFar.{IsPartSoFar}
+use Rattle.mx_transcript.specs.Standing.{AgreesWith, own_setting}
+use Rattle.mx_transcript.specs.Transcripts.{Step, events_of, entries_named}
 use Rattle.mx_ties.specs.Closed.{followed}
 use Rattle.mx_ties.specs.Counting.{IsRising}
 use Rattle.mx_ties.specs.Going.{IsGoing}
@@ -35,8 +35,8 @@ pub record AreTied (x : Outline) (setup : List journaled.Entry) (p : ℕ) (event
   pub rising : IsRising (length setup + 1) (entries_named events)
   pub amount : length (entries_named events) ≡ v.amount
   -- points and misses
-  pub going : (spot : Element → Option Spot) → IsGoing x (followed setup v.history) (setup_entries x) p
-      (map (deed_by spot) events) v.floor told
+  pub going : (cell : Element → Option CellUse) → IsGoing x (followed setup v.history) (setup_entries x) p
+      (map (deed_by cell) events) v.floor told
 
 -- an entry after a line that found the journal full is above the limit, which the floor has reached
 pub record IsFullKept (limit floor : ℕ) (steps : List Step) (events : List Event2) : Type 0 where
@@ -49,16 +49,16 @@ pub record IsFullKept (limit floor : ℕ) (steps : List Step) (events : List Eve
 
 -- the lines so far, whatever descriptors agree with the trace
 abbrev pub PromisesPart : Outline → List journaled.Entry → ℕ → List Judged → ℕ → List Step → ℕ → Line
-    → List (ℕ × Line) → Registers
+    → List (ℕ × Line) → Control
     → List Event2 → Course → Type 0
 PromisesPart x front floor trace p steps number line left now events course = (d : Element → Descriptor)
     → AgreesWith d trace
-    → IsPartSoFar (own_setting x front floor p d) (opening_registers p)
+    → IsPartSoFar (own_setting x front floor p d) (opening_control x p)
     (lines_of x p) steps number line left now events course
 
 -- what is true of a process at work
 pub record HasRunSoFar (x : Outline) (setup : List journaled.Entry) (p : ℕ) (steps : List Step) (number : ℕ)
-    (line : Line) (left : List (ℕ × Line)) (now : Registers) (events : List Event2) (course : Course) (v : View)
+    (line : Line) (left : List (ℕ × Line)) (now : Control) (events : List Event2) (course : Course) (v : View)
     (told : ℕ → ℕ) : Type 0 where
   pub lines : PromisesPart x (followed setup v.history) v.floor
       (judged_in v.trace) p steps number line left now events course

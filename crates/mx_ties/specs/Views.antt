@@ -1,15 +1,13 @@
 -- What is kept of a process, in its pass: a trace of its references and misses, and the entries that it was told of.
 use Rattle.std.specs.Prelude.{ℕ, zero, suc, List, [], ◌∷◌}
 use Rattle.mx_state.specs.declared.journal.Entry as journaled
-use Rattle.mx_reads.specs.Deeds as known
 use Rattle.mx_core.specs.declared.elements.Event.{Event}
 use Rattle.mx_core.specs.declared.elements.Event.TheVariants.{Seen, Missing}
-use Rattle.mx_legal.specs.declared.transcripts.Event2.{Event2}
-use Rattle.mx_legal.specs.declared.transcripts.Event2.TheVariants.{Core, Entry}
-use Rattle.mx_legal.specs.Courses.{Judged}
-use Rattle.mx_legal.specs.Deeds.{Deed, Misses}
-use Rattle.mx_legal.specs.References.{reference, spot_by}
-use Rattle.mx_ties.specs.Uses.{as_known}
+use Rattle.mx_transcript.specs.declared.transcripts.Event2.{Event2}
+use Rattle.mx_transcript.specs.declared.transcripts.Event2.TheVariants.{Core, Entry}
+use Rattle.mx_transcript.specs.Courses.{Judged}
+use Rattle.mx_reads.specs.Deeds.{Deed, Misses}
+use Rattle.mx_transcript.specs.References.{reference, cell_by}
 
 -- an event of a trace: an element with the descriptor on which it was judged, or a miss
 pub data Kept : Type 0 where
@@ -20,14 +18,11 @@ abbrev pub event_of : Kept → Event
 event_of (Referred j) = Seen j.element
 event_of (Missed segno by) = Missing segno by
 
--- as a deed: its spot is that of the descriptor beside it
+-- as a deed: its cell is that of the descriptor beside it
 abbrev pub deed_kept : Kept → Deed
 deed_kept (Referred j) = reference
-    (spot_by j.desc j.element.kind j.element.ring j.element.word) j.element.outcome j.element.point
+    (cell_by j.desc j.element.kind j.element.ring j.element.word) j.element.outcome j.element.point
 deed_kept (Missed segno by) = Misses segno by
-
-abbrev pub known_kept : Kept → known.Deed
-known_kept kept = as_known (deed_kept kept)
 
 -- the elements of a trace
 abbrev pub judged_in : List Kept → List Judged

@@ -8,6 +8,7 @@ ghost use Rattle.mx_ties.specs.Fronts.{FrontLaw};
 ghost use Rattle.mx_ties.specs.Going.{SeenLaw, MissLaw, EnteredLaw};
 ghost use Rattle.mx_ties.specs.Matching.{TransportLaw};
 ghost use Rattle.mx_ties.specs.Sample.{Sample};
+ghost use Rattle.mx_ties.specs.Working.{WorkedLaw, BeginWorkLaw, SeenWorkLaw, FilledWorkLaw, DeniedFillLaw, MissedFillLaw, MissedWorkLaw, EnteredWorkLaw, ToldWorkLaw, EndedWorkLaw, LastWorkLaw, IdleWorkLaw, UnspoiltLaw, WorkedRunLaw};
 ghost use Rattle.mx_ties.specs.Steps.{FirstLineLaw, NoLineLaw, SeenStepLaw, FillStepLaw, MissStepLaw, EntryStepLaw, LineStepLaw, LastLineLaw};
 
 /// A run whose processes have all run, and whose office is closed, is legal.
@@ -48,6 +49,25 @@ pub fn steps_law()
     ensures entered { EntryStepLaw }
     ensures line { LineStepLaw }
     ensures last { LastLineLaw }
+{}
+
+/// A process whose lines are right unless a write failed keeps its ties at each step, and has worked when its last line
+/// ends. When the office is closed none has failed, so the run of such processes is legal.
+pub fn working_law()
+    ensures begin { BeginWorkLaw }
+    ensures seen { SeenWorkLaw }
+    ensures filled { FilledWorkLaw }
+    ensures denied { DeniedFillLaw }
+    ensures missed_fill { MissedFillLaw }
+    ensures missed { MissedWorkLaw }
+    ensures entered { EnteredWorkLaw }
+    ensures told { ToldWorkLaw }
+    ensures ended { EndedWorkLaw }
+    ensures last { LastWorkLaw }
+    ensures idle { IdleWorkLaw }
+    ensures worked { WorkedLaw }
+    ensures unspoilt { UnspoiltLaw }
+    ensures run { WorkedRunLaw }
 {}
 
 /// Under one lock, what is closed stays so after an entry and after a reference of one process.

@@ -1,16 +1,8 @@
-use Rattle.mx_line.proofs.ProcessLaws.{room_of, number_of, has_ended}
+use Rattle.mx_line.proofs.ProcessLaws.{fits_still, ended_keeping}
 use Rattle.mx_line.proofs.processes.end_line.Goals as goal
 
-pub end_line-requires-clause-event : goal.end_line-requires-clause-event
-end_line-requires-clause-event c = (room_of _ _ c.index-processes-i.result c.requires.within c.requires.room).0
-
-pub end_line-requires-clause-line : goal.end_line-requires-clause-line
-end_line-requires-clause-line c = (room_of _ _ c.index-processes-i.result c.requires.within c.requires.room).1
-
-pub end_line-requires-clause-number : goal.end_line-requires-clause-number
-end_line-requires-clause-number c = number_of _ _ c.index-processes-i.result c.requires.within c.requires.number
+pub end_with-requires-clause-gate : goal.end_with-requires-clause-gate
+end_with-requires-clause-gate c = fits_still _ _ _ _ c.requires.room c.keeping.ensures
 
 pub returns : goal.returns
-returns c =
-    has_ended _ _ c.index-processes-i.result c.end_line.new.self _ _ _ c.requires.within c.end_line.ensures.first c.end_line.ensures.done
-    c.end_line.ensures.steps c.end_line.ensures.idle c.end_line.ensures.fresh
+returns c = ended_keeping _ _ _ _ _ _ _ c.keeping.ensures c.end_with.ensures

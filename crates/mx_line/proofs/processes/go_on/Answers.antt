@@ -6,5 +6,5 @@ go_on-requires c = record { event = (room_of _ _ c.index-processes-i.result c.re
 
 pub returns : goal.returns
 returns c =
-    has_gone_on _ _ c.index-processes-i.result c.go_on.new.self _ _ c.requires.within c.go_on.ensures.first c.go_on.ensures.registers
+    has_gone_on _ _ c.index-processes-i.result c.go_on.new.self _ _ c.requires.within c.go_on.ensures.first c.go_on.ensures.control
     c.go_on.ensures.steps c.go_on.ensures.more c.go_on.ensures.progress

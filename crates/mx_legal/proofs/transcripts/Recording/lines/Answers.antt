@@ -1,8 +1,0 @@
-use Rattle.std.proofs.Common.{rules, ◌≡◌, length}
-use Rattle.mx_legal.proofs.RecordedLaws.{as_many}
-use Rattle.mx_legal.proofs.transcripts.Recording.lines.Goals as goal
-
-pub returns : goal.returns
-returns c =
-    let e : c.len.result ≡ length c.self.inside.lines.items = search rules in
-    as_many _ _ _ _ _ _ c.self.view_is e

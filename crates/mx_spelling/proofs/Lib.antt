@@ -1,0 +1,5 @@
+mod WalkBounds
+mod NextBounds
+mod LineBounds
+mod SessionBounds
+mod RunBounds

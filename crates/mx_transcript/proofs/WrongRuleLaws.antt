@@ -1,0 +1,319 @@
+-- Wrong points, reads and falls are refused.
+use Rattle.std.proofs.Common.{◌≡◌, ◌≢◌, ℕ, zero, suc, ◌<◌, ◌≤◌, inl, inr, List, [], ◌∷◌, ◌++◌, length, refl, ap, sym, ◌∙◌, subst, None, Some, arith}
+use Rattle.std.specs.List.{slice_get}
+use Rattle.mx_sdw.specs.declared.denials.Denial.TheVariants.{BadReturn}
+use Rattle.mx_upcall.specs.Gates.{ReturnGate}
+use Rattle.mx_core.specs.declared.elements.Element.{Element}
+use Rattle.mx_core.specs.declared.elements.Event.TheVariants.{Seen}
+use Rattle.mx_core.specs.declared.elements.Kind.TheVariants as kind
+use Rattle.mx_core.specs.declared.elements.Outcome.TheVariants as outcome
+use Rattle.mx_transcript.specs.declared.transcripts.Event2.{Event2}
+use Rattle.mx_transcript.specs.declared.transcripts.Event2.TheVariants.{Core, Entry}
+use Rattle.mx_reads.specs.Deeds.{CellUse, Deed, Deeds, Enters, Stores, Loads, Refers, Misses, point_of}
+use Rattle.mx_reads.specs.ReadRule.{IsRightRead}
+use Rattle.mx_reads.specs.Sightings.{Source, HasStored, Sights, HasSighted, IsLatest}
+use Rattle.mx_transcript.specs.Points.{IsPoint, ArePoints}
+use Rattle.mx_transcript.specs.Reads.{IsKnown}
+use Rattle.mx_transcript.specs.References.{use_of}
+use Rattle.mx_transcript.specs.WrongFalls.{gated, call, top, under, return, WrongFalls, WrongWaysBack}
+use Rattle.mx_transcript.specs.WrongPoints.{WrongPoints}
+use Rattle.mx_transcript.specs.WrongReads.{cell, did, WrongReads}
+
+-- the deeds of a right point
+abbrev before_entry : List Deed
+before_entry = Refers 3 ∷ Enters 4 ∷ []
+
+no_refers : (at number : ℕ) → slice_get before_entry at ≡ Some (Enters number) → number ≡ 4
+no_refers zero number h = absurd cc
+no_refers (suc zero) number h = cc
+no_refers (suc (suc at)) number h = absurd cc
+
+same_point : (q : ℕ) → Some 3 ≡ Some q → q ≡ 3
+same_point q h = cc
+
+right_at : (q : ℕ) → q ≡ 3 → IsPoint 2 5 before_entry 0 q
+right_at q is = record {
+  after_setup = omega arith;
+  after_entries = λ before number l h. absurd (omega arith);
+  after_misses = λ before segno by l h. absurd (omega arith);
+  after_stamps = λ before cell value writer stamp point l h. absurd (omega arith);
+  rising = λ before deed earlier l h e. absurd (omega arith);
+  within = omega arith;
+  before_next = λ number n. let four = no_refers n.at number n.entry in omega arith;
+}
+
+point_at : ArePoints 2 5 before_entry
+point_at zero deed q h e =
+    let same : Refers 3 ≡ deed = cc in
+    right_at q (same_point q (subst (λ (d : Deed). point_of d ≡ Some q) (sym same) e))
+point_at (suc zero) deed q h e =
+    let same : Enters 4 ≡ deed = cc in
+    absurd (nothing (subst (λ (d : Deed). point_of d ≡ Some q) (sym same) e))
+  where
+    nothing : None ≡ Some q → ⊥
+    nothing n = cc
+point_at (suc (suc place)) deed q h e = absurd cc
+
+pub wrong_points : WrongPoints
+wrong_points = record {
+  right_point = point_at;
+  before_setup = λ are. let l : 2 ≤ 1 = (are 0 (Refers 1) 1 refl refl).after_setup in omega arith;
+  before_own = λ are. let l : 4 ≤ 3 = (are 1 (Refers 3) 3 refl refl).after_entries 0 4
+      (omega arith) refl in omega arith;
+  before_miss = λ are. let l : 4 ≤ 3 = (are 1 (Refers 3) 3 refl refl).after_misses 0 8 4
+      (omega arith) refl in omega arith;
+  before_stamp = λ are. let l : 4 ≤ 3 = (are 1 (Refers 3) 3 refl refl).after_stamps 0 (use_of 320) 7 2 4 3
+      (omega arith) refl in omega arith;
+  falls = λ are. let l : 4 ≤ 3 = (are 1 (Refers 3) 3 refl refl).rising 0 (Refers 4) 4
+      (omega arith) refl refl in omega arith;
+  beyond = λ are. let l : 6 ≤ 5 = (are 0 (Refers 6) 6 refl refl).within in omega arith;
+  after_next = λ are.
+      let l : 4 < 4 = (are 0 (Refers 4) 4 refl refl).before_next 4 (record {
+        at = 1;
+        after = omega arith;
+        entry = refl;
+        first = λ between other low high at. omega arith;
+      }) in omega arith;
+}
+
+two : (n : ℕ) → n ≡ 2 → n ≢ 0
+two n is e = omega arith
+
+-- of two stores the first; a single one; none
+before_last : (place : ℕ) → slice_get (Stores cell 5 0 ∷ Stores cell 6 0 ∷ Loads cell 5 1 0 0 ∷ []) place ≡ Some
+    (Stores cell 5 0)
+    → place < 1
+before_last zero at = omega arith
+before_last (suc zero) at = absurd cc
+before_last (suc (suc zero)) at = absurd cc
+before_last (suc (suc (suc place))) at = absurd cc
+
+first_of : (place : ℕ) → slice_get (Stores cell 5 0 ∷ Stores cell 6 0 ∷ Enters 1 ∷ []) place ≡ Some (Stores cell 5 0)
+    → place < 1
+first_of zero at = omega arith
+first_of (suc zero) at = absurd cc
+first_of (suc (suc zero)) at = absurd cc
+first_of (suc (suc (suc place))) at = absurd cc
+
+one_store : (place : ℕ) → slice_get (Stores cell 5 0 ∷ []) place ≡ Some (Stores cell 5 0) → place ≡ 0
+one_store zero at = refl
+one_store (suc place) at = absurd cc
+
+no_six : (place : ℕ) → slice_get (Stores cell 5 0 ∷ []) place ≡ Some (Stores cell 6 0) → ⊥
+no_six zero at = cc
+no_six (suc place) at = cc
+
+no_store : (place : ℕ) → slice_get [] place ≡ Some (Stores cell 5 0) → ⊥
+no_store place at = cc
+
+-- process 1 reads a store of process 2, one of process 3, and that of process 2 again
+abbrev again : Deeds
+again = did
+    ((Loads cell 5 2 0 0 ∷ Loads cell 9 3 0 0 ∷ Loads cell 5 2 0 0 ∷ []) ∷ (Stores cell 5 0 ∷ []) ∷
+    (Stores cell 9 0 ∷ []) ∷ [])
+
+other_process : (a b : ℕ) → a ≡ b → a ≡ 2 → b ≡ 3 → ⊥
+other_process a b same one other = omega arith
+
+-- before the last read it sighted process 3 last
+third_sighted : (source : Source) → HasSighted again source 1 1 cell 3 (source 1 1)
+third_sighted source = record { deed = Loads cell 9 3 0 0; at = refl; sights = (refl, (λ e. omega arith), refl, refl) }
+
+no_other : (source : Source) (j : ℕ) (deed : Deed) → Some (Loads cell 9 3 0 0) ≡ Some deed
+    → Sights source 1 1 deed cell 2 j → ⊥
+no_other source j deed at sights =
+    let same : Loads cell 9 3 0 0 ≡ deed = cc in
+    let s : Sights source 1 1 (Loads cell 9 3 0 0) cell 2 j = subst (λ (d : Deed). Sights source 1 1 d cell 2 j)
+    (sym same) sights in
+    other_process 2 3 s.2 refl refl
+
+not_latest : (source : Source) (h j : ℕ) → IsLatest again source 1 2 cell h 2 j → ⊥
+not_latest source zero j latest = latest.last 1 3 (source 1 1) (omega arith) (omega arith) (third_sighted source)
+not_latest source (suc zero) j latest = no_other source j latest.sighted.deed latest.sighted.at latest.sighted.sights
+not_latest source (suc (suc h)) j latest = let l = latest.before in omega arith
+
+-- a right read: process 1 reads the store of process 2, which is known
+abbrev known : Deeds
+known = did ((Loads cell 5 2 0 1 ∷ []) ∷ (Stores cell 5 0 ∷ Enters 1 ∷ []) ∷ [])
+
+abbrev first_store : Source
+first_store p i = 0
+
+only_store : (u at : ℕ) (c : CellUse) (value point : ℕ) → HasStored known u at c value point → (u ≡ 2) × (at ≡ 0)
+only_store zero at c value point h = absurd cc
+only_store (suc zero) zero c value point h = absurd cc
+only_store (suc zero) (suc at) c value point h = absurd cc
+only_store (suc (suc zero)) zero c value point h = (refl, refl)
+only_store (suc (suc zero)) (suc zero) c value point h = absurd cc
+only_store (suc (suc zero)) (suc (suc at)) c value point h = absurd cc
+only_store (suc (suc (suc u))) at c value point h = absurd cc
+
+read_so : IsRightRead known (IsKnown known) first_store 1 0 cell 5 2 0 1
+read_so = record {
+  nobody = λ e. absurd (omega arith);
+  own = λ n e. absurd (omega arith);
+  another = λ n m. record {
+    such = record {
+      stored = refl;
+      current = λ s. elim s [
+        | inl replaced ↦
+            let l = replaced.after in
+            let is = (only_store 2 replaced.later cell replaced.value replaced.point replaced.stored).1 in omega arith
+        | inr over ↦ over.another (only_store over.other over.at cell over.value over.point over.stored).0
+      ];
+    };
+    beyond = record {
+      again = λ h j latest. let l = latest.before in absurd (omega arith);
+      onward = λ none h j l sighted. absurd (omega arith);
+    };
+    first = λ earlier l such beyond. omega arith;
+  };
+}
+
+-- the first deed of process 1, if it is a load
+abbrev IsRightOne : Deed → Type 0
+IsRightOne (Enters number) = ⊥
+IsRightOne (Stores c value point) = ⊥
+IsRightOne (Loads c value writer stamp q) = IsRightRead known (IsKnown known) first_store 1 0 c value writer stamp q
+IsRightOne (Refers point) = ⊥
+IsRightOne (Misses segno by) = ⊥
+
+the_read : (p i : ℕ) (c : CellUse) (value writer stamp q : ℕ) → slice_get (known p) i ≡ Some (Loads c value writer stamp q)
+    → IsRightRead known (IsKnown known) first_store p i c value writer stamp q
+the_read zero i c value writer stamp q h = absurd cc
+the_read (suc zero) zero c value writer stamp q h =
+    let same : Loads cell 5 2 0 1 ≡ Loads c value writer stamp q = cc in subst IsRightOne same read_so
+the_read (suc zero) (suc i) c value writer stamp q h = absurd cc
+the_read (suc (suc zero)) zero c value writer stamp q h = absurd cc
+the_read (suc (suc zero)) (suc zero) c value writer stamp q h = absurd cc
+the_read (suc (suc zero)) (suc (suc i)) c value writer stamp q h = absurd cc
+the_read (suc (suc (suc p))) i c value writer stamp q h = absurd cc
+
+pub wrong_reads : WrongReads
+wrong_reads = record {
+  right_read = record { source = first_store; right = the_read };
+  store_before = λ are.
+      let own = (are.right 1 2 cell 5 1 0 0 refl).own (λ e. omega arith) refl in
+      own.last 1 6 0 (before_last (are.source 1 2) own.such.stored) (omega arith) refl;
+  nobodys = λ are.
+      ((are.right 1 1 cell 0 0 0 0 refl).nobody refl).unsighted 0 1 0 (omega arith)
+      (record { deed = Stores cell 5 0; at = refl; sights = (refl, refl, refl) });
+  other_writer = λ are.
+      no_store (are.source 1 0)
+      ((are.right 1 0 cell 5 3 0 0 refl).another (λ e. omega arith) (λ e. omega arith)).such.stored;
+  other_value = λ are.
+      no_six (are.source 1 0) ((are.right 1 0 cell 6 2 0 0 refl).another (two 2 refl) (λ e. omega arith)).such.stored;
+  replaced = λ are.
+      let such = ((are.right 1 0 cell 5 2 0 1 refl).another (two 2 refl) (λ e. omega arith)).such in
+      such.current (inl (record {
+        later = 1;
+        value = 6;
+        point = 0;
+        after = first_of (are.source 1 0) such.stored;
+        stored = refl;
+        known = record { later = 2; number = 1; after = omega arith; entry = refl; within = omega arith };
+      }));
+  forgotten = λ are.
+      ((are.right 1 0 cell 0 0 0 1 refl).nobody refl).unknown 2 0 5 0 refl
+      (record { later = 1; number = 1; after = omega arith; entry = refl; within = omega arith });
+  again = λ are.
+      let other = (are.right 1 2 cell 5 2 0 0 refl).another (two 2 refl) (λ e. omega arith) in
+      let here = one_store (are.source 1 2) other.such.stored in
+      let l = other.beyond.onward (not_latest are.source) 0 (are.source 1 0) (omega arith)
+      (record { deed = Loads cell 5 2 0 0; at = refl; sights = (refl, two 2 refl, refl, refl) }) in
+      omega arith;
+}
+
+last_is : (before : List Event2) (e call : Element) → Core (Seen e) ∷ [] ≡ before ++ Core (Seen call) ∷ [] → e ≡ call
+last_is [] e call h = cc
+last_is (first ∷ []) e call h = cc
+last_is (first ∷ second ∷ before) e call h = cc
+
+pub wrong_falls : WrongFalls
+wrong_falls = record {
+  right_call = record {
+    before = [];
+    call = call;
+    last = refl;
+    kind = refl;
+    granted = refl;
+    gate = omega arith;
+    above = omega arith;
+    within = omega arith;
+    into = refl;
+  };
+  by_return = λ gate.
+      let w : kind.Return ≡ kind.Call = ap (λ (e : Element). e.kind) (last_is gate.before _ gate.call gate.last)
+      ∙ gate.kind in cc;
+  no_gate = λ gate.
+      let w : 2 < 2 = subst (λ (e : Element). e.word < (gated e).gate)
+      (sym (last_is gate.before _ gate.call gate.last)) gate.gate in
+      omega arith;
+  too_low = λ gate. let w : 3 ≡ 4 = gate.into in omega arith;
+  from_outside = λ gate.
+      let w : 7 ≤ 6 = subst (λ (e : Element). e.ring ≤ (gated e).brackets.r3)
+      (sym (last_is gate.before _ gate.call gate.last)) gate.within in
+      omega arith;
+  after_call = λ gate. not_last gate.before gate.call gate.last;
+} where
+  not_last : (before : List Event2) (e : Element) → Core (Seen call) ∷ Entry 3 ∷ [] ≡ before ++ Core (Seen e) ∷ [] → ⊥
+  not_last [] e h = cc
+  not_last (a ∷ []) e h = cc
+  not_last (a ∷ b ∷ []) e h = cc
+  not_last (a ∷ b ∷ c ∷ before) e h = cc
+
+-- of two gates the top one, and those below it
+same_top : (g h : ReturnGate) (xs ys : List ReturnGate) → g ∷ xs ≡ h ∷ ys → (g ≡ h) × (xs ≡ ys)
+same_top g h xs ys e = (cc, cc)
+
+same_entered : (a b : ℕ) → outcome.Entered a ≡ outcome.Entered b → a ≡ b
+same_entered a b e = cc
+
+no_top : (gate : ReturnGate) (others : List ReturnGate) → [] ≡ gate ∷ others → ⊥
+no_top gate others e = cc
+
+-- the gate of such a return is the top one
+the_top : (gate : ReturnGate) (others : List ReturnGate) → top ∷ under ∷ [] ≡ gate ∷ others
+    → (gate.lower ≡ 4) × (others ≡ under ∷ [])
+the_top gate others e =
+    let same = same_top top gate (under ∷ []) others e in
+    (sym (ap (λ (g : ReturnGate). g.lower) same.0), sym same.1)
+
+pub wrong_ways_back : WrongWaysBack
+wrong_ways_back = record {
+  right_return = record {
+    gate = top;
+    others = under ∷ [];
+    top = refl;
+    popped = refl;
+    into = refl;
+    earlier = [];
+    return = return;
+    last = refl;
+    kind = refl;
+    granted = refl;
+  };
+  no_gate = λ way. no_top way.gate way.others way.top;
+  pops_nothing = λ way.
+      let w : top ∷ under ∷ [] ≡ under ∷ [] = way.popped ∙ (the_top way.gate way.others way.top).1 in
+      let z : 2 ≡ 1 = ap (λ (gates : List ReturnGate). length gates) w in omega arith;
+  pops_both = λ way.
+      let w : [] ≡ under ∷ [] = way.popped ∙ (the_top way.gate way.others way.top).1 in cc;
+  enters_other = λ way.
+      let w : outcome.Entered 3 ≡ outcome.Entered way.gate.lower =
+      ap (λ (e : Element). e.outcome) (last_is way.earlier _ way.return way.last) ∙ way.granted in
+      let z : 3 ≡ 4 = same_entered 3 way.gate.lower w ∙ (the_top way.gate way.others way.top).0 in omega arith;
+  other_ring = λ way. let z : 3 ≡ 4 = way.into ∙ (the_top way.gate way.others way.top).0 in omega arith;
+  by_call = λ way.
+      let w : kind.Call ≡ kind.Return =
+      ap (λ (e : Element). e.kind) (last_is way.earlier _ way.return way.last) ∙ way.kind in cc;
+  denied = λ way.
+      let w : outcome.Denied BadReturn ≡ outcome.Entered way.gate.lower =
+      ap (λ (e : Element). e.outcome) (last_is way.earlier _ way.return way.last) ∙ way.granted in cc;
+  after_return = λ way. not_last way.earlier way.return way.last;
+} where
+  not_last : (before : List Event2) (e : Element) → Core (Seen return) ∷ Entry 3 ∷ [] ≡ before ++ Core (Seen e) ∷ [] → ⊥
+  not_last [] e h = cc
+  not_last (a ∷ []) e h = cc
+  not_last (a ∷ b ∷ []) e h = cc
+  not_last (a ∷ b ∷ c ∷ before) e h = cc
