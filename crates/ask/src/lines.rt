@@ -78,10 +78,10 @@ fn read_fields<'a>(word: &[u8], rest: &'a [u8]) -> Line<'a> {
     }
 }
 
-// A version from 1 to 3.
+// A version from 1 to 4.
 fn read_version(text: &[u8]) -> Option<u8> {
     match read_small(text, 1) {
-        Some(version) if 1 <= version && version <= 3 => Some(version),
+        Some(version) if 1 <= version && version <= 4 => Some(version),
         _ => None,
     }
 }

@@ -5,22 +5,24 @@ use Rattle.std.proofs.lemmas.Option.{slice_get_within}
 use Rattle.std.specs.List.{slice_get}
 use Rattle.mx_call.specs.Loading.{loaded}
 use Rattle.mx_call.specs.Registers.{Registers, ArePackable, going_on, way_back}
+use Rattle.mx_upcall.specs.Control.{Control, with_registers}
+use Rattle.mx_upcall.specs.Soundness.{IsPackableControl}
 use Rattle.mx_effring.specs.Chains.{read_on}
 use Rattle.mx_effring.specs.Walks.{wanted}
 use Rattle.mx_effring.specs.declared.walks.Want.{Want}
 use Rattle.mx_effring.specs.declared.walks.Want.TheVariants.{Done}
 use Rattle.mx_hier.specs.declared.refusals.Refusal.{Refusal}
-use Rattle.mx_legal.specs.Asking.{next, answered, attempts, first_due, result_of}
-use Rattle.mx_legal.specs.Attempts.{wants, after_seen, along, attempt}
-use Rattle.mx_legal.specs.Courses.{Course, Attempt, Answer, Judged}
-use Rattle.mx_legal.specs.Denials.{last_denial}
-use Rattle.mx_legal.proofs.AwaitLaws.{IsLinked, replied_so}
-use Rattle.mx_legal.specs.Filling.{snapped}
-use Rattle.mx_legal.specs.Next.{Reference, Asks, Calls, Ends, storing}
-use Rattle.mx_legal.specs.Operands.{walk_from}
-use Rattle.mx_legal.specs.Targets.{at_target, spri_at}
-use Rattle.mx_legal.specs.Transcripts.{Step}
-use Rattle.mx_legal.specs.declared.transcripts.Result2.TheVariants as result
+use Rattle.mx_transcript.specs.Asking.{next, answered, attempts, first_due, result_of}
+use Rattle.mx_transcript.specs.Attempts.{wants, after_seen, along, attempt}
+use Rattle.mx_transcript.specs.Courses.{Course, Attempt, Answer, Judged}
+use Rattle.mx_transcript.specs.Denials.{last_denial}
+use Rattle.mx_transcript.proofs.AwaitLaws.{IsLinked, replied_so}
+use Rattle.mx_transcript.specs.Filling.{snapped}
+use Rattle.mx_transcript.specs.Next.{Reference, Asks, Calls, Ends, storing}
+use Rattle.mx_transcript.specs.Operands.{walk_from}
+use Rattle.mx_transcript.specs.Targets.{at_target, spri_at}
+use Rattle.mx_transcript.specs.Transcripts.{Step}
+use Rattle.mx_transcript.specs.declared.transcripts.Result2.TheVariants as result
 use Rattle.mx_ptr.specs.Pointers.{PointerParts, parts_of}
 use Rattle.mx_request.proofs.StepLaws.{both}
 use Rattle.mx_request.specs.declared.replies.Reply.{Reply}
@@ -34,7 +36,7 @@ use Rattle.mx_script.specs.declared.lines.Operand.{Operand}
 use Rattle.mx_sdw.specs.declared.denials.Denial.{Denial}
 use Rattle.mx_state.proofs.ToldLaws.{link_replies_law}
 use Rattle.std.specs.Prelude.{MatchOption}
-use Rattle.mx_legal.specs.Opened.{opening_of}
+use Rattle.mx_transcript.specs.Opened.{opening_of}
 use Rattle.mx_state.specs.History.{replay, IsRightEntry}
 use Rattle.mx_state.specs.Messages.{is_ready}
 use Rattle.mx_state.specs.Plain.{Plain}
@@ -105,7 +107,7 @@ seen_registers x s whole room cells processes w p i g k view place h = record {
   seat = seat_in h.process;
   seated = ap (λ (v : World). slice_get v.seats (p - 1)) (sym view) ∙ ap (slice_get _) (sym place) ∙ seat_of processes i h.process h.at;
   registers = h.registers;
-  packable = subst ArePackable (sym h.registers) (k.good i h.process h.at).packable;
+  packable = subst ArePackable (sym h.registers) (k.good i h.process h.at).packable.registers;
 }
 
 pub seen_script_line : (x : Outline) (s : Supervised) (whole : List (List Step)) (room : ℕ) (cells : List Contents) (processes : List Process) (p i : ℕ) (l : Line)
@@ -118,14 +120,14 @@ seen_script_line x s whole room cells processes p i l w k view place a =
 pub good_still : (processes middle : List Process) (i : ℕ) → IsGoodAt processes i → IsStill processes i middle → IsGoodAt middle i
 good_still processes middle i good still =
     let same : good.process ≡ still.before = one_process good.process still.before (sym good.at ∙ still.at) in
-    let is : still.after.registers ≡ good.process.registers = still.registers ∙ ap (λ (q : Process). q.registers) (sym same) in
+    let is : still.after.control ≡ good.process.control = still.control ∙ ap (λ (q : Process). q.control) (sym same) in
     let came : still.after.progress ≡ good.process.progress = still.progress ∙ ap (λ (q : Process). q.progress) (sym same) in
     record {
       process = still.after;
       at = ap (λ (l : List Process). slice_get l i) still.set ∙ set_here processes i still.before still.after still.at;
-      packable = subst ArePackable (sym is) good.packable;
-      progress = subst (λ (g : Registers). IsGoodProgress g still.after.progress) (sym is)
-          (subst (λ (r : Progress). IsGoodProgress good.process.registers r) (sym came) good.progress);
+      packable = subst IsPackableControl (sym is) good.packable;
+      progress = subst (λ (g : Control). IsGoodProgress g.registers still.after.progress) (sym is)
+          (subst (λ (r : Progress). IsGoodProgress good.process.control.registers r) (sym came) good.progress);
     }
 
 pub led_still : (x : Outline) (s : Supervised) (whole : List (List Step)) (cells : List Contents) (processes middle : List Process) (w : World) (p i : ℕ)
@@ -134,13 +136,13 @@ pub led_still : (x : Outline) (s : Supervised) (whole : List (List Step)) (cells
 led_still x s whole cells processes middle w p i o place view at c still =
     let seat : c.seat ≡ seat_in still.before
     = seat_is x s whole cells processes p i c.seat still.before at (ap (λ (v : World). slice_get v.seats (p - 1)) view ∙ c.seated) still.at in
-    let is : c.seat.registers ≡ still.after.registers = ap (λ (seat : Seat). seat.registers) seat ∙ sym still.registers in
+    let is : c.seat.control ≡ still.after.control = ap (λ (seat : Seat). seat.control) seat ∙ sym still.control in
     let came : c.seat.progress ≡ still.after.progress = ap (λ (seat : Seat). seat.progress) seat ∙ sym still.progress in
     record {
       process = still.after;
       at = ap (λ (l : List Process). slice_get l i) still.set ∙ set_here processes i still.before still.after still.at;
-      led = subst (λ (g : Registers). IsLed g o still.after.progress place) is
-          (subst (λ (r : Progress). IsLed c.seat.registers o r place) came (led_to c.seat.registers o c.seat.progress place c.asks));
+      led = subst (λ (g : Control). IsLed g.registers o still.after.progress place) is
+          (subst (λ (r : Progress). IsLed c.seat.control.registers o r place) came (led_to c.seat.control.registers o c.seat.progress place c.asks));
     }
 
 at_most_seven : (n : ℕ) → nat_le n 7 ≡ true → n ≤ 7
@@ -210,7 +212,7 @@ seen_stores_nothing x s whole cells processes w p i view place idle = λ q it at
     (ap (λ (v : World). slice_get v.seats (p - 1)) (sym view) ∙ ap (slice_get _) (sym place) ∙ seat_of processes i q at) filling
 
 -- a line at work that is a request, and neither waits nor stores, is in its first attempt
-no_answer : (g : Registers) (l : Line) (request : Request) (entry : journaled.Entry) (filled : List Judged) (progress : Progress) → l ≡ line.Ask request
+no_answer : (g : Control) (l : Line) (request : Request) (entry : journaled.Entry) (filled : List Judged) (progress : Progress) → l ≡ line.Ask request
     → (progress ≡ Waiting → ⊥) → IsFree progress → IsAnswered g l entry filled progress → ⊥
 no_answer g l request entry filled Before e awake free come = come.other request e
 no_answer g l request entry filled (Walking walk) e awake free come = come
@@ -232,7 +234,7 @@ snapped_linked request ring replies.Nobody write e = absurd cc
 snapped_linked request ring replies.Waiting write e = absurd cc
 
 -- another request's line ends with its reply
-request_answered : (g : Registers) (l : Line) (asked request : Request) (ring : ℕ) (reply : Reply) → l ≡ line.Ask asked
+request_answered : (g : Control) (l : Line) (asked request : Request) (ring : ℕ) (reply : Reply) → l ≡ line.Ask asked
     → (reply ≡ replies.Waiting → ⊥) → (IsLinked reply → ⊥) → IsAnsweredBy g l ring request reply
 request_answered g l asked request ring reply e never unlinked = record {
   ends = λ nothing. ap (λ (l : Line). answered g l request reply) e ∙ replied_so g request reply never unlinked;
@@ -267,12 +269,12 @@ ask_calling w p l request g ring e in_script s r awake idle = record {
     same_request : (a b : Request) → line.Ask a ≡ line.Ask b → a ≡ b
     same_request a b h = cc
 
-    asks : (course : Course) → IsCome s.seat.registers l course s.seat.progress → next s.seat.registers l course ≡ Calls ring request
+    asks : (course : Course) → IsCome s.seat.control l course s.seat.progress → next s.seat.control l course ≡ Calls ring request
     asks (Attempt seen) come =
-        ap (λ (l : Line). next s.seat.registers l (Attempt seen)) e
+        ap (λ (l : Line). next s.seat.control l (Attempt seen)) e
         ∙ ap (λ (n : ℕ). Calls n request) (sym (r ∙ ap (λ (g : Registers). g.ring) s.registers))
     asks (Answer entry filled) come =
-        absurd (no_answer s.seat.registers l request entry filled s.seat.progress e (awake s.seat s.seated) (λ it. idle s.seat it s.seated) come)
+        absurd (no_answer s.seat.control l request entry filled s.seat.progress e (awake s.seat s.seated) (λ it. idle s.seat it s.seated) come)
 
     not_in_script : (version : ℕ) → is_script_line version (line.Ask Resume) ≡ true → ⊥
     not_in_script version h = cc
@@ -291,8 +293,8 @@ ask_calling w p l request g ring e in_script s r awake idle = record {
     unlinked reply is linked = let only = linked_only (state_in w) p ring request reply is linked in no_link only.0 only.1 only.2
 
     by_reply : (reply : Reply) → (reply ≡ replies.Waiting) ⊎ (reply ≡ replies.Waiting → ⊥) → (plain (state_in w) p ring request).reply ≡ reply
-        → IsAnsweredBy s.seat.registers l ring request reply ⊎ IsToldToWait l request reply
-    by_reply reply (inr never) is = inl (request_answered s.seat.registers l request request ring reply e never (unlinked reply is))
+        → IsAnsweredBy s.seat.control l ring request reply ⊎ IsToldToWait l request reply
+    by_reply reply (inr never) is = inl (request_answered s.seat.control l request request ring reply e never (unlinked reply is))
     by_reply reply (inl waits) is = elim (only_block_waits (state_in w) p ring request (is ∙ waits)) [
       | inl block ↦ inr (record { waits = waits; blocks = block; line_is = e ∙ ap line.Ask block })
       | inr resume ↦ absurd (no_resume resume)
@@ -308,7 +310,7 @@ resume_calling w p l g ring t e s r ready = record {
   seated = s.seated;
   asks = asks;
   answers = λ reply below is.
-      inl (request_answered s.seat.registers l Block Resume ring reply e
+      inl (request_answered s.seat.control l Block Resume ring reply e
       (λ waits. ready_resumes (state_in w) p ring (ready below) (is.reply ∙ waits))
       (λ linked. let only = linked_only (state_in w) p ring Resume reply is.reply linked in absurd (no_link only.0 only.1 only.2)));
   logs_out = λ out. absurd (no_logout (sym e ∙ out));
@@ -327,10 +329,10 @@ resume_calling w p l g ring t e s r ready = record {
     told : s.seat.progress ≡ Waiting
     told = ap (λ (seat : Seat). seat.progress) (same_seats w p s.seat t.seat s.seated t.seated) ∙ t.told
 
-    asks : (course : Course) → IsCome s.seat.registers l course s.seat.progress → next s.seat.registers l course ≡ Calls ring Resume
-    asks (Attempt seen) come = absurd (subst (IsPlaced s.seat.registers l seen) told come).0
+    asks : (course : Course) → IsCome s.seat.control l course s.seat.progress → next s.seat.control l course ≡ Calls ring Resume
+    asks (Attempt seen) come = absurd (subst (IsPlaced s.seat.control l seen) told come).0
     asks (Answer entry filled) come =
-        waits_next s.seat.registers l entry filled (subst (IsAnswered s.seat.registers l entry filled) told come)
+        waits_next s.seat.control l entry filled (subst (IsAnswered s.seat.control l entry filled) told come)
         ∙ ap (λ (n : ℕ). Calls n Resume) (sym (r ∙ ap (λ (g : Registers). g.ring) s.registers))
 
 -- what the supervisor tells of the bench's state
@@ -399,8 +401,8 @@ set_ending w p l word g after e s a = record {
   seat = s.seat;
   seated = s.seated;
   asks = λ seen placed.
-      ap (λ (l : Line). next s.seat.registers l (Attempt seen)) e
-      ∙ ap (λ (r : Registers). Ends result.Done r) (sym (a ∙ ap (λ (g : Registers). record g { a = word }) s.registers));
+      ap (λ (l : Line). next s.seat.control l (Attempt seen)) e
+      ∙ ap (λ (r : Registers). Ends result.Done (with_registers s.seat.control r)) (sym (a ∙ ap (λ (g : Registers). record g { a = word }) s.registers));
   packable = subst ArePackable (sym a) (with_a g word s.packable);
 } where
   no_set : {request : Request} → line.Set word ≡ line.Ask request → ⊥
@@ -410,7 +412,7 @@ pub asked_target : (w : World) (p : ℕ) (o : Operand) (target : PointerParts) (
     → IsTarget g target
 asked_target w p o target g c s =
     subst (λ (r : Registers). IsTarget r target)
-    (ap (λ (seat : Seat). seat.registers) (same_seats w p c.seat s.seat c.seated s.seated) ∙ sym s.registers) c.good
+    (ap (λ (seat : Seat). seat.control.registers) (same_seats w p c.seat s.seat c.seated s.seated) ∙ sym s.registers) c.good
 
 -- `epp` where its operand leads to its target at once
 pub epp_ending : (w : World) (p : ℕ) (l : Line) (n : ℕ) (o : Operand) (target : PointerParts) (g after : Registers) → l ≡ line.Epp n o
@@ -421,11 +423,11 @@ epp_ending w p l n o target g after e c s a packable = record {
   seat = c.seat;
   seated = c.seated;
   asks = λ seen placed.
-      target_asks c.seat.registers l o c.seat.progress target (ap operand_of e) c.asks seen placed
-      ∙ ap (λ (l : Line). at_target c.seat.registers l target) e
-      ∙ ap (λ (r : Registers). Ends (result.Pr n target) (loaded r n target))
-      (ap (λ (seat : Seat). seat.registers) (same_seats w p c.seat s.seat c.seated s.seated) ∙ sym s.registers)
-      ∙ ap (λ (r : Registers). Ends (result.Pr n target) r) (sym a);
+      target_asks c.seat.control l o c.seat.progress target (ap operand_of e) c.asks seen placed
+      ∙ ap (λ (l : Line). at_target c.seat.control l target) e
+      ∙ ap (λ (r : Registers). Ends (result.Pr n target) (with_registers c.seat.control (loaded r n target)))
+      (ap (λ (seat : Seat). seat.control.registers) (same_seats w p c.seat s.seat c.seated s.seated) ∙ sym s.registers)
+      ∙ ap (λ (r : Registers). Ends (result.Pr n target) (with_registers c.seat.control r)) (sym a);
   packable = packable;
 }
 
@@ -436,8 +438,8 @@ operand_aims w p l o target own c = record {
   seat = c.seat;
   seated = c.seated;
   good = c.good;
-  asks = λ seen placed. target_asks c.seat.registers l o c.seat.progress target own c.asks seen placed;
-  goes = λ j seen placed. target_goes c.seat.registers l o c.seat.progress target own c.asks j seen placed;
+  asks = λ seen placed. target_asks c.seat.control l o c.seat.progress target own c.asks seen placed;
+  goes = λ j seen placed. target_goes c.seat.control l o c.seat.progress target own c.asks j seen placed;
 }
 
 fetches_here : (g : Registers) → wanted (walk_from g false (way_back g)) ≡ Done (going_on g.procedure g.ring)
@@ -449,20 +451,20 @@ fetches_here g = ap (λ n. Done (going_on g.procedure n)) (one_ring g.ring)
 pub fetch_aims : (w : World) (p : ℕ) (l : Line) (g : Registers) (target : PointerParts) → l ≡ line.Fetch → HasSeatWith w p g
     → target ≡ going_on g.procedure g.ring → IsAiming w p l target
 fetch_aims w p l g target e s is =
-    let at : target ≡ going_on s.seat.registers.procedure s.seat.registers.ring
+    let at : target ≡ going_on s.seat.control.registers.procedure s.seat.control.registers.ring
     = is ∙ ap (λ (r : Registers). going_on r.procedure r.ring) s.registers in
-    subst (IsAiming w p l) (sym at) (subst (λ (x : Line). IsAiming w p x (going_on s.seat.registers.procedure s.seat.registers.ring)) (sym e) (record {
+    subst (IsAiming w p l) (sym at) (subst (λ (x : Line). IsAiming w p x (going_on s.seat.control.registers.procedure s.seat.control.registers.ring)) (sym e) (record {
       seat = s.seat;
       seated = s.seated;
-      good = there s.seat.registers (subst ArePackable s.registers s.packable);
+      good = there s.seat.control.registers (subst ArePackable s.registers s.packable);
       asks = λ seen placed.
-          ap (λ (l : List Judged). attempt s.seat.registers line.Fetch l) (placed.1 refl)
-          ∙ ap (wants s.seat.registers line.Fetch) (fetches_here s.seat.registers);
+          ap (λ (l : List Judged). attempt s.seat.control line.Fetch l) (placed.1 refl)
+          ∙ ap (wants s.seat.control line.Fetch) (fetches_here s.seat.control.registers);
       goes = λ j seen placed.
-          ap (λ (l : List Judged). attempt s.seat.registers line.Fetch (l ++ j ∷ [])) (placed.1 refl)
-          ∙ ap (λ (w : Want). after_seen s.seat.registers line.Fetch (walk_from s.seat.registers false (way_back s.seat.registers)) j w
-          (λ value. along s.seat.registers line.Fetch (read_on (walk_from s.seat.registers false (way_back s.seat.registers)) (parts_of value) j.desc.brackets.r1) []))
-          (fetches_here s.seat.registers);
+          ap (λ (l : List Judged). attempt s.seat.control line.Fetch (l ++ j ∷ [])) (placed.1 refl)
+          ∙ ap (λ (w : Want). after_seen s.seat.control line.Fetch (walk_from s.seat.control.registers false (way_back s.seat.control.registers)) j w
+          (λ value. along s.seat.control line.Fetch (read_on (walk_from s.seat.control.registers false (way_back s.seat.control.registers)) (parts_of value) j.desc.brackets.r1) []))
+          (fetches_here s.seat.control.registers);
     }))
   where
     there : (r : Registers) → ArePackable r → IsTarget r (going_on r.procedure r.ring)
@@ -479,7 +481,7 @@ sta_storing w p l o target g value e s v = record {
   seat = s.seat;
   seated = s.seated;
   asks =
-      ap (λ (l : Line). at_target s.seat.registers l target) e
+      ap (λ (l : Line). at_target s.seat.control l target) e
       ∙ ap (λ (n : ℕ). Asks (storing n target)) (sym (v ∙ ap (λ (g : Registers). g.a) s.registers));
   stores = subst IsStore (sym e) tt;
 }
@@ -490,14 +492,14 @@ spri_storing w p l n o target g value e s v = record {
   seat = s.seat;
   seated = s.seated;
   asks =
-      ap (λ (l : Line). at_target s.seat.registers l target) e
+      ap (λ (l : Line). at_target s.seat.control l target) e
       ∙ ap (spri_at target) (ap (λ (g : Registers). slice_get g.pr n) (sym s.registers) ∙ v.at)
       ∙ ap (λ (n : ℕ). Asks (storing n target)) (sym v.is);
   stores = subst IsStore (sym e) tt;
 }
 
 -- where a link on the way of an operand is refused the line ends, and where it was snapped it begins anew
-link_refused : (g : Registers) (l : Line) (o : Operand) (request : Request) (why : Refusal) → operand_of l ≡ Some o
+link_refused : (g : Control) (l : Line) (o : Operand) (request : Request) (why : Refusal) → operand_of l ≡ Some o
     → answered g l request (replies.Refused why) ≡ Ends (result_of (replies.Refused why)) g
 link_refused g (line.Ask asked) o request why e = absurd (cc)
 link_refused g (line.Set word) o request why e = absurd (cc)
@@ -509,7 +511,7 @@ link_refused g line.Fetch o request why e = absurd (cc)
 link_refused g (line.Call operand) o request why e = refl
 link_refused g (line.Return operand) o request why e = refl
 
-link_resolved : (g : Registers) (l : Line) (o : Operand) (request : Request) (to at : ℕ) (fresh : Bool) (linkage : Option ℕ) → operand_of l ≡ Some o
+link_resolved : (g : Control) (l : Line) (o : Operand) (request : Request) (to at : ℕ) (fresh : Bool) (linkage : Option ℕ) → operand_of l ≡ Some o
     → answered g l request (replies.Linked to at fresh linkage) ≡ attempts g l []
 link_resolved g (line.Ask asked) o request to at fresh linkage e = absurd (cc)
 link_resolved g (line.Set word) o request to at fresh linkage e = absurd (cc)
@@ -521,7 +523,7 @@ link_resolved g line.Fetch o request to at fresh linkage e = absurd (cc)
 link_resolved g (line.Call operand) o request to at fresh linkage e = refl
 link_resolved g (line.Return operand) o request to at fresh linkage e = refl
 
-link_answered : (s : Plain) (p ring segno word : ℕ) (reply : Reply) (g : Registers) (l : Line) (o : Operand) → 1 ≤ p → operand_of l ≡ Some o
+link_answered : (s : Plain) (p ring segno word : ℕ) (reply : Reply) (g : Control) (l : Line) (o : Operand) → 1 ≤ p → operand_of l ≡ Some o
     → IsRightEntry s (record { process = p; ring = ring; request = Link segno word; reply = reply })
     → IsAnsweredBy g l ring (Link segno word) reply
 link_answered s p ring segno word reply g l o some own right =
@@ -550,7 +552,7 @@ link_calling w p l o place a own c = record {
   seated = c.seated;
   asks = asks;
   answers = λ reply below is.
-      inl (link_answered (state_in w) p place.ring place.segno place.word reply c.seat.registers l o a.some own is);
+      inl (link_answered (state_in w) p place.ring place.segno place.word reply c.seat.control l o a.some own is);
   logs_out = λ out. absurd (no_request l o own Logout out);
 }
   where
@@ -558,21 +560,21 @@ link_calling w p l o place a own c = record {
     awake seat e told =
         asks_nothing c.seat.progress (ap (λ (seat : Seat). seat.progress) (same_seats w p c.seat seat c.seated e) ∙ told) c.asks
       where
-        asks_nothing : (progress : Progress) → progress ≡ Waiting → AsksFor c.seat.registers o progress (First (way.Link place)) → ⊥
+        asks_nothing : (progress : Progress) → progress ≡ Waiting → AsksFor c.seat.control.registers o progress (First (way.Link place)) → ⊥
         asks_nothing progress told asked =
-            absurd (subst (λ (r : Progress). AsksFor c.seat.registers o r (First (way.Link place))) told asked)
+            absurd (subst (λ (r : Progress). AsksFor c.seat.control.registers o r (First (way.Link place))) told asked)
 
-    asks : (course : Course) → IsCome c.seat.registers l course c.seat.progress
-        → next c.seat.registers l course ≡ Calls place.ring (Link place.segno place.word)
-    asks (Attempt seen) come = link_asks c.seat.registers l o c.seat.progress place own c.asks seen come
+    asks : (course : Course) → IsCome c.seat.control l course c.seat.progress
+        → next c.seat.control l course ≡ Calls place.ring (Link place.segno place.word)
+    asks (Attempt seen) come = link_asks c.seat.control l o c.seat.progress place own c.asks seen come
     asks (Answer entry filled) come = by_progress c.seat.progress c.asks come
       where
-        by_progress : (progress : Progress) → AsksFor c.seat.registers o progress (First (way.Link place))
-            → IsAnswered c.seat.registers l entry filled progress
-            → next c.seat.registers l (Answer entry filled) ≡ Calls place.ring (Link place.segno place.word)
+        by_progress : (progress : Progress) → AsksFor c.seat.control.registers o progress (First (way.Link place))
+            → IsAnswered c.seat.control l entry filled progress
+            → next c.seat.control l (Answer entry filled) ≡ Calls place.ring (Link place.segno place.word)
         by_progress Before asked is =
-            ap (λ (d : Option Reference). first_due d (answered c.seat.registers l entry.request entry.reply)) is.none ∙ is.anew
-            ∙ link_asks c.seat.registers l o Before place own asked [] (refl, λ none. refl)
+            ap (λ (d : Option Reference). first_due d (answered c.seat.control l entry.request entry.reply)) is.none ∙ is.anew
+            ∙ link_asks c.seat.control l o Before place own asked [] (refl, λ none. refl)
         by_progress (Walking walk) asked is = absurd is
         by_progress (AtLink other) asked is = absurd is
         by_progress Waiting asked is = absurd asked

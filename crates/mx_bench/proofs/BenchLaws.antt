@@ -2,11 +2,15 @@
 use Rattle.std.proofs.Common.{◌≡◌, ℕ, zero, suc, ◌≤◌, ◌+◌, ◌-◌, ◌==◌, Bool, true, false, List, [], ◌∷◌, ◌++◌, map, drop, length, Some, refl, sym, ◌∙◌, ap, subst, arith}
 use Rattle.std.proofs.lemmas.Bool.{eqb-true}
 use Rattle.std.specs.List.{slice_get, slice_set}
-use Rattle.mx_call.specs.Registers.{Registers, ArePackable}
-use Rattle.mx_legal.specs.Scripts.{first_line, numbered}
-use Rattle.mx_legal.specs.Transcripts.{Step}
-use Rattle.mx_legal.specs.declared.transcripts.Event2.{Event2}
-use Rattle.mx_legal.specs.declared.transcripts.Result2.{Result2}
+use Rattle.mx_upcall.specs.Changes.{Fits, changed}
+use Rattle.mx_upcall.specs.Control.{Control}
+use Rattle.mx_upcall.specs.Soundness.{IsPackableControl}
+use Rattle.mx_upcall.specs.declared.controls.Change.{Change}
+use Rattle.mx_upcall.specs.declared.controls.GateStep.{GateStep}
+use Rattle.mx_transcript.specs.Scripts.{first_line, numbered}
+use Rattle.mx_transcript.specs.Transcripts.{Step}
+use Rattle.mx_transcript.specs.declared.transcripts.Event2.{Event2}
+use Rattle.mx_transcript.specs.declared.transcripts.Result2.{Result2}
 use Rattle.mx_script.specs.Sessions.{Outline}
 use Rattle.mx_script.specs.declared.lines.Line.{Line}
 use Rattle.mx_state.specs.declared.journal.Entry as journaled
@@ -15,7 +19,7 @@ use Rattle.mx_line.proofs.SeatLaws.{set_here, set_there, set_length}
 use Rattle.mx_bench.proofs.WorldLaws.{after_line, moved, stepped, IsAt}
 use Rattle.mx_bench.specs.Benches.{world_in, first_of, IsKept}
 use Rattle.mx_line.specs.Operands.{IsGoodProgress}
-use Rattle.mx_line.specs.Processes.{seat_in, IsGood, AreGood, IsStill, HasEnded, HasGoneOn}
+use Rattle.mx_line.specs.Processes.{seat_in, IsGood, AreGood, IsStill, HasControl, HasGateRoom, HasEnded, HasGoneOn}
 use Rattle.mx_bench.specs.Running.{left_of, IsRunning}
 use Rattle.mx_bench.specs.Standing.{AreStanding}
 use Rattle.mx_bench.specs.Stepping.{IsSeat, IsAtLine, IsWaiting, IsOnward, HasMoved, HasStepped}
@@ -74,19 +78,19 @@ good_set x processes i before after at good is j p e = by_test (j == i) refl
         let n : j ≡ i → ⊥ = λ q. false_is (sym t ∙ rw q (same i)) in
         good j p (sym (set_there processes i j after n) ∙ e)
 
-good_progress : (before after : Process) → after.registers ≡ before.registers → after.progress ≡ before.progress
-    → IsGoodProgress before.registers before.progress → IsGoodProgress after.registers after.progress
+good_progress : (before after : Process) → after.control ≡ before.control → after.progress ≡ before.progress
+    → IsGoodProgress before.control.registers before.progress → IsGoodProgress after.control.registers after.progress
 good_progress before after e f g =
-    subst (λ (r : Registers). IsGoodProgress r after.progress) (sym e) (subst (IsGoodProgress before.registers) (sym f) g)
+    subst (λ (c : Control). IsGoodProgress c.registers after.progress) (sym e) (subst (IsGoodProgress before.control.registers) (sym f) g)
 
 -- where room was made nothing else changed
 pub still_seats : (processes processes' : List Process) (i : ℕ) → IsStill processes i processes' → map seat_in processes' ≡ map seat_in processes
 still_seats processes processes' i s =
     ap (map seat_in) s.set ∙ map_set seat_in processes i s.after
-    ∙ ap (slice_set (map seat_in processes) i) (same_seat s.before s.after s.registers s.steps s.events s.progress)
+    ∙ ap (slice_set (map seat_in processes) i) (same_seat s.before s.after s.control s.steps s.events s.progress)
     ∙ set_same (map seat_in processes) i (seat_in s.before) (map_get seat_in processes i s.before s.at)
   where
-    same_seat : (before after : Process) → after.registers ≡ before.registers → after.recording.steps ≡ before.recording.steps
+    same_seat : (before after : Process) → after.control ≡ before.control → after.recording.steps ≡ before.recording.steps
         → after.recording.events ≡ before.recording.events → after.progress ≡ before.progress → seat_in after ≡ seat_in before
     same_seat before after e f g h = rw (e, f, g, h) refl
 
@@ -116,42 +120,57 @@ still_kept x s whole room cells processes processes' i still k = record {
     good_still : IsGood x i still.before → IsGood x i still.after
     good_still is = record {
       first = still.first ∙ is.first;
-      packable = subst ArePackable (sym still.registers) is.packable;
-      progress = good_progress still.before still.after still.registers still.progress is.progress;
+      packable = subst IsPackableControl (sym still.control) is.packable;
+      progress = good_progress still.before still.after still.control still.progress is.progress;
     }
 
+-- what is read of a process once room was made, is so before
+pub control_before : (processes middle : List Process) (i : ℕ) (g : Control) → IsStill processes i middle → HasControl middle i g → HasControl processes i g
+control_before processes middle i g s h =
+    let is : h.process ≡ s.after = one_at middle i h.process s.after h.at (ap (λ (l : List Process). slice_get l i) s.set ∙ set_here processes i s.before s.after s.at) in
+    record { process = s.before; at = s.at; control = h.control ∙ ap (λ (p : Process). p.control) is ∙ s.control }
+
+-- a gate that fits the gates of a process has room there
+pub gate_room : (processes : List Process) (i : ℕ) (g : Control) (step : GateStep) → HasControl processes i g → Fits g.gates step
+    → HasGateRoom processes i step
+gate_room processes i g step h fits =
+    record { process = h.process; at = h.at; fits = subst (λ (c : Control). Fits c.gates step) h.control fits }
+
 -- a process has done a line
-pub record IsLineDone (processes : List Process) (i : ℕ) (events : List Event2) (ends : Result2) (registers : Registers) (processes' : List Process) : Type 0 where
+pub record IsLineDone (processes : List Process) (i : ℕ) (events : List Event2) (ends : Result2) (change : Change) (processes' : List Process) : Type 0 where
   pub before : Process
   pub at : slice_get processes i ≡ Some before
   pub after : Process
   pub first : after.first ≡ before.first
-  pub done : after.registers ≡ registers
+  pub done : after.control ≡ changed before.control change
   pub fresh : after.progress ≡ Before
-  pub seat : seat_in after ≡ after_line (seat_in before) (before.first + length before.recording.steps) events ends registers
+  pub seat : seat_in after
+      ≡ after_line (seat_in before) (before.first + length before.recording.steps) events ends (changed before.control change)
   pub set : processes' ≡ slice_set processes i after
 
-pub line_done : (processes middle processes' : List Process) (i : ℕ) (events : List Event2) (ends : Result2) (registers : Registers)
-    → IsStill processes i middle → HasEnded middle i events ends registers processes'
-    → IsLineDone processes i events ends registers processes'
-line_done processes middle processes' i events ends registers s d =
+pub line_done : (processes middle processes' : List Process) (i : ℕ) (events : List Event2) (ends : Result2) (change : Change)
+    → IsStill processes i middle → HasEnded middle i events ends change processes'
+    → IsLineDone processes i events ends change processes'
+line_done processes middle processes' i events ends change s d =
     let is : d.before ≡ s.after = one_at middle i d.before s.after d.at (ap (λ (l : List Process). slice_get l i) s.set ∙ set_here processes i s.before s.after s.at) in
+    let done = d.done ∙ ap (λ (p : Process). changed p.control change) is ∙ ap (λ (c : Control). changed c change) s.control in
     record {
       before = s.before;
       at = s.at;
       after = d.after;
       first = d.first ∙ ap (λ (p : Process). p.first) is ∙ s.first;
-      done = d.done;
+      done = done;
       fresh = d.fresh;
-      seat = same_seat d.after s.before d.done (d.steps ∙ steps_are d.before s.after s.before is s.first s.steps s.events) d.idle d.fresh;
+      seat = same_seat d.after s.before done (d.steps ∙ steps_are d.before s.after s.before is s.first s.steps s.events) d.idle d.fresh;
       set = d.set ∙ ap (λ (l : List Process). slice_set l i d.after) s.set ∙ set_twice processes i s.after d.after;
     }
   where
-    same_seat : (after before : Process) → after.registers ≡ registers
+    same_seat : (after before : Process) → after.control ≡ changed before.control change
         → after.recording.steps ≡ before.recording.steps
         ++ (before.first + length before.recording.steps, before.recording.events ++ events, ends) ∷ []
         → after.recording.events ≡ [] → after.progress ≡ Before
-        → seat_in after ≡ after_line (seat_in before) (before.first + length before.recording.steps) events ends registers
+        → seat_in after
+        ≡ after_line (seat_in before) (before.first + length before.recording.steps) events ends (changed before.control change)
     same_seat after before e f g h = rw (e, f, g, h) refl
 
     steps_are : (there here before : Process) → there ≡ here → here.first ≡ before.first → here.recording.steps ≡ before.recording.steps
@@ -166,7 +185,7 @@ pub record IsLineMoved (processes : List Process) (i : ℕ) (event : Event2) (pr
   pub at : slice_get processes i ≡ Some before
   pub after : Process
   pub first : after.first ≡ before.first
-  pub registers : after.registers ≡ before.registers
+  pub control : after.control ≡ before.control
   pub progress_is : after.progress ≡ progress
   pub seat : seat_in after ≡ moved (seat_in before) event progress
   pub set : processes' ≡ slice_set processes i after
@@ -180,15 +199,15 @@ line_moved processes middle processes' i event progress s d =
       at = s.at;
       after = d.after;
       first = d.first ∙ ap (λ (p : Process). p.first) is ∙ s.first;
-      registers = d.registers ∙ ap (λ (p : Process). p.registers) is ∙ s.registers;
+      control = d.control ∙ ap (λ (p : Process). p.control) is ∙ s.control;
       progress_is = d.progress_is;
-      seat = same_seat d.after s.before (d.registers ∙ ap (λ (p : Process). p.registers) is ∙ s.registers)
+      seat = same_seat d.after s.before (d.control ∙ ap (λ (p : Process). p.control) is ∙ s.control)
           (d.steps ∙ ap (λ (p : Process). p.recording.steps) is ∙ s.steps)
           (d.more ∙ ap (λ (p : Process). p.recording.events ++ event ∷ []) is ∙ ap (λ (l : List Event2). l ++ event ∷ []) s.events) d.progress_is;
       set = d.set ∙ ap (λ (l : List Process). slice_set l i d.after) s.set ∙ set_twice processes i s.after d.after;
     }
   where
-    same_seat : (after before : Process) → after.registers ≡ before.registers → after.recording.steps ≡ before.recording.steps
+    same_seat : (after before : Process) → after.control ≡ before.control → after.recording.steps ≡ before.recording.steps
         → after.recording.events ≡ before.recording.events ++ event ∷ [] → after.progress ≡ progress
         → seat_in after ≡ moved (seat_in before) event progress
     same_seat after before e f g h = rw (e, f, g, h) refl
@@ -219,15 +238,15 @@ number_is x i seat number line left e = numbered_at (first_line x (suc i)) (leng
 
 -- the bench after a line that was done
 pub done_kept : (x : Outline) (s s' : Supervised) (whole : List (List Step)) (room : ℕ) (cells cells' : List Contents) (processes processes' : List Process) (i : ℕ)
-    (events : List Event2) (ends : Result2) (registers : Registers)
-    → IsKept x s whole room cells processes → s'.session ≡ x → length cells' ≡ 65536 → ArePackable registers
-    → (d : IsLineDone processes i events ends registers processes')
+    (events : List Event2) (ends : Result2) (change : Change)
+    → IsKept x s whole room cells processes → s'.session ≡ x → length cells' ≡ 65536
+    → (d : IsLineDone processes i events ends change processes') → IsPackableControl (changed d.before.control change)
     → IsRunning (stepped (world_in x s whole cells processes) i s'.journal cells'
-    (after_line (seat_in d.before) (d.before.first + length d.before.recording.steps) events ends registers))
+    (after_line (seat_in d.before) (d.before.first + length d.before.recording.steps) events ends (changed d.before.control change)))
     → AreStanding (stepped (world_in x s whole cells processes) i s'.journal cells'
-    (after_line (seat_in d.before) (d.before.first + length d.before.recording.steps) events ends registers))
+    (after_line (seat_in d.before) (d.before.first + length d.before.recording.steps) events ends (changed d.before.control change)))
     → IsKept x s' whole room cells' processes'
-done_kept x s s' whole room cells cells' processes processes' i events ends registers k same wide packable d r st = record {
+done_kept x s s' whole room cells cells' processes processes' i events ends change k same wide d packable r st = record {
   session = k.session;
   same = same;
   wide = wide;
@@ -235,7 +254,7 @@ done_kept x s s' whole room cells cells' processes processes' i events ends regi
   room_for = let f = k.room_for in let l = ap length d.set ∙ set_length processes i d.after in omega (arith, f, l);
   good = subst (AreGood x) (sym d.set) (good_set x processes i d.before d.after d.at k.good (record {
     first = d.first ∙ (k.good i d.before d.at).first;
-    packable = subst ArePackable (sym d.done) packable;
+    packable = subst IsPackableControl (sym d.done) packable;
     progress = fresh_progress d.after d.fresh;
   }));
   running = subst IsRunning world r;
@@ -243,7 +262,7 @@ done_kept x s s' whole room cells cells' processes processes' i events ends regi
 }
   where
     world : stepped (world_in x s whole cells processes) i s'.journal cells'
-        (after_line (seat_in d.before) (d.before.first + length d.before.recording.steps) events ends registers)
+        (after_line (seat_in d.before) (d.before.first + length d.before.recording.steps) events ends (changed d.before.control change))
         ≡ world_in x s' whole cells' processes'
     world = ap (λ (seats : List Seat). record {
       session = x;
@@ -253,14 +272,14 @@ done_kept x s s' whole room cells cells' processes processes' i events ends regi
       seats = seats;
     }) (ap (slice_set (map seat_in processes) i) (sym d.seat) ∙ sym (map_set seat_in processes i d.after) ∙ ap (map seat_in) (sym d.set))
 
-    fresh_progress : (p : Process) → p.progress ≡ Before → IsGoodProgress p.registers p.progress
-    fresh_progress p e = subst (IsGoodProgress p.registers) (sym e) tt
+    fresh_progress : (p : Process) → p.progress ≡ Before → IsGoodProgress p.control.registers p.progress
+    fresh_progress p e = subst (IsGoodProgress p.control.registers) (sym e) tt
 
 -- the bench after a line that has one event more
 pub moved_kept : (x : Outline) (s s' : Supervised) (whole : List (List Step)) (room : ℕ) (cells cells' : List Contents) (processes processes' : List Process) (i : ℕ)
     (event : Event2) (progress : Progress)
     → IsKept x s whole room cells processes → s'.session ≡ x → length cells' ≡ 65536 → (d : IsLineMoved processes i event progress processes')
-    → IsGoodProgress d.before.registers progress
+    → IsGoodProgress d.before.control.registers progress
     → IsRunning (stepped (world_in x s whole cells processes) i s'.journal cells' (moved (seat_in d.before) event progress))
     → AreStanding (stepped (world_in x s whole cells processes) i s'.journal cells' (moved (seat_in d.before) event progress))
     → IsKept x s' whole room cells' processes'
@@ -272,8 +291,8 @@ moved_kept x s s' whole room cells cells' processes processes' i event progress 
   room_for = let f = k.room_for in let l = ap length d.set ∙ set_length processes i d.after in omega (arith, f, l);
   good = subst (AreGood x) (sym d.set) (good_set x processes i d.before d.after d.at k.good (record {
     first = d.first ∙ (k.good i d.before d.at).first;
-    packable = subst ArePackable (sym d.registers) (k.good i d.before d.at).packable;
-    progress = good_progress_is d.before d.after d.registers d.progress_is fits;
+    packable = subst IsPackableControl (sym d.control) (k.good i d.before d.at).packable;
+    progress = good_progress_is d.before d.after d.control d.progress_is fits;
   }));
   running = subst IsRunning world r;
   standing = subst AreStanding world st;
@@ -289,10 +308,10 @@ moved_kept x s s' whole room cells cells' processes processes' i event progress 
       seats = seats;
     }) (ap (slice_set (map seat_in processes) i) (sym d.seat) ∙ sym (map_set seat_in processes i d.after) ∙ ap (map seat_in) (sym d.set))
 
-    good_progress_is : (before after : Process) → after.registers ≡ before.registers → after.progress ≡ progress
-        → IsGoodProgress before.registers progress → IsGoodProgress after.registers after.progress
+    good_progress_is : (before after : Process) → after.control ≡ before.control → after.progress ≡ progress
+        → IsGoodProgress before.control.registers progress → IsGoodProgress after.control.registers after.progress
     good_progress_is before after e f g =
-        subst (λ (r : Registers). IsGoodProgress r after.progress) (sym e) (subst (IsGoodProgress before.registers) (sym f) g)
+        subst (λ (c : Control). IsGoodProgress c.registers after.progress) (sym e) (subst (IsGoodProgress before.control.registers) (sym f) g)
 
 -- the process that steps has a seat
 same_seat_at : (processes : List Process) (p i : ℕ) (seat : Seat) (before : Process) → i ≡ p - 1
@@ -307,11 +326,11 @@ seat_is x s whole cells processes p i seat before place seated at = same_seat_at
 
 -- what the caller sees of it
 pub done_stepped : (x : Outline) (s s' : Supervised) (whole : List (List Step)) (cells cells' : List Contents) (processes processes' : List Process) (p i : ℕ)
-    (events : List Event2) (ends : Result2) (registers : Registers) (line : Line) (more : List journaled.Entry)
+    (events : List Event2) (ends : Result2) (change : Change) (line : Line) (more : List journaled.Entry)
     → AreGood x processes → i ≡ p - 1 → IsAtLine (world_in x s whole cells processes) p line → s'.journal ≡ s.journal ++ more → length more ≤ 1
-    → length events ≤ 1 → (IsWaiting (world_in x s whole cells processes) p → ⊥) → IsLineDone processes i events ends registers processes'
+    → length events ≤ 1 → (IsWaiting (world_in x s whole cells processes) p → ⊥) → IsLineDone processes i events ends change processes'
     → HasStepped (world_in x s whole cells processes) p (world_in x s' whole cells' processes')
-done_stepped x s s' whole cells cells' processes processes' p i events ends registers line more good place a grown few little awake d =
+done_stepped x s s' whole cells cells' processes processes' p i events ends change line more good place a grown few little awake d =
     let is : a.seat ≡ seat_in d.before = same_seat_at processes p i a.seat d.before place a.seated d.at in
     let at : left_of x p (seat_in d.before) ≡ (a.number, line) ∷ a.left = ap (left_of x p) (sym is) ∙ a.at in
     let own : p ≡ suc i = let one = a.some in omega (arith, place, one) in
@@ -354,7 +373,7 @@ moved_stepped x s s' whole cells cells' processes processes' p i event progress 
   seated = ap (slice_get (map seat_in processes)) (sym place) ∙ map_get seat_in processes i d.before d.at;
   event = event;
   after = seat_in d.after;
-  registers = d.registers;
+  control = d.control;
   steps = ap (λ (seat : Seat). seat.steps) d.seat;
   more = ap (λ (seat : Seat). seat.events) d.seat;
   seats = ap (map seat_in) d.set ∙ map_set seat_in processes i d.after ∙ ap (λ n. slice_set (map seat_in processes) n (seat_in d.after)) place;

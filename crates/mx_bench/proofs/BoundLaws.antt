@@ -4,8 +4,8 @@ use Rattle.std.proofs.lemmas.List.{length-map}
 use Rattle.std.proofs.lemmas.List.Sums.{sum_by-cons}
 use Rattle.std.proofs.lemmas.Option.{slice_get_within}
 use Rattle.std.specs.List.{slice_get, sum_by, list_all}
-use Rattle.mx_legal.specs.Scripts.{first_line, numbered, lines_before, script_at}
-use Rattle.mx_legal.specs.Transcripts.{Step}
+use Rattle.mx_transcript.specs.Scripts.{first_line, numbered, lines_before, script_at}
+use Rattle.mx_transcript.specs.Transcripts.{Step}
 use Rattle.mx_request.proofs.StepLaws.{both}
 use Rattle.mx_line.specs.Operands.{IsSayable}
 use Rattle.mx_script.specs.Sessions.{Outline, IsSession, is_script, is_script_line, ends}

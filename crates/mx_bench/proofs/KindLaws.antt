@@ -3,19 +3,24 @@ use Rattle.std.proofs.Common.{◌≡◌, inl, inr, ℕ, suc, ◌<◌, ◌≤◌,
 use Rattle.std.proofs.lemmas.List.{take_all}
 use Rattle.std.specs.List.{slice_get}
 use Rattle.std.specs.Option.{option_map}
-use Rattle.mx_call.specs.Registers.{Registers, ArePackable}
+use Rattle.mx_call.specs.Registers.{Registers}
+use Rattle.mx_upcall.proofs.ChangeLaws.{kept_all}
+use Rattle.mx_upcall.specs.Changes.{keeping, changed}
+use Rattle.mx_upcall.specs.Control.{Control, with_registers}
+use Rattle.mx_upcall.specs.Soundness.{IsPackableControl}
+use Rattle.mx_upcall.specs.declared.controls.Change.{Change}
 use Rattle.mx_core.specs.declared.elements.Element.{Element}
 use Rattle.mx_core.specs.declared.elements.Event.TheVariants.{Seen}
-use Rattle.mx_legal.specs.Access.{descriptor_of}
-use Rattle.mx_legal.specs.Asking.{next, answered, result_of}
-use Rattle.mx_legal.specs.Courses.{Answer, Attempt, Judged}
-use Rattle.mx_legal.specs.Elements.{IsJudged}
-use Rattle.mx_legal.specs.Next.{Reference, Asks, Ends}
-use Rattle.mx_legal.specs.Settings.{entry_at}
-use Rattle.mx_legal.specs.Transcripts.{Step}
-use Rattle.mx_legal.specs.declared.transcripts.Event2.TheVariants.{Core, Entry}
-use Rattle.mx_legal.specs.declared.transcripts.Result2.{Result2}
-use Rattle.mx_legal.specs.declared.transcripts.Result2.TheVariants as result
+use Rattle.mx_transcript.specs.Access.{descriptor_of}
+use Rattle.mx_transcript.specs.Asking.{next, answered, result_of}
+use Rattle.mx_transcript.specs.Courses.{Answer, Attempt, Judged}
+use Rattle.mx_transcript.specs.Elements.{IsJudged}
+use Rattle.mx_transcript.specs.Next.{Reference, Asks, Ends}
+use Rattle.mx_transcript.specs.Settings.{entry_at}
+use Rattle.mx_transcript.specs.Transcripts.{Step}
+use Rattle.mx_transcript.specs.declared.transcripts.Event2.TheVariants.{Core, Entry}
+use Rattle.mx_transcript.specs.declared.transcripts.Result2.{Result2}
+use Rattle.mx_transcript.specs.declared.transcripts.Result2.TheVariants as result
 use Rattle.mx_request.specs.declared.replies.Reply.{Reply}
 use Rattle.mx_request.specs.declared.replies.Reply.TheVariants as replies
 use Rattle.mx_request.specs.declared.requests.Request.{Request}
@@ -24,7 +29,7 @@ use Rattle.mx_script.specs.Sessions.{Outline, limit_of}
 use Rattle.mx_script.specs.declared.lines.Line.{Line}
 use Rattle.mx_script.specs.declared.lines.Line.TheVariants as lines
 use Rattle.mx_sdw.specs.Descriptors.{Descriptor}
-use Rattle.mx_legal.specs.Opened.{opening_of}
+use Rattle.mx_transcript.specs.Opened.{opening_of}
 use Rattle.mx_state.specs.History.{replay, IsRightEntry}
 use Rattle.mx_state.specs.Plain.{Plain}
 use Rattle.mx_state.specs.Requests.{plain}
@@ -41,7 +46,7 @@ use Rattle.mx_line.proofs.PlaceLaws.{HasPlaceAfter, IsGrantable, IsGranted, firs
 use Rattle.mx_bench.proofs.WorldLaws.{Asking, Calling, IsAt, IsFree, after_line, at_line, moved, stepped, storing_now, end_law, entered_law, fill_end_law, fill_law, full_law, call_law, refer_law, look_law, not_told, look_awake, look_free}
 use Rattle.mx_bench.proofs.StandingLaws.{line_standing, event_standing, still_there, entered_there, waits_after, out_after}
 use Rattle.mx_line.specs.Access.{IsAccess}
-use Rattle.mx_legal.proofs.AwaitLaws.{awaits_no_end}
+use Rattle.mx_transcript.proofs.AwaitLaws.{awaits_no_end}
 use Rattle.mx_line.specs.Fills.{IsNoRequest, IsAnsweredBy, AsksToFill, HasPlace, IsShort, after_fill, write_of}
 use Rattle.mx_bench.specs.Asking.{IsEnding, IsCalling, IsToldToWait, IsUnfilled}
 use Rattle.mx_bench.specs.Benches.{world_in, IsKept}
@@ -90,7 +95,7 @@ memory_awake x s whole cells processes p i line left before r place there other 
     one a b e = cc
 
 -- a line does not end that waits
-not_ended : (g : Registers) (line : Line) (request : Request) → answered g line request replies.Waiting ≡ Ends (result_of replies.Waiting) g → ⊥
+not_ended : (g : Control) (line : Line) (request : Request) → answered g line request replies.Waiting ≡ Ends (result_of replies.Waiting) g → ⊥
 not_ended g (lines.Ask asked) request e = awaits_no_end g request _ g e
 not_ended g (lines.Set word) request e = cc
 not_ended g (lines.Epp n o) request e = cc
@@ -114,21 +119,23 @@ pub end_goes : (x : Outline) (s : Supervised) (whole : List (List Step)) (room :
     (p i : ℕ) (line : Line) (ends : Result2) (registers : Registers)
     → IsKept x s whole room cells processes → i ≡ p - 1 → IsAtLine (world_in x s whole cells processes) p line
     → IsUnfilled (world_in x s whole cells processes) p → IsEnding (world_in x s whole cells processes) p line ends registers
-    → IsStill processes i middle → HasEnded middle i [] ends registers processes'
+    → IsStill processes i middle → HasEnded middle i [] ends (keeping registers) processes'
     → Goes x s s whole room cells cells processes processes' p
 end_goes x s whole room cells processes middle processes' p i line ends registers k place a idle e still ended =
-    let d = line_done processes middle processes' i [] ends registers still ended in
-    let asks : Asking (seat_in d.before) line (Ends ends registers)
-    = subst (λ (seat : Seat). Asking seat line (Ends ends registers)) (seat_is x s whole cells processes p i e.seat d.before place e.seated d.at) e.asks in
+    let d = line_done processes middle processes' i [] ends (keeping registers) still ended in
+    let now : Control = with_registers d.before.control registers in
+    let asks : Asking (seat_in d.before) line (Ends ends now)
+    = subst (λ (seat : Seat). Asking seat line (Ends ends (with_registers seat.control registers))) (seat_is x s whole cells processes p i e.seat d.before place e.seated d.at) e.asks in
     let here = at_process x s whole cells processes p i line d.before k.good place a d.at in
     let free = free_here x s whole cells processes p i line a.left d.before place idle here in
     let w = end_law (world_in x s whole cells processes) i (seat_in d.before) (d.before.first + length d.before.recording.steps) line a.left
-    ends registers k.running here e.other free asks in
+    ends now k.running here e.other free asks in
     let st = line_standing (world_in x s whole cells processes) i (seat_in d.before) (d.before.first + length d.before.recording.steps) line a.left
-    s.journal cells [] ends registers k.session here k.standing (still_there (world_in x s whole cells processes) i) (omega arith)
+    s.journal cells [] ends now k.session here k.standing (still_there (world_in x s whole cells processes) i) (omega arith)
     (λ out below. absurd (e.other Logout out)) in (
-      done_kept x s s whole room cells cells processes processes' i [] ends registers k k.same k.wide e.packable d w st,
-      done_stepped x s s whole cells cells processes processes' p i [] ends registers line [] k.good place a (none_more s.journal) (omega arith)
+      done_kept x s s whole room cells cells processes processes' i [] ends (keeping registers) k k.same k.wide d
+          (record { registers = e.packable; gates = (k.good i d.before d.at).packable.gates }) w st,
+      done_stepped x s s whole cells cells processes processes' p i [] ends (keeping registers) line [] k.good place a (none_more s.journal) (omega arith)
           (omega arith) (memory_awake x s whole cells processes p i line a.left d.before k.running place here e.other) d,
     )
 
@@ -137,12 +144,13 @@ pub full_goes : (x : Outline) (s : Supervised) (whole : List (List Step)) (room 
     (p i : ℕ) (line : Line) (ring : ℕ) (request : Request) (q : Process) (registers : Registers)
     → IsKept x s whole room cells processes → i ≡ p - 1 → IsAtLine (world_in x s whole cells processes) p line
     → IsCalling (world_in x s whole cells processes) p line ring request
-    → slice_get processes i ≡ Some q → registers ≡ q.registers → length s.journal ≡ limit_of s.session
-    → IsStill processes i middle → HasEnded middle i [] result.HistoryFull registers processes'
+    → slice_get processes i ≡ Some q → registers ≡ q.control.registers → length s.journal ≡ limit_of s.session
+    → IsStill processes i middle → HasEnded middle i [] result.HistoryFull (keeping registers) processes'
     → Goes x s s whole room cells cells processes processes' p
 full_goes x s whole room cells processes middle processes' p i line ring request q registers k place a e here is full still ended =
-    let d = line_done processes middle processes' i [] result.HistoryFull registers still ended in
-    let after : d.before.registers ≡ registers = sym (is ∙ ap (λ (r : Process). r.registers) (same_process processes i q d.before here d.at)) in
+    let d = line_done processes middle processes' i [] result.HistoryFull (keeping registers) still ended in
+    let after : d.before.control ≡ changed d.before.control (keeping registers)
+    = kept_all d.before.control registers (is ∙ ap (λ (r : Process). r.control.registers) (same_process processes i q d.before here d.at)) in
     let asks : Calling (seat_in d.before) line ring request
     = subst (λ (seat : Seat). Calling seat line ring request) (seat_is x s whole cells processes p i e.seat d.before place e.seated d.at) e.asks in
     let there = at_process x s whole cells processes p i line d.before k.good place a d.at in
@@ -150,13 +158,13 @@ full_goes x s whole room cells processes middle processes' p i line ring request
     let w = full_law (world_in x s whole cells processes) i (seat_in d.before) (d.before.first + length d.before.recording.steps) line a.left
     ring request k.running there asks at_limit in
     let st = line_standing (world_in x s whole cells processes) i (seat_in d.before) (d.before.first + length d.before.recording.steps) line a.left
-    s.journal cells [] result.HistoryFull registers k.session there k.standing (still_there (world_in x s whole cells processes) i) (omega arith)
+    s.journal cells [] result.HistoryFull (changed d.before.control (keeping registers)) k.session there k.standing (still_there (world_in x s whole cells processes) i) (omega arith)
     (λ out below. absurd (omega (arith, at_limit, below))) in (
-      done_kept x s s whole room cells cells processes processes' i [] result.HistoryFull registers k k.same k.wide
-          (subst ArePackable after (k.good i d.before d.at).packable) d
-          (subst (λ (r : Registers). IsRunning (stepped (world_in x s whole cells processes) i s.journal cells
+      done_kept x s s whole room cells cells processes processes' i [] result.HistoryFull (keeping registers) k k.same k.wide d
+          (subst IsPackableControl after (k.good i d.before d.at).packable)
+          (subst (λ (r : Control). IsRunning (stepped (world_in x s whole cells processes) i s.journal cells
           (after_line (seat_in d.before) (d.before.first + length d.before.recording.steps) [] result.HistoryFull r))) after w) st,
-      done_stepped x s s whole cells cells processes processes' p i [] result.HistoryFull registers line [] k.good place a (none_more s.journal)
+      done_stepped x s s whole cells cells processes processes' p i [] result.HistoryFull (keeping registers) line [] k.good place a (none_more s.journal)
           (omega arith) (omega arith) e.awake d,
     )
 
@@ -201,14 +209,15 @@ pub call_goes : (x : Outline) (s s' : Supervised) (whole : List (List Step)) (ro
     (p i number : ℕ) (line : Line) (ring : ℕ) (request : Request) (reply : Reply) (ends : Result2) (q : Process) (registers : Registers)
     → IsKept x s whole room cells processes → i ≡ p - 1 → IsAtLine (world_in x s whole cells processes) p line
     → IsCalling (world_in x s whole cells processes) p line ring request
-    → slice_get processes i ≡ Some q → registers ≡ q.registers → HasEntered s p ring request number s'
+    → slice_get processes i ≡ Some q → registers ≡ q.control.registers → HasEntered s p ring request number s'
     → option_map (λ (e : journaled.Entry). e.reply) (entry_at s'.journal number) ≡ Some reply
     → IsReplied (state_of s') p ring request reply (End ends)
-    → IsStill processes i middle → HasEnded middle i (Entry number ∷ []) ends registers processes'
+    → IsStill processes i middle → HasEnded middle i (Entry number ∷ []) ends (keeping registers) processes'
     → Goes x s s' whole room cells cells processes processes' p
 call_goes x s s' whole room cells processes middle processes' p i number line ring request reply ends q registers k place a c here is e replied says still ended =
-    let d = line_done processes middle processes' i (Entry number ∷ []) ends registers still ended in
-    let after : d.before.registers ≡ registers = sym (is ∙ ap (λ (r : Process). r.registers) (same_process processes i q d.before here d.at)) in
+    let d = line_done processes middle processes' i (Entry number ∷ []) ends (keeping registers) still ended in
+    let after : d.before.control ≡ changed d.before.control (keeping registers)
+    = kept_all d.before.control registers (is ∙ ap (λ (r : Process). r.control.registers) (same_process processes i q d.before here d.at)) in
     let own : p ≡ suc i = let one = a.some in omega (arith, place, one) in
     let entry : journaled.Entry = record { process = p; ring = ring; request = request; reply = e.reply } in
     let journal : s'.journal ≡ s.journal ++ entry ∷ [] = ap (λ (t : Supervised). t.journal) e.entry in
@@ -216,39 +225,39 @@ call_goes x s s' whole room cells processes middle processes' p i number line ri
     let seat = seat_is x s whole cells processes p i c.seat d.before place c.seated d.at in
     let asks : Calling (seat_in d.before) line ring request = subst (λ (seat : Seat). Calling seat line ring request) seat c.asks in
     let below : length s.journal < limit_of x = subst (λ (y : Outline). length s.journal < limit_of y) k.same e.below in
-    let by : IsAnsweredBy d.before.registers line ring request e.reply
-    = subst (λ (seat : Seat). IsAnsweredBy seat.registers line ring request e.reply) seat
+    let by : IsAnsweredBy d.before.control line ring request e.reply
+    = subst (λ (seat : Seat). IsAnsweredBy seat.control line ring request e.reply) seat
     (elim (c.answers e.reply below (subst (λ (y : Outline). IsRightEntry (replay (opening_of y) s.journal) entry) k.same e.right)) [
       | inl f ↦ f
       | inr t ↦ absurd (says.0 (sym told ∙ t.waits))
     ]) in
     let nothing = nothing_asked (state_of s') p ring request e.reply
     (subst (λ (r : Reply). AsksToFill (state_of s') p ring request r None) (sym told) says.1) in
-    let answers : next d.before.registers line (Answer entry []) ≡ Ends (result_of e.reply) d.before.registers
-    = next_answered d.before.registers line entry nothing.0 nothing.1 ∙ by.ends nothing.1 in
+    let answers : next d.before.control line (Answer entry []) ≡ Ends (result_of e.reply) d.before.control
+    = next_answered d.before.control line entry nothing.0 nothing.1 ∙ by.ends nothing.1 in
     let there = at_process x s whole cells processes p i line d.before k.good place a d.at in
     let w = call_law (world_in x s whole cells processes) i (seat_in d.before) (d.before.first + length d.before.recording.steps) line a.left entry
     k.running there own asks answers below
     (subst (λ (y : Outline). IsRightEntry (replay (opening_of y) s.journal) entry) k.same e.right) in
     let st = line_standing (world_in x s whole cells processes) i (seat_in d.before) (d.before.first + length d.before.recording.steps) line a.left
-    (s.journal ++ entry ∷ []) cells (Entry (length s.journal + 1) ∷ []) (result_of e.reply) d.before.registers k.session there k.standing
+    (s.journal ++ entry ∷ []) cells (Entry (length s.journal + 1) ∷ []) (result_of e.reply) d.before.control k.session there k.standing
     (λ j. entered_there (world_in x s whole cells processes) entry i j own) (one_longer s.journal (s.journal ++ entry ∷ []) entry refl)
     (λ out more. out_after s.journal entry i own (c.logs_out out)) in
-    let made = as_done s s' cells d.before number entry ends registers i after journal e.number (says.2 ∙ ap result_of (sym told)) in (
-      done_kept x s s' whole room cells cells processes processes' i (Entry number ∷ []) ends registers k
-          (ap (λ (t : Supervised). t.session) e.entry ∙ k.same) k.wide (subst ArePackable after (k.good i d.before d.at).packable) d
+    let made = as_done s s' cells d.before number entry ends (changed d.before.control (keeping registers)) i after journal e.number (says.2 ∙ ap result_of (sym told)) in (
+      done_kept x s s' whole room cells cells processes processes' i (Entry number ∷ []) ends (keeping registers) k
+          (ap (λ (t : Supervised). t.session) e.entry ∙ k.same) k.wide d (subst IsPackableControl after (k.good i d.before d.at).packable)
           (subst IsRunning made w) (subst AreStanding made st),
-      done_stepped x s s' whole cells cells processes processes' p i (Entry number ∷ []) ends registers line (entry ∷ []) k.good place a journal
+      done_stepped x s s' whole cells cells processes processes' p i (Entry number ∷ []) ends (keeping registers) line (entry ∷ []) k.good place a journal
           (omega arith) (omega arith) c.awake d,
     )
   where
-    as_done : (s s' : Supervised) (cells : List Contents) (before : Process) (number : ℕ) (entry : journaled.Entry) (ends : Result2) (registers : Registers) (i : ℕ)
-        → before.registers ≡ registers → s'.journal ≡ s.journal ++ entry ∷ [] → number ≡ length s.journal + 1 → ends ≡ result_of entry.reply
+    as_done : (s s' : Supervised) (cells : List Contents) (before : Process) (number : ℕ) (entry : journaled.Entry) (ends : Result2) (after : Control) (i : ℕ)
+        → before.control ≡ after → s'.journal ≡ s.journal ++ entry ∷ [] → number ≡ length s.journal + 1 → ends ≡ result_of entry.reply
         → stepped (world_in x s whole cells processes) i (s.journal ++ entry ∷ []) cells
-        (after_line (seat_in before) (before.first + length before.recording.steps) (Entry (length s.journal + 1) ∷ []) (result_of entry.reply) before.registers)
+        (after_line (seat_in before) (before.first + length before.recording.steps) (Entry (length s.journal + 1) ∷ []) (result_of entry.reply) before.control)
         ≡ stepped (world_in x s whole cells processes) i s'.journal cells
-        (after_line (seat_in before) (before.first + length before.recording.steps) (Entry number ∷ []) ends registers)
-    as_done s s' cells before number entry ends registers i after journal at is = rw (sym after, journal, at, is) refl
+        (after_line (seat_in before) (before.first + length before.recording.steps) (Entry number ∷ []) ends after)
+    as_done s s' cells before number entry ends after i same journal at is = rw (sym same, journal, at, is) refl
 
 -- a call that was entered, and told its process to wait
 pub wait_goes : (x : Outline) (s s' : Supervised) (whole : List (List Step)) (room : ℕ) (cells : List Contents) (processes middle processes' : List Process)
@@ -270,7 +279,7 @@ wait_goes x s s' whole room cells processes middle processes' p i number line ri
     let below : length s.journal < limit_of x = subst (λ (y : Outline). length s.journal < limit_of y) k.same e.below in
     let told : IsToldToWait line request e.reply
     = elim (c.answers e.reply below (subst (λ (y : Outline). IsRightEntry (replay (opening_of y) s.journal) entry) k.same e.right)) [
-      | inl f ↦ absurd (waits_on c.seat.registers line ring request e.reply (said ∙ waits) f)
+      | inl f ↦ absurd (waits_on c.seat.control line ring request e.reply (said ∙ waits) f)
       | inr t ↦ t
     ] in
     let there = at_process x s whole cells processes p i line d.before k.good place a d.at in
@@ -297,7 +306,7 @@ wait_goes x s s' whole room cells processes middle processes' p i number line ri
         ≡ stepped (world_in x s whole cells processes) i s'.journal cells (moved (seat_in before) (Entry number) Waiting)
     wait_same s s' before number entry i journal at = rw (journal, at) refl
 
-    waits_on : (g : Registers) (line : Line) (ring : ℕ) (request : Request) (given : Reply) → given ≡ replies.Waiting
+    waits_on : (g : Control) (line : Line) (ring : ℕ) (request : Request) (given : Reply) → given ≡ replies.Waiting
         → IsAnsweredBy g line ring request given → ⊥
     waits_on g line ring request given w f =
         not_ended g line request ((subst (λ (r : Reply). IsAnsweredBy g line ring request r) w f).ends refl)
@@ -324,8 +333,8 @@ store_goes x s s' whole room cells processes middle processes' p i number line r
     let below : length s.journal < limit_of x = subst (λ (y : Outline). length s.journal < limit_of y) k.same e.below in
     let right : IsRightEntry (replay (opening_of x) s.journal) entry
     = subst (λ (y : Outline). IsRightEntry (replay (opening_of y) s.journal) entry) k.same e.right in
-    let by : IsAnsweredBy d.before.registers line ring request e.reply
-    = subst (λ (seat : Seat). IsAnsweredBy seat.registers line ring request e.reply) seat
+    let by : IsAnsweredBy d.before.control line ring request e.reply
+    = subst (λ (seat : Seat). IsAnsweredBy seat.control line ring request e.reply) seat
     (elim (c.answers e.reply below right) [
       | inl f ↦ f
       | inr t ↦ absurd (says.0 (sym told ∙ t.waits))
@@ -339,7 +348,7 @@ store_goes x s s' whole room cells processes middle processes' p i number line r
     let there_is = first_place before p ring request e.reply it right.reply first in
     let stays : line ≡ lines.Ask Logout → ⊥
     = λ out. logs_nothing before p ring request e.reply it (c.logs_out out) right.reply first in
-    let filling = first_filling (plain before p ring request).state p d.before.registers line entry it first by stays there_is.1 in
+    let filling = first_filling (plain before p ring request).state p d.before.control line entry it first by stays there_is.1 in
     let there = at_process x s whole cells processes p i line d.before k.good place a d.at in
     let w = entered_law (world_in x s whole cells processes) i (seat_in d.before) (d.before.first + length d.before.recording.steps) line a.left entry
     (Filling it) k.running there own asks filling below right in
@@ -409,17 +418,18 @@ pub record IsPresent (s : Supervised) (p segno point : ℕ) (j : Judged) : Type 
 
 -- after which the line ends
 pub refer_goes : (x : Outline) (s : Supervised) (whole : List (List Step)) (room : ℕ) (cells cells' : List Contents) (processes middle processes' : List Process)
-    (p i segno point : ℕ) (line : Line) (q : Process) (asked : Reference) (j : Judged) (ends : Result2) (registers : Registers)
+    (p i segno point : ℕ) (line : Line) (q : Process) (asked : Reference) (j : Judged) (ends : Result2) (change : Change)
     → IsKept x s whole room cells processes → i ≡ p - 1 → IsAtLine (world_in x s whole cells processes) p line
     → IsUnfilled (world_in x s whole cells processes) p
     → slice_get processes i ≡ Some q → IsNoRequest line → Asking (seat_in q) line (Asks asked) → IsJudged asked j.desc j.element
     → IsPresent s p segno point j → length cells' ≡ 65536 → IsAccess cells cells' p j
-    → ((seen : List Judged) → IsPlaced q.registers line seen q.progress → next q.registers line (Attempt (seen ++ j ∷ [])) ≡ Ends ends registers)
-    → ArePackable registers
-    → IsStill processes i middle → HasEnded middle i (Core (Seen j.element) ∷ []) ends registers processes'
+    → ((seen : List Judged) → IsPlaced q.control line seen q.progress → next q.control line (Attempt (seen ++ j ∷ []))
+    ≡ Ends ends (changed q.control change))
+    → IsPackableControl (changed q.control change)
+    → IsStill processes i middle → HasEnded middle i (Core (Seen j.element) ∷ []) ends change processes'
     → Goes x s s whole room cells cells' processes processes' p
-refer_goes x s whole room cells cells' processes middle processes' p i segno point line q asked j ends registers k place a idle here other asks judged present_is wide access goes packable still ended =
-    let d = line_done processes middle processes' i (Core (Seen j.element) ∷ []) ends registers still ended in
+refer_goes x s whole room cells cells' processes middle processes' p i segno point line q asked j ends change k place a idle here other asks judged present_is wide access goes packable still ended =
+    let d = line_done processes middle processes' i (Core (Seen j.element) ∷ []) ends change still ended in
     let same : q ≡ d.before = same_process processes i q d.before here d.at in
     let own : p ≡ suc i = let one = a.some in omega (arith, place, one) in
     let judged_on : j.desc ≡ descriptor_of x s.journal (suc i) j.element
@@ -427,16 +437,17 @@ refer_goes x s whole room cells cells' processes middle processes' p i segno poi
     let there = at_process x s whole cells processes p i line d.before k.good place a d.at in
     let free = free_here x s whole cells processes p i line a.left d.before place idle there in
     let w = refer_law (world_in x s whole cells processes) i (seat_in d.before) (d.before.first + length d.before.recording.steps) line a.left asked j
-    cells' ends registers k.running there other free
+    cells' ends (changed d.before.control change) k.running there other free
     (subst (λ (r : Process). Asking (seat_in r) line (Asks asked)) same asks) judged judged_on (present_is.point_is ∙ present_is.at_end)
     (subst (λ n. IsAccess cells cells' n j) own access)
-    (subst (λ (r : Process). (seen : List Judged) → IsPlaced r.registers line seen r.progress
-    → next r.registers line (Attempt (seen ++ j ∷ [])) ≡ Ends ends registers) same goes) in
+    (subst (λ (r : Process). (seen : List Judged) → IsPlaced r.control line seen r.progress
+    → next r.control line (Attempt (seen ++ j ∷ [])) ≡ Ends ends (changed r.control change)) same goes) in
     let st = line_standing (world_in x s whole cells processes) i (seat_in d.before) (d.before.first + length d.before.recording.steps) line a.left
-    s.journal cells' (Core (Seen j.element) ∷ []) ends registers k.session there k.standing (still_there (world_in x s whole cells processes) i) (omega arith)
+    s.journal cells' (Core (Seen j.element) ∷ []) ends (changed d.before.control change) k.session there k.standing (still_there (world_in x s whole cells processes) i) (omega arith)
     (λ out below. absurd (other Logout out)) in (
-      done_kept x s s whole room cells cells' processes processes' i (Core (Seen j.element) ∷ []) ends registers k k.same wide packable d w st,
-      done_stepped x s s whole cells cells' processes processes' p i (Core (Seen j.element) ∷ []) ends registers line [] k.good place a
+      done_kept x s s whole room cells cells' processes processes' i (Core (Seen j.element) ∷ []) ends change k k.same wide d
+          (subst (λ (r : Process). IsPackableControl (changed r.control change)) same packable) w st,
+      done_stepped x s s whole cells cells' processes processes' p i (Core (Seen j.element) ∷ []) ends change line [] k.good place a
           (none_more s.journal) (omega arith) (omega arith) (memory_awake x s whole cells processes p i line a.left d.before k.running place there other) d,
     )
 
@@ -447,8 +458,8 @@ pub look_goes : (x : Outline) (s : Supervised) (whole : List (List Step)) (room 
     → IsUnfilled (world_in x s whole cells processes) p
     → slice_get processes i ≡ Some q → IsNoRequest line → Asking (seat_in q) line (Asks asked) → IsJudged asked j.desc j.element
     → IsPresent s p segno point j → IsAccess cells cells p j
-    → ((seen : List Judged) → IsPlaced q.registers line seen q.progress → IsPlaced q.registers line (seen ++ j ∷ []) progress)
-    → IsGoodProgress q.registers progress → steps_in progress < steps_in q.progress
+    → ((seen : List Judged) → IsPlaced q.control line seen q.progress → IsPlaced q.control line (seen ++ j ∷ []) progress)
+    → IsGoodProgress q.control.registers progress → steps_in progress < steps_in q.progress
     → IsStill processes i middle → HasGoneOn middle i (Core (Seen j.element) ∷ []) progress processes'
     → IsKept x s whole room cells processes' × HasMoved (world_in x s whole cells processes) p (world_in x s whole cells processes')
 look_goes x s whole room cells processes middle processes' p i segno point line q asked j progress k place a idle here other asks judged present_is access placed fits closer still gone =
@@ -463,20 +474,20 @@ look_goes x s whole room cells processes middle processes' p i segno point line 
     cells progress k.running there other free
     (subst (λ (r : Process). Asking (seat_in r) line (Asks asked)) same asks) judged judged_on (present_is.point_is ∙ present_is.at_end)
     (subst (λ n. IsAccess cells cells n j) own access)
-    (subst (λ (r : Process). (seen : List Judged) → IsPlaced r.registers line seen r.progress
-    → IsPlaced r.registers line (seen ++ j ∷ []) progress) same placed) in
+    (subst (λ (r : Process). (seen : List Judged) → IsPlaced r.control line seen r.progress
+    → IsPlaced r.control line (seen ++ j ∷ []) progress) same placed) in
     let st = event_standing (world_in x s whole cells processes) i (seat_in d.before) (d.before.first + length d.before.recording.steps) line a.left
     s.journal cells (Core (Seen j.element)) progress there k.standing (still_there (world_in x s whole cells processes) i) (omega arith)
     (λ told. absurd (look_awake (world_in x s whole cells processes) i (seat_in d.before) (d.before.first + length d.before.recording.steps) line a.left j
     progress k.running there other free
-    (subst (λ (r : Process). (seen : List Judged) → IsPlaced r.registers line seen r.progress
-    → IsPlaced r.registers line (seen ++ j ∷ []) progress) same placed) told))
+    (subst (λ (r : Process). (seen : List Judged) → IsPlaced r.control line seen r.progress
+    → IsPlaced r.control line (seen ++ j ∷ []) progress) same placed) told))
     (λ it at. absurd (look_free (world_in x s whole cells processes) i (seat_in d.before) (d.before.first + length d.before.recording.steps) line a.left j
     progress k.running there other free
-    (subst (λ (r : Process). (seen : List Judged) → IsPlaced r.registers line seen r.progress
-    → IsPlaced r.registers line (seen ++ j ∷ []) progress) same placed) it at)) in (
+    (subst (λ (r : Process). (seen : List Judged) → IsPlaced r.control line seen r.progress
+    → IsPlaced r.control line (seen ++ j ∷ []) progress) same placed) it at)) in (
       moved_kept x s s whole room cells cells processes processes' i (Core (Seen j.element)) progress k k.same k.wide d
-          (subst (λ (r : Process). IsGoodProgress r.registers progress) same fits) w st,
+          (subst (λ (r : Process). IsGoodProgress r.control.registers progress) same fits) w st,
       moved_stepped x s s whole cells cells processes processes' p i (Core (Seen j.element)) progress [] place (none_more s.journal)
           (memory_awake x s whole cells processes p i line a.left d.before k.running place there other) d
           (inl (refl, subst (λ (r : Process). steps_in progress < steps_in r.progress) same closer)),
@@ -488,7 +499,7 @@ IsProgressAfter (More it) progress = progress ≡ Filling it
 IsProgressAfter Anew progress = progress ≡ Before
 IsProgressAfter Done progress = ⊥
 
-answered_after : (g : Registers) (line : Line) (entry : journaled.Entry) (filled : List Judged) (after : Filled) (progress : Progress)
+answered_after : (g : Control) (line : Line) (entry : journaled.Entry) (filled : List Judged) (after : Filled) (progress : Progress)
     → IsProgressAfter after progress → IsAfter g line entry filled after → IsAnswered g line entry filled progress
 answered_after g line entry filled (More it) progress at is = subst (IsAnswered g line entry filled) (sym at) is
 answered_after g line entry filled Anew progress at is = subst (IsAnswered g line entry filled) (sym at) is
@@ -545,7 +556,7 @@ granted_here : (x : Outline) (s : Supervised) (whole : List (List Step)) (room :
     → IsKept x s whole room cells processes → p ≡ suc i → slice_get processes i ≡ Some q → q.progress ≡ Filling it
     → IsFillMade s p point cells cells' it j → IsGrantedHere it j
 granted_here x s whole room cells cells' processes p i point q it j k own here at m =
-    let short : IsShort it = subst (IsGoodProgress q.registers) at (k.good i q here).progress in
+    let short : IsShort it = subst (IsGoodProgress q.control.registers) at (k.good i q here).progress in
     let place = (k.standing i (seat_in q) (seat_of processes i q here)).places it at in
     let there : descriptor (state_of s) p (write_of it).segno ≡ descriptor (state_in (world_in x s whole cells processes)) (suc i) (write_of it).segno
     = ap (λ n. descriptor (state_of s) n (write_of it).segno) own
@@ -582,7 +593,7 @@ fill_no_logout x s whole room cells processes i line left before it k there at o
     let now = storing_now x r.setup (suc i) (seat_in before) (before.first + length before.recording.steps) line left it (r.views (suc i)) at
     (at_line x r.setup (suc i) (seat_in before) (left_of x (suc i) (seat_in before)) (before.first + length before.recording.steps) line left
     (r.views (suc i)) there.at (r.each i (seat_in before) there.seated)) in
-    fills_no_logout before.registers line now.entry now.filled it now.is out
+    fills_no_logout before.control line now.entry now.filled it now.is out
 
 -- a write that a reply asks for, after which the line goes on
 pub fill_goes : (x : Outline) (s : Supervised) (whole : List (List Step)) (room : ℕ) (cells cells' : List Contents) (processes middle processes' : List Process)
@@ -604,8 +615,8 @@ fill_goes x s whole room cells cells' processes middle processes' p i point line
     let w = fill_law (world_in x s whole cells processes) i (seat_in d.before) (d.before.first + length d.before.recording.steps) line a.left it j
     g.granted.value cells' progress k.running there at' m.judged g.granted.written judged_on (m.present.point_is ∙ m.present.at_end)
     (subst (λ n. IsAccess cells cells' n j) own m.access)
-    (λ entry filled filling. answered_after d.before.registers line entry (filled ++ j ∷ []) (after_fill it) progress after
-    (after_write d.before.registers line entry filled it j filling g.bounds)) in
+    (λ entry filled filling. answered_after d.before.control line entry (filled ++ j ∷ []) (after_fill it) progress after
+    (after_write d.before.control line entry filled it j filling g.bounds)) in
     let st = event_standing (world_in x s whole cells processes) i (seat_in d.before) (d.before.first + length d.before.recording.steps) line a.left
     s.journal cells' (Core (Seen j.element)) progress there k.standing (still_there (world_in x s whole cells processes) i) (omega arith)
     (λ told. absurd (awake_after (after_fill it) progress after told))
@@ -613,7 +624,7 @@ fill_goes x s whole room cells cells' processes middle processes' p i point line
     (place_after (state_in (world_in x s whole cells processes)) (suc i) it
     ((k.standing i (seat_in q) (seat_of processes i q here)).places it at))) in (
       moved_kept x s s whole room cells cells' processes processes' i (Core (Seen j.element)) progress k k.same m.wide d
-          (good_after d.before.registers (after_fill it) progress after (short_after it g.short)) w st,
+          (good_after d.before.control.registers (after_fill it) progress after (short_after it g.short)) w st,
       moved_stepped x s s whole cells cells' processes processes' p i (Core (Seen j.element)) progress [] place (none_more s.journal)
           (fill_awake x s whole cells processes p i line a.left d.before it place there at') d
           (inl (
@@ -627,14 +638,15 @@ fill_goes x s whole room cells cells' processes middle processes' p i point line
 pub fill_end_goes : (x : Outline) (s : Supervised) (whole : List (List Step)) (room : ℕ) (cells cells' : List Contents) (processes middle processes' : List Process)
     (p i point : ℕ) (line : Line) (q : Process) (registers : Registers) (it : Fill) (j : Judged)
     → IsKept x s whole room cells processes → i ≡ p - 1 → IsAtLine (world_in x s whole cells processes) p line
-    → slice_get processes i ≡ Some q → registers ≡ q.registers → q.progress ≡ Filling it → IsFillMade s p point cells cells' it j
+    → slice_get processes i ≡ Some q → registers ≡ q.control.registers → q.progress ≡ Filling it → IsFillMade s p point cells cells' it j
     → after_fill it ≡ Done
-    → IsStill processes i middle → HasEnded middle i (Core (Seen j.element) ∷ []) result.Done registers processes'
+    → IsStill processes i middle → HasEnded middle i (Core (Seen j.element) ∷ []) result.Done (keeping registers) processes'
     → Goes x s s whole room cells cells' processes processes' p
 fill_end_goes x s whole room cells cells' processes middle processes' p i point line q registers it j k place a here is at m done still ended =
-    let d = line_done processes middle processes' i (Core (Seen j.element) ∷ []) result.Done registers still ended in
+    let d = line_done processes middle processes' i (Core (Seen j.element) ∷ []) result.Done (keeping registers) still ended in
     let same : q ≡ d.before = same_process processes i q d.before here d.at in
-    let after : d.before.registers ≡ registers = sym (is ∙ ap (λ (r : Process). r.registers) same) in
+    let after : d.before.control ≡ changed d.before.control (keeping registers)
+    = kept_all d.before.control registers (is ∙ ap (λ (r : Process). r.control.registers) same) in
     let own : p ≡ suc i = let one = a.some in omega (arith, place, one) in
     let g = granted_here x s whole room cells cells' processes p i point q it j k own here at m in
     let judged_on : j.desc ≡ descriptor_of x s.journal (suc i) j.element
@@ -644,17 +656,17 @@ fill_end_goes x s whole room cells cells' processes middle processes' p i point 
     let w = fill_end_law (world_in x s whole cells processes) i (seat_in d.before) (d.before.first + length d.before.recording.steps) line a.left it j
     g.granted.value cells' k.running there at' m.judged g.granted.written judged_on (m.present.point_is ∙ m.present.at_end)
     (subst (λ n. IsAccess cells cells' n j) own m.access)
-    (λ entry filled filling. subst (IsAfter d.before.registers line entry (filled ++ j ∷ [])) done
-    (after_write d.before.registers line entry filled it j filling g.bounds)) in
+    (λ entry filled filling. subst (IsAfter d.before.control line entry (filled ++ j ∷ [])) done
+    (after_write d.before.control line entry filled it j filling g.bounds)) in
     let no_logout : line ≡ lines.Ask Logout → ⊥ = fill_no_logout x s whole room cells processes i line a.left d.before it k there at' in
     let st = line_standing (world_in x s whole cells processes) i (seat_in d.before) (d.before.first + length d.before.recording.steps) line a.left
-    s.journal cells' (Core (Seen j.element) ∷ []) result.Done registers k.session there k.standing
+    s.journal cells' (Core (Seen j.element) ∷ []) result.Done (changed d.before.control (keeping registers)) k.session there k.standing
     (still_there (world_in x s whole cells processes) i) (omega arith) (λ out below. absurd (no_logout out)) in (
-      done_kept x s s whole room cells cells' processes processes' i (Core (Seen j.element) ∷ []) result.Done registers k k.same m.wide
-          (subst ArePackable after (k.good i d.before d.at).packable) d
-          (subst (λ (r : Registers). IsRunning (stepped (world_in x s whole cells processes) i s.journal cells'
+      done_kept x s s whole room cells cells' processes processes' i (Core (Seen j.element) ∷ []) result.Done (keeping registers) k k.same m.wide d
+          (subst IsPackableControl after (k.good i d.before d.at).packable)
+          (subst (λ (r : Control). IsRunning (stepped (world_in x s whole cells processes) i s.journal cells'
           (after_line (seat_in d.before) (d.before.first + length d.before.recording.steps) (Core (Seen j.element) ∷ []) result.Done r))) after w) st,
-      done_stepped x s s whole cells cells' processes processes' p i (Core (Seen j.element) ∷ []) result.Done registers line [] k.good place a
+      done_stepped x s s whole cells cells' processes processes' p i (Core (Seen j.element) ∷ []) result.Done (keeping registers) line [] k.good place a
           (none_more s.journal) (omega arith) (omega arith)
           (fill_awake x s whole cells processes p i line a.left d.before it place there at') d,
     )

@@ -4,9 +4,9 @@ use Rattle.std.proofs.lemmas.Bool.Decides.{nat_tests}
 use Rattle.std.specs.List.{slice_get}
 use Rattle.std.specs.Option.{option_map}
 use Rattle.std.specs.Prelude.{MatchOption}
-use Rattle.mx_legal.specs.Scripts.{first_line, numbered, script_at}
+use Rattle.mx_transcript.specs.Scripts.{first_line, numbered, script_at}
 use Rattle.mx_script.specs.Sessions.{Outline}
-use Rattle.mx_legal.specs.Transcripts.{Step}
+use Rattle.mx_transcript.specs.Transcripts.{Step}
 use Rattle.mx_script.specs.declared.lines.Line.{Line}
 use Rattle.mx_sup.specs.Supervised.{Supervised}
 use Rattle.mx_bench.specs.Running.{left_of}

@@ -1,8 +1,8 @@
 -- The number of the line that a process is before.
 use Rattle.std.proofs.Common.{◌≡◌, ℕ, zero, suc, ◌<◌, ◌+◌, ◌-◌, List, [], ◌∷◌, drop, length, Some, refl, sym, ◌∙◌, ap, subst, arith}
 use Rattle.std.specs.List.{slice_get}
-use Rattle.mx_legal.specs.Scripts.{first_line, numbered, script_at}
-use Rattle.mx_legal.specs.Transcripts.{Step}
+use Rattle.mx_transcript.specs.Scripts.{first_line, numbered, script_at}
+use Rattle.mx_transcript.specs.Transcripts.{Step}
 use Rattle.mx_script.specs.Sessions.{Outline}
 use Rattle.mx_script.specs.declared.lines.Line.{Line}
 use Rattle.mx_sup.specs.Supervised.{Supervised}
@@ -44,7 +44,7 @@ as_it_is processes i t = record {
   at = t.at;
   after = t.process;
   first = refl;
-  registers = refl;
+  control = refl;
   steps = refl;
   events = refl;
   progress = refl;

@@ -3,18 +3,18 @@ use Rattle.std.proofs.Common.{◌≡◌, ℕ, zero, suc, ◌<◌, ◌≤◌, ◌
 use Rattle.std.proofs.lemmas.List.{take_all, length-map}
 use Rattle.std.proofs.lemmas.Option.{slice_get_within}
 use Rattle.std.specs.List.{slice_get, list_all}
-use Rattle.mx_legal.specs.Courses.{Attempt}
-use Rattle.mx_legal.specs.Legal.{Call, call_of, setup_call, setup_entries}
-use Rattle.mx_legal.specs.Openings.{opening_registers}
-use Rattle.mx_legal.specs.Scripts.{first_line, lines_of, numbered, script_at}
+use Rattle.mx_transcript.specs.Courses.{Attempt}
+use Rattle.mx_transcript.specs.Legal.{Call, call_of, setup_call, setup_entries}
+use Rattle.mx_transcript.specs.Openings.{opening_control}
+use Rattle.mx_transcript.specs.Scripts.{first_line, lines_of, numbered, script_at}
 use Rattle.mx_request.proofs.StepLaws.{both}
-use Rattle.mx_legal.specs.Transcripts.{Step}
+use Rattle.mx_transcript.specs.Transcripts.{Step}
 use Rattle.mx_reads.specs.Deeds.{CellUse}
 use Rattle.mx_reads.specs.Held.{Held, IsHeld}
 use Rattle.mx_request.specs.declared.requests.Request.{Request}
 use Rattle.mx_script.specs.Sessions.{Outline, IsSession, limit_of, is_script, is_script_line, ends}
 use Rattle.mx_script.specs.declared.lines.Line.{Line}
-use Rattle.mx_legal.specs.Opened.{opening_of}
+use Rattle.mx_transcript.specs.Opened.{opening_of}
 use Rattle.mx_state.specs.History.{IsRight}
 use Rattle.mx_state.specs.declared.journal.Entry as journaled
 use Rattle.mx_sup.specs.Entering.{IsOpened}
@@ -81,7 +81,7 @@ all_clear cells empty u = by_test (u.since == 0)
 
 -- before the first line of a process
 first_before : (x : Outline) (setup : List journaled.Entry) (i : ℕ) (lines : List (ℕ × Line)) → lines_of x (suc i) ≡ lines → setup_entries x ≤ length setup
-    → IsBefore x setup (suc i) (record { registers = opening_registers (suc i); steps = []; events = []; progress = Before }) lines (opening_view (length setup))
+    → IsBefore x setup (suc i) (record { control = opening_control x (suc i); steps = []; events = []; progress = Before }) lines (opening_view (length setup))
 first_before x setup i [] e begun = no_line_law x setup (suc i) (length setup) e
 first_before x setup i (next ∷ left) e begun = record {
   course = Attempt [];
@@ -100,11 +100,11 @@ seat_of (p ∷ processes) zero seat e = (p, refl, same (seat_in p) seat e)
 seat_of (p ∷ processes) (suc i) seat e = seat_of processes i seat e
 
 fresh_seat : (x : Outline) (processes : List Process) (i : ℕ) (seat : Seat) → AreFresh x processes → slice_get (map seat_in processes) i ≡ Some seat
-    → seat ≡ record { registers = opening_registers (suc i); steps = []; events = []; progress = Before }
+    → seat ≡ record { control = opening_control x (suc i); steps = []; events = []; progress = Before }
 fresh_seat x processes i seat fresh e =
     let s = seat_of processes i seat e in
     let f = fresh.each i s.0 s.1 in
-    sym s.2 ∙ rw (f.registers, f.steps, f.events, f.progress) refl
+    sym s.2 ∙ rw (f.control, f.steps, f.events, f.progress) refl
 
 -- each process has a line
 some_line : (x : Outline) (i : ℕ) → IsSession x → i < length x.scripts → lines_of x (suc i) ≡ [] → ⊥

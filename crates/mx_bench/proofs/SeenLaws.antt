@@ -2,18 +2,22 @@
 use Rattle.std.proofs.Common.{◌≡◌, ℕ, ◌+◌, ◌<◌, ◌≤◌, ◌-◌, false, List, [], ◌∷◌, ◌++◌, length, length-append, Some, None, sym, ◌∙◌, ap, refl, subst, arith}
 use Rattle.std.specs.List.{slice_get}
 use Rattle.std.specs.Prelude.{Result, Ok, Err, OnErr}
-use Rattle.mx_call.specs.Registers.{Registers, ArePackable}
+use Rattle.mx_call.specs.Registers.{Registers}
+use Rattle.mx_upcall.proofs.ChangeLaws.{kept_all}
+use Rattle.mx_upcall.specs.Changes.{keeping, changed}
+use Rattle.mx_upcall.specs.Control.{Control}
+use Rattle.mx_upcall.specs.Soundness.{IsPackableControl}
 use Rattle.mx_core.specs.declared.elements.Event.TheVariants.{Seen}
 use Rattle.mx_core.specs.declared.elements.Outcome.TheVariants.{Denied}
-use Rattle.mx_legal.specs.Asking.{next}
-use Rattle.mx_legal.specs.Courses.{Attempt, Judged}
-use Rattle.mx_legal.specs.Elements.{IsJudged}
-use Rattle.mx_legal.specs.Next.{Reference, Asks, Ends, storing}
-use Rattle.mx_legal.specs.Targets.{at_target, after_target}
-use Rattle.mx_legal.specs.Transcripts.{Step}
-use Rattle.mx_legal.specs.declared.transcripts.Event2.TheVariants.{Core, Entry}
-use Rattle.mx_legal.specs.declared.transcripts.Result2.{Result2}
-use Rattle.mx_legal.specs.declared.transcripts.Result2.TheVariants as result
+use Rattle.mx_transcript.specs.Asking.{next}
+use Rattle.mx_transcript.specs.Courses.{Attempt, Judged}
+use Rattle.mx_transcript.specs.Elements.{IsJudged}
+use Rattle.mx_transcript.specs.Next.{Reference, Asks, Ends, storing}
+use Rattle.mx_transcript.specs.Targets.{at_target, after_target}
+use Rattle.mx_transcript.specs.Transcripts.{Step}
+use Rattle.mx_transcript.specs.declared.transcripts.Event2.TheVariants.{Core, Entry}
+use Rattle.mx_transcript.specs.declared.transcripts.Result2.{Result2}
+use Rattle.mx_transcript.specs.declared.transcripts.Result2.TheVariants as result
 use Rattle.mx_ptr.specs.Pointers.{PointerParts}
 use Rattle.mx_request.specs.declared.replies.Reply.{Reply}
 use Rattle.mx_request.specs.declared.requests.Request.{Request}
@@ -22,17 +26,18 @@ use Rattle.mx_script.specs.declared.lines.Base.TheVariants.{Segment}
 use Rattle.mx_script.specs.declared.lines.Line.{Line}
 use Rattle.mx_script.specs.declared.lines.Line.TheVariants as lines
 use Rattle.mx_script.specs.declared.lines.Operand.{Operand}
+use Rattle.mx_sdw.specs.Admissible.{IsAdmissible}
 use Rattle.mx_sdw.specs.Descriptors.{Descriptor}
 use Rattle.mx_sdw.specs.declared.denials.Denial.{Denial}
 use Rattle.mx_state.specs.Table.{descriptor}
 use Rattle.mx_state.specs.Told.{IsLinkedWithin}
 use Rattle.mx_sup.specs.Entering.{HasEntered}
 use Rattle.mx_sup.specs.Supervised.{Supervised, state_of}
-use Rattle.mx_bench.proofs.BenchLaws.{still_seats, seat_is}
+use Rattle.mx_bench.proofs.BenchLaws.{gate_room, still_seats, seat_is}
 use Rattle.mx_bench.proofs.BoundLaws.{at_within, at_principal, at_countable, still_within}
 use Rattle.mx_bench.proofs.KindLaws.{IsFillMade, IsProgressAfter, end_goes, entered_reply, fill_end_goes, fill_goes, full_goes, call_goes, store_goes, wait_goes, refer_goes, look_goes}
 use Rattle.mx_line.proofs.MadeLaws.{refers_asks, stores_made}
-use Rattle.mx_line.proofs.OperandLaws.{memory_next, no_request, aims_no_request, walked, led_to, word_asks, word_denied, fewer_steps, after_packable}
+use Rattle.mx_line.proofs.OperandLaws.{memory_next, no_request, aims_no_request, walked, led_to, word_asks, word_denied, fewer_steps, after_packable, first_low}
 use Rattle.mx_line.proofs.SeatLaws.{set_here}
 use Rattle.mx_line.specs.Fills.{IsNoRequest, IsShort, after_fill, write_of}
 use Rattle.mx_bench.specs.Asking.{IsToFill, IsUnfilled, IsAsking, IsAiming, IsEnding, IsCalling, IsStoring}
@@ -40,7 +45,7 @@ use Rattle.mx_line.specs.Making.{IsReferring, IsMade, IsLooked, HasRead, HasCome
 use Rattle.mx_bench.specs.Benches.{world_in, first_of, IsKept}
 use Rattle.mx_bench.specs.Replies.{IsReplied, IsReplyTo}
 use Rattle.mx_line.specs.Operands.{operand_of, walk_at, IsPlaced, AsksFor, IsGoodProgress, IsTarget, IsOnward, IsGoodOnward, IsCloser}
-use Rattle.mx_line.specs.Processes.{seat_in, IsStill, IsCountable, HasEnded, HasGoneOn, HasFed, Feeds, Goes}
+use Rattle.mx_line.specs.Processes.{seat_in, IsStill, IsCountable, HasControl, HasGateRoom, HasEnded, HasGoneOn, HasFed, Feeds, Goes}
 use Rattle.mx_bench.specs.Stepping.{IsAtLine, HasMoved, HasStepped, HasGone}
 use Rattle.mx_line.specs.Seats.{Seat}
 use Rattle.mx_bench.specs.Worlds.{World}
@@ -65,7 +70,7 @@ use Rattle.mx_bench.specs.declared.replied.Replied.TheVariants as replied
 pub end_done : (x : Outline) (s : Supervised) (whole : List (List Step)) (room : ℕ) (cells : List Contents) (processes middle processes' : List Process)
     (p i : ℕ) (line : Line) (ends : Result2) (registers : Registers) (w : World)
     → IsKept x s whole room cells processes → world_in x s whole cells processes ≡ w → i ≡ p - 1 → IsAtLine w p line
-    → IsUnfilled w p → IsEnding w p line ends registers → IsStill processes i middle → HasEnded middle i [] ends registers processes'
+    → IsUnfilled w p → IsEnding w p line ends registers → IsStill processes i middle → HasEnded middle i [] ends (keeping registers) processes'
     → IsKept x s whole room cells processes' × HasStepped w p (world_in x s whole cells processes')
 end_done x s whole room cells processes middle processes' p i line ends registers w k view place a idle e still ended =
     subst (λ (v : World). IsAtLine v p line → IsUnfilled v p → IsEnding v p line ends registers
@@ -76,8 +81,8 @@ pub full_done : (x : Outline) (s : Supervised) (whole : List (List Step)) (room 
     (p i : ℕ) (line : Line) (ring : ℕ) (request : Request) (q : Process) (registers : Registers) (w : World)
     → IsKept x s whole room cells processes → world_in x s whole cells processes ≡ w → i ≡ p - 1 → IsAtLine w p line
     → IsCalling w p line ring request
-    → slice_get processes i ≡ Some q → registers ≡ q.registers → length s.journal ≡ limit_of s.session
-    → IsStill processes i middle → HasEnded middle i [] result.HistoryFull registers processes'
+    → slice_get processes i ≡ Some q → registers ≡ q.control.registers → length s.journal ≡ limit_of s.session
+    → IsStill processes i middle → HasEnded middle i [] result.HistoryFull (keeping registers) processes'
     → IsKept x s whole room cells processes' × HasStepped w p (world_in x s whole cells processes')
 full_done x s whole room cells processes middle processes' p i line ring request q registers w k view place a e here is full still ended =
     subst (λ (v : World). IsAtLine v p line → IsCalling v p line ring request
@@ -122,9 +127,9 @@ pub call_done : (x : Outline) (s s' : Supervised) (whole : List (List Step)) (ro
     (p i number : ℕ) (line : Line) (ring : ℕ) (request : Request) (ends : Result2) (q : Process) (registers : Registers) (w : World)
     → IsKept x s whole room cells processes → world_in x s whole cells processes ≡ w → i ≡ p - 1 → IsAtLine w p line
     → IsCalling w p line ring request
-    → slice_get processes i ≡ Some q → registers ≡ q.registers → HasEntered s p ring request number s'
+    → slice_get processes i ≡ Some q → registers ≡ q.control.registers → HasEntered s p ring request number s'
     → Says s' p ring request number (replied.End ends)
-    → IsStill processes i middle → HasEnded middle i (Entry number ∷ []) ends registers processes'
+    → IsStill processes i middle → HasEnded middle i (Entry number ∷ []) ends (keeping registers) processes'
     → IsKept x s' whole room cells processes' × HasStepped w p (world_in x s' whole cells processes')
 call_done x s s' whole room cells processes middle processes' p i number line ring request ends q registers w k view place a c here is e says still ended =
     subst (λ (v : World). IsAtLine v p line → IsCalling v p line ring request
@@ -156,7 +161,7 @@ filling_at x s whole cells processes p i q it place here f =
 pub seen_short : (x : Outline) (s : Supervised) (whole : List (List Step)) (room : ℕ) (cells : List Contents) (processes : List Process) (p i : ℕ) (q : Process) (it : Fill) (w : World)
     → IsKept x s whole room cells processes → world_in x s whole cells processes ≡ w → i ≡ p - 1 → slice_get processes i ≡ Some q → IsToFill w p it → IsShort it
 seen_short x s whole room cells processes p i q it w k view place here f =
-    subst (IsGoodProgress q.registers)
+    subst (IsGoodProgress q.control.registers)
     (filling_at x s whole cells processes p i q it place here (subst (λ (v : World). IsToFill v p it) (sym view) f))
     (k.good i q here).progress
 
@@ -168,12 +173,12 @@ pub anew_after : {after : Filled} → filled.Anew ≡ after → IsProgressAfter 
 anew_after {after} is = subst (λ (a : Filled). IsProgressAfter a Before) is refl
 
 -- a write that a reply asked for was made
-pub fill_made : (s : Supervised) (p point value : ℕ) (registers : Registers) (target : PointerParts) (desc : Descriptor) (made : Made)
+pub fill_made : (s : Supervised) (p point value : ℕ) (control : Control) (target : PointerParts) (desc : Descriptor) (made : Made)
     (cells cells' : List Contents) (it : Fill) → storing value target ≡ write_of it
     → desc ≡ descriptor (state_of s) p target.segno → point ≡ length s.journal → length cells ≡ 65536 → length cells' ≡ 65536
-    → ((o : Operand) → IsMade (lines.Sta o) (storing value target) registers desc target p point cells cells' made)
+    → ((o : Operand) → IsMade (lines.Sta o) (storing value target) control desc target p point cells cells' made)
     → IsFillMade s p point cells cells' it (beside made desc)
-fill_made s p point value registers target desc made cells cells' it is on_desc at_end whole wide sta =
+fill_made s p point value control target desc made cells cells' it is on_desc at_end whole wide sta =
     let m = sta some_operand in
     let segno : target.segno ≡ (write_of it).segno = ap (λ (r : Reference). r.segno) is in
     record {
@@ -207,9 +212,9 @@ fill_done x s whole room cells cells' processes middle processes' p i point line
 pub fill_end_done : (x : Outline) (s : Supervised) (whole : List (List Step)) (room : ℕ) (cells cells' : List Contents) (processes middle processes' : List Process)
     (p i point : ℕ) (line : Line) (q : Process) (registers : Registers) (it : Fill) (j : Judged) (w : World)
     → IsKept x s whole room cells processes → world_in x s whole cells processes ≡ w → i ≡ p - 1 → IsAtLine w p line
-    → slice_get processes i ≡ Some q → registers ≡ q.registers → IsToFill w p it → IsFillMade s p point cells cells' it j
+    → slice_get processes i ≡ Some q → registers ≡ q.control.registers → IsToFill w p it → IsFillMade s p point cells cells' it j
     → after_fill it ≡ filled.Done
-    → IsStill processes i middle → HasEnded middle i (Core (Seen j.element) ∷ []) result.Done registers processes'
+    → IsStill processes i middle → HasEnded middle i (Core (Seen j.element) ∷ []) result.Done (keeping registers) processes'
     → IsKept x s whole room cells' processes' × HasStepped w p (world_in x s whole cells' processes')
 fill_end_done x s whole room cells cells' processes middle processes' p i point line q registers it j w k view place a here is f m done still ended =
     subst (λ (v : World). IsAtLine v p line → IsToFill v p it
@@ -219,16 +224,16 @@ fill_end_done x s whole room cells cells' processes middle processes' p i point 
 
 -- a line does its own at its target
 pub own_done : (x : Outline) (s : Supervised) (whole : List (List Step)) (room : ℕ) (cells cells' : List Contents) (processes middle processes' : List Process)
-    (p i point : ℕ) (line : Line) (q : Process) (registers : Registers) (target : PointerParts) (asked : Reference) (desc : Descriptor) (made : Made)
+    (p i point : ℕ) (line : Line) (q : Process) (control : Control) (target : PointerParts) (asked : Reference) (desc : Descriptor) (made : Made)
     (w : World)
     → IsKept x s whole room cells processes → world_in x s whole cells processes ≡ w → i ≡ p - 1 → IsAtLine w p line
-    → IsUnfilled w p → IsAiming w p line target → at_target registers line target ≡ Asks asked
-    → slice_get processes i ≡ Some q → registers ≡ q.registers
-    → desc ≡ descriptor (state_of s) p target.segno → point ≡ length s.journal → length cells' ≡ 65536
-    → IsMade line asked registers desc target p point cells cells' made
+    → IsUnfilled w p → IsAiming w p line target → at_target control line target ≡ Asks asked
+    → slice_get processes i ≡ Some q → control ≡ q.control
+    → IsAdmissible desc → desc ≡ descriptor (state_of s) p target.segno → point ≡ length s.journal → length cells' ≡ 65536
+    → IsMade line asked control desc target p point cells cells' made
     → IsStill processes i middle → HasEnded middle i (Core (Seen made.element) ∷ []) made.ends made.after processes'
     → IsKept x s whole room cells' processes' × HasStepped w p (world_in x s whole cells' processes')
-own_done x s whole room cells cells' processes middle processes' p i point line q registers target asked desc made w k view place a idle t does here is on_desc at_end wide m still ended =
+own_done x s whole room cells cells' processes middle processes' p i point line q control target asked desc made w k view place a idle t does here is admissible on_desc at_end wide m still ended =
     subst (λ (v : World). IsAtLine v p line → IsUnfilled v p → IsAiming v p line target
     → IsKept x s whole room cells' processes' × HasStepped v p (world_in x s whole cells' processes')) view
     (λ a idle t. goes a idle t) a idle t
@@ -237,15 +242,15 @@ own_done x s whole room cells cells' processes middle processes' p i point line 
     j = beside made desc
 
     other : IsNoRequest line
-    other = aims_no_request registers line target asked does
+    other = aims_no_request control line target asked does
 
     Asking : Seat → Type 0
-    Asking seat = (seen : List Judged) → IsPlaced seat.registers line seen seat.progress
-        → next seat.registers line (Attempt seen) ≡ at_target seat.registers line target
+    Asking seat = (seen : List Judged) → IsPlaced seat.control line seen seat.progress
+        → next seat.control line (Attempt seen) ≡ at_target seat.control line target
 
     Going : Seat → Type 0
-    Going seat = (j : Judged) (seen : List Judged) → IsPlaced seat.registers line seen seat.progress
-        → next seat.registers line (Attempt (seen ++ j ∷ [])) ≡ after_target seat.registers line target j.desc j.element.outcome
+    Going seat = (j : Judged) (seen : List Judged) → IsPlaced seat.control line seen seat.progress
+        → next seat.control line (Attempt (seen ++ j ∷ [])) ≡ after_target seat.control line target j.desc j.element.outcome
 
     goes : IsAtLine (world_in x s whole cells processes) p line → IsUnfilled (world_in x s whole cells processes) p
         → IsAiming (world_in x s whole cells processes) p line target
@@ -254,53 +259,54 @@ own_done x s whole room cells cells' processes middle processes' p i point line 
         let seat : t.seat ≡ seat_in q = seat_is x s whole cells processes p i t.seat q place t.seated here in
         let asks : Asking (seat_in q) = subst Asking seat t.asks in
         let going : Going (seat_in q) = subst Going seat t.goes in
-        let good : IsTarget q.registers target = subst (λ (seat : Seat). IsTarget seat.registers target) seat t.good in
-        let end : after_target q.registers line target desc made.element.outcome ≡ Ends made.ends made.after
-        = subst (λ (g : Registers). after_target g line target desc made.element.outcome ≡ Ends made.ends made.after) is m.end in
+        let good : IsTarget q.control.registers target = subst (λ (seat : Seat). IsTarget seat.control.registers target) seat t.good in
+        let end : after_target q.control line target desc made.element.outcome ≡ Ends made.ends (changed q.control made.after)
+        = subst (λ (g : Control). after_target g line target desc made.element.outcome ≡ Ends made.ends (changed g made.after)) is m.end in
         refer_goes x s whole room cells cells' processes middle processes' p i target.segno point line q asked (beside made desc) made.ends made.after
         k place a idle here other
-        (λ seen placed. asks seen placed ∙ subst (λ (g : Registers). at_target g line target ≡ Asks asked) is does)
+        (λ seen placed. asks seen placed ∙ subst (λ (g : Control). at_target g line target ≡ Asks asked) is does)
         m.judged (record { on = on_desc; segno_is = m.segno; at_end = at_end; point_is = m.point_is }) wide (m.access k.wide)
         (λ seen placed. going (beside made desc) seen placed ∙ end)
-        (after_packable q.registers line target desc made.element.outcome made.ends made.after (k.good i q here).packable good.packable end)
+        (after_packable q.control line target desc made.element.outcome made.ends (changed q.control made.after) (k.good i q here).packable good.packable
+        (first_low desc admissible) end)
         still ended
 
 -- a line that stores nothing, at its target
 pub refer_done : (x : Outline) (s : Supervised) (whole : List (List Step)) (room : ℕ) (cells cells' : List Contents) (processes middle processes' : List Process)
-    (p i point : ℕ) (line : Line) (q : Process) (registers : Registers) (target : PointerParts) (desc : Descriptor) (made : Made)
+    (p i point : ℕ) (line : Line) (q : Process) (control : Control) (target : PointerParts) (desc : Descriptor) (made : Made)
     (w : World)
     → IsKept x s whole room cells processes → world_in x s whole cells processes ≡ w → i ≡ p - 1 → IsAtLine w p line
     → IsUnfilled w p → IsAiming w p line target → IsReferring line
-    → slice_get processes i ≡ Some q → registers ≡ q.registers
-    → desc ≡ descriptor (state_of s) p target.segno → point ≡ length s.journal → length cells' ≡ 65536
-    → ((asked : Reference) → at_target registers line target ≡ Asks asked → IsMade line asked registers desc target p point cells cells' made)
+    → slice_get processes i ≡ Some q → control ≡ q.control
+    → IsAdmissible desc → desc ≡ descriptor (state_of s) p target.segno → point ≡ length s.journal → length cells' ≡ 65536
+    → ((asked : Reference) → at_target control line target ≡ Asks asked → IsMade line asked control desc target p point cells cells' made)
     → IsStill processes i middle → HasEnded middle i (Core (Seen made.element) ∷ []) made.ends made.after processes'
     → IsKept x s whole room cells' processes' × HasStepped w p (world_in x s whole cells' processes')
-refer_done x s whole room cells cells' processes middle processes' p i point line q registers target desc made w k view place a idle t refers here is on_desc at_end wide m still ended =
-    let asks = refers_asks registers line target refers in
-    own_done x s whole room cells cells' processes middle processes' p i point line q registers target asks.0 desc made w k view place a
-    idle t asks.1 here is on_desc at_end wide (m asks.0 asks.1) still ended
+refer_done x s whole room cells cells' processes middle processes' p i point line q control target desc made w k view place a idle t refers here is admissible on_desc at_end wide m still ended =
+    let asks = refers_asks control line target refers in
+    own_done x s whole room cells cells' processes middle processes' p i point line q control target asks.0 desc made w k view place a
+    idle t asks.1 here is admissible on_desc at_end wide (m asks.0 asks.1) still ended
 
 -- `sta` and `spri` at their targets
 pub store_done : (x : Outline) (s : Supervised) (whole : List (List Step)) (room : ℕ) (cells cells' : List Contents) (processes middle processes' : List Process)
-    (p i point value : ℕ) (line : Line) (q : Process) (registers : Registers) (target : PointerParts) (desc : Descriptor) (made : Made)
+    (p i point value : ℕ) (line : Line) (q : Process) (control : Control) (target : PointerParts) (desc : Descriptor) (made : Made)
     (w : World)
     → IsKept x s whole room cells processes → world_in x s whole cells processes ≡ w → i ≡ p - 1 → IsAtLine w p line
     → IsUnfilled w p → IsAiming w p line target → IsStoring w p line target value
-    → slice_get processes i ≡ Some q → registers ≡ q.registers
-    → desc ≡ descriptor (state_of s) p target.segno → point ≡ length s.journal → length cells' ≡ 65536
-    → ((o : Operand) → IsMade (lines.Sta o) (storing value target) registers desc target p point cells cells' made)
-    → ((n : ℕ) (o : Operand) → IsMade (lines.Spri n o) (storing value target) registers desc target p point cells cells' made)
+    → slice_get processes i ≡ Some q → control ≡ q.control
+    → IsAdmissible desc → desc ≡ descriptor (state_of s) p target.segno → point ≡ length s.journal → length cells' ≡ 65536
+    → ((o : Operand) → IsMade (lines.Sta o) (storing value target) control desc target p point cells cells' made)
+    → ((n : ℕ) (o : Operand) → IsMade (lines.Spri n o) (storing value target) control desc target p point cells cells' made)
     → IsStill processes i middle → HasEnded middle i (Core (Seen made.element) ∷ []) made.ends made.after processes'
     → IsKept x s whole room cells' processes' × HasStepped w p (world_in x s whole cells' processes')
-store_done x s whole room cells cells' processes middle processes' p i point value line q registers target desc made w k view place a idle t st here is on_desc at_end wide sta spri still ended =
+store_done x s whole room cells cells' processes middle processes' p i point value line q control target desc made w k view place a idle t st here is admissible on_desc at_end wide sta spri still ended =
     let seat : st.seat ≡ seat_in q
     = seat_is x s whole cells processes p i st.seat q place (ap (λ (v : World). slice_get v.seats (p - 1)) view ∙ st.seated) here in
-    let does : at_target registers line target ≡ Asks (storing value target)
-    = ap (λ (g : Registers). at_target g line target) (is ∙ sym (ap (λ (t : Seat). t.registers) seat)) ∙ st.asks in
-    own_done x s whole room cells cells' processes middle processes' p i point line q registers target (storing value target) desc made w k view place a
-    idle t does here is on_desc at_end wide
-    (stores_made line (storing value target) registers desc target p point cells cells' made st.stores sta spri) still ended
+    let does : at_target control line target ≡ Asks (storing value target)
+    = ap (λ (g : Control). at_target g line target) (is ∙ sym (ap (λ (t : Seat). t.control) seat)) ∙ st.asks in
+    own_done x s whole room cells cells' processes middle processes' p i point line q control target (storing value target) desc made w k view place a
+    idle t does here is admissible on_desc at_end wide
+    (stores_made line (storing value target) control desc target p point cells cells' made st.stores sta spri) still ended
 
 -- an indirect word is denied
 pub denied_done : (x : Outline) (s : Supervised) (whole : List (List Step)) (room : ℕ) (cells : List Contents) (processes middle processes' : List Process)
@@ -308,10 +314,10 @@ pub denied_done : (x : Outline) (s : Supervised) (whole : List (List Step)) (roo
     (w : World)
     → IsKept x s whole room cells processes → world_in x s whole cells processes ≡ w → i ≡ p - 1 → IsAtLine w p line
     → IsUnfilled w p → operand_of line ≡ Some o → IsAsking w p o (First (way.Word place))
-    → slice_get processes i ≡ Some q → registers ≡ q.registers
+    → slice_get processes i ≡ Some q → registers ≡ q.control.registers
     → desc ≡ descriptor (state_of s) p place.segno → point ≡ length s.journal
     → IsLooked place desc p point cells looked → looked.came ≡ Err denial
-    → IsStill processes i middle → HasEnded middle i (Core (Seen looked.element) ∷ []) (result.Denied denial) registers processes'
+    → IsStill processes i middle → HasEnded middle i (Core (Seen looked.element) ∷ []) (result.Denied denial) (keeping registers) processes'
     → IsKept x s whole room cells processes' × HasStepped w p (world_in x s whole cells processes')
 denied_done x s whole room cells processes middle processes' p i point line o q registers place desc looked denial w k view at a idle own c here is on_desc at_end l came still ended =
     subst (λ (v : World). IsAtLine v p line → IsUnfilled v p → IsAsking v p o (First (way.Word place))
@@ -323,17 +329,17 @@ denied_done x s whole room cells processes middle processes' p i point line o q 
         → IsKept x s whole room cells processes' × HasStepped (world_in x s whole cells processes) p (world_in x s whole cells processes')
     goes a idle c =
         let seat : c.seat ≡ seat_in q = seat_is x s whole cells processes p i c.seat q at c.seated here in
-        let asks : AsksFor q.registers o q.progress (First (way.Word place))
-        = subst (λ (seat : Seat). AsksFor seat.registers o seat.progress (First (way.Word place))) seat c.asks in
-        let led = led_to q.registers o q.progress place asks in
+        let asks : AsksFor q.control.registers o q.progress (First (way.Word place))
+        = subst (λ (seat : Seat). AsksFor seat.control.registers o seat.progress (First (way.Word place))) seat c.asks in
+        let led = led_to q.control.registers o q.progress place asks in
         let denied : looked.element.outcome ≡ Denied denial = subst (λ (r : Result ℕ Denial). HasCome r looked.element.outcome) came l.came in
         refer_goes x s whole room cells cells processes middle processes' p i place.segno point line q (looks place)
-        (record { element = looked.element; desc = desc }) (result.Denied denial) registers k at a idle here (no_request line o own)
-        (λ seen placed. word_asks q.registers line o q.progress place own led seen placed)
+        (record { element = looked.element; desc = desc }) (result.Denied denial) (keeping registers) k at a idle here (no_request line o own)
+        (λ seen placed. word_asks q.control line o q.progress place own led seen placed)
         l.judged (record { on = on_desc; segno_is = l.segno; at_end = at_end; point_is = l.point_is }) k.wide (l.access k.wide)
-        (λ seen placed. word_denied q.registers line o q.progress place denial own led (record { element = looked.element; desc = desc }) denied seen placed
-        ∙ ap (λ (g : Registers). Ends (result.Denied denial) g) (sym is))
-        (subst ArePackable (sym is) (k.good i q here).packable)
+        (λ seen placed. word_denied q.control line o q.progress place denial own led (record { element = looked.element; desc = desc }) denied seen placed
+        ∙ ap (λ (g : Control). Ends (result.Denied denial) g) (kept_all q.control registers is))
+        (subst IsPackableControl (kept_all q.control registers is) (k.good i q here).packable)
         still ended
 
 -- an indirect word is read, and taken or not
@@ -367,37 +373,37 @@ fed_done x s whole room cells processes middle processes' p i point value r1 lin
     q_is : q ≡ still.before
     q_is = one q still.before (sym here ∙ still.at)
 
-    same_registers : f.before.registers ≡ q.registers
-    same_registers = ap (λ (r : Process). r.registers) before_is ∙ still.registers ∙ ap (λ (r : Process). r.registers) (sym q_is)
+    same_control : f.before.control ≡ q.control
+    same_control = ap (λ (r : Process). r.control) before_is ∙ still.control ∙ ap (λ (r : Process). r.control) (sym q_is)
 
     same_progress : f.before.progress ≡ q.progress
     same_progress = ap (λ (r : Process). r.progress) before_is ∙ still.progress ∙ ap (λ (r : Process). r.progress) (sym q_is)
 
-    walks : walk_at q.registers o q.progress ≡ Some f.fed.walk
-    walks = ap (λ (g : Registers). walk_at g o q.progress) (sym same_registers)
-        ∙ ap (λ (r : Progress). walk_at f.before.registers o r) (sym same_progress) ∙ f.fed.walks
+    walks : walk_at q.control.registers o q.progress ≡ Some f.fed.walk
+    walks = ap (λ (g : Control). walk_at g.registers o q.progress) (sym same_control)
+        ∙ ap (λ (r : Progress). walk_at f.before.control.registers o r) (sym same_progress) ∙ f.fed.walks
 
-    feeds : Feeds q.registers line f.fed.walk value r1 f.fed.onward
-    feeds = subst (λ (g : Registers). Feeds g line f.fed.walk value r1 f.fed.onward) same_registers f.fed.feeds
+    feeds : Feeds q.control line f.fed.walk value r1 f.fed.onward
+    feeds = subst (λ (g : Control). Feeds g line f.fed.walk value r1 f.fed.onward) same_control f.fed.feeds
 
     own_operand : (seen : List Judged) → operand_of line ≡ None → seen ≡ []
     own_operand seen none = let same = own in absurd (cc)
 
-    leads : (seen : List Judged) → IsPlaced q.registers line seen q.progress → IsOnward q.registers line (seen ++ j ∷ []) f.fed.onward
+    leads : (seen : List Judged) → IsPlaced q.control line seen q.progress → IsOnward q.control line (seen ++ j ∷ []) f.fed.onward
     leads seen placed =
-        feeds.leads seen j read.writer read.stamp (walked q.registers line o q.progress f.fed.walk seen own walks placed) read.is (sym r1_is)
+        feeds.leads seen j read.writer read.stamp (walked q.control line o q.progress f.fed.walk seen own walks placed) read.is (sym r1_is)
 
     by_onward : (onward : Onward) → Goes f.before (Core (Seen looked.element)) onward f.after stepped
-        → ((seen : List Judged) → IsPlaced q.registers line seen q.progress → IsOnward q.registers line (seen ++ j ∷ []) onward)
-        → IsGoodOnward q.registers onward → IsCloser (9 - length f.fed.walk.chain) onward
+        → ((seen : List Judged) → IsPlaced q.control line seen q.progress → IsOnward q.control line (seen ++ j ∷ []) onward)
+        → IsGoodOnward q.control.registers onward → IsCloser (9 - length f.fed.walk.chain) onward
         → IsAtLine (world_in x s whole cells processes) p line → IsUnfilled (world_in x s whole cells processes) p
-        → AsksFor q.registers o q.progress (First (way.Word place))
+        → AsksFor q.control.registers o q.progress (First (way.Word place))
         → IsKept x s whole room cells processes' × HasGone (world_in x s whole cells processes) p stepped (world_in x s whole cells processes')
     by_onward (More progress) g on good closer a idle asks =
-        let led = led_to q.registers o q.progress place asks in
-        let fewer = fewer_steps q.registers o q.progress f.fed.walk walks in
+        let led = led_to q.control.registers o q.progress place asks in
+        let fewer = fewer_steps q.control.registers o q.progress f.fed.walk walks in
         let moves = look_goes x s whole room cells processes middle processes' p i place.segno point line q (looks place) j progress k at a idle here (no_request line o own)
-        (λ seen placed. word_asks q.registers line o q.progress place own led seen placed)
+        (λ seen placed. word_asks q.control line o q.progress place own led seen placed)
         l.judged (record { on = on_desc; segno_is = l.segno; at_end = at_end; point_is = l.point_is }) (l.access k.wide)
         (λ seen placed. (on seen placed, own_operand (seen ++ j ∷ []))) good (omega (arith, fewer, closer)) still
         (record {
@@ -405,7 +411,7 @@ fed_done x s whole room cells processes middle processes' p i point value r1 lin
           at = f.at;
           after = f.after;
           first = g.1;
-          registers = g.2;
+          control = g.2;
           steps = g.3;
           more = g.4;
           progress_is = g.5;
@@ -413,12 +419,12 @@ fed_done x s whole room cells processes middle processes' p i point value r1 lin
         }) in
         (moves.0, subst (λ (r : Stepped). HasGone (world_in x s whole cells processes) p r (world_in x s whole cells processes')) (sym g.0) moves.1)
     by_onward (End ends after) g on good closer a idle asks =
-        let led = led_to q.registers o q.progress place asks in
-        let done = refer_goes x s whole room cells cells processes middle processes' p i place.segno point line q (looks place) j ends after k at a idle here (no_request line o own)
-        (λ seen placed. word_asks q.registers line o q.progress place own led seen placed)
+        let led = led_to q.control.registers o q.progress place asks in
+        let done = refer_goes x s whole room cells cells processes middle processes' p i place.segno point line q (looks place) j ends (keeping after) k at a idle here (no_request line o own)
+        (λ seen placed. word_asks q.control line o q.progress place own led seen placed)
         l.judged (record { on = on_desc; segno_is = l.segno; at_end = at_end; point_is = l.point_is }) k.wide (l.access k.wide)
-        (λ seen placed. memory_next q.registers line o (seen ++ j ∷ []) own ∙ on seen placed)
-        good still
+        (λ seen placed. memory_next q.control line o (seen ++ j ∷ []) own ∙ on seen placed)
+        (record { registers = good; gates = (k.good i q here).packable.gates }) still
         (record {
           before = f.before;
           at = f.at;
@@ -438,7 +444,7 @@ fed_done x s whole room cells processes middle processes' p i point value r1 lin
     goes a idle c =
         let seat : c.seat ≡ seat_in q = seat_is x s whole cells processes p i c.seat q at c.seated here in
         by_onward f.fed.onward f.fed.goes leads feeds.good feeds.closer a idle
-        (subst (λ (seat : Seat). AsksFor seat.registers o seat.progress (First (way.Word place))) seat c.asks)
+        (subst (λ (seat : Seat). AsksFor seat.control.registers o seat.progress (First (way.Word place))) seat c.asks)
 
 -- what a call asks, as a caller sees it
 pub seen_within : (x : Outline) (s : Supervised) (whole : List (List Step)) (cells : List Contents) (processes : List Process) (p i : ℕ) (line : Line) (w : World)
@@ -461,6 +467,26 @@ pub seen_still_within : (x : Outline) (s : Supervised) (whole : List (List Step)
     → world_in x s whole cells processes ≡ w → i ≡ p - 1 → IsAtLine w p line → IsStill processes i middle → i < length middle
 seen_still_within x s whole cells processes middle p i line w view place a still =
     still_within processes middle i still (seen_within x s whole cells processes p i line w view place a)
+
+-- a reference leaves a gate only where one more may stand
+pub refer_room : (processes : List Process) (i p point : ℕ) (line : Line) (control : Control) (target : PointerParts) (desc : Descriptor)
+    (made : Made) (cells : List Contents) → HasControl processes i control → IsReferring line
+    → ((asked : Reference) → at_target control line target ≡ Asks asked → IsMade line asked control desc target p point cells cells made)
+    → HasGateRoom processes i made.after.gates
+refer_room processes i p point line control target desc made cells h refers is_made =
+    let asked = refers_asks control line target refers in
+    gate_room processes i control made.after.gates h (is_made asked.0 asked.1).fits
+
+-- nor does a store
+pub store_room : (processes : List Process) (i p point value : ℕ) (control : Control) (target : PointerParts) (desc : Descriptor)
+    (made : Made) (cells cells' : List Contents) → HasControl processes i control
+    → ((o : Operand) → IsMade (lines.Sta o) (storing value target) control desc target p point cells cells' made)
+    → HasGateRoom processes i made.after.gates
+store_room processes i p point value control target desc made cells cells' h sta =
+    gate_room processes i control made.after.gates h (sta some_operand).fits
+  where
+    some_operand : Operand
+    some_operand = record { base = Segment 0; word = 0; indirect = false }
 
 -- making room changes nothing that a caller sees
 pub still_seen : (x : Outline) (s s' : Supervised) (whole : List (List Step)) (cells : List Contents) (processes middle : List Process) (i : ℕ) (w : World)

@@ -2,10 +2,10 @@
 use Rattle.std.proofs.Common.{◌≡◌, ◌⊎◌, inl, inr, ℕ, zero, suc, ◌<◌, ◌≤◌, ◌==◌, Bool, true, false, cond, if◌then◌else◌, List, [], ◌∷◌, ◌++◌, drop, length, Some, refl, sym, ◌∙◌, ap, subst, arith}
 use Rattle.std.proofs.lemmas.Bool.{cases_eq, eq-eqb, ne_eqb}
 use Rattle.std.specs.List.{slice_get, list_all}
-use Rattle.mx_call.specs.Registers.{Registers}
-use Rattle.mx_legal.specs.Scripts.{first_line, numbered, script_at}
-use Rattle.mx_legal.specs.declared.transcripts.Event2.{Event2}
-use Rattle.mx_legal.specs.declared.transcripts.Result2.{Result2}
+use Rattle.mx_upcall.specs.Control.{Control}
+use Rattle.mx_transcript.specs.Scripts.{first_line, numbered, script_at}
+use Rattle.mx_transcript.specs.declared.transcripts.Event2.{Event2}
+use Rattle.mx_transcript.specs.declared.transcripts.Result2.{Result2}
 use Rattle.mx_mail.specs.declared.processes.ExecutionState.{ExecutionState}
 use Rattle.mx_mail.specs.declared.processes.ExecutionState.TheVariants as state
 use Rattle.mx_request.proofs.StepLaws.{both}
@@ -16,7 +16,7 @@ use Rattle.mx_script.specs.declared.lines.Line.{Line}
 use Rattle.mx_script.specs.declared.lines.Line.TheVariants as lines
 use Rattle.mx_state.specs.Waiting.{does_after, after_request}
 use Rattle.mx_state.specs.declared.journal.Entry as journaled
-use Rattle.mx_legal.specs.Opened.{opening_of}
+use Rattle.mx_transcript.specs.Opened.{opening_of}
 use Rattle.mx_state.specs.History.{replay}
 use Rattle.mx_state.specs.Plain.{Plain}
 use Rattle.mx_sup.proofs.HistoryLaws.{replay_more}
@@ -173,7 +173,7 @@ stepped_standing w i journal cells seat before at stand others longer own = λ j
 
 -- after a line
 pub line_standing : (w : World) (i : ℕ) (seat : Seat) (number : ℕ) (line : Line) (left : List (ℕ × Line)) (journal : List journaled.Entry)
-    (cells : List Contents) (events : List Event2) (ends : Result2) (after : Registers)
+    (cells : List Contents) (events : List Event2) (ends : Result2) (after : Control)
     → IsSession w.session → IsAt w i seat number line left → AreStanding w
     → ((j : ℕ) → (j ≡ i → ⊥) → IsApart w journal j)
     → length w.journal ≤ length journal

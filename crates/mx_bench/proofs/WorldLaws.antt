@@ -4,24 +4,24 @@ use Rattle.std.proofs.lemmas.Bool.{eqb-true}
 use Rattle.std.proofs.lemmas.List.{map-append}
 use Rattle.std.proofs.lemmas.Option.{slice_get_within}
 use Rattle.std.specs.List.{slice_get, slice_set}
-use Rattle.mx_call.specs.Registers.{Registers}
+use Rattle.mx_upcall.specs.Control.{Control}
 use Rattle.mx_core.specs.declared.elements.Element.{Element}
 use Rattle.mx_core.specs.declared.elements.Event.TheVariants.{Seen}
 use Rattle.mx_core.specs.declared.elements.Outcome.TheVariants.{Read, Written}
 use Rattle.mx_sdw.specs.Descriptors.{Descriptor}
-use Rattle.mx_legal.specs.Access.{descriptor_of}
-use Rattle.mx_legal.specs.Asking.{next, awaits, first_due, replied, answered, result_of}
-use Rattle.mx_legal.specs.Courses.{Course, Attempt, Answer, Judged, seen_in}
-use Rattle.mx_legal.specs.Elements.{IsJudged}
-use Rattle.mx_legal.specs.Filling.{links_of, section_words, snapped}
-use Rattle.mx_legal.specs.Lines.{IsEnd}
-use Rattle.mx_legal.specs.Next.{Next, Reference, Asks, Calls, Ends}
-use Rattle.mx_legal.specs.Scripts.{lines_of}
-use Rattle.mx_legal.specs.Standing.{own_setting}
-use Rattle.mx_legal.specs.declared.transcripts.Event2.{Event2}
-use Rattle.mx_legal.specs.declared.transcripts.Event2.TheVariants.{Core, Entry}
-use Rattle.mx_legal.specs.declared.transcripts.Result2.{Result2}
-use Rattle.mx_legal.specs.declared.transcripts.Result2.TheVariants as result
+use Rattle.mx_transcript.specs.Access.{descriptor_of}
+use Rattle.mx_transcript.specs.Asking.{next, awaits, first_due, replied, answered, result_of}
+use Rattle.mx_transcript.specs.Courses.{Course, Attempt, Answer, Judged, seen_in}
+use Rattle.mx_transcript.specs.Elements.{IsJudged}
+use Rattle.mx_transcript.specs.Filling.{links_of, section_words, snapped}
+use Rattle.mx_transcript.specs.Lines.{IsEnd}
+use Rattle.mx_transcript.specs.Next.{Next, Reference, Asks, Calls, Ends}
+use Rattle.mx_transcript.specs.Scripts.{lines_of}
+use Rattle.mx_transcript.specs.Standing.{own_setting}
+use Rattle.mx_transcript.specs.declared.transcripts.Event2.{Event2}
+use Rattle.mx_transcript.specs.declared.transcripts.Event2.TheVariants.{Core, Entry}
+use Rattle.mx_transcript.specs.declared.transcripts.Result2.{Result2}
+use Rattle.mx_transcript.specs.declared.transcripts.Result2.TheVariants as result
 use Rattle.mx_request.specs.Sections.{section_in}
 use Rattle.mx_request.specs.declared.requests.Request.{Request}
 use Rattle.mx_request.specs.declared.replies.Reply.{Reply}
@@ -29,7 +29,7 @@ use Rattle.mx_request.specs.declared.requests.Request.TheVariants.{Block, Resume
 use Rattle.mx_script.specs.Sessions.{Outline, limit_of}
 use Rattle.mx_script.specs.declared.lines.Line.{Line}
 use Rattle.mx_script.specs.declared.lines.Line.TheVariants as lines
-use Rattle.mx_legal.specs.Opened.{opening_of}
+use Rattle.mx_transcript.specs.Opened.{opening_of}
 use Rattle.mx_state.specs.History.{replay, IsRightEntry}
 use Rattle.mx_state.specs.declared.journal.Entry as journaled
 use Rattle.mx_reads.specs.Deeds.{Stores, Loads}
@@ -39,7 +39,7 @@ use Rattle.mx_ties.proofs.SoFarLaws.{line_step_law, last_line_law}
 use Rattle.mx_ties.specs.Bench.{IsBench, IsReferred, entered_view, referred_view}
 use Rattle.mx_ties.specs.BenchGoing.{IsBenched}
 use Rattle.mx_ties.specs.Closed.{followed, entry_in}
-use Rattle.mx_ties.specs.Uses.{use_of}
+use Rattle.mx_transcript.specs.References.{use_of}
 use Rattle.mx_ties.specs.Views.{Marked, View}
 use Rattle.mx_line.proofs.FillLaws.{asks_fill}
 use Rattle.mx_line.proofs.CellLaws.{stored_there, stored_only_there}
@@ -58,9 +58,9 @@ use Rattle.mx_line.specs.declared.operands.Progress.{Progress}
 use Rattle.mx_line.specs.declared.operands.Progress.TheVariants.{Before, Walking, AtLink, Waiting, Filling}
 
 -- a seat after one line more, which had these events more
-abbrev pub after_line : Seat → ℕ → List Event2 → Result2 → Registers → Seat
-after_line seat number events ends registers = record {
-  registers = registers;
+abbrev pub after_line : Seat → ℕ → List Event2 → Result2 → Control → Seat
+after_line seat number events ends control = record {
+  control = control;
   steps = seat.steps ++ (number, seat.events ++ events, ends) ∷ [];
   events = [];
   progress = Before;
@@ -69,7 +69,7 @@ after_line seat number events ends registers = record {
 -- a seat whose line at work has one event more
 abbrev pub moved : Seat → Event2 → Progress → Seat
 moved seat event progress = record {
-  registers = seat.registers;
+  control = seat.control;
   steps = seat.steps;
   events = seat.events ++ event ∷ [];
   progress = progress;
@@ -99,15 +99,15 @@ put_other p v views u n = by_test (u == p) refl
 
 -- the line at work ends
 ended : (x : Outline) (setup : List journaled.Entry) (p : ℕ) (seat : Seat) (number : ℕ) (line : Line) (left : List (ℕ × Line))
-    (events : List Event2) (course : Course) (ends : Result2) (after : Registers) (v : View)
-    → ((d : Element → Descriptor) → IsEnd (own_setting x (followed setup v.history) v.floor p d) seat.registers (next seat.registers line course) ends after)
-    → IsBenched x setup p seat.steps number line left seat.registers (seat.events ++ events) course v
+    (events : List Event2) (course : Course) (ends : Result2) (after : Control) (v : View)
+    → ((d : Element → Descriptor) → IsEnd (own_setting x (followed setup v.history) v.floor p d) seat.control (next seat.control line course) ends after)
+    → IsBenched x setup p seat.steps number line left seat.control (seat.events ++ events) course v
     → IsBefore x setup p (after_line seat number events ends after) left v
 ended x setup p seat number line [] events course ends after v end r =
-    last_line_law x setup p seat.steps number line seat.registers after (seat.events ++ events) course ends v (λ segno. limit_of x) end r
+    last_line_law x setup p seat.steps number line seat.control after (seat.events ++ events) course ends v (λ segno. limit_of x) end r
 ended x setup p seat number line (other ∷ left) events course ends after v end r = record {
   course = Attempt [];
-  benched = line_step_law x setup p seat.steps number other.0 line other.1 left seat.registers after (seat.events ++ events) course ends v
+  benched = line_step_law x setup p seat.steps number other.0 line other.1 left seat.control after (seat.events ++ events) course ends v
       (λ segno. limit_of x) end r;
   come = (refl, λ none. refl);
 }
@@ -128,22 +128,22 @@ pub record IsAttempting (x : Outline) (setup : List journaled.Entry) (p : ℕ) (
   pub course : Course
   pub seen : List Judged
   pub so_far : seen_in course ≡ seen
-  pub alike : next seat.registers line course ≡ next seat.registers line (Attempt seen)
-  pub benched : IsBenched x setup p seat.steps number line left seat.registers seat.events course v
-  pub placed : IsPlaced seat.registers line seen seat.progress
+  pub alike : next seat.control line course ≡ next seat.control line (Attempt seen)
+  pub benched : IsBenched x setup p seat.steps number line left seat.control seat.events course v
+  pub placed : IsPlaced seat.control line seen seat.progress
 
 pub attempting : (x : Outline) (setup : List journaled.Entry) (p : ℕ) (seat : Seat) (number : ℕ) (line : Line) (left : List (ℕ × Line)) (v : View)
     → IsNoRequest line → IsFree seat.progress → IsAtWork x setup p seat number line left v
     → IsAttempting x setup p seat number line left v
 attempting x setup p seat number line left v other free now = by_course now.course now.benched now.come
   where
-    by_course : (course : Course) → IsBenched x setup p seat.steps number line left seat.registers seat.events course v
-        → IsCome seat.registers line course seat.progress → IsAttempting x setup p seat number line left v
+    by_course : (course : Course) → IsBenched x setup p seat.steps number line left seat.control seat.events course v
+        → IsCome seat.control line course seat.progress → IsAttempting x setup p seat number line left v
     by_course (Attempt seen) benched come =
         record { course = Attempt seen; seen = seen; so_far = refl; alike = refl; benched = benched; placed = come }
     by_course (Answer entry filled) benched come = by_progress seat.progress refl come
       where
-        by_progress : (progress : Progress) → seat.progress ≡ progress → IsAnswered seat.registers line entry filled progress
+        by_progress : (progress : Progress) → seat.progress ≡ progress → IsAnswered seat.control line entry filled progress
             → IsAttempting x setup p seat number line left v
         by_progress Waiting e is = absurd (other Block is.2)
         by_progress (Filling fill) e is = absurd (free fill e)
@@ -153,12 +153,12 @@ attempting x setup p seat number line left v other free now = by_course now.cour
           course = Answer entry filled;
           seen = [];
           so_far = refl;
-          alike = ap (λ (d : Option Reference). first_due d (answered seat.registers line entry.request entry.reply)) is.none ∙ is.anew;
+          alike = ap (λ (d : Option Reference). first_due d (answered seat.control line entry.request entry.reply)) is.none ∙ is.anew;
           benched = benched;
-          placed = subst (IsPlaced seat.registers line []) (sym e) (refl, λ none. refl);
+          placed = subst (IsPlaced seat.control line []) (sym e) (refl, λ none. refl);
         }
 
-pub after_it : (x : Outline) (p : ℕ) (seat : Seat) (number : ℕ) (line : Line) (left : List (ℕ × Line)) (events : List Event2) (ends : Result2) (after : Registers)
+pub after_it : (x : Outline) (p : ℕ) (seat : Seat) (number : ℕ) (line : Line) (left : List (ℕ × Line)) (events : List Event2) (ends : Result2) (after : Control)
     → left_of x p seat ≡ (number, line) ∷ left → left_of x p (after_line seat number events ends after) ≡ left
 after_it x p seat number line left events ends after e =
     ap (λ n. drop n (lines_of x p)) (length-append seat.steps ((number, seat.events ++ events, ends) ∷ []) ∙ one (length seat.steps))
@@ -214,23 +214,23 @@ each_after x setup seats views views' i seat before at others each own j s e = b
 
 -- whatever an attempt has seen, the line asks for this
 abbrev pub Asking : Seat → Line → Next → Type 0
-Asking seat line asks = (seen : List Judged) → IsPlaced seat.registers line seen seat.progress
-    → next seat.registers line (Attempt seen) ≡ asks
+Asking seat line asks = (seen : List Judged) → IsPlaced seat.control line seen seat.progress
+    → next seat.control line (Attempt seen) ≡ asks
 
 no_more : (x : Outline) (setup : List journaled.Entry) (p : ℕ) (seat : Seat) (number : ℕ) (line : Line) (left : List (ℕ × Line))
-    (course : Course) (v : View) → IsBenched x setup p seat.steps number line left seat.registers seat.events course v
-    → IsBenched x setup p seat.steps number line left seat.registers (seat.events ++ []) course v
+    (course : Course) (v : View) → IsBenched x setup p seat.steps number line left seat.control seat.events course v
+    → IsBenched x setup p seat.steps number line left seat.control (seat.events ++ []) course v
 no_more x setup p seat number line left course v r =
-    subst (λ (events : List Event2). IsBenched x setup p seat.steps number line left seat.registers events course v)
+    subst (λ (events : List Event2). IsBenched x setup p seat.steps number line left seat.control events course v)
     (sym (append-nil seat.events)) r
 
 -- whatever the line has done, it makes this call
 abbrev pub Calling : Seat → Line → ℕ → Request → Type 0
-Calling seat line ring request = (course : Course) → IsCome seat.registers line course seat.progress
-    → next seat.registers line course ≡ Calls ring request
+Calling seat line ring request = (course : Course) → IsCome seat.control line course seat.progress
+    → next seat.control line course ≡ Calls ring request
 
 -- a line that needs no further event
-pub end_law : (w : World) (i : ℕ) (seat : Seat) (number : ℕ) (line : Line) (left : List (ℕ × Line)) (ends : Result2) (after : Registers)
+pub end_law : (w : World) (i : ℕ) (seat : Seat) (number : ℕ) (line : Line) (left : List (ℕ × Line)) (ends : Result2) (after : Control)
     → IsRunning w → IsAt w i seat number line left → IsNoRequest line → IsFree seat.progress → Asking seat line (Ends ends after)
     → IsRunning (stepped w i w.journal w.cells (after_line seat number [] ends after))
 end_law w i seat number line left ends after r a other free asks =
@@ -280,7 +280,7 @@ floor_other p floor views u n = by_test (u == p) refl
 pub full_law : (w : World) (i : ℕ) (seat : Seat) (number : ℕ) (line : Line) (left : List (ℕ × Line)) (ring : ℕ) (request : Request)
     → IsRunning w → IsAt w i seat number line left → Calling seat line ring request
     → length w.journal ≡ limit_of w.session
-    → IsRunning (stepped w i w.journal w.cells (after_line seat number [] result.HistoryFull seat.registers))
+    → IsRunning (stepped w i w.journal w.cells (after_line seat number [] result.HistoryFull seat.control))
 full_law w i seat number line left ring request r a asks full =
     let p : ℕ = suc i in
     let now = at_line w.session r.setup p seat (left_of w.session p seat) number line left (r.views p) a.at (r.each i seat a.seated) in
@@ -292,9 +292,9 @@ full_law w i seat number line left ring request r a asks full =
     let low : (r.views p).floor ≤ most = (r.bench.closed.retired p (omega arith) within).floor in
     let each_low : (u : ℕ) → 1 ≤ u → u ≤ length w.session.principals → floors u ≤ most
     = λ u some least. below u (u == p) refl (r.bench.closed.retired u some least).floor in
-    let own : IsBenched w.session r.setup p seat.steps number line left seat.registers seat.events now.course (record (r.views p) { floor = most })
-    = raised w.session r.setup p seat.steps number line left seat.registers seat.events now.course (r.views p) most low now.benched in
-    let after : Seat = after_line seat number [] result.HistoryFull seat.registers in
+    let own : IsBenched w.session r.setup p seat.steps number line left seat.control seat.events now.course (record (r.views p) { floor = most })
+    = raised w.session r.setup p seat.steps number line left seat.control seat.events now.course (r.views p) most low now.benched in
+    let after : Seat = after_line seat number [] result.HistoryFull seat.control in
     let is_full : nat_le (limit_of w.session) most ≡ true = reached (limit_of w.session) most at_limit in
     record {
       setup = r.setup;
@@ -307,9 +307,9 @@ full_law w i seat number line left ring request r a asks full =
       each = each_after w.session r.setup w.seats r.views (raise floors r.views) i after seat a.seated
           (λ u n. same_view (r.views u) (floors u) (floor_other p most r.views u n)) r.each
           (subst (λ (l : List (ℕ × Line)). IsBefore w.session r.setup p after l (raise floors r.views p))
-          (sym (after_it w.session p seat number line left [] result.HistoryFull seat.registers a.at))
+          (sym (after_it w.session p seat number line left [] result.HistoryFull seat.control a.at))
           (subst (λ (n : ℕ). IsBefore w.session r.setup p after left (record (r.views p) { floor = n })) (sym (floor_own p most r.views))
-          (ended w.session r.setup p seat number line left [] now.course result.HistoryFull seat.registers (record (r.views p) { floor = most })
+          (ended w.session r.setup p seat number line left [] now.course result.HistoryFull seat.control (record (r.views p) { floor = most })
           (λ d. rw e (is_full, refl, refl))
           (no_more w.session r.setup p seat number line left now.course (record (r.views p) { floor = most }) own))));
     }
@@ -329,7 +329,7 @@ record IsCalled (w : World) (r : IsRunning w) (i : ℕ) (seat : Seat) (number : 
   pub views : ℕ → View
   pub journal : w.journal ++ entry ∷ [] ≡ followed r.setup history
   pub bench : IsBench w.session r.setup history views always (held_in w.cells)
-  pub benched : IsBenched w.session r.setup (suc i) seat.steps number line left seat.registers
+  pub benched : IsBenched w.session r.setup (suc i) seat.steps number line left seat.control
       (seat.events ++ Entry (length w.journal + 1) ∷ []) (Answer entry []) (views (suc i))
   pub others : (u : ℕ) → u ≢ suc i → views u ≡ r.views u
 
@@ -351,7 +351,7 @@ called_at w r i seat number line left entry a maker asks below right =
     = subst (λ (j : List journaled.Entry). IsRightEntry (replay (opening_of w.session) j) entry) r.journal right in
     let now = at_line w.session r.setup p seat (left_of w.session p seat) number line left (r.views p) a.at (r.each i seat a.seated) in
     let called = bench_call_law w.session r.setup r.history r.views views always (held_in w.cells) p marked seat.steps number line left
-    seat.registers seat.events now.course r.bench (omega arith) within maker refl below' (asks now.course now.come) (put_own p v r.views)
+    seat.control seat.events now.course r.bench (omega arith) within maker refl below' (asks now.course now.come) (put_own p v r.views)
     now.benched in
     record {
       history = history;
@@ -359,7 +359,7 @@ called_at w r i seat number line left entry a maker asks below right =
       journal = grown r.setup r.history marked w.journal r.journal;
       bench = bench_entry_law w.session r.setup r.history r.views views always always (held_in w.cells) p marked r.bench (omega arith) within maker
           refl below' right' (λ cell t. inl t) (put_own p v r.views) (put_other p v r.views);
-      benched = subst (λ (j : List journaled.Entry). IsBenched w.session r.setup p seat.steps number line left seat.registers
+      benched = subst (λ (j : List journaled.Entry). IsBenched w.session r.setup p seat.steps number line left seat.control
           (seat.events ++ Entry (length j + 1) ∷ []) (Answer entry []) (views p)) (sym r.journal) called;
       others = put_other p v r.views;
     }
@@ -374,17 +374,17 @@ called_at w r i seat number line left entry a maker asks below right =
 pub call_law : (w : World) (i : ℕ) (seat : Seat) (number : ℕ) (line : Line) (left : List (ℕ × Line)) (entry : journaled.Entry)
     → IsRunning w → IsAt w i seat number line left
     → entry.process ≡ suc i → Calling seat line entry.ring entry.request
-    → next seat.registers line (Answer entry []) ≡ Ends (result_of entry.reply) seat.registers
+    → next seat.control line (Answer entry []) ≡ Ends (result_of entry.reply) seat.control
     → length w.journal < limit_of w.session → IsRightEntry (replay (opening_of w.session) w.journal) entry
     → IsRunning (stepped w i (w.journal ++ entry ∷ []) w.cells
-    (after_line seat number (Entry (length w.journal + 1) ∷ []) (result_of entry.reply) seat.registers))
+    (after_line seat number (Entry (length w.journal + 1) ∷ []) (result_of entry.reply) seat.control))
 call_law w i seat number line left entry r a maker asks answers below right =
     let p : ℕ = suc i in
     let t = called_at w r i seat number line left entry a maker asks below right in
-    let next_seat : Seat = after_line seat number (Entry (length w.journal + 1) ∷ []) (result_of entry.reply) seat.registers in
+    let next_seat : Seat = after_line seat number (Entry (length w.journal + 1) ∷ []) (result_of entry.reply) seat.control in
     let own : IsBefore w.session r.setup p next_seat left (t.views p)
     = ended w.session r.setup p seat number line left (Entry (length w.journal + 1) ∷ []) (Answer entry []) (result_of entry.reply)
-    seat.registers (t.views p) (λ d. rw answers (refl, refl)) t.benched in
+    seat.control (t.views p) (λ d. rw answers (refl, refl)) t.benched in
     record {
       setup = r.setup;
       history = t.history;
@@ -395,14 +395,14 @@ call_law w i seat number line left entry r a maker asks answers below right =
       count = set_length w.seats i next_seat ∙ r.count;
       each = each_after w.session r.setup w.seats r.views t.views i next_seat seat a.seated t.others r.each
           (subst (λ (l : List (ℕ × Line)). IsBefore w.session r.setup p next_seat l (t.views p))
-          (sym (after_it w.session p seat number line left (Entry (length w.journal + 1) ∷ []) (result_of entry.reply) seat.registers a.at)) own);
+          (sym (after_it w.session p seat number line left (Entry (length w.journal + 1) ∷ []) (result_of entry.reply) seat.control a.at)) own);
     }
 
 -- or goes on: its process is told to wait, or has something to store
 pub entered_law : (w : World) (i : ℕ) (seat : Seat) (number : ℕ) (line : Line) (left : List (ℕ × Line)) (entry : journaled.Entry)
     (progress : Progress)
     → IsRunning w → IsAt w i seat number line left
-    → entry.process ≡ suc i → Calling seat line entry.ring entry.request → IsAnswered seat.registers line entry [] progress
+    → entry.process ≡ suc i → Calling seat line entry.ring entry.request → IsAnswered seat.control line entry [] progress
     → length w.journal < limit_of w.session → IsRightEntry (replay (opening_of w.session) w.journal) entry
     → IsRunning (stepped w i (w.journal ++ entry ∷ []) w.cells (moved seat (Entry (length w.journal + 1)) progress))
 entered_law w i seat number line left entry progress r a maker asks come below right =
@@ -495,14 +495,14 @@ record IsReferredTo (w : World) (r : IsRunning w) (i : ℕ) (seat : Seat) (numbe
     (seen : List Judged) (j : Judged) (cells : List Contents) : Type 0 where
   pub views : ℕ → View
   pub bench : IsBench w.session r.setup r.history views always (held_in cells)
-  pub benched : IsBenched w.session r.setup (suc i) seat.steps number line left seat.registers (seat.events ++ Core (Seen j.element) ∷ [])
+  pub benched : IsBenched w.session r.setup (suc i) seat.steps number line left seat.control (seat.events ++ Core (Seen j.element) ∷ [])
       (Attempt (seen ++ j ∷ [])) (views (suc i))
   pub others : (u : ℕ) → u ≢ suc i → views u ≡ r.views u
 
 referred_to : (w : World) (r : IsRunning w) (i : ℕ) (seat : Seat) (number : ℕ) (line : Line) (left : List (ℕ × Line)) (asked : Reference)
     (j : Judged) (cells : List Contents) → slice_get w.seats i ≡ Some seat
     → (now : IsAttempting w.session r.setup (suc i) seat number line left (r.views (suc i)))
-    → next seat.registers line (Attempt now.seen) ≡ Asks asked → IsJudged asked j.desc j.element
+    → next seat.control line (Attempt now.seen) ≡ Asks asked → IsJudged asked j.desc j.element
     → j.desc ≡ descriptor_of w.session w.journal (suc i) j.element → j.element.point ≡ length w.journal
     → IsAccess w.cells cells (suc i) j → IsReferredTo w r i seat number line left now.seen j cells
 referred_to w r i seat number line left asked j cells seated now asks judged desc point access =
@@ -510,10 +510,10 @@ referred_to w r i seat number line left asked j cells seated now asks judged des
     record {
       views = t.views;
       bench = t.bench;
-      benched = subst (λ (seen : List Judged). IsBenched w.session r.setup (suc i) seat.steps number line left seat.registers
+      benched = subst (λ (seen : List Judged). IsBenched w.session r.setup (suc i) seat.steps number line left seat.control
           (seat.events ++ Core (Seen j.element) ∷ []) (Attempt (seen ++ j ∷ [])) (t.views (suc i))) now.so_far
           (bench_look_law w.session r.setup r.history r.views t.views always (held_in w.cells) (suc i) j asked seat.steps number line left
-          seat.registers seat.events now.course r.bench t.is (now.alike ∙ asks) judged t.stamps now.benched);
+          seat.control seat.events now.course r.bench t.is (now.alike ∙ asks) judged t.stamps now.benched);
       others = t.others;
     }
 
@@ -522,7 +522,7 @@ record IsFilledTo (w : World) (r : IsRunning w) (i : ℕ) (seat : Seat) (number 
     (entry : journaled.Entry) (filled : List Judged) (j : Judged) (cells : List Contents) : Type 0 where
   pub views : ℕ → View
   pub bench : IsBench w.session r.setup r.history views always (held_in cells)
-  pub benched : IsBenched w.session r.setup (suc i) seat.steps number line left seat.registers (seat.events ++ Core (Seen j.element) ∷ [])
+  pub benched : IsBenched w.session r.setup (suc i) seat.steps number line left seat.control (seat.events ++ Core (Seen j.element) ∷ [])
       (Answer entry (filled ++ j ∷ [])) (views (suc i))
   pub others : (u : ℕ) → u ≢ suc i → views u ≡ r.views u
 
@@ -531,22 +531,22 @@ pub record IsStoring (x : Outline) (setup : List journaled.Entry) (p : ℕ) (sea
     (it : Fill) (v : View) : Type 0 where
   pub entry : journaled.Entry
   pub filled : List Judged
-  pub benched : IsBenched x setup p seat.steps number line left seat.registers seat.events (Answer entry filled) v
-  pub is : IsFilling seat.registers line entry filled it
+  pub benched : IsBenched x setup p seat.steps number line left seat.control seat.events (Answer entry filled) v
+  pub is : IsFilling seat.control line entry filled it
 
 pub storing_now : (x : Outline) (setup : List journaled.Entry) (p : ℕ) (seat : Seat) (number : ℕ) (line : Line) (left : List (ℕ × Line))
     (it : Fill) (v : View) → seat.progress ≡ Filling it → IsAtWork x setup p seat number line left v
     → IsStoring x setup p seat number line left it v
 storing_now x setup p seat number line left it v at now = by_course now.course now.benched now.come
   where
-    by_course : (course : Course) → IsBenched x setup p seat.steps number line left seat.registers seat.events course v
-        → IsCome seat.registers line course seat.progress → IsStoring x setup p seat number line left it v
-    by_course (Attempt seen) benched come = absurd (subst (IsPlaced seat.registers line seen) at come).0
+    by_course : (course : Course) → IsBenched x setup p seat.steps number line left seat.control seat.events course v
+        → IsCome seat.control line course seat.progress → IsStoring x setup p seat number line left it v
+    by_course (Attempt seen) benched come = absurd (subst (IsPlaced seat.control line seen) at come).0
     by_course (Answer entry filled) benched come = record {
       entry = entry;
       filled = filled;
       benched = benched;
-      is = subst (IsAnswered seat.registers line entry filled) at come;
+      is = subst (IsAnswered seat.control line entry filled) at come;
     }
 
 filled_to : (w : World) (r : IsRunning w) (i : ℕ) (seat : Seat) (number : ℕ) (line : Line) (left : List (ℕ × Line)) (it : Fill)
@@ -561,8 +561,8 @@ filled_to w r i seat number line left it j value cells seated now judged granted
       views = t.views;
       bench = t.bench;
       benched = bench_fill_law w.session r.setup r.history r.views t.views always (held_in w.cells) (suc i) j (write_of it) value seat.steps number
-          line left seat.registers seat.events now.entry now.filled r.bench t.is
-          (asks_fill seat.registers line now.entry now.filled it now.is) judged granted now.benched;
+          line left seat.control seat.events now.entry now.filled r.bench t.is
+          (asks_fill seat.control line now.entry now.filled it now.is) judged granted now.benched;
       others = t.others;
     }
 
@@ -573,8 +573,8 @@ pub fill_law : (w : World) (i : ℕ) (seat : Seat) (number : ℕ) (line : Line) 
     → j.element.outcome ≡ Written value
     → j.desc ≡ descriptor_of w.session w.journal (suc i) j.element → j.element.point ≡ length w.journal
     → IsAccess w.cells cells (suc i) j
-    → ((entry : journaled.Entry) (filled : List Judged) → IsFilling seat.registers line entry filled it
-    → IsAnswered seat.registers line entry (filled ++ j ∷ []) progress)
+    → ((entry : journaled.Entry) (filled : List Judged) → IsFilling seat.control line entry filled it
+    → IsAnswered seat.control line entry (filled ++ j ∷ []) progress)
     → IsRunning (stepped w i w.journal cells (moved seat (Core (Seen j.element)) progress))
 fill_law w i seat number line left it j value cells progress r a at judged granted desc point access comes =
     let p : ℕ = suc i in
@@ -606,9 +606,9 @@ pub fill_end_law : (w : World) (i : ℕ) (seat : Seat) (number : ℕ) (line : Li
     → j.element.outcome ≡ Written value
     → j.desc ≡ descriptor_of w.session w.journal (suc i) j.element → j.element.point ≡ length w.journal
     → IsAccess w.cells cells (suc i) j
-    → ((entry : journaled.Entry) (filled : List Judged) → IsFilling seat.registers line entry filled it
-    → next seat.registers line (Answer entry (filled ++ j ∷ [])) ≡ Ends result.Done seat.registers)
-    → IsRunning (stepped w i w.journal cells (after_line seat number (Core (Seen j.element) ∷ []) result.Done seat.registers))
+    → ((entry : journaled.Entry) (filled : List Judged) → IsFilling seat.control line entry filled it
+    → next seat.control line (Answer entry (filled ++ j ∷ [])) ≡ Ends result.Done seat.control)
+    → IsRunning (stepped w i w.journal cells (after_line seat number (Core (Seen j.element) ∷ []) result.Done seat.control))
 fill_end_law w i seat number line left it j value cells r a at judged granted desc point access ends =
     let p : ℕ = suc i in
     let now = storing_now w.session r.setup p seat number line left it (r.views p) at
@@ -616,8 +616,8 @@ fill_end_law w i seat number line left it j value cells r a at judged granted de
     let t = filled_to w r i seat number line left it j value cells a.seated now judged granted desc point access in
     let e = ends now.entry now.filled now.is in
     let own = ended w.session r.setup p seat number line left (Core (Seen j.element) ∷ []) (Answer now.entry (now.filled ++ j ∷ [])) result.Done
-    seat.registers (t.views p) (λ d. rw e (refl, refl)) t.benched in
-    let next_seat : Seat = after_line seat number (Core (Seen j.element) ∷ []) result.Done seat.registers in
+    seat.control (t.views p) (λ d. rw e (refl, refl)) t.benched in
+    let next_seat : Seat = after_line seat number (Core (Seen j.element) ∷ []) result.Done seat.control in
     record {
       setup = r.setup;
       history = r.history;
@@ -628,18 +628,18 @@ fill_end_law w i seat number line left it j value cells r a at judged granted de
       count = set_length w.seats i next_seat ∙ r.count;
       each = each_after w.session r.setup w.seats r.views t.views i next_seat seat a.seated t.others r.each
           (subst (λ (l : List (ℕ × Line)). IsBefore w.session r.setup p next_seat l (t.views p))
-          (sym (after_it w.session p seat number line left (Core (Seen j.element) ∷ []) result.Done seat.registers a.at)) own);
+          (sym (after_it w.session p seat number line left (Core (Seen j.element) ∷ []) result.Done seat.control a.at)) own);
     }
 
 -- a reference after which the line ends
 pub refer_law : (w : World) (i : ℕ) (seat : Seat) (number : ℕ) (line : Line) (left : List (ℕ × Line)) (asked : Reference) (j : Judged)
-    (cells : List Contents) (ends : Result2) (after : Registers)
+    (cells : List Contents) (ends : Result2) (after : Control)
     → IsRunning w → IsAt w i seat number line left → IsNoRequest line → IsFree seat.progress → Asking seat line (Asks asked)
     → IsJudged asked j.desc j.element
     → j.desc ≡ descriptor_of w.session w.journal (suc i) j.element → j.element.point ≡ length w.journal
     → IsAccess w.cells cells (suc i) j
-    → ((seen : List Judged) → IsPlaced seat.registers line seen seat.progress
-    → next seat.registers line (Attempt (seen ++ j ∷ [])) ≡ Ends ends after)
+    → ((seen : List Judged) → IsPlaced seat.control line seen seat.progress
+    → next seat.control line (Attempt (seen ++ j ∷ [])) ≡ Ends ends after)
     → IsRunning (stepped w i w.journal cells (after_line seat number (Core (Seen j.element) ∷ []) ends after))
 refer_law w i seat number line left asked j cells ends after r a other free asks judged desc point access end =
     let p : ℕ = suc i in
@@ -670,7 +670,7 @@ pub look_law : (w : World) (i : ℕ) (seat : Seat) (number : ℕ) (line : Line) 
     → IsJudged asked j.desc j.element
     → j.desc ≡ descriptor_of w.session w.journal (suc i) j.element → j.element.point ≡ length w.journal
     → IsAccess w.cells cells (suc i) j
-    → ((seen : List Judged) → IsPlaced seat.registers line seen seat.progress → IsPlaced seat.registers line (seen ++ j ∷ []) progress)
+    → ((seen : List Judged) → IsPlaced seat.control line seen seat.progress → IsPlaced seat.control line (seen ++ j ∷ []) progress)
     → IsRunning (stepped w i w.journal cells (moved seat (Core (Seen j.element)) progress))
 look_law w i seat number line left asked j cells progress r a other free asks judged desc point access placed =
     let p : ℕ = suc i in
@@ -701,7 +701,7 @@ pub not_told : (w : World) (i : ℕ) (seat : Seat) (number : ℕ) (line : Line) 
 not_told w i seat number line left r a other told =
     let now = attempting w.session r.setup (suc i) seat number line left (r.views (suc i)) other (λ fill e. not_both fill (sym told ∙ e))
     (at_line w.session r.setup (suc i) seat (left_of w.session (suc i) seat) number line left (r.views (suc i)) a.at (r.each i seat a.seated)) in
-    (subst (IsPlaced seat.registers line now.seen) told now.placed).0
+    (subst (IsPlaced seat.control line now.seen) told now.placed).0
   where
     not_both : (fill : Fill) → Waiting ≡ Filling fill → ⊥
     not_both fill e = cc
@@ -714,33 +714,33 @@ told_blocks w i seat number line left r a told = by_course now.course now.come
     now : IsAtWork w.session r.setup (suc i) seat number line left (r.views (suc i))
     now = at_line w.session r.setup (suc i) seat (left_of w.session (suc i) seat) number line left (r.views (suc i)) a.at (r.each i seat a.seated)
 
-    by_course : (course : Course) → IsCome seat.registers line course seat.progress → line ≡ lines.Ask Block
-    by_course (Attempt seen) come = absurd (subst (IsPlaced seat.registers line seen) told come).0
-    by_course (Answer entry filled) come = (subst (IsAnswered seat.registers line entry filled) told come).2
+    by_course : (course : Course) → IsCome seat.control line course seat.progress → line ≡ lines.Ask Block
+    by_course (Attempt seen) come = absurd (subst (IsPlaced seat.control line seen) told come).0
+    by_course (Answer entry filled) come = (subst (IsAnswered seat.control line entry filled) told come).2
 
 -- an indirect word leaves nobody waiting
 pub look_awake : (w : World) (i : ℕ) (seat : Seat) (number : ℕ) (line : Line) (left : List (ℕ × Line)) (j : Judged) (progress : Progress)
     → IsRunning w → IsAt w i seat number line left → IsNoRequest line → IsFree seat.progress
-    → ((seen : List Judged) → IsPlaced seat.registers line seen seat.progress → IsPlaced seat.registers line (seen ++ j ∷ []) progress)
+    → ((seen : List Judged) → IsPlaced seat.control line seen seat.progress → IsPlaced seat.control line (seen ++ j ∷ []) progress)
     → progress ≡ Waiting → ⊥
 look_awake w i seat number line left j progress r a other free placed told =
     let now = attempting w.session r.setup (suc i) seat number line left (r.views (suc i)) other free
     (at_line w.session r.setup (suc i) seat (left_of w.session (suc i) seat) number line left (r.views (suc i)) a.at (r.each i seat a.seated)) in
-    (subst (IsPlaced seat.registers line (now.seen ++ j ∷ [])) told (placed now.seen now.placed)).0
+    (subst (IsPlaced seat.control line (now.seen ++ j ∷ [])) told (placed now.seen now.placed)).0
 
 -- nor is a write due after it
 pub look_free : (w : World) (i : ℕ) (seat : Seat) (number : ℕ) (line : Line) (left : List (ℕ × Line)) (j : Judged) (progress : Progress)
     → IsRunning w → IsAt w i seat number line left → IsNoRequest line → IsFree seat.progress
-    → ((seen : List Judged) → IsPlaced seat.registers line seen seat.progress → IsPlaced seat.registers line (seen ++ j ∷ []) progress)
+    → ((seen : List Judged) → IsPlaced seat.control line seen seat.progress → IsPlaced seat.control line (seen ++ j ∷ []) progress)
     → IsFree progress
 look_free w i seat number line left j progress r a other free placed it at =
     let now = attempting w.session r.setup (suc i) seat number line left (r.views (suc i)) other free
     (at_line w.session r.setup (suc i) seat (left_of w.session (suc i) seat) number line left (r.views (suc i)) a.at (r.each i seat a.seated)) in
-    (subst (IsPlaced seat.registers line (now.seen ++ j ∷ [])) at (placed now.seen now.placed)).0
+    (subst (IsPlaced seat.control line (now.seen ++ j ∷ [])) at (placed now.seen now.placed)).0
 
 -- what a line asks for whose process was told to wait
-pub waits_next : (g : Registers) (line : Line) (entry : journaled.Entry) (filled : List Judged)
-    → IsAnswered g line entry filled Waiting → next g line (Answer entry filled) ≡ Calls g.ring Resume
+pub waits_next : (g : Control) (line : Line) (entry : journaled.Entry) (filled : List Judged)
+    → IsAnswered g line entry filled Waiting → next g line (Answer entry filled) ≡ Calls g.registers.ring Resume
 waits_next g line entry filled come =
     ap (λ (d : Option Reference). first_due d (answered g line entry.request entry.reply))
     (ap (λ (given : Reply). slice_get (section_words (section_in given) (links_of filled) ++ snapped entry.request entry.ring given) (length filled)) come.0)

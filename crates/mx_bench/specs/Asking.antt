@@ -1,11 +1,12 @@
 -- Helpers: what a line of a process asks for, on the bench.
 use Rattle.std.specs.Prelude.{◌≡◌, ◌⊎◌, ℕ, ◌<◌, true, false, List, length, [], ◌∷◌, ◌++◌}
 use Rattle.mx_call.specs.Registers.{Registers, ArePackable}
-use Rattle.mx_legal.specs.Asking.{next}
-use Rattle.mx_legal.specs.Courses.{Course, Attempt, Judged}
-use Rattle.mx_legal.specs.Next.{Asks, Calls, Ends, storing}
-use Rattle.mx_legal.specs.Targets.{at_target, after_target}
-use Rattle.mx_legal.specs.declared.transcripts.Result2.{Result2}
+use Rattle.mx_upcall.specs.Control.{with_registers}
+use Rattle.mx_transcript.specs.Asking.{next}
+use Rattle.mx_transcript.specs.Courses.{Course, Attempt, Judged}
+use Rattle.mx_transcript.specs.Next.{Asks, Calls, Ends, storing}
+use Rattle.mx_transcript.specs.Targets.{at_target, after_target}
+use Rattle.mx_transcript.specs.declared.transcripts.Result2.{Result2}
 use Rattle.mx_ptr.specs.Pointers.{PointerParts}
 use Rattle.mx_request.specs.declared.replies.Reply.{Reply}
 use Rattle.mx_request.specs.declared.replies.Reply.TheVariants as replies
@@ -35,25 +36,25 @@ HasSeat w p = (seat : Seat) × IsSeat w p seat
 pub record HasSeatWith (w : World) (p : ℕ) (g : Registers) : Type 0 where
   pub seat : Seat
   pub seated : IsSeat w p seat
-  pub registers : g ≡ seat.registers
+  pub registers : g ≡ seat.control.registers
   pub packable : ArePackable g
 
 -- its operand asks for this
 pub record IsAsking (w : World) (p : ℕ) (o : Operand) (asked : Asked) : Type 0 where
   pub seat : Seat
   pub seated : IsSeat w p seat
-  pub asks : AsksFor seat.registers o seat.progress asked
-  pub good : IsGoodAsked seat.registers asked
+  pub asks : AsksFor seat.control.registers o seat.progress asked
+  pub good : IsGoodAsked seat.control.registers asked
 
 -- its line is at this target, whatever it has seen, and does its own there
 pub record IsAiming (w : World) (p : ℕ) (l : Line) (target : PointerParts) : Type 0 where
   pub seat : Seat
   pub seated : IsSeat w p seat
-  pub good : IsTarget seat.registers target
-  pub asks : (seen : List Judged) → IsPlaced seat.registers l seen seat.progress
-      → next seat.registers l (Attempt seen) ≡ at_target seat.registers l target
-  pub goes : (j : Judged) (seen : List Judged) → IsPlaced seat.registers l seen seat.progress
-      → next seat.registers l (Attempt (seen ++ j ∷ [])) ≡ after_target seat.registers l target j.desc j.element.outcome
+  pub good : IsTarget seat.control.registers target
+  pub asks : (seen : List Judged) → IsPlaced seat.control l seen seat.progress
+      → next seat.control l (Attempt seen) ≡ at_target seat.control l target
+  pub goes : (j : Judged) (seen : List Judged) → IsPlaced seat.control l seen seat.progress
+      → next seat.control l (Attempt (seen ++ j ∷ [])) ≡ after_target seat.control l target j.desc j.element.outcome
 
 -- it was told to wait
 pub record IsTold (w : World) (p : ℕ) : Type 0 where
@@ -81,13 +82,13 @@ pub record IsUnreadyBelow (w : World) (p : ℕ) : Type 0 where
   pub below : length w.journal < limit_of w.session
   pub unready : is_ready (state_in w) p ≡ false
 
--- its line, which is no request, asks for its end, whatever it has seen
+-- its line, which is no request, asks for its end with these registers, whatever it has seen
 pub record IsEnding (w : World) (p : ℕ) (l : Line) (ends : Result2) (after : Registers) : Type 0 where
   pub other : IsNoRequest l
   pub seat : Seat
   pub seated : IsSeat w p seat
-  pub asks : (seen : List Judged) → IsPlaced seat.registers l seen seat.progress
-      → next seat.registers l (Attempt seen) ≡ Ends ends after
+  pub asks : (seen : List Judged) → IsPlaced seat.control l seen seat.progress
+      → next seat.control l (Attempt seen) ≡ Ends ends (with_registers seat.control after)
   pub packable : ArePackable after
 
 -- A line is a `block`, and its process is told to wait.
@@ -102,11 +103,11 @@ pub record IsCalling (w : World) (p : ℕ) (l : Line) (ring : ℕ) (request : Re
   pub awake : IsWaiting w p → ⊥
   pub seat : Seat
   pub seated : IsSeat w p seat
-  pub asks : (course : Course) → IsCome seat.registers l course seat.progress
-      → next seat.registers l course ≡ Calls ring request
+  pub asks : (course : Course) → IsCome seat.control l course seat.progress
+      → next seat.control l course ≡ Calls ring request
   pub answers : (reply : Reply) → length w.journal < limit_of w.session
       → IsRightEntry (state_in w) (record { process = p; ring = ring; request = request; reply = reply })
-      → IsAnsweredBy seat.registers l ring request reply ⊎ IsToldToWait l request reply
+      → IsAnsweredBy seat.control l ring request reply ⊎ IsToldToWait l request reply
   -- a request of its own is the line's
   pub logs_out : l ≡ line.Ask Logout → request ≡ Logout
 
@@ -114,5 +115,5 @@ pub record IsCalling (w : World) (p : ℕ) (l : Line) (ring : ℕ) (request : Re
 pub record IsStoring (w : World) (p : ℕ) (l : Line) (target : PointerParts) (value : ℕ) : Type 0 where
   pub seat : Seat
   pub seated : IsSeat w p seat
-  pub asks : at_target seat.registers l target ≡ Asks (storing value target)
+  pub asks : at_target seat.control l target ≡ Asks (storing value target)
   pub stores : IsStore l

@@ -1,6 +1,6 @@
 -- Helpers: how a bench keeps its world.
 use Rattle.std.specs.Prelude.{◌≡◌, ℕ, suc, ◌≤◌, List, [], ◌∷◌, map, length}
-use Rattle.mx_legal.specs.Transcripts.{Step}
+use Rattle.mx_transcript.specs.Transcripts.{Step}
 use Rattle.mx_script.specs.Sessions.{Outline, IsSession}
 use Rattle.mx_sup.specs.Supervised.{Supervised}
 use Rattle.mx_line.specs.Processes.{seat_in, AreGood}

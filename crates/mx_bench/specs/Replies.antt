@@ -1,8 +1,8 @@
 -- Helpers: what the reply to a call makes of its line.
 use Rattle.std.specs.Prelude.{◌≡◌, ℕ, Some, None}
 use Rattle.std.specs.Option.{option_map}
-use Rattle.mx_legal.specs.Asking.{result_of}
-use Rattle.mx_legal.specs.Settings.{entry_at}
+use Rattle.mx_transcript.specs.Asking.{result_of}
+use Rattle.mx_transcript.specs.Settings.{entry_at}
 use Rattle.mx_request.specs.declared.replies.Reply.{Reply}
 use Rattle.mx_request.specs.declared.replies.Reply.TheVariants as reply
 use Rattle.mx_request.specs.declared.requests.Request.{Request}

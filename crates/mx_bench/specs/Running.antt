@@ -1,8 +1,8 @@
 -- What is true of a bench, whatever has been stepped: all that a legal run asks, so far.
 use Rattle.std.specs.Prelude.{◌≡◌, ℕ, suc, List, [], ◌∷◌, drop, length, Some, slice_get}
-use Rattle.mx_call.specs.Registers.{Registers}
-use Rattle.mx_legal.specs.Courses.{Course, Attempt, Answer, Judged}
-use Rattle.mx_legal.specs.Scripts.{lines_of}
+use Rattle.mx_upcall.specs.Control.{Control}
+use Rattle.mx_transcript.specs.Courses.{Course, Attempt, Answer, Judged}
+use Rattle.mx_transcript.specs.Scripts.{lines_of}
 use Rattle.mx_script.specs.Sessions.{Outline}
 use Rattle.mx_request.specs.declared.replies.Reply.TheVariants as reply
 use Rattle.mx_request.specs.declared.requests.Request.TheVariants.{Block}
@@ -24,7 +24,7 @@ use Rattle.mx_line.specs.declared.operands.Progress.TheVariants.{Before, Walking
 
 -- since its last call a line has come so far: it is a `block`, and its process was told to wait; or a write is next that
 -- the reply asks for; or the line begins anew
-abbrev pub IsAnswered : Registers → Line → journaled.Entry → List Judged → Progress → Type 0
+abbrev pub IsAnswered : Control → Line → journaled.Entry → List Judged → Progress → Type 0
 IsAnswered g l entry filled Waiting =
     (entry.reply ≡ reply.Waiting) × (entry.request ≡ Block) × (l ≡ Ask Block)
 IsAnswered g l entry filled (Filling fill) = IsFilling g l entry filled fill
@@ -33,7 +33,7 @@ IsAnswered g l entry filled (Walking walk) = ⊥
 IsAnswered g l entry filled (AtLink place) = ⊥
 
 -- A line has done this, and has come so far: its attempt has seen what its operand asked for, or it has made a call.
-abbrev pub IsCome : Registers → Line → Course → Progress → Type 0
+abbrev pub IsCome : Control → Line → Course → Progress → Type 0
 IsCome g l (Attempt seen) progress = IsPlaced g l seen progress
 IsCome g l (Answer entry filled) progress = IsAnswered g l entry filled progress
 
@@ -41,8 +41,8 @@ IsCome g l (Answer entry filled) progress = IsAnswered g l entry filled progress
 pub record IsAtWork (x : Outline) (setup : List journaled.Entry) (p : ℕ) (seat : Seat) (number : ℕ) (line : Line)
     (left : List (ℕ × Line)) (v : View) : Type 0 where
   pub course : Course
-  pub benched : IsBenched x setup p seat.steps number line left seat.registers seat.events course v
-  pub come : IsCome seat.registers line course seat.progress
+  pub benched : IsBenched x setup p seat.steps number line left seat.control seat.events course v
+  pub come : IsCome seat.control line course seat.progress
 
 -- before these lines: the first of them is at work; where none is left, the process has run
 abbrev pub IsBefore : Outline → List journaled.Entry → ℕ → Seat → List (ℕ × Line) → View → Type 0

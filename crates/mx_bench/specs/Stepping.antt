@@ -1,18 +1,18 @@
 -- What a bench does: it opens after the setup, and steps one process at a time.
 use Rattle.std.specs.Prelude.{◌≡◌, ◌⊎◌, ℕ, suc, ◌-◌, ◌<◌, ◌≤◌, false, List, [], ◌∷◌, ◌++◌, length, Option, Some, slice_get, slice_set}
-use Rattle.mx_legal.specs.Denials.{last_denial}
-use Rattle.mx_legal.specs.Legal.{setup_entries}
-use Rattle.mx_legal.specs.Openings.{opening_registers}
-use Rattle.mx_legal.specs.Transcripts.{Step}
+use Rattle.mx_transcript.specs.Denials.{last_denial}
+use Rattle.mx_transcript.specs.Legal.{setup_entries}
+use Rattle.mx_transcript.specs.Openings.{opening_control}
+use Rattle.mx_transcript.specs.Transcripts.{Step}
 use Rattle.mx_script.specs.Sessions.{Outline, limit_of}
 use Rattle.mx_script.specs.declared.lines.Line.{Line}
 use Rattle.mx_sdw.specs.declared.denials.Denial.{Denial}
-use Rattle.mx_legal.specs.Opened.{opening_of}
+use Rattle.mx_transcript.specs.Opened.{opening_of}
 use Rattle.mx_state.specs.History.{replay}
 use Rattle.mx_state.specs.Messages.{is_ready}
 use Rattle.mx_state.specs.Plain.{Plain}
 use Rattle.mx_state.specs.declared.journal.Entry as journaled
-use Rattle.mx_legal.specs.declared.transcripts.Event2.{Event2}
+use Rattle.mx_transcript.specs.declared.transcripts.Event2.{Event2}
 use Rattle.mx_line.specs.Operands.{steps_in}
 use Rattle.mx_bench.specs.Running.{left_of}
 use Rattle.mx_line.specs.Seats.{Seat}
@@ -27,7 +27,7 @@ pub record IsOpening (x : Outline) (w : World) : Type 0 where
   pub journal : length w.journal ≡ setup_entries x
   pub count : length w.seats ≡ length x.principals
   pub each : (i : ℕ) (seat : Seat) → slice_get w.seats i ≡ Some seat
-      → seat ≡ record { registers = opening_registers (suc i); steps = []; events = []; progress = Before }
+      → seat ≡ record { control = opening_control x (suc i); steps = []; events = []; progress = Before }
 
 -- process p, counted from 1, has this seat
 abbrev pub IsSeat : World → ℕ → Seat → Type 0
@@ -102,7 +102,7 @@ pub record HasMoved (old : World) (p : ℕ) (new : World) : Type 0 where
   pub seated : IsSeat old p before
   pub event : Event2
   pub after : Seat
-  pub registers : after.registers ≡ before.registers
+  pub control : after.control ≡ before.control
   pub steps : after.steps ≡ before.steps
   pub more : after.events ≡ before.events ++ event ∷ []
   pub seats : new.seats ≡ slice_set old.seats (p - 1) after

@@ -1,6 +1,6 @@
 -- Processes on one bench: the world that they share.
 use Rattle.std.specs.Prelude.{List, ◌∷◌, map}
-use Rattle.mx_legal.specs.Transcripts.{Step}
+use Rattle.mx_transcript.specs.Transcripts.{Step}
 use Rattle.mx_script.specs.Sessions.{Outline}
 use Rattle.mx_state.specs.declared.journal.Entry as journaled
 use Rattle.mx_line.specs.Seats.{Seat, steps_in}

@@ -1,7 +1,7 @@
 //! The bench: all processes of a session over one supervisor and one memory, stepped one at a time.
 
 ghost use Rattle.std.specs.Prelude.{◌≡◌, ◌⊎◌, true, ◌<◌, ◌≤◌, ◌↔◌, Ok, IfOk, IfSome, IsSome, IsNone, OnOk, OnErr, IsTrue, IsFalse, MatchOption, Some, ◌+◌, ◌++◌, map, slice_get, vec_len, vec_capacity, length};
-ghost use Rattle.mx_legal.specs.Legal.{IsLegal, HasGatedFalls, HasSoundRegisters};
+ghost use Rattle.mx_transcript.specs.Legal.{IsLegal, HasGatedFalls, HasSoundRegisters};
 ghost use Rattle.mx_bench.specs.Stepping.{IsLastDenial, IsOpening, IsAtLine, IsNumbered, IsWaiting, HasMoved, HasStepped, HasGone, HasEnded, HaveEnded, HasNone};
 ghost use Rattle.mx_bench.specs.Asking.{HasSeat, HasSeatWith, IsToFill, IsUnfilled, IsAsking, IsTold, IsUntold, IsReadyBelow, IsUnreadyBelow, IsAiming, IsEnding, IsCalling, IsStoring};
 ghost use Rattle.mx_line.specs.Making.{IsReferring};
@@ -18,7 +18,6 @@ ghost use Rattle.mx_line.specs.declared.operands.Way.TheVariants as ways;
 
 use crate::replied::{Replied, after_entry};
 use mx_call::Regs;
-use mx_legal::{Event, Event2, Result2, Transcript, Transcripts};
 use mx_line::{
     Asked, Fill, Filled, Memory, Place, Process, Processes, Progress, Stepped, Way, here, loaded,
     look, refer, register_word, store,
@@ -30,6 +29,7 @@ use mx_script::{Line, Operand, Script, Session};
 use mx_sdw::{Denial, Ring, Word};
 use mx_state::Journal;
 use mx_sup::{EnterError, Supervisor};
+use mx_transcript::{Event, Event2, Result2, Transcript, Transcripts};
 use std::alloc::{AllocError, Global};
 use std::marker::Model;
 
@@ -499,7 +499,8 @@ impl<'a> Bench<'a> {
         let (target, value) = fill.write();
         let desc = self.supervisor.descriptor(p, target.segno);
         let point = self.supervisor.length();
-        let made = store(&mut self.cells, &desc, &target, value, &registers, p, point);
+        let control = self.processes.control(i);
+        let made = store(&mut self.cells, &desc, &target, value, control, p, point);
         let event = Event2::Core(Event::Seen(made.element));
         match fill.after() {
             Filled::More(next) => {
@@ -528,14 +529,14 @@ impl<'a> Bench<'a> {
         ensures err { OnErr result (self.new ≡ self.old) }
     {
         let i = usize::from(p) - 1;
-        let registers = self.processes.registers(i);
         self.processes.reserve(i)?;
         let desc = self.supervisor.descriptor(p, target.segno);
         let point = self.supervisor.length();
-        let made = refer(&self.cells, &desc, line, target, &registers, point);
+        let control = self.processes.control(i);
+        let made = refer(&self.cells, &desc, line, target, control, point);
         let event = Event2::Core(Event::Seen(made.element));
         self.processes
-            .end_line(i, Some(event), made.ends, &made.after);
+            .end_with(i, Some(event), made.ends, &made.after);
         Ok(())
     }
 
@@ -549,14 +550,14 @@ impl<'a> Bench<'a> {
         ensures err { OnErr result (self.new ≡ self.old) }
     {
         let i = usize::from(p) - 1;
-        let registers = self.processes.registers(i);
         self.processes.reserve(i)?;
         let desc = self.supervisor.descriptor(p, target.segno);
         let point = self.supervisor.length();
-        let made = store(&mut self.cells, &desc, target, value, &registers, p, point);
+        let control = self.processes.control(i);
+        let made = store(&mut self.cells, &desc, target, value, control, p, point);
         let event = Event2::Core(Event::Seen(made.element));
         self.processes
-            .end_line(i, Some(event), made.ends, &made.after);
+            .end_with(i, Some(event), made.ends, &made.after);
         Ok(())
     }
 

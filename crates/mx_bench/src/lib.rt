@@ -4,7 +4,7 @@
 //! walk of the line at work. [`Bench::step`] makes one element with its access to a cell, or one entry, or a call that finds
 //! the journal full, or a line that needs neither; the order of steps is whoever's who calls it. Its type says that the run
 //! so far keeps all that a legal run asks (`specs/Running`), so that [`Bench::finish`] hands out a legal run. Stands on
-//! `mx_line` (the line at work), `mx_sup` (the supervisor), `mx_script` (sessions), `mx_legal` (the rules of a run) and
+//! `mx_line` (the line at work), `mx_sup` (the supervisor), `mx_script` (sessions), `mx_transcript` (the rules of a run) and
 //! `mx_ties` (what keeps them step by step).
 #![tactic(auto)]
 

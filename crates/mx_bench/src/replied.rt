@@ -10,11 +10,11 @@ ghost use Rattle.mx_sup.specs.Supervised.{state_of};
 ghost use Rattle.mx_bench.specs.Replies.{IsReplied, IsReplyTo};
 ghost use Rattle.mx_line.specs.Fills.{sized};
 
-use mx_legal::Result2;
 use mx_line::{Fill, first_fill, section_in, snap_of};
 use mx_request::{Reply, Request};
 use mx_sdw::Ring;
 use mx_sup::Supervisor;
+use mx_transcript::Result2;
 
 /// What a line does after a reply.
 #[derive(Clone, Copy)]

@@ -2,7 +2,7 @@
 use Rattle.std.specs.Prelude.{◌≡◌, ◌+◌, List, ◌++◌}
 use Rattle.std.specs.List.{count_by, sum_by}
 use Rattle.mx_core.specs.declared.elements.Element.{Element}
-use Rattle.mx_legal.specs.Transcripts.{Step, events_of}
+use Rattle.mx_transcript.specs.Transcripts.{Step, events_of}
 use Rattle.mx_drill.specs.Summaries.{is_granted, is_denied, value_written, references_among}
 use Rattle.mx_drill.specs.declared.summaries.Counts.{Counts}
 

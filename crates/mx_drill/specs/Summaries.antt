@@ -9,9 +9,9 @@ use Rattle.mx_core.specs.declared.elements.Kind.{Kind}
 use Rattle.mx_core.specs.declared.elements.Kind.TheVariants as kind
 use Rattle.mx_core.specs.declared.elements.Outcome.{Outcome}
 use Rattle.mx_core.specs.declared.elements.Outcome.TheVariants as outcome
-use Rattle.mx_legal.specs.declared.transcripts.Event2.{Event2}
-use Rattle.mx_legal.specs.declared.transcripts.Event2.TheVariants.{Core, Entry}
-use Rattle.mx_legal.specs.Transcripts.{Step, events_of}
+use Rattle.mx_transcript.specs.declared.transcripts.Event2.{Event2}
+use Rattle.mx_transcript.specs.declared.transcripts.Event2.TheVariants.{Core, Entry}
+use Rattle.mx_transcript.specs.Transcripts.{Step, events_of}
 use Rattle.mx_state.specs.declared.journal.Entry as journaled
 
 -- the references among events, in order

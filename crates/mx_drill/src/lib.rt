@@ -4,7 +4,7 @@
 //! all at once, and yet what each of them is granted does not depend on how they interleave. So a run of it is summed up by a
 //! few numbers that are the same at each run. [`session_of`] gives the session, whose definition is `Drills`; [`summary`] the
 //! text that sums up a journal and transcripts, whose definition is `Summaries`; and [`session_text`] the text of any session.
-//! Stands on `mx_script` (sessions) and `mx_legal` (transcripts).
+//! Stands on `mx_script` (sessions) and `mx_transcript` (transcripts).
 #![tactic(auto)]
 
 mod laws;

@@ -1,14 +1,14 @@
 //! The summary of a run.
 
 ghost use Rattle.std.specs.Prelude.{◌≡◌, ◌+◌, ◌++◌, ◌∷◌, [], IfOk, OnOk};
-ghost use Rattle.mx_legal.specs.Transcripts.{events_of};
+ghost use Rattle.mx_transcript.specs.Transcripts.{events_of};
 ghost use Rattle.mx_drill.specs.Counting.{Counted, AreCounts};
 ghost use Rattle.mx_drill.specs.Summaries.{references_among, references_of, is_access, is_denied, value_written, labelled, summary_text};
 
 use itoa::Buffer;
-use mx_legal::{Element, Event, Event2, Kind, Outcome, Transcript, Transcripts};
 use mx_list::Bytes;
 use mx_state::Journal;
+use mx_transcript::{Element, Event, Event2, Kind, Outcome, Transcript, Transcripts};
 use std::alloc::{AllocError, Global};
 
 /// The summary of a run of the drill of this number: the lines `drill`, `entries`, `granted`, `denied` and `written`, each with its number,

@@ -1,8 +1,8 @@
 -- What the statuses of the top call mean. A source's bytes and a sink's are spoken of where they are told.
 use Rattle.std.specs.Prelude.{◌≡◌, ◌⊎◌, ℕ, ◌≤◌, ◌<◌, List, [], ◌∷◌, length, Option, codes}
 use Rattle.mx_io.specs.Bytes.{TakesAll, TakesTooMany, Appends, AppendsPart}
-use Rattle.mx_legal.specs.Legal.{IsLegal, HasGatedFalls, HasSoundRegisters}
-use Rattle.mx_legal.specs.Transcripts.{Step}
+use Rattle.mx_transcript.specs.Runs.{IsRunOf}
+use Rattle.mx_transcript.specs.Transcripts.{Step}
 use Rattle.mx_lint.specs.Diagnoses.{IsAbout}
 use Rattle.mx_picture.specs.Drawings.{GainsDrawing}
 use Rattle.mx_script.specs.FirstBadLine.{IsFirstBad}
@@ -23,12 +23,6 @@ most_bytes = 4194304
 pub record IsRead (source source' : Option (List ℕ)) (spelled : List ℕ) : Type 0 where
   pub taken : TakesAll source source' spelled
   pub within : length spelled ≤ most_bytes
-
--- a legal run of a session, whose rings fall only through gates
-pub record IsRunOf (x : Outline) (journal : List journaled.Entry) (transcripts : List (List Step)) : Type 0 where
-  pub legal : IsLegal x journal transcripts
-  pub gated : HasGatedFalls x journal transcripts
-  pub sound : HasSoundRegisters x journal transcripts
 
 -- the sink gained the text of `lines` of such a run
 pub record IsToldRun (x : Outline) (sink sink' : Option (List ℕ)) : Type 0 where

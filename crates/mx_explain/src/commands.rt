@@ -4,17 +4,18 @@ ghost use Rattle.std.specs.Prelude.{◌≡◌, ◌≢◌, ◌⊎◌, ◌≤◌, 
 ghost use Rattle.std.specs.String.{string_bytes};
 ghost use Rattle.mx_io.specs.Bytes.{Appends, AppendsPart, TakesTooMany};
 ghost use Rattle.mx_io.specs.Faults.{Rose};
-ghost use Rattle.mx_explain.specs.Statuses.{IsCommand, IsShown, IsRefused, IsRunOf, IsToldOf, IsCutOffOf, GainsFront, IsStopped, IsDueStatus};
+ghost use Rattle.mx_transcript.specs.Runs.{IsRunOf};
+ghost use Rattle.mx_explain.specs.Statuses.{IsCommand, IsShown, IsRefused, IsToldOf, IsCutOffOf, GainsFront, IsStopped, IsDueStatus};
 ghost use Rattle.mx_explain.specs.Views.{word_of, ShowsOf, Tells, CutsOff, TellsFront};
 
 use mx_io::{ReadError, Sink, Source, read_all, write_all};
-use mx_legal::Transcripts;
 use mx_lint::{Diagnosis, Finding, lint};
 use mx_picture::show_picture;
 use mx_proc::{NoGate, run};
 use mx_script::Session;
 use mx_show::{ShowError, show_lines};
 use mx_state::Journal;
+use mx_transcript::Transcripts;
 use std::alloc::{AllocError, Global};
 use std::sync::Wait;
 use std::thread::Threads;

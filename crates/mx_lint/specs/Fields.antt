@@ -41,9 +41,9 @@ is_definition_text text = is_some (after (codes "d:") text >>= definition_at)
 abbrev pub is_object_link_text : List ℕ → Bool
 is_object_link_text text = is_some (after (codes "l:") text >>= object_link_at)
 
--- versions are 1, 2 and 3
+-- versions are 1, 2, 3 and 4
 abbrev pub is_version_text : List ℕ → Bool
-is_version_text text = is text (codes "1") || is text (codes "2") || is text (codes "3")
+is_version_text text = is text (codes "1") || is text (codes "2") || is text (codes "3") || is text (codes "4")
 
 -- the text can stand in the field; a process line leaves out the lowest class
 abbrev pub is_field : Field → List ℕ → Bool

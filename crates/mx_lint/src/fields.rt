@@ -80,7 +80,7 @@ impl Field {
     /// What the field is to be.
     pub(crate) fn wanted(self) -> &'static str {
         match self {
-            Field::Version => "1, 2 or 3",
+            Field::Version => "1, 2, 3 or 4",
             Field::Limit => "a decimal number from 1 to 262143, with no leading zero",
             Field::Principal => {
                 "Person.Project.tag, of at most 22, 9 and 1 letters, digits or `_`"

@@ -83,6 +83,7 @@ fn version_of(bytes: &[u8]) -> u8 {
     match line {
         b"multics 2" => 2,
         b"multics 3" => 3,
+        b"multics 4" => 4,
         _ => 1,
     }
 }

@@ -42,7 +42,7 @@ impl Order {
     pub(crate) fn words(self) -> &'static str {
         match self {
             Order::FirstIsHeader =>
-                "a session begins with the line `multics 1`, `multics 2` or `multics 3`",
+                "a session begins with the line `multics 1`, `multics 2`, `multics 3` or `multics 4`",
             Order::HeaderOnce => "the line of the version stands once, as the first line",
             Order::HistorySecond => "`history` stands once, right behind the first line",
             Order::NoProcessYet => "a line of a process's script before the first process line",

@@ -75,7 +75,7 @@ impl Place {
     /// What may come next.
     pub(crate) fn next(self) -> &'static str {
         match self {
-            Place::Start => "`multics 1`, `multics 2` or `multics 3`",
+            Place::Start => "`multics 1`, `multics 2`, `multics 3` or `multics 4`",
             Place::Headed => "`history H`, a setup line or `process PRINCIPAL [CLASS]`",
             Place::Setup => "a setup line or `process PRINCIPAL [CLASS]`",
             Place::Script(_) => "a script line or `logout`",

@@ -72,7 +72,10 @@ pub(crate) fn is_ring(text: &[u8]) -> bool
 pub(crate) fn is_version(text: &[u8]) -> bool
     ensures { result ≡ is_version_text text.now }
 {
-    text == b"1".as_slice() || text == b"2".as_slice() || text == b"3".as_slice()
+    text == b"1".as_slice()
+        || text == b"2".as_slice()
+        || text == b"3".as_slice()
+        || text == b"4".as_slice()
 }
 
 /// A limit of the journal.

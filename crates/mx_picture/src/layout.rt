@@ -6,9 +6,9 @@ ghost use Rattle.mx_core.specs.declared.elements.Outcome.TheVariants as read;
 ghost use Rattle.mx_picture.specs.Arrows.{IsStoreFor, cell_of};
 
 use crate::positions::Position;
-use mx_legal::Outcome;
 use mx_sdw::{Ring, Word};
 use mx_show::{Accesses, Judged, source_of};
+use mx_transcript::Outcome;
 use std::alloc::{AllocError, Global};
 
 /// The most entries that are drawn.

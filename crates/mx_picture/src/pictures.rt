@@ -3,7 +3,7 @@
 ghost use Rattle.std.specs.Prelude.{◌≡◌, ◌≤◌, IfOk, OnOk, IsErrOf};
 ghost use Rattle.std.specs.String.{string_bytes};
 ghost use Rattle.mx_io.specs.Faults.{Rose};
-ghost use Rattle.mx_legal.specs.Legal.{IsLegal};
+ghost use Rattle.mx_transcript.specs.Legal.{IsLegal};
 ghost use Rattle.mx_picture.specs.Drawings.{GainsDrawing, IsFramed};
 
 mod entries;
@@ -17,10 +17,10 @@ use entries::{add_change_lines, add_entries, add_tags};
 use legends::{add_legend, add_rings, add_title, height};
 use marks::{add_arrows, add_boxes};
 use mx_io::{Sink, write_all};
-use mx_legal::Transcripts;
 use mx_script::Session;
 use mx_show::{Accesses, ShowError, judge_all};
 use mx_state::Journal;
+use mx_transcript::Transcripts;
 use rings::add_lanes;
 use std::alloc::{AllocError, Global};
 

@@ -3,10 +3,10 @@ use Rattle.std.proofs.Common.{◌≡◌, ℕ, zero, suc, ◌<◌, ◌≤◌, ◌
 use Rattle.std.specs.List.{slice_get, slice_set}
 use Rattle.mx_audit.proofs.AccountLaws.{with_both, with_none}
 use Rattle.mx_audit.specs.Accounts.{Account, with_denials, with_all, HaveGrown, HaveRoomFor}
-use Rattle.mx_legal.proofs.DenialLaws.{last_of, denials_append, few_denials}
-use Rattle.mx_legal.specs.Denials.{denial_of, denials, last_denial}
-use Rattle.mx_legal.specs.Scripts.{first_line, script_at}
-use Rattle.mx_legal.specs.Transcripts.{Step}
+use Rattle.mx_transcript.proofs.DenialLaws.{last_of, denials_append, few_denials}
+use Rattle.mx_transcript.specs.Denials.{denial_of, denials, last_denial}
+use Rattle.mx_transcript.specs.Scripts.{first_line, script_at}
+use Rattle.mx_transcript.specs.Transcripts.{Step}
 use Rattle.mx_script.specs.Sessions.{Outline}
 use Rattle.mx_script.specs.declared.lines.Line.{Line}
 use Rattle.mx_sdw.specs.declared.denials.Denial.{Denial}

@@ -11,7 +11,7 @@ use Rattle.mx_mail.specs.declared.processes.ExecutionState.{ExecutionState}
 use Rattle.mx_mail.specs.declared.processes.ExecutionState.TheVariants as state
 use Rattle.mx_state.proofs.LeavingLaws.{path_request_leaves}
 use Rattle.mx_state.proofs.WaitingLaws.{mail_counts, does_law, waits_for}
-use Rattle.mx_legal.specs.Opened.{opening_of}
+use Rattle.mx_transcript.specs.Opened.{opening_of}
 use Rattle.mx_state.specs.History.{replay, IsRight, IsRightEntry}
 use Rattle.mx_state.specs.Messages.{is_ready}
 use Rattle.mx_state.specs.Plain.{Plain}

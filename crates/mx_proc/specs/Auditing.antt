@@ -1,7 +1,7 @@
 -- Helpers: what the auditors of a bench were told so far, and the one that is told next.
 use Rattle.std.specs.Prelude.{◌≡◌, ℕ, zero, suc, ◌≤◌, List, [], ◌∷◌, Some, map, slice_get}
 use Rattle.mx_audit.specs.Accounts.{Account, with_denials, with_all}
-use Rattle.mx_legal.specs.Denials.{denials}
+use Rattle.mx_transcript.specs.Denials.{denials}
 use Rattle.mx_script.specs.Sessions.{Outline}
 use Rattle.mx_sdw.specs.declared.denials.Denial.{Denial}
 use Rattle.mx_proc.specs.Auditors.{HaveRoomForLines}

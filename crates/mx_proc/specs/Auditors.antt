@@ -2,8 +2,8 @@
 -- of its denials, in order. Processes beyond the auditors have none, and auditors beyond the processes are told nothing.
 use Rattle.std.specs.Prelude.{◌≡◌, List, drop, map, length}
 use Rattle.mx_audit.specs.Accounts.{Account, with_all, HaveRoomFor}
-use Rattle.mx_legal.specs.Denials.{denials}
-use Rattle.mx_legal.specs.Transcripts.{Step}
+use Rattle.mx_transcript.specs.Denials.{denials}
+use Rattle.mx_transcript.specs.Transcripts.{Step}
 use Rattle.mx_script.specs.Sessions.{Outline}
 
 -- After a run each auditor was told what its process was denied. Transcript 0 is the initializer's, which has no auditor.

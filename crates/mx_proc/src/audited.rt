@@ -2,7 +2,7 @@
 
 ghost use Rattle.std.specs.Prelude.{◌≡◌, ◌<◌, ◌≤◌, ◌↔◌, ◌∷◌, [], Ok, IfOk, OnOk, OnErr, map, length};
 ghost use Rattle.mx_audit.specs.Accounts.{HaveGrown};
-ghost use Rattle.mx_legal.specs.Legal.{IsLegal, HasGatedFalls, HasSoundRegisters};
+ghost use Rattle.mx_transcript.specs.Legal.{IsLegal, HasGatedFalls, HasSoundRegisters};
 ghost use Rattle.mx_proc.specs.Auditing.{HasRoomAt, with_more};
 ghost use Rattle.mx_proc.specs.Auditors.{WereTold, HaveRoomForLines};
 ghost use Rattle.mx_proc.specs.Rounds.{all_left};
@@ -12,9 +12,9 @@ ghost use Rattle.mx_line.specs.declared.steps.Stepped.TheVariants.{More, Ended, 
 use crate::naming::Naming;
 use mx_audit::{Auditor, Verdict};
 use mx_bench::{Bench, Stepped};
-use mx_legal::Transcripts;
 use mx_sdw::Denial;
 use mx_state::Journal;
+use mx_transcript::Transcripts;
 use std::alloc::{AllocError, Global};
 use std::marker::{Model, PhantomData};
 

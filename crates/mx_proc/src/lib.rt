@@ -4,7 +4,7 @@
 //! lock of a [`Hall`], where each process works on a thread of its own and tells a [`Gate`] of each line before it begins.
 //! Its type says that what comes out is a bench of the session that a [`Naming`] names, and [`AllEnds`] that every process
 //! was seen with no line left; so the journal and the transcripts that it hands out are a legal run. Stands on `mx_bench`
-//! (the bench, which makes one step of any process), `mx_audit` (auditors) and `mx_legal` (the rules of a run).
+//! (the bench, which makes one step of any process), `mx_audit` (auditors) and `mx_transcript` (the rules of a run).
 #![tactic(auto)]
 
 mod audited;

@@ -2,7 +2,7 @@
 
 ghost use Rattle.std.specs.Prelude.{◌≡◌, ◌≤◌, IfOk, map, length};
 ghost use Rattle.mx_audit.specs.Accounts.{HaveGrown};
-ghost use Rattle.mx_legal.specs.Legal.{IsLegal, HasGatedFalls, HasSoundRegisters};
+ghost use Rattle.mx_transcript.specs.Legal.{IsLegal, HasGatedFalls, HasSoundRegisters};
 ghost use Rattle.mx_proc.specs.Auditors.{WereTold, HaveRoomForLines};
 
 use crate::audited::AuditedBench;
@@ -12,9 +12,9 @@ use crate::halls::Hall;
 use crate::naming::Naming;
 use mx_audit::Auditor;
 use mx_bench::Bench;
-use mx_legal::Transcripts;
 use mx_script::Session;
 use mx_state::Journal;
+use mx_transcript::Transcripts;
 use std::alloc::{AllocError, Global};
 use std::marker::Brand;
 use std::sync::Wait;

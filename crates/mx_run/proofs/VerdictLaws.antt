@@ -1,13 +1,15 @@
 -- What a right verdict means for a source that tells its bytes.
-use Rattle.std.proofs.Common.{◌≡◌, ℕ, ◌<◌, ◌≤◌, List, length, refl, sym, subst, Option, Some, inl, inr, arith}
+use Rattle.std.proofs.Common.{◌≡◌, ℕ, ◌<◌, ◌≤◌, List, [], length, refl, sym, subst, Option, Some, Result, Ok, Err, IfOk, inl, inr, arith}
 use Rattle.mx_audit.specs.Accounts.{Account, HaveGrown}
-use Rattle.mx_io.specs.Bytes.{Appends, AppendsPart}
+use Rattle.mx_io.specs.Bytes.{TakesAll, Appends, AppendsPart}
 use Rattle.mx_run.proofs.CommandLaws.{run_is_no_drill}
+use Rattle.mx_script.specs.FirstBadLine.{IsFirstBad}
 use Rattle.mx_script.specs.SessionTexts.{IsText}
 use Rattle.mx_run.specs.Commands.{IsRun}
 use Rattle.mx_run.specs.Done.{most_bytes, IsDone, IsDoneBy}
 use Rattle.mx_run.specs.Statuses.{GainsFront, IsDueStatus}
 use Rattle.mx_run.specs.Verdicts.{IsVerdict, verdict_status, verdict_text}
+use Rattle.mx_run.specs.declared.verdicts.Unreached.{Unreached}
 use Rattle.mx_run.specs.declared.verdicts.Verdict.{Verdict}
 use Rattle.mx_run.specs.declared.verdicts.Verdict.TheVariants.{Ran, Drilled, BadWords, BadLine, TooLong}
 
@@ -97,3 +99,43 @@ front_of words source source' sink sink' accounts accounts' verdict grown right 
   status_is = sym front.0;
   printed = front.1;
 }
+
+-- a verdict on the bytes that a source gave is one on the source
+of_read : (words : List (List ℕ)) (source source' : Option (List ℕ)) (spelled : List ℕ) (accounts accounts' : List Account)
+    (verdict : Verdict) → IsRun words → TakesAll source source' spelled → length spelled ≤ most_bytes
+    → IsVerdict words (Some spelled) (Some []) accounts accounts' verdict → IsVerdict words source source' accounts accounts' verdict
+of_read words source source' spelled accounts accounts' (Ran journal transcripts) run takes within right = (
+  right.0,
+  record {
+    spelled = spelled;
+    session = right.1.session;
+    read = takes;
+    within = within;
+    text = subst (λ (l : List ℕ). IsText l right.1.session) (sym right.1.read.0) right.1.text;
+    run = right.1.run;
+  },
+  right.2,
+)
+of_read words source source' spelled accounts accounts' (Drilled number journal transcripts) run takes within right =
+    absurd (run_is_no_drill words number run right.0)
+of_read words source source' spelled accounts accounts' BadWords run takes within right = absurd (right.0 (inl run))
+of_read words source source' spelled accounts accounts' (BadLine number) run takes within right = (
+  right.0,
+  record {
+    spelled = spelled;
+    read = takes;
+    within = within;
+    first = subst (λ (l : List ℕ). IsFirstBad l number) (sym right.1.read.0) right.1.first;
+  },
+  right.2,
+)
+of_read words source source' spelled accounts accounts' TooLong run takes within right =
+    let more : most_bytes < length spelled = right.1.0 in absurd (omega arith)
+
+pub of_read_ok : (words : List (List ℕ)) (source source' : Option (List ℕ)) (spelled : List ℕ) (accounts accounts' : List Account)
+    (result : Result Verdict Unreached) → IsRun words → TakesAll source source' spelled → length spelled ≤ most_bytes
+    → IfOk result (IsVerdict words (Some spelled) (Some []) accounts accounts')
+    → IfOk result (IsVerdict words source source' accounts accounts')
+of_read_ok words source source' spelled accounts accounts' (Ok verdict) run takes within right =
+    of_read words source source' spelled accounts accounts' verdict run takes within right
+of_read_ok words source source' spelled accounts accounts' (Err why) run takes within right = tt

@@ -7,8 +7,8 @@ use Rattle.mx_audit.specs.Accounts.{Account}
 use Rattle.mx_script.specs.SessionTexts.{IsText}
 use Rattle.mx_script.specs.Sessions.{Outline}
 use Rattle.mx_state.specs.declared.journal.Entry.{Entry}
-use Rattle.mx_legal.specs.Legal.{IsLegal, HasGatedFalls, HasSoundRegisters}
-use Rattle.mx_legal.specs.Transcripts.{Step}
+use Rattle.mx_transcript.specs.Legal.{IsLegal, HasGatedFalls, HasSoundRegisters}
+use Rattle.mx_transcript.specs.Transcripts.{Step}
 use Rattle.mx_proc.specs.Auditors.{WereTold}
 use Rattle.mx_drill.specs.Drills.{drill_session}
 use Rattle.mx_drill.specs.Summaries.{summary_text}

@@ -3,7 +3,7 @@
 //! A command comes to a [`Verdict`]: the session ran, or the words, a line or the length are refused. `multics` promises that
 //! status 0 is the headline (`Done`), that status 0, 2, 5 or 6 is that of a right verdict, written whole (`Verdicts`), and that
 //! every other status has its cause (`Statuses`). The definitions that it speaks of stand below it: what a session text is in
-//! `mx_script`, what a legal run is in `mx_legal`, what a run text is in `mx_text`; `read_session`, `run` and `print` carry the
+//! `mx_script`, what a legal run is in `mx_transcript`, what a run text is in `mx_text`; `read_session`, `run` and `print` carry the
 //! parts of the promise.
 #![tactic(auto)]
 

@@ -3,14 +3,14 @@ use Rattle.std.proofs.Common.{ℕ, suc, ◌≡◌, ◌+◌, ◌<◌, Bool, true,
 use Rattle.std.proofs.lemmas.Grind.{flat_map-append}
 use Rattle.std.proofs.lemmas.List.{length-map}
 use Rattle.std.specs.Prelude.{Result, Ok, Err, OnOk, is_ok, if◌then◌else◌}
-use Rattle.mx_call.specs.Registers.{Registers}
 use Rattle.mx_io.specs.Bytes.{Appends}
-use Rattle.mx_legal.specs.Parts.{AreDone, AreLines}
-use Rattle.mx_legal.specs.Legal.{IsLegal, setting_of}
-use Rattle.mx_legal.specs.Openings.{opening_registers}
-use Rattle.mx_legal.specs.Scripts.{numbered, lines_of, script_at, first_line}
-use Rattle.mx_legal.specs.Settings.{Setting}
-use Rattle.mx_legal.specs.Transcripts.{Step, part}
+use Rattle.mx_transcript.specs.Parts.{AreDone, AreLines}
+use Rattle.mx_transcript.specs.Legal.{IsLegal, setting_of}
+use Rattle.mx_transcript.specs.Openings.{opening_control}
+use Rattle.mx_transcript.specs.Scripts.{numbered, lines_of, script_at, first_line}
+use Rattle.mx_transcript.specs.Settings.{Setting}
+use Rattle.mx_transcript.specs.Transcripts.{Step, part}
+use Rattle.mx_upcall.specs.Control.{Control}
 use Rattle.mx_name.proofs.CutLaws.{cut_takes}
 use Rattle.mx_name.specs.Cuts.{cut_at}
 use Rattle.mx_name.specs.Names.{is_free}
@@ -188,7 +188,7 @@ processes_done all all_scripts all_transcripts p principals scripts transcripts 
     record { text = through.sofar; shown = subst P (append-nil through.sofar) (goes [] refl); is_sent = through.is_sent }
 
 -- A legal run has a step for each line.
-done_many : (s : Setting) (before after : Registers) (lines : List (ℕ × Line)) (steps : List Step) → AreDone s before lines steps [] after
+done_many : (s : Setting) (before after : Control) (lines : List (ℕ × Line)) (steps : List Step) → AreDone s before lines steps [] after
     → length lines ≡ length steps
 done_many s before after lines [] done = ap length (sym done.0)
 done_many s before after [] (step ∷ steps) done = absurd done
@@ -199,7 +199,7 @@ numbered_many : (n : ℕ) (lines : List Line) → length (numbered n lines) ≡ 
 numbered_many n [] = refl
 numbered_many n (line ∷ lines) = ap suc (numbered_many (suc n) lines)
 
-pub numbered_done : (s : Setting) (n : ℕ) (before after : Registers) (lines : List Line) (steps : List Step)
+pub numbered_done : (s : Setting) (n : ℕ) (before after : Control) (lines : List Line) (steps : List Step)
     → AreLines s before (numbered n lines) steps after → length lines ≡ length steps
 numbered_done s n before after lines steps done = sym (numbered_many n lines) ∙ done_many s before after (numbered n lines) steps done
 
@@ -246,14 +246,14 @@ pub setup_many : (x : Outline) (journal : List journaled.Entry) (transcripts : L
 setup_many x journal transcripts legal =
     let done = legal.lines 0 (below_first transcripts (length x.principals) legal.parts) in
     sym (length-map x.setup Ask)
-    ∙ numbered_done (setting_of x journal 0) (first_line x 0) (opening_registers 0) done.0 (map Ask x.setup) (part transcripts 0) done.1
+    ∙ numbered_done (setting_of x journal 0) (first_line x 0) (opening_control x 0) done.0 (map Ask x.setup) (part transcripts 0) done.1
 
 pub scripts_many : (x : Outline) (journal : List journaled.Entry) (transcripts : List (List Step)) → IsLegal x journal transcripts
     → length x.scripts ≡ length x.principals → AreAsLong x.scripts (drop 1 transcripts)
 scripts_many x journal transcripts legal scripts = by_parts transcripts legal.parts legal.lines
   where
     by_parts : (ts : List (List Step)) → length ts ≡ 1 + length x.principals
-        → ((p : ℕ) → p < length ts → (after : Registers) × AreLines (setting_of x journal p) (opening_registers p) (lines_of x p) (part ts p) after)
+        → ((p : ℕ) → p < length ts → (after : Control) × AreLines (setting_of x journal p) (opening_control x p) (lines_of x p) (part ts p) after)
         → AreAsLong x.scripts (drop 1 ts)
     by_parts [] parts lines = absurd (omega (arith, parts))
     by_parts (t ∷ ts) parts lines =
@@ -261,7 +261,7 @@ scripts_many x journal transcripts legal scripts = by_parts transcripts legal.pa
         all_as_long x.scripts ts many
         (λ q below.
         let done = lines (suc q) (omega (arith, below)) in
-        numbered_done (setting_of x journal (suc q)) (first_line x (suc q)) (opening_registers (suc q)) done.0 (script_at x.scripts q) (part ts q) done.1)
+        numbered_done (setting_of x journal (suc q)) (first_line x (suc q)) (opening_control x (suc q)) done.0 (script_at x.scripts q) (part ts q) done.1)
 
 pub first_part : (transcripts : List (List Step)) (steps : List Step) → 0 < length transcripts → steps ≡ get_or transcripts 0 steps
     → part transcripts 0 ≡ steps

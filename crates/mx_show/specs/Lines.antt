@@ -5,7 +5,7 @@ use Rattle.std.specs.Fmt.{decimal}
 use Rattle.std.specs.List.{flat_map, list_all}
 use Rattle.mx_aim.specs.Classes.{PlainClass, class_text, equals, lowest}
 use Rattle.mx_io.specs.Bytes.{Appends}
-use Rattle.mx_legal.specs.Transcripts.{Step, part}
+use Rattle.mx_transcript.specs.Transcripts.{Step, part}
 use Rattle.mx_name.specs.Names.{is_free}
 use Rattle.mx_name.specs.Principals.{principal_text}
 use Rattle.mx_request.specs.declared.entrants.Entrant.{Entrant}

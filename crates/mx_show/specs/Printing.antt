@@ -1,6 +1,6 @@
 -- Helpers of the printer: what is added to a buffer, and what of it goes to the sink.
 use Rattle.std.specs.Prelude.{◌≡◌, ℕ, true, List, [], ◌∷◌, ◌++◌, length, Option}
-use Rattle.mx_legal.specs.Transcripts.{Step}
+use Rattle.mx_transcript.specs.Transcripts.{Step}
 use Rattle.mx_request.specs.declared.entrants.Entrant.{Entrant}
 use Rattle.mx_script.specs.declared.lines.Line.{Line}
 use Rattle.mx_text.specs.Printing.{IsSent}

@@ -2,7 +2,7 @@
 use Rattle.std.specs.Prelude.{◌≡◌, ℕ, ◌≤◌, List, length, take, Option}
 use Rattle.mx_core.specs.declared.elements.Element.{Element}
 use Rattle.mx_acl.specs.declared.modes.Modes.{Modes}
-use Rattle.mx_legal.specs.Opened.{opening_of}
+use Rattle.mx_transcript.specs.Opened.{opening_of}
 use Rattle.mx_name.specs.Identifiers.{PlainAclId}
 use Rattle.mx_script.specs.Sessions.{Outline}
 use Rattle.mx_sdw.specs.Descriptors.{Descriptor}

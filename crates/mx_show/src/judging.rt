@@ -1,16 +1,16 @@
 //! All references of a run with the access that each was judged on.
 
 ghost use Rattle.std.specs.Prelude.{IfOk, OnOk};
-ghost use Rattle.mx_legal.specs.Legal.{IsLegal};
-ghost use Rattle.mx_legal.specs.Opened.{opening_of};
+ghost use Rattle.mx_transcript.specs.Legal.{IsLegal};
+ghost use Rattle.mx_transcript.specs.Opened.{opening_of};
 ghost use Rattle.mx_state.specs.History.{IsRight};
 ghost use Rattle.mx_show.specs.Judging.{AreAccesses};
 ghost use Rattle.mx_show.specs.Replays.{IsSameJournal};
 
 use crate::replays::{Changed, Judged, Replay};
-use mx_legal::{Element, Event, Event2, Transcript, Transcripts};
 use mx_script::Session;
 use mx_state::{Entry, Journal};
+use mx_transcript::{Element, Event, Event2, Transcript, Transcripts};
 use std::alloc::{AllocError, Global};
 
 /// The ring in which a process begins.

@@ -2,12 +2,13 @@
 //!
 //! [`show_lines`] asks of its caller that the run is a legal one of that session. The access beside each reference is the descriptor
 //! at its point (`Judging`), a denial is explained by the comparison of its rule, with the numbers of that access (`Reasons`), and a
-//! read names the store that the transcript names (`Sources`). The words themselves are tested alone. What a drawing of the run needs
-//! of it stands here too: [`judge_all`], [`explain`], [`source_of`]. Stands on `mx_state` for the access at each point, and on
-//! `mx_legal` for the run.
+//! read names the store that the transcript names (`Sources`). The words themselves are tested alone, those on return gates too,
+//! which are told from the rings that calls and returns enter. What a drawing of the run needs of it stands here as well:
+//! [`judge_all`], [`explain`], [`source_of`]. Stands on `mx_state` for the access at each point, and on `mx_transcript` for the run.
 #![tactic(auto)]
 
 mod errors;
+mod gates;
 mod judging;
 mod lines;
 mod parts;

@@ -2,7 +2,7 @@
 
 ghost use Rattle.std.specs.Prelude.{◌≡◌, ◌≤◌, ◌+◌, map, length, drop, OnOk, OnErr, IsErrOf};
 ghost use Rattle.mx_io.specs.Faults.{Rose};
-ghost use Rattle.mx_legal.specs.Legal.{IsLegal};
+ghost use Rattle.mx_transcript.specs.Legal.{IsLegal};
 ghost use Rattle.mx_script.specs.declared.lines.Line.TheVariants.{Ask};
 ghost use Rattle.mx_show.specs.Lines.{GainsLines};
 ghost use Rattle.mx_show.specs.Printing.{AreAsLong, PrintsLines, PrintsProcesses};
@@ -15,10 +15,10 @@ use crate::judging::{Accesses, judge_all};
 use crate::telling::Teller;
 use adding::{add_heading, add_opening, add_request_line, add_script_line};
 use mx_io::{Sink, WriteFault, write_all};
-use mx_legal::{Transcript, Transcripts};
 use mx_request::{Entrant, Request};
 use mx_script::{Line, Script, Session};
 use mx_state::Journal;
+use mx_transcript::{Transcript, Transcripts};
 use std::alloc::Global;
 
 /// More bytes than these are sent before more are added.
@@ -46,7 +46,7 @@ pub fn show_lines<K: Sink>(
     let parts = transcripts.items();
     let mut out = Vec::new(alloc);
     add_opening(&mut out, entrants.len(), journal.items().len())?;
-    let mut teller = Teller::new(journal, &accesses, 0);
+    let mut teller = Teller::new(alloc, journal, &accesses, 0);
     let setup = session.setup().items();
     print_setup(alloc, setup, &parts[0], &mut teller, &mut out, sink)?;
     let told = Told {
@@ -113,7 +113,7 @@ fn print_processes<K: Sink>(
     for (i, entrant) in entrants.iter().enumerate() {
         let process = i as u8 + 1;
         add_heading(out, process, entrant)?;
-        let mut teller = Teller::new(told.journal, told.accesses, process);
+        let mut teller = Teller::new(alloc, told.journal, told.accesses, process);
         let script = scripts[i].items();
         print_script(alloc, script, &transcripts[i + 1], &mut teller, out, sink)?;
     }

@@ -4,11 +4,11 @@ ghost use Rattle.std.specs.Prelude.{◌≡◌, ◌≤◌, length};
 ghost use Rattle.std.specs.Option.{option_map};
 
 use mx_acl::Modes;
-use mx_legal::Element;
 use mx_name::AclId;
 use mx_script::Session;
 use mx_sdw::Desc;
 use mx_state::{Changes, Entry, State};
+use mx_transcript::Element;
 use std::alloc::{AllocError, Global};
 use std::marker::Model;
 
@@ -69,7 +69,7 @@ impl<'a> Replay<'a> {
     ghost use Rattle.mx_show.specs.Judging.{IsAccess};
     ghost use Rattle.mx_show.specs.Replays.{Replayed, replayed, IsSameJournal};
     ghost use Rattle.std.specs.Prelude.{◌≡◌, ◌≤◌, ◌<◌, ◌+◌, length, min, IfOk, IsTrue, OnOk};
-    ghost use Rattle.mx_legal.specs.Opened.{opening_of};
+    ghost use Rattle.mx_transcript.specs.Opened.{opening_of};
     ghost use Rattle.mx_state.specs.History.{IsRight};
 
     /// Before the first entry of a right journal of the session.

@@ -3,7 +3,7 @@
 ghost use Rattle.std.specs.Prelude.{◌≡◌};
 ghost use Rattle.mx_show.specs.Sources.{source};
 
-use mx_legal::Outcome;
+use mx_transcript::Outcome;
 
 /// A store: whose it is, and the point at which it was made.
 #[derive(Clone, Copy)]

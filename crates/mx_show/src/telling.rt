@@ -1,5 +1,6 @@
 //! What the lines of one process came to, line by line.
 
+use crate::gates::Gates;
 use crate::judging::{Accesses, FIRST_RING};
 use crate::parts::Part::{self, Decimal, Octal, Place, Text};
 use crate::parts::{NOTHING, add_parts, add_sentences, ring};
@@ -9,10 +10,10 @@ use crate::sources::source_of;
 use crate::words::{
     access_word, add_access, add_lack, add_reply, extent, kind_word, standing, walk_words,
 };
-use mx_legal::{Event, Event2, Kind, Outcome, Result2, entry_at};
 use mx_ptr::{Pointer, is_link};
 use mx_sdw::{Denial, DescKind, Ring, Word};
 use mx_state::Journal;
+use mx_transcript::{Element, Event, Event2, Kind, Outcome, Result2, entry_at};
 use std::alloc::{AllocError, Global};
 
 /// Tells of one process after another, what each of its lines came to.
@@ -22,18 +23,25 @@ pub(crate) struct Teller<'a> {
     accesses: &'a Accesses,
     process: u8,
     ring: u8,
+    gates: Gates,
     judged: usize,
     changed: usize,
 }
 
 impl<'a> Teller<'a> {
     /// Before the first line of a process.
-    pub(crate) fn new(journal: &'a Journal, accesses: &'a Accesses, process: u8) -> Teller<'a> {
+    pub(crate) fn new(
+        alloc: Global,
+        journal: &'a Journal,
+        accesses: &'a Accesses,
+        process: u8,
+    ) -> Teller<'a> {
         Teller {
             journal,
             accesses,
             process,
             ring: FIRST_RING,
+            gates: Gates::new(alloc, FIRST_RING),
             judged: 0,
             changed: 0,
         }
@@ -48,12 +56,13 @@ impl<'a> Teller<'a> {
         events: &[Event2],
         ends: Result2,
     ) -> Result<(), AllocError> {
-        let mut denied = false;
+        let mut last = None;
         for event in events {
             self.add_event(alloc, out, event)?;
-            denied = is_denied(event);
+            last = element_of(event);
         }
-        self.add_result(out, set, &ends, denied)
+        self.add_result(out, set, &ends, last)?;
+        self.add_gates(out, &ends, last)
     }
 
     // Adds an event.
@@ -128,7 +137,7 @@ impl<'a> Teller<'a> {
         out: &mut String,
         set: Option<Word>,
         ends: &Result2,
-        denied: bool,
+        last: Option<&Element>,
     ) -> Result<(), AllocError> {
         match ends {
             Result2::Done => match set {
@@ -138,21 +147,48 @@ impl<'a> Teller<'a> {
             Result2::A(_) | Result2::Refused => Ok(()),
             Result2::Pr { n, pointer } => add_parts(out, &register_words(*n, pointer)),
             Result2::Moved { ring, procedure } => {
-                let from = self.ring;
-                self.ring = ring.number();
-                add_parts(out, &move_words(from, *ring, procedure))
+                add_parts(out, &move_words(self.ring, *ring, procedure))
             }
-            Result2::Denied(denial) => add_parts(out, &denied_words(*denial, denied)),
+            Result2::Denied(denial) => add_parts(out, &denied_words(*denial, was_denied(last))),
             Result2::HistoryFull => out.push_str("the journal is full: nothing is entered\n"),
+        }
+    }
+
+    // Adds what a call or return that ended a line did to the return gates, and goes on in the ring that it entered.
+    fn add_gates(
+        &mut self,
+        out: &mut String,
+        ends: &Result2,
+        last: Option<&Element>,
+    ) -> Result<(), AllocError> {
+        let Some(element) = last else {
+            return Ok(());
+        };
+        match ends {
+            Result2::Moved { ring, procedure } => {
+                let (from, to) = (self.ring, ring.number());
+                self.ring = to;
+                self.gates.add_moved(out, element.kind, from, to, procedure)
+            }
+            Result2::Denied(_) => self.gates.add_denied(out, element, self.ring),
+            _ => Ok(()),
         }
     }
 }
 
-// Whether an event is a reference that was denied.
-fn is_denied(event: &Event2) -> bool {
+// The reference that an event is, if it is one.
+fn element_of(event: &Event2) -> Option<&Element> {
     match event {
-        Event2::Core(Event::Seen(element)) => matches!(element.outcome, Outcome::Denied(_)),
-        Event2::Core(Event::Missing { .. }) | Event2::Entry(_) => false,
+        Event2::Core(Event::Seen(element)) => Some(element),
+        Event2::Core(Event::Missing { .. }) | Event2::Entry(_) => None,
+    }
+}
+
+// Whether it is a reference that was denied.
+fn was_denied(last: Option<&Element>) -> bool {
+    match last {
+        Some(element) => matches!(element.outcome, Outcome::Denied(_)),
+        None => false,
     }
 }
 
@@ -313,10 +349,11 @@ fn add_beside(
     }
 }
 
-// Adds the other way in, which is open up to the second bracket.
+// Adds the other way in, which is open in the rings from the first to the second bracket.
 fn add_way_in(out: &mut String, judged: &Judged) -> Result<(), AllocError> {
-    let r2 = judged.desc.brackets().r2();
-    if judged.element.ring.number() > r2.number() {
+    let brackets = judged.desc.brackets();
+    let ring = judged.element.ring.number();
+    if ring < brackets.r1().number() || ring > brackets.r2().number() {
         return Ok(());
     }
     let way = Text("; the other way in is a call from within segment ");

@@ -4,11 +4,11 @@ use crate::parts::Part::{self, Decimal, Octal, Place, Text};
 use crate::parts::{NOTHING, add_parts, add_printable, add_sentences, ring};
 use crate::refusals::refusal_words;
 use crate::replays::Judged;
-use mx_legal::Kind;
 use mx_name::AclId;
 use mx_request::{Known, Reply};
 use mx_sdw::{Aim, Denial, Desc, DescKind};
 use mx_state::Entry;
+use mx_transcript::Kind;
 use std::alloc::{AllocError, Global};
 
 /// The stacks of a process have the numbers below this one.

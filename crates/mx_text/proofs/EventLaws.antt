@@ -1,5 +1,5 @@
 -- Laws of the lines of transcripts: an event that fits is found again in the fields of its line.
-use Rattle.std.proofs.Common.{◌≡◌, ℕ, ◌==◌, Bool, true, false, if◌then◌else◌, not, ◌&&◌, List, [], ◌∷◌, ◌++◌, Option, Some, None, codes, refl, sym, subst, append_assoc}
+use Rattle.std.proofs.Common.{◌≡◌, ℕ, ◌==◌, Bool, true, false, if◌then◌else◌, not, ◌&&◌, List, [], ◌∷◌, ◌++◌, Option, Some, None, codes, refl, subst, arith, append_assoc}
 use Rattle.std.proofs.lemmas.Bool.{eqb-true}
 use Rattle.std.specs.Cmp.Lexicographic.{pointwise}
 use Rattle.std.specs.Fmt.{decimal}
@@ -19,19 +19,22 @@ use Rattle.mx_core.specs.declared.elements.Kind.{Kind}
 use Rattle.mx_core.specs.declared.elements.Kind.TheVariants as kind
 use Rattle.mx_core.specs.declared.elements.Outcome.{Outcome}
 use Rattle.mx_core.specs.declared.elements.Outcome.TheVariants as outcome
-use Rattle.mx_legal.specs.declared.transcripts.Event2.{Event2}
-use Rattle.mx_legal.specs.declared.transcripts.Event2.TheVariants.{Core, Entry}
-use Rattle.mx_legal.specs.declared.transcripts.Result2.{Result2}
-use Rattle.mx_legal.specs.declared.transcripts.Result2.TheVariants as result
+use Rattle.mx_transcript.specs.declared.transcripts.Event2.{Event2}
+use Rattle.mx_transcript.specs.declared.transcripts.Event2.TheVariants.{Core, Entry}
+use Rattle.mx_transcript.specs.declared.transcripts.Result2.{Result2}
+use Rattle.mx_transcript.specs.declared.transcripts.Result2.TheVariants as result
 use Rattle.mx_ptr.specs.Pointers.{PointerParts}
 use Rattle.mx_request.proofs.ForeignLaws.{free_append}
 use Rattle.mx_request.proofs.ReplyLaws.{IsApart, decimal_again, decimal_free, octal_free}
 use Rattle.mx_request.proofs.StepLaws.{both, both_hold, fails}
 use Rattle.mx_request.specs.Fields.{address_text}
+use Rattle.mx_request.specs.RequestTexts.{is_ring, is_segno, is_word, is_word_address}
+use Rattle.mx_script.specs.Sessions.{is_register}
 use Rattle.mx_request.specs.Decimals.{decimal_after}
 use Rattle.mx_request.specs.Steps.{◌>>=◌}
 use Rattle.mx_text.specs.RunText.{kind_text}
-use Rattle.mx_text.specs.Spelling.{is_number, fits_element, fits_event, fits_outcome, fits_result}
+use Rattle.mx_spelling.specs.Spelling.{fits_element, fits_event, fits_outcome, fits_pointer, fits_result, is_entry_number, is_process}
+use Rattle.mx_text.proofs.NumberLaws.{is_number, at_most_number}
 
 -- the fields of each line
 abbrev pub outcome_fields : Outcome → List (List ℕ)
@@ -178,32 +181,40 @@ event_at (word ∷ fields) = by_kind word (kind_at word) fields
 
 outcome_again : (came : Outcome) → fits_outcome came ≡ true → outcome_at (outcome_fields came) ≡ Some came
 outcome_again (outcome.Read value writer stamp) e =
-    let f = both (is_number writer) (is_number stamp) e in
-    rw (octal_value-octal value, decimal_again writer f.0, decimal_again stamp f.1) refl
+    let f = both (is_word value) (is_process writer && is_entry_number stamp) e in
+    let g = both (is_process writer) (is_entry_number stamp) f.1 in
+    rw (
+      octal_value-octal value,
+      decimal_again writer (at_most_number writer 15 (omega arith) g.0),
+      decimal_again stamp (at_most_number stamp 262143 (omega arith) g.1),
+    ) refl
 outcome_again (outcome.Written value) e = rw (octal_value-octal value) refl
-outcome_again (outcome.Entered ring) e = rw (decimal_again ring e) refl
+outcome_again (outcome.Entered ring) e = rw (decimal_again ring (at_most_number ring 7 (omega arith) e)) refl
 outcome_again (outcome.Denied denial) e = rw (denial_again denial) refl
 
 element_again : (e : Element) → fits_element e ≡ true → element_at e.kind
     (address_text e.segno e.word ∷ codes "ring" ∷ decimal e.ring ∷ codes "point" ∷ decimal e.point ∷ outcome_fields e.outcome)
     ≡ Some (Core (Seen e))
 element_again e fits =
-    let f = both (is_number e.ring) (is_number e.point && fits_outcome e.outcome) fits in
-    let g = both (is_number e.point) (fits_outcome e.outcome) f.1 in
+    let a = both (is_word_address e.segno e.word) (is_ring e.ring && (is_entry_number e.point && fits_outcome e.outcome)) fits in
+    let f = both (is_ring e.ring) (is_entry_number e.point && fits_outcome e.outcome) a.1 in
+    let g = both (is_entry_number e.point) (fits_outcome e.outcome) f.1 in
     rw (
       append_assoc (octal e.segno) (124 ∷ []) (octal e.word),
       cut_again 124 (octal e.segno) (octal e.word) (octal_free 124 e.segno refl),
       outcome_again e.outcome g.1,
       octal_value-octal e.segno,
       octal_value-octal e.word,
-      decimal_again e.ring f.0,
-      decimal_again e.point g.0,
+      decimal_again e.ring (at_most_number e.ring 7 (omega arith) f.0),
+      decimal_again e.point (at_most_number e.point 262143 (omega arith) g.0),
     ) refl
 
 pub event_again : (event : Event2) → fits_event event ≡ true → event_at (event_fields event) ≡ Some event
 event_again (Core (Seen e)) fits = rw (kind_again e.kind) (element_again e fits)
-event_again (Core (Missing segno by)) fits = rw (octal_value-octal segno, decimal_again by fits) refl
-event_again (Entry number) fits = rw (decimal_again number fits) refl
+event_again (Core (Missing segno by)) fits =
+    let f = both (is_segno segno) (is_entry_number by) fits in
+    rw (octal_value-octal segno, decimal_again by (at_most_number by 262143 (omega arith) f.1)) refl
+event_again (Entry number) fits = rw (decimal_again number (at_most_number number 262143 (omega arith) fits)) refl
 
 abbrev pub result_at : List (List ℕ) → Option Result2
 result_at (word ∷ []) =
@@ -244,23 +255,24 @@ pub result_again : (ends : Result2) → fits_result ends ≡ true → result_at 
 result_again result.Done e = refl
 result_again (result.A word) e = rw (octal_value-octal word) refl
 result_again (result.Pr n p) e =
-    let f = both (is_number n) (is_number p.ring && not p.further) e in
-    let g = both (is_number p.ring) (not p.further) f.1 in
+    let f = both (is_register n) (fits_pointer p) e in
+    let g = both (is_ring p.ring) (is_word_address p.segno p.word && not p.further) f.1 in
+    let h = both (is_word_address p.segno p.word) (not p.further) g.1 in
     rw (
       append_assoc (octal p.segno) (124 ∷ []) (octal p.word),
       cut_again 124 (octal p.segno) (octal p.word) (octal_free 124 p.segno refl),
-      decimal_again n f.0,
-      decimal_again p.ring g.0,
+      decimal_again n (at_most_number n 7 (omega arith) f.0),
+      decimal_again p.ring (at_most_number p.ring 7 (omega arith) g.0),
       octal_value-octal p.segno,
       octal_value-octal p.word,
-      ← fails p.further g.1,
+      ← fails p.further h.1,
     ) refl
 result_again (result.Moved ring p) e =
-    let f = both (is_number ring) ((p.ring == ring) && not p.further) e in
-    let g = both (p.ring == ring) (not p.further) f.1 in
-    let same : p.ring ≡ ring = eqb-true p.ring ring g.0 in
-    subst (λ (n : ℕ). result_at (result_fields (result.Moved n p)) ≡ Some (result.Moved n p)) same
-    (moved_again p (subst (λ (n : ℕ). is_number n ≡ true) (sym same) f.0) g.1)
+    let f = both (p.ring == ring) (fits_pointer p) e in
+    let g = both (is_ring p.ring) (is_word_address p.segno p.word && not p.further) f.1 in
+    let h = both (is_word_address p.segno p.word) (not p.further) g.1 in
+    subst (λ (n : ℕ). result_at (result_fields (result.Moved n p)) ≡ Some (result.Moved n p)) (eqb-true p.ring ring f.0)
+    (moved_again p (at_most_number p.ring 7 (omega arith) g.0) h.1)
 result_again (result.Denied denial) e = rw (denial_again denial) refl
 result_again result.Refused e = refl
 result_again result.HistoryFull e = refl
@@ -278,52 +290,58 @@ module _ (byte : ℕ) (apart : IsApart byte) (no_bar : (124 == byte) ≡ false) 
 
   outcome_free : (came : Outcome) → fits_outcome came ≡ true → list_all (is_free byte) (outcome_fields came) ≡ true
   outcome_free (outcome.Read value writer stamp) e =
-      let f = both (is_number writer) (is_number stamp) e in
+      let f = both (is_word value) (is_process writer && is_entry_number stamp) e in
+      let g = both (is_process writer) (is_entry_number stamp) f.1 in
       both_hold _ _ (word_free (codes "word") refl)
       (both_hold _ _ (octal_free byte value apart.no_octal)
       (both_hold _ _ (word_free (codes "from") refl)
-      (both_hold _ _ (decimal_free byte writer apart.no_digit f.0)
+      (both_hold _ _ (decimal_free byte writer apart.no_digit (at_most_number writer 15 (omega arith) g.0))
       (both_hold _ _ (word_free (codes "stamp") refl)
-      (both_hold _ _ (decimal_free byte stamp apart.no_digit f.1) refl)))))
+      (both_hold _ _ (decimal_free byte stamp apart.no_digit (at_most_number stamp 262143 (omega arith) g.1)) refl)))))
   outcome_free (outcome.Written value) e =
       both_hold _ _ (word_free (codes "word") refl) (both_hold _ _ (octal_free byte value apart.no_octal) refl)
   outcome_free (outcome.Entered ring) e =
-      both_hold _ _ (word_free (codes "enter") refl) (both_hold _ _ (decimal_free byte ring apart.no_digit e) refl)
+      both_hold _ _ (word_free (codes "enter") refl)
+      (both_hold _ _ (decimal_free byte ring apart.no_digit (at_most_number ring 7 (omega arith) e)) refl)
   outcome_free (outcome.Denied denial) e =
       both_hold _ _ (word_free (codes "denied") refl) (both_hold _ _ (word_free (denial_text denial) (denial_bytes denial)) refl)
 
   pub event_free : (event : Event2) → fits_event event ≡ true → list_all (is_free byte) (event_fields event) ≡ true
   event_free (Core (Seen e)) fits =
-      let f = both (is_number e.ring) (is_number e.point && fits_outcome e.outcome) fits in
-      let g = both (is_number e.point) (fits_outcome e.outcome) f.1 in
+      let a = both (is_word_address e.segno e.word) (is_ring e.ring && (is_entry_number e.point && fits_outcome e.outcome)) fits in
+      let f = both (is_ring e.ring) (is_entry_number e.point && fits_outcome e.outcome) a.1 in
+      let g = both (is_entry_number e.point) (fits_outcome e.outcome) f.1 in
       both_hold _ _ (word_free (kind_text e.kind) (kind_bytes e.kind))
       (both_hold _ _ (address_free e.segno e.word)
       (both_hold _ _ (word_free (codes "ring") refl)
-      (both_hold _ _ (decimal_free byte e.ring apart.no_digit f.0)
+      (both_hold _ _ (decimal_free byte e.ring apart.no_digit (at_most_number e.ring 7 (omega arith) f.0))
       (both_hold _ _ (word_free (codes "point") refl)
-      (both_hold _ _ (decimal_free byte e.point apart.no_digit g.0) (outcome_free e.outcome g.1))))))
+      (both_hold _ _ (decimal_free byte e.point apart.no_digit (at_most_number e.point 262143 (omega arith) g.0)) (outcome_free e.outcome g.1))))))
   event_free (Core (Missing segno by)) fits =
+      let f = both (is_segno segno) (is_entry_number by) fits in
       both_hold _ _ (word_free (codes "missing") refl)
       (both_hold _ _ (octal_free byte segno apart.no_octal)
-      (both_hold _ _ (word_free (codes "by") refl) (both_hold _ _ (decimal_free byte by apart.no_digit fits) refl)))
+      (both_hold _ _ (word_free (codes "by") refl) (both_hold _ _ (decimal_free byte by apart.no_digit (at_most_number by 262143 (omega arith) f.1)) refl)))
   event_free (Entry number) fits =
-      both_hold _ _ (word_free (codes "entry") refl) (both_hold _ _ (decimal_free byte number apart.no_digit fits) refl)
+      both_hold _ _ (word_free (codes "entry") refl) (both_hold _ _ (decimal_free byte number apart.no_digit (at_most_number number 262143 (omega arith) fits)) refl)
 
   pub result_free : (ends : Result2) → fits_result ends ≡ true → list_all (is_free byte) (result_fields ends) ≡ true
   result_free result.Done e = both_hold _ _ (word_free (codes "done") refl) refl
   result_free (result.A word) e =
       both_hold _ _ (word_free (codes "a") refl) (both_hold _ _ (octal_free byte word apart.no_octal) refl)
   result_free (result.Pr n p) e =
-      let f = both (is_number n) (is_number p.ring && not p.further) e in
-      let g = both (is_number p.ring) (not p.further) f.1 in
+      let f = both (is_register n) (fits_pointer p) e in
+      let g = both (is_ring p.ring) (is_word_address p.segno p.word && not p.further) f.1 in
       both_hold _ _ (word_free (codes "pr") refl)
-      (both_hold _ _ (decimal_free byte n apart.no_digit f.0)
-      (both_hold _ _ (decimal_free byte p.ring apart.no_digit g.0)
+      (both_hold _ _ (decimal_free byte n apart.no_digit (at_most_number n 7 (omega arith) f.0))
+      (both_hold _ _ (decimal_free byte p.ring apart.no_digit (at_most_number p.ring 7 (omega arith) g.0))
       (both_hold _ _ (address_free p.segno p.word) refl)))
   result_free (result.Moved ring p) e =
-      let f = both (is_number ring) ((p.ring == ring) && not p.further) e in
+      let f = both (p.ring == ring) (fits_pointer p) e in
+      let g = both (is_ring p.ring) (is_word_address p.segno p.word && not p.further) f.1 in
+      let low = subst (λ (n : ℕ). is_ring n ≡ true) (eqb-true p.ring ring f.0) g.0 in
       both_hold _ _ (word_free (codes "ring") refl)
-      (both_hold _ _ (decimal_free byte ring apart.no_digit f.0)
+      (both_hold _ _ (decimal_free byte ring apart.no_digit (at_most_number ring 7 (omega arith) low))
       (both_hold _ _ (word_free (codes "at") refl)
       (both_hold _ _ (address_free p.segno p.word) refl)))
   result_free (result.Denied denial) e =

@@ -1,3 +1,4 @@
+mod NumberLaws
 pub mod PrintingLaws
 pub mod TailLaws
 pub mod EventLaws

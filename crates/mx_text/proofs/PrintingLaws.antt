@@ -10,7 +10,7 @@ use Rattle.mx_state.specs.declared.journal.Entry.{Entry}
 use Rattle.mx_io.specs.Bytes.{Appends, AppendsPart}
 use Rattle.mx_text.specs.Printing.{IsSent, IsCutShort}
 use Rattle.mx_text.specs.RunText.{entry_text, entries_text, step_text, steps_text, parts_text}
-use Rattle.mx_legal.specs.Transcripts.{Step}
+use Rattle.mx_transcript.specs.Transcripts.{Step}
 
 -- what holds anyhow holds on an error
 pub on_err : {T E P : Type 0} (r : Result T E) → P → OnErr r P

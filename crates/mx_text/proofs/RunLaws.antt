@@ -15,11 +15,11 @@ use Rattle.mx_core.specs.declared.elements.Kind.{Kind}
 use Rattle.mx_core.specs.declared.elements.Kind.TheVariants as kind
 use Rattle.mx_core.specs.declared.elements.Outcome.{Outcome}
 use Rattle.mx_core.specs.declared.elements.Outcome.TheVariants as outcome
-use Rattle.mx_legal.specs.declared.transcripts.Event2.{Event2}
-use Rattle.mx_legal.specs.declared.transcripts.Event2.TheVariants.{Core, Entry}
-use Rattle.mx_legal.specs.declared.transcripts.Result2.{Result2}
-use Rattle.mx_legal.specs.declared.transcripts.Result2.TheVariants as result
-use Rattle.mx_legal.specs.Transcripts.{Step}
+use Rattle.mx_transcript.specs.declared.transcripts.Event2.{Event2}
+use Rattle.mx_transcript.specs.declared.transcripts.Event2.TheVariants.{Core, Entry}
+use Rattle.mx_transcript.specs.declared.transcripts.Result2.{Result2}
+use Rattle.mx_transcript.specs.declared.transcripts.Result2.TheVariants as result
+use Rattle.mx_transcript.specs.Transcripts.{Step}
 use Rattle.mx_request.proofs.AgainLaws.{one_request}
 use Rattle.mx_request.proofs.ForeignLaws.{equals_free, free_append, line_free, newline_free}
 use Rattle.mx_request.proofs.LineLaws.{same_cut, same_fields}
@@ -29,13 +29,16 @@ use Rattle.mx_request.specs.declared.replies.Reply.{Reply}
 use Rattle.mx_request.specs.declared.requests.Request.{Request}
 use Rattle.mx_request.specs.Fields.{address_text, line_of}
 use Rattle.mx_request.specs.ReplyTexts.{fits_reply, reply_text}
-use Rattle.mx_request.specs.RequestTexts.{fits_request, request_text}
+use Rattle.mx_request.proofs.FieldLaws.{at_most}
+use Rattle.mx_request.specs.RequestTexts.{fits_request, is_ring, request_text}
 use Rattle.mx_script.proofs.ReadingLaws.{lines_text-append}
 use Rattle.mx_script.specs.SessionTexts.{lines_text}
 use Rattle.mx_state.specs.declared.journal.Entry as journaled
 use Rattle.mx_text.proofs.EventLaws.{event_again, event_at, event_fields, event_free, result_again, result_at, result_fields, result_free, word_free}
 use Rattle.mx_text.specs.RunText.{element_text, entries_text, entry_text, event_text, events_text, kind_text, parts_text, register_text, result_text, run_text, step_text, steps_text}
-use Rattle.mx_text.specs.Spelling.{IsSpellable, OneRunLaw, fits_entry, fits_event, fits_result, fits_step, is_number}
+use Rattle.mx_spelling.specs.Spelling.{IsSpellable, bounds_reply, fits_entry, fits_event, fits_result, fits_step, is_line_number, is_process}
+use Rattle.mx_text.proofs.NumberLaws.{is_number, at_most_number, line_number}
+use Rattle.mx_text.specs.Spelling.{OneRunLaw}
 
 both_of : {A : Type 0} (x y : A) (xs ys : List A) → x ≡ y → xs ≡ ys → x ∷ xs ≡ y ∷ ys
 both_of x y xs ys e f = cc
@@ -390,13 +393,13 @@ one_steps (x ∷ xs) [] a b e = absurd (not_nil (map event_line x.1) (end_line x
 one_steps (x ∷ xs) (y ∷ ys) a b e =
     let f = both (fits_step x) (list_all fits_step xs) a in
     let g = both (fits_step y) (list_all fits_step ys) b in
-    let fx = both (is_number x.0) (list_all fits_event x.1 && fits_result x.2) f.0 in
-    let gy = both (is_number y.0) (list_all fits_event y.1 && fits_result y.2) g.0 in
+    let fx = both (is_line_number x.0) (list_all fits_event x.1 && fits_result x.2) f.0 in
+    let gy = both (is_line_number y.0) (list_all fits_event y.1 && fits_result y.2) g.0 in
     let fe = both (list_all fits_event x.1) (fits_result x.2) fx.1 in
     let ge = both (list_all fits_event y.1) (fits_result y.2) gy.1 in
     let parts = split_marked is_end (map event_line x.1) (map event_line y.1) (end_line x) (end_line y) (steps_lines xs) (steps_lines ys)
     (all_lines (λ z. not (is_end z)) no_end x.1) (all_lines (λ z. not (is_end z)) no_end y.1) refl refl e in
-    let ends = one_end x.0 y.0 x.2 y.2 fx.0 gy.0 fe.1 ge.1 parts.marked in
+    let ends = one_end x.0 y.0 x.2 y.2 (line_number x.0 fx.0) (line_number y.0 gy.0) fe.1 ge.1 parts.marked in
     let events = same_map event_line fits_event one_event x.1 y.1 fe.0 ge.0 parts.fronts in
     joined x y xs ys (same_step x y ends.0 events ends.1) (one_steps xs ys f.1 g.1 parts.rests)
   where
@@ -459,25 +462,39 @@ last_cut xs ys e = append_cancel_right xs ys (32 ∷ []) e
 behind_blank : (xs ys : List ℕ) → 32 ∷ xs ≡ 32 ∷ ys → xs ≡ ys
 behind_blank xs ys e = cc
 
+record HasParts (entry : journaled.Entry) : Type 0 where
+  process : is_number entry.process ≡ true
+  ring : is_number entry.ring ≡ true
+  request : fits_request entry.request ≡ true
+  reply : fits_reply entry.reply ≡ true
+
+entry_parts : (entry : journaled.Entry) → fits_entry entry ≡ true → HasParts entry
+entry_parts entry e =
+    let f = both (is_process entry.process) (is_ring entry.ring && (fits_request entry.request && (fits_reply entry.reply && bounds_reply entry.reply))) e in
+    let g = both (is_ring entry.ring) (fits_request entry.request && (fits_reply entry.reply && bounds_reply entry.reply)) f.1 in
+    let h = both (fits_request entry.request) (fits_reply entry.reply && bounds_reply entry.reply) g.1 in
+    record {
+      process = at_most_number entry.process 15 (omega arith) f.0;
+      ring = at_most_number entry.ring 7 (omega arith) g.0;
+      request = h.0;
+      reply = (both (fits_reply entry.reply) (bounds_reply entry.reply) h.1).0;
+    }
+
 one_entry : (number : ℕ) (x y : journaled.Entry) → fits_entry x ≡ true → fits_entry y ≡ true → entry_line number x ≡ entry_line number y → x ≡ y
 one_entry number x y e f same =
-    let ex = both (is_number x.process) (is_number x.ring && (fits_request x.request && fits_reply x.reply)) e in
-    let fy = both (is_number y.process) (is_number y.ring && (fits_request y.request && fits_reply y.reply)) f in
-    let ex1 = both (is_number x.ring) (fits_request x.request && fits_reply x.reply) ex.1 in
-    let fy1 = both (is_number y.ring) (fits_request y.request && fits_reply y.reply) fy.1 in
-    let ex2 = both (fits_request x.request) (fits_reply x.reply) ex1.1 in
-    let fy2 = both (fits_request y.request) (fits_reply y.reply) fy1.1 in
+    let ex = entry_parts x e in
+    let fy = entry_parts y f in
     let a = behind_blank _ _ (append_cancel_left (decimal number) _ _ same) in
-    let b = same_cut 32 (decimal x.process) (decimal y.process) _ _ (decimal_free 32 x.process refl ex.0) (decimal_free 32 y.process refl fy.0) a in
-    let c = same_cut 32 (decimal x.ring) (decimal y.ring) _ _ (decimal_free 32 x.ring refl ex1.0) (decimal_free 32 y.ring refl fy1.0) b.1 in
+    let b = same_cut 32 (decimal x.process) (decimal y.process) _ _ (decimal_free 32 x.process refl ex.process) (decimal_free 32 y.process refl fy.process) a in
+    let c = same_cut 32 (decimal x.ring) (decimal y.ring) _ _ (decimal_free 32 x.ring refl ex.ring) (decimal_free 32 y.ring refl fy.ring) b.1 in
     let d = same_cut 61 (request_text x.request ++ 32 ∷ []) (request_text y.request ++ 32 ∷ []) (32 ∷ reply_text x.reply) (32 ∷ reply_text y.reply)
-    (free_append 61 (request_text x.request) (32 ∷ []) (equals_free x.request ex2.0) refl)
-    (free_append 61 (request_text y.request) (32 ∷ []) (equals_free y.request fy2.0) refl)
+    (free_append 61 (request_text x.request) (32 ∷ []) (equals_free x.request ex.request) refl)
+    (free_append 61 (request_text y.request) (32 ∷ []) (equals_free y.request fy.request) refl)
     (append_assoc (request_text x.request) (32 ∷ []) (61 ∷ 32 ∷ reply_text x.reply) ∙ c.1
     ∙ sym (append_assoc (request_text y.request) (32 ∷ []) (61 ∷ 32 ∷ reply_text y.reply))) in
-    same_entry x y (one_number x.process y.process ex.0 fy.0 b.0) (one_number x.ring y.ring ex1.0 fy1.0 c.0)
-    (one_request x.request y.request ex2.0 fy2.0 (last_cut (request_text x.request) (request_text y.request) d.0))
-    (one_reply x.reply y.reply ex2.1 fy2.1 (behind_blank (reply_text x.reply) (reply_text y.reply) d.1))
+    same_entry x y (one_number x.process y.process ex.process fy.process b.0) (one_number x.ring y.ring ex.ring fy.ring c.0)
+    (one_request x.request y.request ex.request fy.request (last_cut (request_text x.request) (request_text y.request) d.0))
+    (one_reply x.reply y.reply ex.reply fy.reply (behind_blank (reply_text x.reply) (reply_text y.reply) d.1))
 
 one_journal : (number : ℕ) (xs ys : List journaled.Entry) (r s : List (List ℕ)) → length xs ≡ length ys → list_all fits_entry xs ≡ true
     → list_all fits_entry ys ≡ true → entries_lines number xs ++ r ≡ entries_lines number ys ++ s → (xs ≡ ys) × (r ≡ s)
@@ -512,11 +529,11 @@ steps_free : (steps : List Step) → list_all fits_step steps ≡ true → list_
 steps_free [] e = refl
 steps_free (step ∷ steps) e =
     let f = both (fits_step step) (list_all fits_step steps) e in
-    let g = both (is_number step.0) (list_all fits_event step.1 && fits_result step.2) f.0 in
+    let g = both (is_line_number step.0) (list_all fits_event step.1 && fits_result step.2) f.0 in
     let h = both (list_all fits_event step.1) (fits_result step.2) g.1 in
     list_all-append _ (map event_line step.1) (end_line step ∷ steps_lines steps)
     ∙ both_hold _ _ (event_lines_free step.1 h.0)
-    (both_hold _ _ (line_free 10 (end_fields step.0 step.2) refl (end_free 10 newline refl step.0 step.2 g.0 h.1)) (steps_free steps f.1))
+    (both_hold _ _ (line_free 10 (end_fields step.0 step.2) refl (end_free 10 newline refl step.0 step.2 (line_number step.0 g.0) h.1)) (steps_free steps f.1))
 
 parts_free : (p : ℕ) (parts : List (List Step)) → p + length parts < 2 ^ 64 → list_all (list_all fits_step) parts ≡ true
     → list_all (is_free 10) (parts_lines p parts) ≡ true
@@ -532,25 +549,23 @@ entries_free : (number : ℕ) (entries : List journaled.Entry) → number + leng
 entries_free number [] h e = refl
 entries_free number (entry ∷ entries) h e =
     let f = both (fits_entry entry) (list_all fits_entry entries) e in
-    let g = both (is_number entry.process) (is_number entry.ring && (fits_request entry.request && fits_reply entry.reply)) f.0 in
-    let k = both (is_number entry.ring) (fits_request entry.request && fits_reply entry.reply) g.1 in
-    let m = both (fits_request entry.request) (fits_reply entry.reply) k.1 in
+    let g = entry_parts entry f.0 in
     both_hold _ _ (line_free 10 (decimal number ∷ decimal entry.process ∷ decimal entry.ring ∷ request_text entry.request ∷ codes "="
     ∷ reply_text entry.reply ∷ []) refl
     (both_hold _ _ (decimal_free 10 number refl (small number (omega (arith, h))))
-    (both_hold _ _ (decimal_free 10 entry.process refl g.0)
-    (both_hold _ _ (decimal_free 10 entry.ring refl k.0)
-    (both_hold _ _ (newline_free entry.request m.0)
-    (both_hold _ _ refl (both_hold _ _ (reply_newline_free entry.reply m.1) refl)))))))
+    (both_hold _ _ (decimal_free 10 entry.process refl g.process)
+    (both_hold _ _ (decimal_free 10 entry.ring refl g.ring)
+    (both_hold _ _ (newline_free entry.request g.request)
+    (both_hold _ _ refl (both_hold _ _ (reply_newline_free entry.reply g.reply) refl)))))))
     (entries_free (number + 1) entries (omega (arith, h)) f.1)
 
 run_free : (journal : List journaled.Entry) (transcripts : List (List Step)) → IsSpellable journal transcripts
     → list_all (is_free 10) (run_lines journal transcripts) ≡ true
 run_free journal transcripts is =
-    both_hold _ _ (free_append 10 (codes "journal ") (decimal (length journal)) refl (decimal_free 10 (length journal) refl is.count))
+    both_hold _ _ (free_append 10 (codes "journal ") (decimal (length journal)) refl (decimal_free 10 (length journal) refl (at_most_number (length journal) 262143 (omega arith) is.count)))
     (list_all-append _ (entries_lines 1 journal) (parts_lines 0 transcripts)
-    ∙ both_hold _ _ (entries_free 1 journal (omega (arith, below (length journal) is.count)) is.entries)
-    (parts_free 0 transcripts (omega (arith, below (length transcripts) is.parts)) is.steps))
+    ∙ both_hold _ _ (entries_free 1 journal (omega (arith, at_most (length journal) 262143 is.count)) is.entries)
+    (parts_free 0 transcripts (omega (arith, at_most (length transcripts) 16 is.parts)) is.steps))
 
 -- two runs that have one text are the same
 pub one_run : OneRunLaw
@@ -560,6 +575,7 @@ one_run one other transcripts others a b e =
     let count = first_of (count_line (length one)) (count_line (length other)) _ _ lines in
     let rest = rest_of (count_line (length one)) (count_line (length other)) _ _ lines in
     let same : length one ≡ length other
-    = one_number (length one) (length other) a.count b.count (append_cancel_left (codes "journal ") _ _ count) in
+    = one_number (length one) (length other) (at_most_number (length one) 262143 (omega arith) a.count)
+    (at_most_number (length other) 262143 (omega arith) b.count) (append_cancel_left (codes "journal ") _ _ count) in
     let journals = one_journal 1 one other (parts_lines 0 transcripts) (parts_lines 0 others) same a.entries b.entries rest in
     (journals.0, one_parts 0 transcripts others a.steps b.steps journals.1)

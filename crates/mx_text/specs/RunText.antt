@@ -11,14 +11,14 @@ use Rattle.mx_core.specs.declared.elements.Outcome.{Outcome}
 use Rattle.mx_core.specs.declared.elements.Outcome.TheVariants as outcome
 use Rattle.mx_ptr.specs.Pointers.{PointerParts}
 use Rattle.mx_state.specs.declared.journal.Entry as journaled
-use Rattle.mx_legal.specs.declared.transcripts.Event2.{Event2}
-use Rattle.mx_legal.specs.declared.transcripts.Event2.TheVariants.{Core, Entry}
-use Rattle.mx_legal.specs.declared.transcripts.Result2.{Result2}
-use Rattle.mx_legal.specs.declared.transcripts.Result2.TheVariants as result
+use Rattle.mx_transcript.specs.declared.transcripts.Event2.{Event2}
+use Rattle.mx_transcript.specs.declared.transcripts.Event2.TheVariants.{Core, Entry}
+use Rattle.mx_transcript.specs.declared.transcripts.Result2.{Result2}
+use Rattle.mx_transcript.specs.declared.transcripts.Result2.TheVariants as result
 use Rattle.mx_request.specs.Fields.{address_text}
 use Rattle.mx_request.specs.ReplyTexts.{reply_text}
 use Rattle.mx_request.specs.RequestTexts.{request_text}
-use Rattle.mx_legal.specs.Transcripts.{Step}
+use Rattle.mx_transcript.specs.Transcripts.{Step}
 
 -- `NUMBER PROCESS RING REQUEST = REPLY`, and a newline
 abbrev pub entry_text : ℕ → journaled.Entry → List ℕ

@@ -2,7 +2,7 @@
 //!
 //! The definition in `specs/RunText.antt` says once what the text of a run is. [`print`] sends it to a sink, at most one piece
 //! held at a time, so that the memory taken does not grow with the text. Stands on `mx_io` (sinks), `mx_request` (the texts of
-//! requests and replies), `mx_state` (the journal) and `mx_legal` (transcripts).
+//! requests and replies), `mx_state` (the journal) and `mx_transcript` (transcripts).
 #![tactic(auto)]
 
 mod laws;

@@ -1,6 +1,6 @@
 -- What one run of a session comes to: what it prints, or another status.
 use Rattle.std.specs.Prelude.{◌≡◌, ◌≢◌, ◌⊎◌, ℕ, List, [], ◌∷◌, Option, Some, codes}
-use Rattle.mx_legal.specs.Transcripts.{Step}
+use Rattle.mx_transcript.specs.Transcripts.{Step}
 use Rattle.mx_run.specs.Done as done
 use Rattle.mx_run.specs.Done.{IsDone, IsDrilled, IsDoneBy}
 use Rattle.mx_run.specs.Statuses.{IsStopped, IsDueStatus}

@@ -7,11 +7,11 @@ ghost use Rattle.mx_text.specs.RunText.{run_text};
 ghost use Rattle.session_files.specs.Runs.{IsRunOf, IsPrintedOf};
 
 use mx_io::MemorySink;
-use mx_legal::Transcripts;
 use mx_proc::{Bench, Stepped};
 use mx_script::{Session, SessionError, read_session};
 use mx_state::Journal;
 use mx_text::{TextError, print};
+use mx_transcript::Transcripts;
 use std::alloc::{AllocError, Global};
 
 /// The greatest size of a session text, in bytes.

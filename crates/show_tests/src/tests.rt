@@ -32,7 +32,7 @@ const SMALLEST_LINES: &str = "processes: 1; journal entries: 4\n\n\
     line 9: logout\n    entry 4 in ring 4: done\n";
 
 const ENDED: &str =
-    "line 1: the text ends here; what may come is `multics 1`, `multics 2` or `multics 3`\n";
+    "line 1: the text ends here; what may come is `multics 1`, `multics 2`, `multics 3` or `multics 4`\n";
 
 const COMMANDS: &[Row] = &[
     ("lint", SMALLEST, false, 4096, 0, "good\n"),

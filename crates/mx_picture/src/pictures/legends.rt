@@ -75,7 +75,7 @@ pub(super) fn height(layout: &Layout) -> u32 {
 
 const NOTES: [&str; 4] = [
     "A reference hangs behind the entry that is its point: it was judged on the access there.",
-    "rN beside it: its effective ring, where that is not the ring of its process.",
+    "rN beside it: the ring in which it was judged, where that is not the ring of its process.",
     "from P at K: it reads the word that process P stored at point K. Segments, words and values are octal.",
     "10 rw 1,4,4 at an entry: from there on segment 10 has the modes rw and the brackets 1,4,4.",
 ];

@@ -2,10 +2,10 @@
 
 use crate::layout::{BOX_HEIGHT, BOX_WIDTH, Layout, Placed, store_of};
 use crate::svg::{Way, add_arrow, add_rect, add_text, ink_of};
-use mx_legal::Outcome;
 use mx_sdw::Denial;
 use mx_show::Part::{self, Decimal, Octal, Place, Text};
 use mx_show::{FIRST_RING, NOTHING, Reason, explain, kind_word, ring, source_of};
+use mx_transcript::Outcome;
 use std::alloc::AllocError;
 
 /// Longer arrows are no deeper.

@@ -9,11 +9,11 @@ ghost use Rattle.mx_show.specs.Printing.{IsToldBehind, IsLineBehind};
 use crate::telling::Teller;
 use itoa::Buffer;
 use mx_aim::Class;
-use mx_legal::{Event2, Result2};
 use mx_name::cut;
 use mx_request::{Entrant, Request};
 use mx_script::Line;
 use mx_sdw::{Word, write_octal};
+use mx_transcript::{Event2, Result2};
 use std::alloc::{AllocError, Global};
 
 /// Adds how many processes and journal entries there are, and whose lines come first.

@@ -5,15 +5,15 @@ ghost use Rattle.std.specs.Fmt.{decimal};
 ghost use Rattle.mx_sdw.specs.Denials.{denial_text};
 ghost use Rattle.mx_sdw.specs.Octal.{octal};
 ghost use Rattle.mx_core.specs.declared.elements.Event.TheVariants.{Missing};
-ghost use Rattle.mx_legal.specs.declared.transcripts.Event2.TheVariants.{Core, Entry};
-ghost use Rattle.mx_legal.specs.declared.transcripts.Result2.TheVariants.{Pr, Moved};
+ghost use Rattle.mx_transcript.specs.declared.transcripts.Event2.TheVariants.{Core, Entry};
+ghost use Rattle.mx_transcript.specs.declared.transcripts.Result2.TheVariants.{Pr, Moved};
 ghost use Rattle.mx_text.specs.RunText.{kind_text, outcome_text, element_text, event_text, events_text};
 ghost use Rattle.mx_text.specs.RunText.{result_text, step_text};
 
 use super::tails::Tail;
-use mx_legal::{Element, Event, Event2, Kind, Outcome, Result2};
 use mx_ptr::Pointer;
 use mx_sdw::{Denial, Ring, Word};
+use mx_transcript::{Element, Event, Event2, Kind, Outcome, Result2};
 use std::alloc::AllocError;
 
 /// Adds a line's events, then `line N RESULT`. Each is spelled in `tail`, which holds nothing that lasts.

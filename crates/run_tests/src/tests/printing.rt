@@ -1,15 +1,15 @@
 //! The run text of transcripts that no session has: a journal of one entry beside what a process did at more segments.
 
 use mx_io::MemorySink;
-use mx_legal::{
-    Element, Event, Event2, Kind, Outcome, Recording, Result2, Transcript, Transcripts,
-};
 use mx_list::Sequence;
 use mx_ptr::Pointer;
 use mx_request::{Reply, Request};
 use mx_sdw::{Denial, Ring};
 use mx_state::{Entry, Journal};
 use mx_text::print;
+use mx_transcript::{
+    Element, Event, Event2, Kind, Outcome, Recording, Result2, Transcript, Transcripts,
+};
 use std::alloc::{AllocError, Global};
 use std::test::Fail;
 

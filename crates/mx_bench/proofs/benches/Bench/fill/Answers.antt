@@ -30,6 +30,11 @@ after-requires c =
     let place : c.from-i.result - 1 ≡ c.args.p - 1 = ap (λ n. n - 1) c.from-i.ensures in
     seen_short _ _ _ _ _ _ c.args.p _ _ _ _ c.self.invariant c.self.view_is place c.registers-registers.ensures.at c.requires.fill
 
+pub control-control-requires : goal.control-control-requires
+control-control-requires c =
+    let place : c.from-i.result - 1 ≡ c.args.p - 1 = ap (λ n. n - 1) c.from-i.ensures in
+    seen_still_within c.self.inside.session.now c.self.inside.supervisor c.self.inside.whole.items c.self.inside.cells c.self.inside.processes _ c.args.p _ _ _ c.self.view_is place c.requires.at c.in_ok-reserve.ensures.still
+
 pub go_on-requires-clause-within : goal.go_on-requires-clause-within
 go_on-requires-clause-within c =
     let place : c.from-i.result - 1 ≡ c.args.p - 1 = ap (λ n. n - 1) c.from-i.ensures in
