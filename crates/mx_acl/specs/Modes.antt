@@ -35,7 +35,7 @@ modes_of_text text = find (λ modes. pointwise ◌==◌ text (modes_text modes))
 
 -- whether the modes have a letter (`null` has none of the six)
 abbrev pub has : ℕ → Modes → Bool
-has letter modes = list_any (λ c. c == letter) (modes_text modes)
+has letter modes = list_any (λ mark. mark == letter) (modes_text modes)
 
 abbrev pub has_r : Modes → Bool
 has_r modes = has 114 modes

@@ -14,9 +14,9 @@ pub record PlainClass : Type 0 where
   pub categories : ℕ
 
 -- there are eight levels and 18 categories
-pub record IsClass (c : PlainClass) : Type 0 where
-  pub level : c.level ≤ 7
-  pub categories : c.categories < 2 ^ 18
+pub record IsClass (class : PlainClass) : Type 0 where
+  pub level : class.level ≤ 7
+  pub categories : class.categories < 2 ^ 18
 
 -- the class of everything where nobody speaks of classes
 abbrev pub lowest : PlainClass
@@ -24,18 +24,18 @@ lowest = record { level = 0; categories = 0 }
 
 -- whether a category is in the set
 abbrev pub has_category : PlainClass → ℕ → Bool
-has_category c i = nat_eq (bit_at c.categories i) 1
+has_category class category = nat_eq (bit_at class.categories category) 1
 
 -- whether the one class has each category of the other
 abbrev pub has_all_categories : PlainClass → PlainClass → Bool
-has_all_categories c other = list_all (λ i. not (has_category other i) || has_category c i) (range_with_len 0 18)
+has_all_categories class other = list_all (λ category. not (has_category other category) || has_category class category) (range_with_len 0 18)
 
 -- a class dominates another where its level is at least as high and its categories are a superset
 abbrev pub dominates : PlainClass → PlainClass → Bool
-dominates c other = nat_le other.level c.level && has_all_categories c other
+dominates class other = nat_le other.level class.level && has_all_categories class other
 
 abbrev pub equals : PlainClass → PlainClass → Bool
-equals c other = nat_eq c.level other.level && nat_eq c.categories other.categories
+equals class other = nat_eq class.level other.level && nat_eq class.categories other.categories
 
 -- how an authorization stands to a class
 abbrev pub aim_of : PlainClass → PlainClass → Aim
@@ -44,12 +44,12 @@ aim_of authorization class =
 
 -- the text of a class: its level, one digit, and its categories in octal
 abbrev pub class_text : PlainClass → List ℕ
-class_text c = octal c.level ++ codes ":" ++ octal c.categories
+class_text class = octal class.level ++ codes ":" ++ octal class.categories
 
 -- the class that a text spells
 abbrev pub class_of_text : List ℕ → Option PlainClass
 class_of_text (level ∷ colon ∷ categories) =
     if is_octal_digit level && nat_eq colon 58
-    then option_map (λ n. record { level = level - 48; categories = n }) (octal_number 6 categories)
+    then option_map (λ number. record { level = level - 48; categories = number }) (octal_number 6 categories)
     else None
 class_of_text other = None

@@ -11,6 +11,6 @@ opening_in ring = record { ring = ring; procedure = stack_base ring; pr = replic
 abbrev pub opening_registers : Registers
 opening_registers = opening_in 4
 
--- pointer register n is loaded with the effective pointer of an operand
+-- the pointer register of this number is loaded with the effective pointer of an operand
 abbrev pub loaded : Registers → ℕ → PointerParts → Registers
-loaded g n target = record g { pr = slice_set g.pr n target }
+loaded registers number target = record registers { pr = slice_set registers.pr number target }

@@ -12,17 +12,17 @@ pub record Registers : Type 0 where
 
 -- what is true of a process's registers at every moment: there are eight pointer registers, none has a ring below the
 -- current one, and neither they nor the procedure pointer ask for further indirection
-pub record IsSound (g : Registers) : Type 0 where
-  pub eight : length g.pr ≡ 8
-  pub above : All (λ p. g.ring ≤ p.ring) g.pr
-  pub plain : All (λ p. p.further ≡ false) g.pr
-  pub procedure : g.procedure.further ≡ false
+pub record IsSound (registers : Registers) : Type 0 where
+  pub eight : length registers.pr ≡ 8
+  pub above : All (λ p. registers.ring ≤ p.ring) registers.pr
+  pub plain : All (λ p. p.further ≡ false) registers.pr
+  pub procedure : registers.procedure.further ≡ false
 
 -- every pointer in the registers has a word, also with the current ring in it: so each can be stored
-pub record ArePackable (g : Registers) : Type 0 where
-  pub ring : g.ring ≤ 7
-  pub procedure : IsPackable g.procedure
-  pub pr : All IsPackable g.pr
+pub record ArePackable (registers : Registers) : Type 0 where
+  pub ring : registers.ring ≤ 7
+  pub procedure : IsPackable registers.procedure
+  pub pr : All IsPackable registers.pr
 
 -- the procedure pointer of a process that goes on at a target, in a ring
 abbrev pub going_on : PointerParts → ℕ → PointerParts
@@ -34,7 +34,7 @@ stack_base ring = record { ring = ring; segno = ring; word = 0; further = false 
 
 -- the pointer to where a process runs, with the ring in which it runs
 abbrev pub way_back : Registers → PointerParts
-way_back g = record g.procedure { ring = g.ring }
+way_back registers = record registers.procedure { ring = registers.ring }
 
 -- a pointer with its ring raised to at least this one
 abbrev pub raised_to : ℕ → PointerParts → PointerParts

@@ -20,11 +20,11 @@ use Rattle.mx_script.specs.declared.lines.Operand.{Operand}
 
 -- a number below 10
 abbrev pub digit : ℕ → List ℕ
-digit n = (48 + n) ∷ []
+digit number = (48 + number) ∷ []
 
--- segment s is `>sS`
+-- each segment is `>sS`, with its number for S
 abbrev pub segment_path : ℕ → List ℕ
-segment_path s = codes ">s" ++ digit s
+segment_path segment = codes ">s" ++ digit segment
 
 -- process p is `UP.Drill.a`, as a principal and on an access list
 abbrev pub person : ℕ → List ℕ
@@ -53,31 +53,31 @@ one_to_four = range_with_len 1 4
 
 -- a segment of 64 words in ring 4, which everyone may read and write
 abbrev pub segment_setup : ℕ → List Request
-segment_setup s =
-    CreateSeg (segment_path s) 64 (4 ∷ 4 ∷ 4 ∷ []) ∷ SetAcl (segment_path s) everyone_id Rw ∷ []
+segment_setup segment =
+    CreateSeg (segment_path segment) 64 (4 ∷ 4 ∷ 4 ∷ []) ∷ SetAcl (segment_path segment) everyone_id Rw ∷ []
 
 -- the processes may do everything in the root
 abbrev pub drill_setup : List Request
 drill_setup = SetAcl (codes ">") drillers_id Sma ∷ flat_map segment_setup one_to_four
 
--- Process p knows segment s under number 7 + s. Its round i speaks of this word,
+-- Process p knows a segment under its number and 7 more. In each of its turns it speaks of this word,
 abbrev pub word_of_round : ℕ → ℕ → ℕ → ℕ
-word_of_round number p i = (number + 7 * i + p) % 64
+word_of_round number p turn = (number + 7 * turn + p) % 64
 
 -- stores this value,
 abbrev pub value_of_round : ℕ → ℕ → ℕ → ℕ
-value_of_round number p i = 1000 * p + i + number
+value_of_round number p turn = 1000 * p + turn + number
 
 -- loads from the segment of this number,
 abbrev pub loaded_segment : ℕ → ℕ → ℕ
-loaded_segment number i = 8 + (number + i) % 4
+loaded_segment number turn = 8 + (number + turn) % 4
 
 -- and gives these modes to this process, which is never p.
 abbrev pub other_process : ℕ → ℕ → ℕ
-other_process p i = 1 + (p + i / 4 % 3) % 4
+other_process p turn = 1 + (p + turn / 4 % 3) % 4
 
 abbrev pub modes_of_round : ℕ → Modes
-modes_of_round i = if i / 4 % 2 == 0 then R else Rw
+modes_of_round turn = if turn / 4 % 2 == 0 then R else Rw
 
 -- `S|W`
 abbrev pub address : ℕ → ℕ → Operand
@@ -85,36 +85,36 @@ address segno word = record { base = Segment segno; word = word; indirect = fals
 
 -- In rounds 0, 4, 8 .. a value is stored into the own segment,
 abbrev pub store : ℕ → ℕ → ℕ → List Line
-store number p i = Set (value_of_round number p i) ∷ Sta (address (7 + p) (word_of_round number p i)) ∷ []
+store number p turn = Set (value_of_round number p turn) ∷ Sta (address (7 + p) (word_of_round number p turn)) ∷ []
 
 -- in rounds 1, 5, 9 .. a word is loaded,
 abbrev pub load : ℕ → ℕ → ℕ → List Line
-load number p i = Lda (address (loaded_segment number i) (word_of_round number p i)) ∷ []
+load number p turn = Lda (address (loaded_segment number turn) (word_of_round number p turn)) ∷ []
 
 -- in rounds 2, 6, 10 .. the access of another process to the own segment is changed,
 abbrev pub change : ℕ → ℕ → List Line
-change p i = Ask (SetAcl (segment_path p) (driller_id (other_process p i)) (modes_of_round i)) ∷ []
+change p turn = Ask (SetAcl (segment_path p) (driller_id (other_process p turn)) (modes_of_round turn)) ∷ []
 
 -- and in rounds 3, 7, 11 .. a store behind the last word of the own segment is denied.
 abbrev pub overrun : ℕ → List Line
 overrun p = Sta (address (7 + p) 64) ∷ []
 
 abbrev pub round_of_kind : ℕ → ℕ → ℕ → ℕ → List Line
-round_of_kind kind number p i =
-    if kind == 0 then store number p i
-    else (if kind == 1 then load number p i
-    else (if kind == 2 then change p i
+round_of_kind kind number p turn =
+    if kind == 0 then store number p turn
+    else (if kind == 1 then load number p turn
+    else (if kind == 2 then change p turn
     else overrun p))
 
 abbrev pub round : ℕ → ℕ → ℕ → List Line
-round number p i = round_of_kind (i % 4) number p i
+round number p turn = round_of_kind (turn % 4) number p turn
 
 -- the first rounds of a process
 unfoldable pub rounds : ℕ → ℕ → ℕ → List Line
 rounds number p count = flat_map (round number p) (range_with_len 0 count)
 
 abbrev pub initiation : ℕ → Line
-initiation s = Ask (Initiate (segment_path s) None)
+initiation segment = Ask (Initiate (segment_path segment) None)
 
 -- a process initiates the four segments, goes through its rounds and logs out
 abbrev pub drill_script : ℕ → ℕ → List Line

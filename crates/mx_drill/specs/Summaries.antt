@@ -17,7 +17,7 @@ use Rattle.mx_state.specs.declared.journal.Entry as journaled
 -- the references among events, in order
 abbrev pub references_among : List Event2 → List Element
 references_among [] = []
-references_among (Core (Seen e) ∷ events) = e ∷ references_among events
+references_among (Core (Seen element) ∷ events) = element ∷ references_among events
 references_among (Core (Missing segno by) ∷ events) = references_among events
 references_among (Entry number ∷ events) = references_among events
 
@@ -41,11 +41,11 @@ is_access kind.Return = false
 
 -- a reference that was denied
 abbrev pub is_denied : Element → Bool
-is_denied e = is_denial e.outcome
+is_denied element = is_denial element.outcome
 
 -- a load or a store that was granted
 abbrev pub is_granted : Element → Bool
-is_granted e = is_access e.kind && not (is_denied e)
+is_granted element = is_access element.kind && not (is_denied element)
 
 -- the value that a granted store wrote
 abbrev pub value_in : Outcome → ℕ
@@ -55,11 +55,11 @@ value_in (outcome.Entered ring) = 0
 value_in (outcome.Denied denial) = 0
 
 abbrev pub value_written : Element → ℕ
-value_written e = value_in e.outcome
+value_written element = value_in element.outcome
 
 -- a label, a number and a newline
 abbrev pub labelled : List ℕ → ℕ → List ℕ
-labelled label n = label ++ decimal n ++ codes "\n"
+labelled label number = label ++ decimal number ++ codes "\n"
 
 -- the summary of references, with the number of the drill and of the journal's entries
 abbrev pub summary_of : ℕ → ℕ → List Element → List ℕ

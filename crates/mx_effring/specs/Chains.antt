@@ -18,7 +18,7 @@ pub record Operand : Type 0 where
 -- the rings in the words of a chain, and the first brackets of their segments
 abbrev pub rings_along : List Indirection → List ℕ
 rings_along [] = []
-rings_along (i ∷ rest) = i.pointer.ring ∷ i.r1 ∷ rings_along rest
+rings_along (indirection ∷ rest) = indirection.pointer.ring ∷ indirection.r1 ∷ rings_along rest
 
 -- the largest of some rings
 abbrev pub largest : List ℕ → ℕ
@@ -27,26 +27,26 @@ largest (ring ∷ rest) = max ring (largest rest)
 
 -- the rings that have a hand in an operand: the current ring, the base's ring, and the rings along the chain
 abbrev pub rings_of : Operand → List ℕ
-rings_of o = o.current ∷ o.base.ring ∷ rings_along o.chain
+rings_of operand = operand.current ∷ operand.base.ring ∷ rings_along operand.chain
 
 -- the largest of them
 abbrev pub effective_ring : Operand → ℕ
-effective_ring o = largest (rings_of o)
+effective_ring operand = largest (rings_of operand)
 
 -- the last pointer of a chain that begins at a pointer
 abbrev pub last_pointer : PointerParts → List Indirection → PointerParts
 last_pointer p [] = p
-last_pointer p (i ∷ rest) = last_pointer i.pointer rest
+last_pointer p (indirection ∷ rest) = last_pointer indirection.pointer rest
 
 -- where the chain has led: to the base, or to where its last pointer points
 abbrev pub place_of : Operand → PointerParts
-place_of o = last_pointer (record o.base { further = o.indirect }) o.chain
+place_of operand = last_pointer (record operand.base { further = operand.indirect }) operand.chain
 
 -- the operand after one more word
 abbrev pub read_on : Operand → PointerParts → ℕ → Operand
-read_on o pointer r1 = record o { chain = o.chain ++ record { pointer = pointer; r1 = r1 } ∷ [] }
+read_on operand pointer r1 = record operand { chain = operand.chain ++ record { pointer = pointer; r1 = r1 } ∷ [] }
 
 -- at most eight words, of which an eighth asks for no further one
-pub record IsBounded (o : Operand) : Type 0 where
-  pub short : length o.chain ≤ 8
-  pub ended : length o.chain ≡ 8 → (place_of o).further ≡ false
+pub record IsBounded (operand : Operand) : Type 0 where
+  pub short : length operand.chain ≤ 8
+  pub ended : length operand.chain ≡ 8 → (place_of operand).further ≡ false

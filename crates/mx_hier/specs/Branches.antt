@@ -50,26 +50,26 @@ as_link _ = None
 
 -- the directory, the segment and the link's target that a uid stands for
 abbrev pub directory_at : Hierarchy → ℕ → Option Directory
-directory_at h uid =
-    if uid == 0 then Some h.root else option_and_then (λ branch. as_directory branch.node) (branch_of h.branches uid)
+directory_at hierarchy uid =
+    if uid == 0 then Some hierarchy.root else option_and_then (λ branch. as_directory branch.node) (branch_of hierarchy.branches uid)
 
 abbrev pub segment_in : List Branch → ℕ → Option Segment
 segment_in branches uid = option_and_then (λ branch. as_segment branch.node) (branch_of branches uid)
 
 abbrev pub segment_at : Hierarchy → ℕ → Option Segment
-segment_at h uid = segment_in h.branches uid
+segment_at hierarchy uid = segment_in hierarchy.branches uid
 
 abbrev pub target_at : Hierarchy → ℕ → Option (List (List ℕ))
-target_at h uid = option_and_then (λ branch. as_link branch.node) (branch_of h.branches uid)
+target_at hierarchy uid = option_and_then (λ branch. as_link branch.node) (branch_of hierarchy.branches uid)
 
 -- the map of an object segment, of a deleted one too
 abbrev pub object_at : Hierarchy → ℕ → Option PlainObjectMap
-object_at h uid = object_of h.objects uid
+object_at hierarchy uid = object_of hierarchy.objects uid
 
 -- the uid of the directory that holds an entry: the root is its own
 abbrev pub holder : Hierarchy → ℕ → Option ℕ
-holder h uid = if uid == 0 then Some 0 else option_map (λ branch. branch.parent) (branch_of h.branches uid)
+holder hierarchy uid = if uid == 0 then Some 0 else option_map (λ branch. branch.parent) (branch_of hierarchy.branches uid)
 
 -- and that directory
 abbrev pub holding : Hierarchy → ℕ → Option Directory
-holding h uid = option_and_then (directory_at h) (holder h uid)
+holding hierarchy uid = option_and_then (directory_at hierarchy) (holder hierarchy uid)

@@ -8,15 +8,15 @@ use Rattle.mx_hier.specs.Rules.{first_of, say, onward, unless}
 use Rattle.mx_hier.specs.Walks.{resolved, reached}
 
 abbrev pub directory_refusals : Hierarchy → Subject → ℕ → List (Bool × Refusal)
-directory_refusals h who uid =
-    (is_none (directory_at h uid), say who NotADir (holding h uid))
-    ∷ (not (on (has_any who) (directory_at h uid)), say who IncorrectAccess (holding h uid)) ∷ []
+directory_refusals hierarchy who uid =
+    (is_none (directory_at hierarchy uid), say who NotADir (holding hierarchy uid))
+    ∷ (not (on (has_any who) (directory_at hierarchy uid)), say who IncorrectAccess (holding hierarchy uid)) ∷ []
 
 abbrev pub directory_reached : Hierarchy → Subject → List (List ℕ) → Result (Unit {0}) Refusal
-directory_reached h who path = onward (reached h who true path) (λ uid. unless (first_of (directory_refusals h who uid)) tt)
+directory_reached hierarchy who path = onward (reached hierarchy who true path) (λ uid. unless (first_of (directory_refusals hierarchy who uid)) tt)
 
 -- the path as it is written, not where its links lead
 abbrev pub directory : Hierarchy → Caller → List ℕ → Result (List (List ℕ)) Refusal
-directory h who pathname =
+directory hierarchy who pathname =
     onward (resolved who pathname) (λ path.
-    onward (reached h who.subject true path) (λ uid. unless (first_of (directory_refusals h who.subject uid)) path))
+    onward (reached hierarchy who.subject true path) (λ uid. unless (first_of (directory_refusals hierarchy who.subject uid)) path))

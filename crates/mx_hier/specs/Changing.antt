@@ -16,41 +16,41 @@ use Rattle.mx_hier.specs.Rules.{say}
 
 -- the first refusal of every request that changes an entry
 abbrev pub changing_refusals : Hierarchy → Subject → ℕ → List (Bool × Refusal)
-changing_refusals h who uid = (not (on (has_modify who) (holding h uid)), say who IncorrectAccess (holding h uid)) ∷ []
+changing_refusals hierarchy who uid = (not (on (has_modify who) (holding hierarchy uid)), say who IncorrectAccess (holding hierarchy uid)) ∷ []
 
 -- the branches, one of them changed
 abbrev pub changed : ℕ → (Branch → Branch) → List Branch → List Branch
-changed uid f branches = map (λ branch. if branch.uid == uid then f branch else branch) branches
+changed uid change branches = map (λ branch. if branch.uid == uid then change branch else branch) branches
 
 abbrev pub with_branch : Hierarchy → ℕ → (Branch → Branch) → Hierarchy
-with_branch h uid f = record h { branches = changed uid f h.branches }
+with_branch hierarchy uid change = record hierarchy { branches = changed uid change hierarchy.branches }
 
 abbrev pub with_node : Node → Branch → Branch
 with_node node branch = record branch { node = node }
 
 -- the segment that stands at a uid changed, and the directory
 abbrev pub segment_changed : (Segment → Segment) → Node → Node
-segment_changed f (IsSegment segment) = IsSegment (f segment)
-segment_changed f (IsDirectory directory) = IsDirectory directory
-segment_changed f (IsLink target) = IsLink target
+segment_changed change (IsSegment segment) = IsSegment (change segment)
+segment_changed change (IsDirectory directory) = IsDirectory directory
+segment_changed change (IsLink target) = IsLink target
 
 abbrev pub branch_with_segment : (Segment → Segment) → Branch → Branch
-branch_with_segment f branch = with_node (segment_changed f branch.node) branch
+branch_with_segment change branch = with_node (segment_changed change branch.node) branch
 
 abbrev pub with_segment : Hierarchy → ℕ → (Segment → Segment) → Hierarchy
-with_segment h uid f = with_branch h uid (branch_with_segment f)
+with_segment hierarchy uid change = with_branch hierarchy uid (branch_with_segment change)
 
 abbrev pub directory_changed : (Directory → Directory) → Node → Node
-directory_changed f (IsDirectory directory) = IsDirectory (f directory)
-directory_changed f (IsSegment segment) = IsSegment segment
-directory_changed f (IsLink target) = IsLink target
+directory_changed change (IsDirectory directory) = IsDirectory (change directory)
+directory_changed change (IsSegment segment) = IsSegment segment
+directory_changed change (IsLink target) = IsLink target
 
 abbrev pub branch_with_directory : (Directory → Directory) → Branch → Branch
-branch_with_directory f branch = with_node (directory_changed f branch.node) branch
+branch_with_directory change branch = with_node (directory_changed change branch.node) branch
 
 abbrev pub with_directory : Hierarchy → ℕ → (Directory → Directory) → Hierarchy
-with_directory h uid f =
-    if uid == 0 then record h { root = f h.root } else with_branch h uid (branch_with_directory f)
+with_directory hierarchy uid change =
+    if uid == 0 then record hierarchy { root = change hierarchy.root } else with_branch hierarchy uid (branch_with_directory change)
 
 -- the access list of what stands at a uid: a link has none
 abbrev pub acl_in : Node → Option Access
@@ -59,18 +59,18 @@ acl_in (IsSegment segment) = Some segment.acl
 acl_in (IsLink target) = None
 
 abbrev pub acl_at : Hierarchy → ℕ → Option Access
-acl_at h uid =
-    if uid == 0 then Some h.root.acl else option_and_then (λ branch. acl_in branch.node) (branch_of h.branches uid)
+acl_at hierarchy uid =
+    if uid == 0 then Some hierarchy.root.acl else option_and_then (λ branch. acl_in branch.node) (branch_of hierarchy.branches uid)
 
 -- and the hierarchy with that list changed
 abbrev pub acl_changed : (Access → Access) → Node → Node
-acl_changed f (IsDirectory directory) = IsDirectory (record directory { acl = f directory.acl })
-acl_changed f (IsSegment segment) = IsSegment (record segment { acl = f segment.acl })
-acl_changed f (IsLink target) = IsLink target
+acl_changed change (IsDirectory directory) = IsDirectory (record directory { acl = change directory.acl })
+acl_changed change (IsSegment segment) = IsSegment (record segment { acl = change segment.acl })
+acl_changed change (IsLink target) = IsLink target
 
 abbrev pub branch_with_acl : (Access → Access) → Branch → Branch
-branch_with_acl f branch = with_node (acl_changed f branch.node) branch
+branch_with_acl change branch = with_node (acl_changed change branch.node) branch
 
 abbrev pub with_acl : Hierarchy → ℕ → (Access → Access) → Hierarchy
-with_acl h uid f =
-    if uid == 0 then record h { root = record h.root { acl = f h.root.acl } } else with_branch h uid (branch_with_acl f)
+with_acl hierarchy uid change =
+    if uid == 0 then record hierarchy { root = record hierarchy.root { acl = change hierarchy.root.acl } } else with_branch hierarchy uid (branch_with_acl change)

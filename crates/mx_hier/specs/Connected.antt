@@ -20,4 +20,4 @@ desc_for who authorization gate (Some segment) =
     gate segment.page segment.words
 
 abbrev pub desc_of : Hierarchy → ℕ → PlainPrincipal → PlainClass → Desc
-desc_of h uid who authorization = desc_for who authorization (gate_of (object_at h uid)) (segment_at h uid)
+desc_of hierarchy uid who authorization = desc_for who authorization (gate_of (object_at hierarchy uid)) (segment_at hierarchy uid)

@@ -11,11 +11,11 @@ use Rattle.mx_hier.specs.Walks.{resolved}
 
 -- a link has no access list
 abbrev pub create_link_at : Hierarchy → Subject → Place → List (List ℕ) → Result Hierarchy Refusal
-create_link_at h who at target = made h at (making_refusals h who at) (λ parent. Ok (added h at (IsLink target)))
+create_link_at hierarchy who at target = made hierarchy at (making_refusals hierarchy who at) (λ parent. Ok (added hierarchy at (IsLink target)))
 
 -- the target is resolved, and need not be there; both are resolved before anything else is asked
 abbrev pub create_link : Hierarchy → Caller → List ℕ → List ℕ → Result Hierarchy Refusal
-create_link h who pathname target =
+create_link hierarchy who pathname target =
     onward (resolved who pathname) (λ path.
     onward (resolved who target) (λ target.
-    onward (place h who.subject path) (λ at. create_link_at h who.subject at target)))
+    onward (place hierarchy who.subject path) (λ at. create_link_at hierarchy who.subject at target)))

@@ -8,5 +8,5 @@ use Rattle.mx_hier.specs.Callers.{Caller}
 use Rattle.mx_hier.specs.MakeSegment.{make_segment}
 
 abbrev pub create_object : Hierarchy → Caller → List ℕ → ℕ → List ℕ → PlainObjectMap → Result Hierarchy Refusal
-create_object h who pathname words rings object =
-    make_segment h who pathname (record { words = words; rings = rings; modes = Re; object = Some object })
+create_object hierarchy who pathname words rings object =
+    make_segment hierarchy who pathname (record { words = words; rings = rings; modes = Re; object = Some object })

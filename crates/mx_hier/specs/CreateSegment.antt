@@ -7,5 +7,5 @@ use Rattle.mx_hier.specs.Callers.{Caller}
 use Rattle.mx_hier.specs.MakeSegment.{make_segment}
 
 abbrev pub create_seg : Hierarchy → Caller → List ℕ → ℕ → List ℕ → Result Hierarchy Refusal
-create_seg h who pathname words rings =
-    make_segment h who pathname (record { words = words; rings = rings; modes = Rw; object = None })
+create_seg hierarchy who pathname words rings =
+    make_segment hierarchy who pathname (record { words = words; rings = rings; modes = Rw; object = None })

@@ -15,16 +15,16 @@ is_empty (branch ∷ branches) = false
 
 -- the root stays, and a directory that has entries
 abbrev pub delete_refusals : Hierarchy → Subject → ℕ → List (Bool × Refusal)
-delete_refusals h who uid = changing_refusals h who uid ++
+delete_refusals hierarchy who uid = changing_refusals hierarchy who uid ++
     (uid == 0, IncorrectAccess)
-    ∷ (not (is_empty (entries_of h.branches uid)), DirNotEmpty) ∷ []
+    ∷ (not (is_empty (entries_of hierarchy.branches uid)), DirNotEmpty) ∷ []
 
 abbrev pub without : ℕ → List Branch → List Branch
 without uid branches = filter (λ branch. not (branch.uid == uid)) branches
 
 -- the pages of a segment are not used again, and the map of an object stays
 abbrev pub delete_at : Hierarchy → Subject → ℕ → Result Hierarchy Refusal
-delete_at h who uid = unless (first_of (delete_refusals h who uid)) (record h { branches = without uid h.branches })
+delete_at hierarchy who uid = unless (first_of (delete_refusals hierarchy who uid)) (record hierarchy { branches = without uid hierarchy.branches })
 
 abbrev pub delete : Hierarchy → Caller → List ℕ → Result Hierarchy Refusal
-delete h who path = onward (entry h who path false) (λ uid. delete_at h who.subject uid)
+delete hierarchy who path = onward (entry hierarchy who path false) (λ uid. delete_at hierarchy who.subject uid)

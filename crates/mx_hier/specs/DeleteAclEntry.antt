@@ -11,13 +11,13 @@ use Rattle.mx_hier.specs.Rules.{first_of, onward, unless}
 use Rattle.mx_hier.specs.Walks.{entry}
 
 abbrev pub del_acl_refusals : Hierarchy → Subject → ℕ → PlainAclId → List (Bool × Refusal)
-del_acl_refusals h who uid id = changing_refusals h who uid ++
-    (on (λ acl. is_none (entry_of acl id)) (acl_at h uid), NoAclEntry) ∷ []
+del_acl_refusals hierarchy who uid id = changing_refusals hierarchy who uid ++
+    (on (λ acl. is_none (entry_of acl id)) (acl_at hierarchy uid), NoAclEntry) ∷ []
 
 -- the entry ID is gone
 abbrev pub del_acl_at : Hierarchy → Subject → ℕ → PlainAclId → Result Hierarchy Refusal
-del_acl_at h who uid id =
-    unless (first_of (del_acl_refusals h who uid id)) (with_acl h uid (λ acl. without_entry acl id))
+del_acl_at hierarchy who uid id =
+    unless (first_of (del_acl_refusals hierarchy who uid id)) (with_acl hierarchy uid (λ acl. without_entry acl id))
 
 abbrev pub del_acl : Hierarchy → Caller → List ℕ → PlainAclId → Result Hierarchy Refusal
-del_acl h who path id = onward (entry h who path true) (λ uid. del_acl_at h who.subject uid id)
+del_acl hierarchy who path id = onward (entry hierarchy who path true) (λ uid. del_acl_at hierarchy who.subject uid id)

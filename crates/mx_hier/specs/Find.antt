@@ -8,17 +8,17 @@ use Rattle.mx_hier.specs.Callers.{Subject, has_access, on}
 use Rattle.mx_hier.specs.Walks.{walk}
 
 abbrev pub accessible : Hierarchy → Subject → Result ℕ (Refusal × Option Directory) → Option ℕ
-accessible h who (Ok uid) = if on (has_access who) (segment_at h uid) then Some uid else None
-accessible h who (Err refusal) = None
+accessible hierarchy who (Ok uid) = if on (has_access who) (segment_at hierarchy uid) then Some uid else None
+accessible hierarchy who (Err refusal) = None
 
 -- in the directory of a uid: ten links may be followed
 abbrev pub find_in : Hierarchy → Subject → ℕ → List ℕ → Option ℕ
-find_in h who dir name = accessible h who (walk 10 h true dir (name ∷ []))
+find_in hierarchy who dir name = accessible hierarchy who (walk 10 hierarchy true dir (name ∷ []))
 
 -- at a path from the root
 abbrev pub find_along : Hierarchy → Subject → List (List ℕ) → Option ℕ
-find_along h who path = accessible h who (walk 10 h true 0 path)
+find_along hierarchy who path = accessible hierarchy who (walk 10 hierarchy true 0 path)
 
 -- in the directory at a path: the path and the name are one walk from the root, with one count of links
 abbrev pub find_at : Hierarchy → Subject → List (List ℕ) → List ℕ → Option ℕ
-find_at h who path name = accessible h who (walk 10 h true 0 (path ++ name ∷ []))
+find_at hierarchy who path name = accessible hierarchy who (walk 10 hierarchy true 0 (path ++ name ∷ []))

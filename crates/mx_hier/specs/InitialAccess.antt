@@ -23,5 +23,5 @@ initial_for OfDirectory initial = initial.directories
 
 -- and the pair with that list changed
 abbrev pub with_initial_for : AclKind → (Access → Access) → InitialAccess → InitialAccess
-with_initial_for OfSegment f initial = record initial { segments = f initial.segments }
-with_initial_for OfDirectory f initial = record initial { directories = f initial.directories }
+with_initial_for OfSegment change initial = record initial { segments = change initial.segments }
+with_initial_for OfDirectory change initial = record initial { directories = change initial.directories }

@@ -8,9 +8,9 @@ use Rattle.mx_hier.specs.Rules.{first_of, say, onward, unless}
 use Rattle.mx_hier.specs.Walks.{entry}
 
 abbrev pub segment_refusals : Hierarchy → Subject → ℕ → List (Bool × Refusal)
-segment_refusals h who uid =
-    (is_none (segment_at h uid), say who NotASeg (holding h uid))
-    ∷ (not (on (has_access who) (segment_at h uid)), say who IncorrectAccess (holding h uid)) ∷ []
+segment_refusals hierarchy who uid =
+    (is_none (segment_at hierarchy uid), say who NotASeg (holding hierarchy uid))
+    ∷ (not (on (has_access who) (segment_at hierarchy uid)), say who IncorrectAccess (holding hierarchy uid)) ∷ []
 
 abbrev pub segment : Hierarchy → Caller → List ℕ → Result ℕ Refusal
-segment h who path = onward (entry h who path true) (λ uid. unless (first_of (segment_refusals h who.subject uid)) uid)
+segment hierarchy who path = onward (entry hierarchy who path true) (λ uid. unless (first_of (segment_refusals hierarchy who.subject uid)) uid)

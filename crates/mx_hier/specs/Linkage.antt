@@ -13,18 +13,18 @@ links_of None = 0
 links_of (Some object) = length object.links
 
 abbrev pub links_at : Hierarchy → ℕ → ℕ
-links_at h uid = links_of (object_at h uid)
+links_at hierarchy uid = links_of (object_at hierarchy uid)
 
 -- written where the object is written, and read where it is read
 abbrev pub linkage_brackets : Bracketing → Bracketing
 linkage_brackets object = record { r1 = object.r1; r2 = object.r2; r3 = object.r2 }
 
 abbrev pub linkage_brackets_at : Hierarchy → ℕ → Option Bracketing
-linkage_brackets_at h uid = option_map (λ segment. linkage_brackets segment.brackets) (segment_at h uid)
+linkage_brackets_at hierarchy uid = option_map (λ segment. linkage_brackets segment.brackets) (segment_at hierarchy uid)
 
 -- the page that is given out next
 abbrev pub page_given : Hierarchy → Option ℕ
-page_given h = run_given h.pages 1
+page_given hierarchy = run_given hierarchy.pages 1
 
 abbrev pub with_page_given : Hierarchy → Hierarchy
-with_page_given h = record h { pages = after_run h.pages 1 (page_given h) }
+with_page_given hierarchy = record hierarchy { pages = after_run hierarchy.pages 1 (page_given hierarchy) }

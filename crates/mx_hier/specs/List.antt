@@ -19,15 +19,15 @@ in_byte_order [] = []
 in_byte_order (name ∷ names) = placed name (in_byte_order names)
 
 abbrev pub names_in : Hierarchy → ℕ → List (List ℕ)
-names_in h dir = map (λ branch. branch.name) (entries_of h.branches dir)
+names_in hierarchy dir = map (λ branch. branch.name) (entries_of hierarchy.branches dir)
 
 abbrev pub list_refusals : Hierarchy → Subject → ℕ → List (Bool × Refusal)
-list_refusals h who uid =
-    (is_none (directory_at h uid), say who NotADir (holding h uid))
-    ∷ (not (on (has_status who) (directory_at h uid)), say who IncorrectAccess (holding h uid)) ∷ []
+list_refusals hierarchy who uid =
+    (is_none (directory_at hierarchy uid), say who NotADir (holding hierarchy uid))
+    ∷ (not (on (has_status who) (directory_at hierarchy uid)), say who IncorrectAccess (holding hierarchy uid)) ∷ []
 
 abbrev pub list_at : Hierarchy → Subject → ℕ → Result (List (List ℕ)) Refusal
-list_at h who uid = unless (first_of (list_refusals h who uid)) (in_byte_order (names_in h uid))
+list_at hierarchy who uid = unless (first_of (list_refusals hierarchy who uid)) (in_byte_order (names_in hierarchy uid))
 
 abbrev pub list : Hierarchy → Caller → List ℕ → Result (List (List ℕ)) Refusal
-list h who path = onward (entry h who path true) (λ uid. list_at h who.subject uid)
+list hierarchy who path = onward (entry hierarchy who path true) (λ uid. list_at hierarchy who.subject uid)

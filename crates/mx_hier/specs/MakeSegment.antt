@@ -36,10 +36,10 @@ abbrev pub is_bad_length : ℕ → Option PlainObjectMap → Bool
 is_bad_length words object = words == 0 || nat_lt 1024 words || on (reaches_beyond words) object
 
 abbrev pub make_segment_refusals : Hierarchy → Subject → Place → Wanted → List (Bool × Refusal)
-make_segment_refusals h who at wanted = making_refusals h who at ++
+make_segment_refusals hierarchy who at wanted = making_refusals hierarchy who at ++
     (is_bad_length wanted.words wanted.object, BadLength)
     ∷ (is_none (settable who.ring wanted.rings), BadBrackets)
-    ∷ (is_none (run_given h.pages (pages_for wanted.words)), NoPages) ∷ []
+    ∷ (is_none (run_given hierarchy.pages (pages_for wanted.words)), NoPages) ∷ []
 
 -- its class is its maker's authorization
 abbrev pub new_segment : Directory → Subject → ℕ → Bracketing → Modes → ℕ → Segment
@@ -53,17 +53,17 @@ new_segment parent who words brackets modes page = record {
 
 -- the segment is made on the pages that are given next, and an object's map is kept by its uid
 abbrev pub segment_added : Hierarchy → Place → Segment → Option PlainObjectMap → Hierarchy
-segment_added h at segment object = record (added h at (IsSegment segment)) {
-  pages = after_run h.pages (pages_for segment.words) (Some segment.page);
-  objects = with_object h.objects h.next object;
+segment_added hierarchy at segment object = record (added hierarchy at (IsSegment segment)) {
+  pages = after_run hierarchy.pages (pages_for segment.words) (Some segment.page);
+  objects = with_object hierarchy.objects hierarchy.next object;
 }
 
 abbrev pub make_segment_at : Hierarchy → Subject → Place → Wanted → Result Hierarchy Refusal
-make_segment_at h who at wanted =
-    made h at (make_segment_refusals h who at wanted) (λ parent.
+make_segment_at hierarchy who at wanted =
+    made hierarchy at (make_segment_refusals hierarchy who at wanted) (λ parent.
     onward (required BadBrackets (settable who.ring wanted.rings)) (λ brackets.
-    onward (required NoPages (run_given h.pages (pages_for wanted.words))) (λ page.
-    Ok (segment_added h at (new_segment parent who wanted.words brackets wanted.modes page) wanted.object))))
+    onward (required NoPages (run_given hierarchy.pages (pages_for wanted.words))) (λ page.
+    Ok (segment_added hierarchy at (new_segment parent who wanted.words brackets wanted.modes page) wanted.object))))
 
 -- the run of pages that a segment of so many words is given of these pages: that which is given out next
 pub record IsRunFor (pages : PageMap) (words : ℕ) (run : PageRun) : Type 0 where
@@ -74,12 +74,12 @@ pub record IsRunFor (pages : PageMap) (words : ℕ) (run : PageRun) : Type 0 whe
 -- what it comes to where nothing but the want of pages refuses it
 abbrev pub segment_on_pages : Hierarchy → Subject → Place → ℕ → Bracketing → Modes → Option PlainObjectMap
     → Result Hierarchy Refusal
-segment_on_pages h who at words brackets modes object =
-    onward (required NoPages (run_given h.pages (pages_for words))) (λ page.
-    onward (required NotADir (directory_at h at.dir)) (λ parent.
-    Ok (segment_added h at (new_segment parent who words brackets modes page) object)))
+segment_on_pages hierarchy who at words brackets modes object =
+    onward (required NoPages (run_given hierarchy.pages (pages_for words))) (λ page.
+    onward (required NotADir (directory_at hierarchy at.dir)) (λ parent.
+    Ok (segment_added hierarchy at (new_segment parent who words brackets modes page) object)))
 
 abbrev pub make_segment : Hierarchy → Caller → List ℕ → Wanted → Result Hierarchy Refusal
-make_segment h who pathname wanted =
+make_segment hierarchy who pathname wanted =
     onward (resolved who pathname) (λ path.
-    onward (place h who.subject path) (λ at. make_segment_at h who.subject at wanted))
+    onward (place hierarchy who.subject path) (λ at. make_segment_at hierarchy who.subject at wanted))

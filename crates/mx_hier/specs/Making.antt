@@ -23,40 +23,40 @@ last_name path = slice_get path (length path - 1)
 
 -- where an entry of this path is to be made, links followed: the root is there already
 abbrev pub place : Hierarchy → Subject → List (List ℕ) → Result Place Refusal
-place h who path =
+place hierarchy who path =
     onward (required NameDup (last_name path)) (λ name.
-    onward (reached h who true (parent_path path)) (λ dir. Ok (record { dir = dir; name = name })))
+    onward (reached hierarchy who true (parent_path path)) (λ dir. Ok (record { dir = dir; name = name })))
 
 -- a directory has the name already, or is full
 abbrev pub entry_refusals : Hierarchy → Place → List (Bool × Refusal)
-entry_refusals h at =
-    (is_some (uid_in h.branches at.dir at.name), NameDup)
-    ∷ (nat_le 256 (length (entries_of h.branches at.dir)), DirFull) ∷ []
+entry_refusals hierarchy at =
+    (is_some (uid_in hierarchy.branches at.dir at.name), NameDup)
+    ∷ (nat_le 256 (length (entries_of hierarchy.branches at.dir)), DirFull) ∷ []
 
 -- the first refusals of every request that makes an entry, in order
 abbrev pub making_refusals : Hierarchy → Subject → Place → List (Bool × Refusal)
-making_refusals h who at =
-    (is_none (directory_at h at.dir), say who NotADir (holding h at.dir))
-    ∷ (not (on (has_append who) (directory_at h at.dir)), say who IncorrectAccess (directory_at h at.dir))
-    ∷ (is_some (uid_in h.branches at.dir at.name), NameDup)
-    ∷ (nat_le 256 (length (entries_of h.branches at.dir)), DirFull) ∷ []
+making_refusals hierarchy who at =
+    (is_none (directory_at hierarchy at.dir), say who NotADir (holding hierarchy at.dir))
+    ∷ (not (on (has_append who) (directory_at hierarchy at.dir)), say who IncorrectAccess (directory_at hierarchy at.dir))
+    ∷ (is_some (uid_in hierarchy.branches at.dir at.name), NameDup)
+    ∷ (nat_le 256 (length (entries_of hierarchy.branches at.dir)), DirFull) ∷ []
 
 -- what is made at a place in its directory, unless one of these refusals applies
 abbrev pub made : Hierarchy → Place → List (Bool × Refusal) → (Directory → Result Hierarchy Refusal)
     → Result Hierarchy Refusal
-made h at refusals make =
-    onward (unless (first_of refusals) at) (λ at. onward (required NotADir (directory_at h at.dir)) make)
+made hierarchy at refusals make =
+    onward (unless (first_of refusals) at) (λ at. onward (required NotADir (directory_at hierarchy at.dir)) make)
 
 -- a new branch gets the next uid
 abbrev pub added : Hierarchy → Place → Node → Hierarchy
-added h at node = record h {
-  branches = h.branches ++ record { uid = h.next; parent = at.dir; name = at.name; node = node } ∷ [];
-  next = 1 + h.next;
+added hierarchy at node = record hierarchy {
+  branches = hierarchy.branches ++ record { uid = hierarchy.next; parent = at.dir; name = at.name; node = node } ∷ [];
+  next = 1 + hierarchy.next;
 }
 
 -- an entry that nothing refuses but what refuses every making
 abbrev pub created_at : Hierarchy → Subject → Place → Node → Result Hierarchy Refusal
-created_at h who at node = made h at (making_refusals h who at) (λ parent. Ok (added h at node))
+created_at hierarchy who at node = made hierarchy at (making_refusals hierarchy who at) (λ parent. Ok (added hierarchy at node))
 
 -- its access list: what its directory gives, and the entry `Person.Project.*` of its maker, which comes last and so
 -- replaces one of the same identifier

@@ -10,13 +10,13 @@ use Rattle.mx_hier.specs.Walks.{entry}
 
 -- the root has no name; NAME may not be in the holder, as the entry's own name is
 abbrev pub rename_refusals : Hierarchy → Subject → ℕ → List ℕ → List (Bool × Refusal)
-rename_refusals h who uid name = changing_refusals h who uid ++
+rename_refusals hierarchy who uid name = changing_refusals hierarchy who uid ++
     (uid == 0, IncorrectAccess)
-    ∷ (on (λ dir. is_some (uid_in h.branches dir name)) (holder h uid), NameDup) ∷ []
+    ∷ (on (λ dir. is_some (uid_in hierarchy.branches dir name)) (holder hierarchy uid), NameDup) ∷ []
 
 abbrev pub rename_at : Hierarchy → Subject → ℕ → List ℕ → Result Hierarchy Refusal
-rename_at h who uid name =
-    unless (first_of (rename_refusals h who uid name)) (with_branch h uid (λ branch. record branch { name = name }))
+rename_at hierarchy who uid name =
+    unless (first_of (rename_refusals hierarchy who uid name)) (with_branch hierarchy uid (λ branch. record branch { name = name }))
 
 abbrev pub rename : Hierarchy → Caller → List ℕ → List ℕ → Result Hierarchy Refusal
-rename h who path name = onward (entry h who path false) (λ uid. rename_at h who.subject uid name)
+rename hierarchy who path name = onward (entry hierarchy who path false) (λ uid. rename_at hierarchy who.subject uid name)

@@ -17,14 +17,14 @@ abbrev pub is_full : ℕ → PlainAclId → Access → Bool
 is_full limit id acl = is_none (entry_of acl id) && nat_le limit (length acl.entries)
 
 abbrev pub set_acl_refusals : Hierarchy → Subject → ℕ → PlainAclId → Modes → List (Bool × Refusal)
-set_acl_refusals h who uid id modes = changing_refusals h who uid ++
-    (on (λ acl. not (suits acl.kind modes)) (acl_at h uid), InvalidMode)
-    ∷ (on (is_full most_entries id) (acl_at h uid), AclFull) ∷ []
+set_acl_refusals hierarchy who uid id modes = changing_refusals hierarchy who uid ++
+    (on (λ acl. not (suits acl.kind modes)) (acl_at hierarchy uid), InvalidMode)
+    ∷ (on (is_full most_entries id) (acl_at hierarchy uid), AclFull) ∷ []
 
 -- the entry ID has MODES, replaced or added
 abbrev pub set_acl_at : Hierarchy → Subject → ℕ → PlainAclId → Modes → Result Hierarchy Refusal
-set_acl_at h who uid id modes =
-    unless (first_of (set_acl_refusals h who uid id modes)) (with_acl h uid (λ acl. with_entry acl id modes))
+set_acl_at hierarchy who uid id modes =
+    unless (first_of (set_acl_refusals hierarchy who uid id modes)) (with_acl hierarchy uid (λ acl. with_entry acl id modes))
 
 abbrev pub set_acl : Hierarchy → Caller → List ℕ → PlainAclId → Modes → Result Hierarchy Refusal
-set_acl h who path id modes = onward (entry h who path true) (λ uid. set_acl_at h who.subject uid id modes)
+set_acl hierarchy who path id modes = onward (entry hierarchy who path true) (λ uid. set_acl_at hierarchy who.subject uid id modes)

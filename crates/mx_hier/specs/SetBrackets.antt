@@ -13,11 +13,11 @@ use Rattle.mx_hier.specs.Walks.{entry}
 
 -- neither the new nor the old first bracket may be below the caller's ring
 abbrev pub set_brackets_refusals : Hierarchy → Subject → ℕ → List ℕ → List (Bool × Refusal)
-set_brackets_refusals h who uid rings = changing_refusals h who uid ++
-    (is_none (segment_at h uid), NotASeg)
+set_brackets_refusals hierarchy who uid rings = changing_refusals hierarchy who uid ++
+    (is_none (segment_at hierarchy uid), NotASeg)
     ∷ (
       is_none (settable who.ring rings)
-          || on (λ segment. nat_lt segment.brackets.r1 who.ring) (segment_at h uid),
+          || on (λ segment. nat_lt segment.brackets.r1 who.ring) (segment_at hierarchy uid),
       BadBrackets,
     ) ∷ []
 
@@ -25,12 +25,12 @@ abbrev pub bracketed : Bracketing → Segment → Segment
 bracketed brackets segment = record segment { brackets = brackets }
 
 abbrev pub with_brackets : Hierarchy → ℕ → Bracketing → Hierarchy
-with_brackets h uid brackets = with_segment h uid (bracketed brackets)
+with_brackets hierarchy uid brackets = with_segment hierarchy uid (bracketed brackets)
 
 abbrev pub set_brackets_at : Hierarchy → Subject → ℕ → List ℕ → Result Hierarchy Refusal
-set_brackets_at h who uid rings =
-    onward (unless (first_of (set_brackets_refusals h who uid rings)) uid) (λ uid.
-    onward (required BadBrackets (settable who.ring rings)) (λ brackets. Ok (with_brackets h uid brackets)))
+set_brackets_at hierarchy who uid rings =
+    onward (unless (first_of (set_brackets_refusals hierarchy who uid rings)) uid) (λ uid.
+    onward (required BadBrackets (settable who.ring rings)) (λ brackets. Ok (with_brackets hierarchy uid brackets)))
 
 abbrev pub set_brackets : Hierarchy → Caller → List ℕ → List ℕ → Result Hierarchy Refusal
-set_brackets h who path rings = onward (entry h who path true) (λ uid. set_brackets_at h who.subject uid rings)
+set_brackets hierarchy who path rings = onward (entry hierarchy who path true) (λ uid. set_brackets_at hierarchy who.subject uid rings)

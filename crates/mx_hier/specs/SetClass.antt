@@ -12,18 +12,18 @@ use Rattle.mx_hier.specs.Walks.{entry}
 
 -- from ring 2 on the new class has to dominate the present one
 abbrev pub set_class_refusals : Hierarchy → Subject → ℕ → PlainClass → List (Bool × Refusal)
-set_class_refusals h who uid class = changing_refusals h who uid ++
-    (is_none (segment_at h uid), NotASeg)
-    ∷ (nat_le 2 who.ring && on (λ segment. not (dominates class segment.class)) (segment_at h uid), BadClass) ∷ []
+set_class_refusals hierarchy who uid class = changing_refusals hierarchy who uid ++
+    (is_none (segment_at hierarchy uid), NotASeg)
+    ∷ (nat_le 2 who.ring && on (λ segment. not (dominates class segment.class)) (segment_at hierarchy uid), BadClass) ∷ []
 
 abbrev pub classed : PlainClass → Segment → Segment
 classed class segment = record segment { class = class }
 
 abbrev pub with_class : Hierarchy → ℕ → PlainClass → Hierarchy
-with_class h uid class = with_segment h uid (classed class)
+with_class hierarchy uid class = with_segment hierarchy uid (classed class)
 
 abbrev pub set_class_at : Hierarchy → Subject → ℕ → PlainClass → Result Hierarchy Refusal
-set_class_at h who uid class = unless (first_of (set_class_refusals h who uid class)) (with_class h uid class)
+set_class_at hierarchy who uid class = unless (first_of (set_class_refusals hierarchy who uid class)) (with_class hierarchy uid class)
 
 abbrev pub set_class : Hierarchy → Caller → List ℕ → PlainClass → Result Hierarchy Refusal
-set_class h who path class = onward (entry h who path true) (λ uid. set_class_at h who.subject uid class)
+set_class hierarchy who path class = onward (entry hierarchy who path true) (λ uid. set_class_at hierarchy who.subject uid class)

@@ -37,16 +37,16 @@ status_of who object (IsLink target) = LinkStatus target
 
 -- what stands at a uid
 abbrev pub node_at : Hierarchy → ℕ → Option Node
-node_at h uid =
-    if uid == 0 then Some (IsDirectory h.root) else option_map (λ branch. branch.node) (branch_of h.branches uid)
+node_at hierarchy uid =
+    if uid == 0 then Some (IsDirectory hierarchy.root) else option_map (λ branch. branch.node) (branch_of hierarchy.branches uid)
 
 abbrev pub status_refusals : Hierarchy → Subject → ℕ → List (Bool × Refusal)
-status_refusals h who uid = (not (on (has_status who) (holding h uid)), NoInfo) ∷ []
+status_refusals hierarchy who uid = (not (on (has_status who) (holding hierarchy uid)), NoInfo) ∷ []
 
 abbrev pub status_at : Hierarchy → Subject → ℕ → Result Status Refusal
-status_at h who uid =
-    onward (unless (first_of (status_refusals h who uid)) uid) (λ uid.
-    onward (required NoInfo (node_at h uid)) (λ node. Ok (status_of who (object_at h uid) node)))
+status_at hierarchy who uid =
+    onward (unless (first_of (status_refusals hierarchy who uid)) uid) (λ uid.
+    onward (required NoInfo (node_at hierarchy uid)) (λ node. Ok (status_of who (object_at hierarchy uid) node)))
 
 abbrev pub status : Hierarchy → Caller → List ℕ → Result Status Refusal
-status h who path = onward (entry h who path false) (λ uid. status_at h who.subject uid)
+status hierarchy who path = onward (entry hierarchy who path false) (λ uid. status_at hierarchy who.subject uid)

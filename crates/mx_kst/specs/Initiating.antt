@@ -84,7 +84,7 @@ initiate k uid ring name section =
 -- a call's answer, with what the process knows then
 abbrev pub outcome : Result Known KstError → KnownSegments → Result Initiated KstError
 outcome (Ok known) after = Ok (record { known = known; after = after })
-outcome (Err e) after = Err e
+outcome (Err error) after = Err error
 
 -- what is left of it in words of the numbers and names alone
 pub record IsInitiated (before : KnownSegments) (uid ring : ℕ) (name : Option (List ℕ)) (section : Option PlainSection)
@@ -98,13 +98,13 @@ pub record IsInitiated (before : KnownSegments) (uid ring : ℕ) (name : Option 
   -- a linkage section is made exactly where one is wanted and the segment was not known;
   -- it has the number after the segment's
   pub made : is_some known.linkage ≡ (known.fresh && is_some section)
-  pub linkage : (n : ℕ) → known.linkage ≡ Some n → (n ≡ known.segno + 1)
-      × IfSome section (λ s. lot_of after.lots n ≡ Linkage known.segno s.page s.brackets s.words)
+  pub linkage : (number : ℕ) → known.linkage ≡ Some number → (number ≡ known.segno + 1)
+      × IfSome section (λ given. lot_of after.lots number ≡ Linkage known.segno given.page given.brackets given.words)
   -- so many numbers are given, what was given stays, and so does the last number
   pub given : length after.lots ≡ length before.lots + (if known.fresh then numbers_needed (is_some section) else 0)
-  pub lots : (n : ℕ) → n < length before.lots → lot_of after.lots n ≡ lot_of before.lots n
+  pub lots : (number : ℕ) → number < length before.lots → lot_of after.lots number ≡ lot_of before.lots number
   pub last : after.last ≡ before.last
   -- the name stands for the number, and every other name for what it stood for
   pub own_name : IfSome name (λ text. named after.names ring text ≡ Some known.segno)
-  pub other_names : (r : ℕ) (other : List ℕ) → (r ≡ ring → name ≡ Some other → ⊥)
-      → named after.names r other ≡ named before.names r other
+  pub other_names : (other_ring : ℕ) (other : List ℕ) → (other_ring ≡ ring → name ≡ Some other → ⊥)
+      → named after.names other_ring other ≡ named before.names other_ring other

@@ -27,15 +27,15 @@ pub record IsSound (k : KnownSegments) : Type 0 where
   pub most : k.last ≤ 255
   pub rings : length k.names ≡ 8
   -- no segment has two numbers
-  pub one_number : (m n uid : ℕ) → lot_of k.lots m ≡ Branch uid → lot_of k.lots n ≡ Branch uid → m ≡ n
+  pub one_number : (number other uid : ℕ) → lot_of k.lots number ≡ Branch uid → lot_of k.lots other ≡ Branch uid → number ≡ other
   -- no name stands twice in a ring
   pub one_entry : (ring : ℕ) → IsDistinct same_name (keys_of (names_in k.names ring))
   -- each name stands for a segment that is known
   pub names_known : (ring segno : ℕ) (name : List ℕ) → named k.names ring name ≡ Some segno
       → is_branch (lot_of k.lots segno) ≡ true
   -- a linkage section has the number after that of its segment, which is known
-  pub section_next : (n of page words : ℕ) (brackets : Bracketing) → lot_of k.lots n ≡ Linkage of page brackets words
-      → (n ≡ of + 1) × (is_branch (lot_of k.lots of) ≡ true)
+  pub section_next : (number of page words : ℕ) (brackets : Bracketing) → lot_of k.lots number ≡ Linkage of page brackets words
+      → (number ≡ of + 1) × (is_branch (lot_of k.lots of) ≡ true)
   -- and lies within a page
-  pub section_within : (n of page words : ℕ) (brackets : Bracketing) → lot_of k.lots n ≡ Linkage of page brackets words
+  pub section_within : (number of page words : ℕ) (brackets : Bracketing) → lot_of k.lots number ≡ Linkage of page brackets words
       → IsWithinPage page words

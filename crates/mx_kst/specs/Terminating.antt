@@ -31,8 +31,8 @@ other_than segno (Some number) = if number == segno then None else Some number
 
 -- what is left of it in words of the numbers and names alone; all numbers given stay given, and the last number stays
 pub record IsTerminated (before : KnownSegments) (segno : ℕ) (after : KnownSegments) : Type 0 where
-  pub lots : (n : ℕ) → lot_of after.lots n
-      ≡ (if n == segno || is_section_of segno (lot_of before.lots n) then Free else lot_of before.lots n)
+  pub lots : (number : ℕ) → lot_of after.lots number
+      ≡ (if number == segno || is_section_of segno (lot_of before.lots number) then Free else lot_of before.lots number)
   pub names : (ring : ℕ) (name : List ℕ) → named after.names ring name ≡ other_than segno (named before.names ring name)
   pub given : length after.lots ≡ length before.lots
   pub last : after.last ≡ before.last

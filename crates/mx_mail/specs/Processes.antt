@@ -16,7 +16,7 @@ process_in state messages = record { state = state; messages = messages }
 
 -- so many processes, each running, without messages
 abbrev pub all_running : ℕ → List PlainProcess
-all_running n = replicate n (process_in Running [])
+all_running number = replicate number (process_in Running [])
 
 -- process p
 abbrev pub process_at : List PlainProcess → ℕ → Option PlainProcess

@@ -8,7 +8,7 @@ unless (Some fault) value = Err fault
 
 -- the same of what was read so far
 abbrev pub judged : {A E : Type 0} → (A → Option E) → Result A E → Result A E
-judged fault (Err e) = Err e
+judged fault (Err error) = Err error
 judged fault (Ok value) = unless (fault value) value
 
 -- an answer is what was meant, except that the want of memory may stand in place of a value

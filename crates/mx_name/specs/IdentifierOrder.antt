@@ -14,10 +14,10 @@ component_cmp (Literal own) (Literal other) = slice_cmp nat_cmp own other
 
 -- component by component, which is the byte order of the texts
 abbrev pub components_cmp : PlainAclId → PlainAclId → Ordering
-components_cmp x y =
-    ordering_then (component_cmp x.person y.person)
-    (ordering_then (component_cmp x.project y.project) (component_cmp x.tag y.tag))
+components_cmp id other =
+    ordering_then (component_cmp id.person other.person)
+    (ordering_then (component_cmp id.project other.project) (component_cmp id.tag other.tag))
 
 -- by rank, then so
 abbrev pub id_cmp : PlainAclId → PlainAclId → Ordering
-id_cmp x y = ordering_then (nat_cmp (id_rank x) (id_rank y)) (components_cmp x y)
+id_cmp id other = ordering_then (nat_cmp (id_rank id) (id_rank other)) (components_cmp id other)

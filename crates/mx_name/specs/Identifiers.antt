@@ -51,7 +51,7 @@ abbrev pub id_parts : PlainPrincipal → PlainAclId
 id_parts p = record { person = component_of p.person; project = component_of p.project; tag = component_of p.tag }
 
 abbrev pub with_stars : Result PlainPrincipal NameError → Result PlainAclId NameError
-with_stars (Err e) = Err e
+with_stars (Err error) = Err error
 with_stars (Ok p) = Ok (id_parts p)
 
 -- what a text says as an identifier: it is not empty, it has exactly three components, and none of them is bad

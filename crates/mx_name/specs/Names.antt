@@ -9,7 +9,7 @@ use Rattle.mx_name.specs.Answers.{unless}
 
 -- printable ASCII, except the space and > < * ? $ , | : = (this model's choice)
 abbrev pub is_name_byte : ℕ → Bool
-is_name_byte c = nat_lt 32 c && nat_lt c 127 && not (list_any (λ x. c == x) (codes "><*?$,|:="))
+is_name_byte byte = nat_lt 32 byte && nat_lt byte 127 && not (list_any (λ excluded. byte == excluded) (codes "><*?$,|:="))
 
 -- the fault of a text of which each byte is to pass a test, and which is to have at most so many
 abbrev pub fault_of : (ℕ → Bool) → ℕ → List ℕ → Option NameError
@@ -32,8 +32,8 @@ name_of text = result_ok (name_reading text)
 
 -- a text without the byte
 abbrev pub is_free : ℕ → List ℕ → Bool
-is_free byte text = list_all (λ c. not (c == byte)) text
+is_free byte text = list_all (λ other. not (other == byte)) text
 
 -- two equal names
 abbrev pub same_name : List ℕ → List ℕ → Bool
-same_name x y = pointwise ◌==◌ x y
+same_name name other = pointwise ◌==◌ name other

@@ -11,12 +11,12 @@ use Rattle.mx_name.specs.Names.{is_name_byte, name_fault}
 -- a pathname that begins with `>` starts at the root
 abbrev pub is_absolute : List ℕ → Bool
 is_absolute [] = false
-is_absolute (c ∷ cs) = c == 62
+is_absolute (byte ∷ rest) = byte == 62
 
 -- how many `<` it begins with: each goes up one directory
 abbrev pub climbs : List ℕ → ℕ
 climbs [] = 0
-climbs (c ∷ cs) = if c == 60 then 1 + climbs cs else 0
+climbs (byte ∷ rest) = if byte == 60 then 1 + climbs rest else 0
 
 -- what follows the mark `>`, or the marks `<`, at the front
 abbrev pub after_marks : List ℕ → List ℕ
@@ -26,7 +26,7 @@ after_marks text = if is_absolute text then drop 1 text else drop (climbs text) 
 abbrev pub names_of : List ℕ → List (List ℕ)
 names_of text =
     if not (length text == 0) && (length (after_marks text) == 0) then []
-    else slice_split (λ c. c == 62) (after_marks text)
+    else slice_split (λ byte. byte == 62) (after_marks text)
 
 -- the fault of the first bad name from the left
 abbrev pub first_fault : List (List ℕ) → Option NameError
@@ -47,4 +47,4 @@ pathname_of text = result_ok (pathname_reading text)
 
 -- what pathnames are made of: their marks and separators, and the bytes of names
 abbrev pub is_pathname_byte : ℕ → Bool
-is_pathname_byte c = is_name_byte c || c == 60 || c == 62
+is_pathname_byte byte = is_name_byte byte || byte == 60 || byte == 62

@@ -11,7 +11,7 @@ use Rattle.mx_name.specs.Names.{fault_of}
 
 -- letters, digits and `_` (this model's choice)
 abbrev pub is_principal_byte : ℕ → Bool
-is_principal_byte c = is_ascii_alphanumeric c || c == 95
+is_principal_byte byte = is_ascii_alphanumeric byte || byte == 95
 
 -- a principal's three components
 pub record PlainPrincipal : Type 0 where
@@ -40,7 +40,7 @@ three _ = Err BadChar
 
 -- the components of a text, which is not empty and has exactly three
 abbrev pub spelled : List ℕ → Result PlainPrincipal NameError
-spelled text = if length text == 0 then Err Empty else three (slice_split (λ c. c == 46) text)
+spelled text = if length text == 0 then Err Empty else three (slice_split (λ byte. byte == 46) text)
 
 -- what a text says as a principal: it is not empty, it has exactly three components, and none of them is bad
 abbrev pub principal_reading : List ℕ → Result PlainPrincipal NameError

@@ -29,47 +29,47 @@ IsFree pages page = is_free pages page ≡ true
 abbrev pub free_from : ℕ → PageMap
 free_from first = record { free = map (nat_le first) every_page }
 
--- the n pages from this one on are free
+-- so many pages from this one on are free
 abbrev pub IsFreeRun : PageMap → ℕ → ℕ → Type 0
-IsFreeRun pages n page = (k : ℕ) → k < n → IsFree pages (page + k)
+IsFreeRun pages count page = (k : ℕ) → k < count → IsFree pages (page + k)
 
--- no free run of n pages begins lower
-pub record IsLowestRun (pages : PageMap) (n page : ℕ) : Type 0 where
-  pub free : IsFreeRun pages n page
-  pub lowest : (other : ℕ) → IsFreeRun pages n other → page ≤ other
+-- no free run of so many pages begins lower
+pub record IsLowestRun (pages : PageMap) (count page : ℕ) : Type 0 where
+  pub free : IsFreeRun pages count page
+  pub lowest : (other : ℕ) → IsFreeRun pages count other → page ≤ other
 
--- the page lies in the run of n pages from `first` on
+-- the page lies in the run of `count` pages from `first` on
 abbrev pub IsInRun : ℕ → ℕ → ℕ → Type 0
-IsInRun n first page = (first ≤ page) × (page < first + n)
+IsInRun count first page = (first ≤ page) × (page < first + count)
 
 abbrev pub is_in_run : ℕ → ℕ → ℕ → Bool
-is_in_run n first page = nat_le first page && nat_lt page (first + n)
+is_in_run count first page = nat_le first page && nat_lt page (first + count)
 
--- the run of n pages from `first` on and that of m pages from `other` on share no page
+-- the run of `count` pages from `first` on and that of `other_count` pages from `other` on share no page
 abbrev pub AreApart : ℕ → ℕ → ℕ → ℕ → Type 0
-AreApart n first m other = (page : ℕ) → IsInRun n first page → IsInRun m other page → ⊥
+AreApart count first other_count other = (page : ℕ) → IsInRun count first page → IsInRun other_count other page → ⊥
 
--- whether the n pages from this one on are free
+-- whether so many pages from this one on are free
 abbrev pub run_at : PageMap → ℕ → ℕ → Bool
-run_at pages n first = list_all (is_free pages) (range_with_len first n)
+run_at pages count first = list_all (is_free pages) (range_with_len first count)
 
 -- the first page of the run that is given out: the one place that says which run that is
 abbrev pub run_given : PageMap → ℕ → Option ℕ
-run_given pages n = find (run_at pages n) every_page
+run_given pages count = find (run_at pages count) every_page
 
--- the pages with those of the run of n pages from `first` on free, or not free
+-- the pages with those of the run of `count` pages from `first` on free, or not free
 abbrev pub with_run : Bool → PageMap → ℕ → ℕ → PageMap
-with_run value pages first n =
-    record { free = map (λ page. if is_in_run n first page then value else is_free pages page) every_page }
+with_run value pages first count =
+    record { free = map (λ page. if is_in_run count first page then value else is_free pages page) every_page }
 
 -- the pages after a run was given out, or refused
 abbrev pub after_run : PageMap → ℕ → Option ℕ → PageMap
-after_run pages n (Some first) = with_run false pages first n
-after_run pages n None = pages
+after_run pages count (Some first) = with_run false pages first count
+after_run pages count None = pages
 
 -- the pages after a run was freed
 abbrev pub with_free : PageMap → ℕ → ℕ → PageMap
-with_free pages first n = with_run true pages first n
+with_free pages first count = with_run true pages first count
 
 -- a run of 1 to 16 pages, of those that there are
 pub record IsPageRun (run : PageRun) : Type 0 where

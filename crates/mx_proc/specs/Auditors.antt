@@ -12,4 +12,4 @@ WereTold before transcripts after = after ≡ with_all before (map denials (drop
 
 -- Each auditor has room for a denial of each line of its process.
 abbrev pub HaveRoomForLines : Outline → List Account → Type 0
-HaveRoomForLines x accounts = HaveRoomFor (map length x.scripts) accounts
+HaveRoomForLines session accounts = HaveRoomFor (map length session.scripts) accounts

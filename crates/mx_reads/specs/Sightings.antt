@@ -3,38 +3,38 @@
 use Rattle.std.specs.Prelude.{◌≡◌, ◌≢◌, ℕ, ◌<◌, ◌≤◌, Some, slice_get}
 use Rattle.mx_reads.specs.Deeds.{CellUse, Deed, Deeds, Enters, Stores, Loads, Refers, Misses}
 
--- the deed at a place of process u is a store of this value in this cell at this point
+-- the deed at a place of a process is a store of this value in this cell at this point
 abbrev pub HasStored : Deeds → ℕ → ℕ → CellUse → ℕ → ℕ → Type 0
-HasStored done u place cell value point = slice_get (done u) place ≡ Some (Stores cell value point)
+HasStored done storer place cell value point = slice_get (done storer) place ≡ Some (Stores cell value point)
 
--- `source p i` is the place of the store that the read at place i of process p stands for
+-- `source p here` is the place of the store that the read of process p at the place `here` stands for
 abbrev pub Source : Type 0
 Source = ℕ → ℕ → ℕ
 
--- The deed at place i of process p is a sighting of the cell, of the store at place j of process w: its own
+-- The deed of process p at the place `here` is a sighting of the cell, of that store of the process `storer`: its own
 -- store there, or its read of a written value there.
 abbrev pub Sights : Source → ℕ → ℕ → Deed → CellUse → ℕ → ℕ → Type 0
-Sights source p i (Enters number) cell w j = ⊥
-Sights source p i (Stores own value point) cell w j = (own ≡ cell) × (w ≡ p) × (j ≡ i)
-Sights source p i (Loads own value writer stamp point) cell w j =
-    (own ≡ cell) × (writer ≢ 0) × (w ≡ writer) × (j ≡ source p i)
-Sights source p i (Refers point) cell w j = ⊥
-Sights source p i (Misses segno by) cell w j = ⊥
+Sights source p here (Enters number) cell storer store = ⊥
+Sights source p here (Stores own value point) cell storer store = (own ≡ cell) × (storer ≡ p) × (store ≡ here)
+Sights source p here (Loads own value writer stamp point) cell storer store =
+    (own ≡ cell) × (writer ≢ 0) × (storer ≡ writer) × (store ≡ source p here)
+Sights source p here (Refers point) cell storer store = ⊥
+Sights source p here (Misses segno by) cell storer store = ⊥
 
-pub record HasSighted (done : Deeds) (source : Source) (p i : ℕ) (cell : CellUse) (w j : ℕ) : Type 0 where
+pub record HasSighted (done : Deeds) (source : Source) (p here : ℕ) (cell : CellUse) (storer store : ℕ) : Type 0 where
   pub deed : Deed
-  pub at : slice_get (done p) i ≡ Some deed
-  pub sights : Sights source p i deed cell w j
+  pub at : slice_get (done p) here ≡ Some deed
+  pub sights : Sights source p here deed cell storer store
 
--- before place i, process p sighted the cell last at place h
-pub record IsLatest (done : Deeds) (source : Source) (p i : ℕ) (cell : CellUse) (h w j : ℕ) : Type 0 where
-  pub before : h < i
-  pub sighted : HasSighted done source p h cell w j
-  pub last : (later w' j' : ℕ) → h < later → later < i → HasSighted done source p later cell w' j' → ⊥
+-- before the place `here`, process p sighted the cell last at the place `earlier`
+pub record IsLatest (done : Deeds) (source : Source) (p here : ℕ) (cell : CellUse) (earlier storer store : ℕ) : Type 0 where
+  pub before : earlier < here
+  pub sighted : HasSighted done source p earlier cell storer store
+  pub last : (later storer' store' : ℕ) → earlier < later → later < here → HasSighted done source p later cell storer' store' → ⊥
 
--- Where the latest sighting of the cell was of w, a store at or after the one sighted will do; otherwise one
--- after all of w's stores that were sighted there.
-pub record IsBeyond (done : Deeds) (source : Source) (p i : ℕ) (cell : CellUse) (w place : ℕ) : Type 0 where
-  pub again : (h j : ℕ) → IsLatest done source p i cell h w j → j ≤ place
-  pub onward : ((h j : ℕ) → IsLatest done source p i cell h w j → ⊥)
-      → (h j : ℕ) → h < i → HasSighted done source p h cell w j → j < place
+-- Where the latest sighting of the cell was of this process's store, one at or after the one sighted will do; otherwise
+-- one after all of its stores that were sighted there.
+pub record IsBeyond (done : Deeds) (source : Source) (p here : ℕ) (cell : CellUse) (storer place : ℕ) : Type 0 where
+  pub again : (earlier store : ℕ) → IsLatest done source p here cell earlier storer store → store ≤ place
+  pub onward : ((earlier store : ℕ) → IsLatest done source p here cell earlier storer store → ⊥)
+      → (earlier store : ℕ) → earlier < here → HasSighted done source p earlier cell storer store → store < place

@@ -20,7 +20,7 @@ use Rattle.mx_script.specs.declared.rows.Row.TheVariants as row
 -- `S`, in octal, or `prN`
 abbrev pub base_text : Base → List ℕ
 base_text (Segment segno) = octal segno
-base_text (Register n) = codes "pr" ++ octal n
+base_text (Register number) = codes "pr" ++ octal number
 
 abbrev pub indirect_text : Bool → List ℕ
 indirect_text true = codes ",*"
@@ -37,10 +37,10 @@ operand_text operand = base_text operand.base ++ codes "|" ++ offset_text operan
 abbrev pub line_text : Line → List ℕ
 line_text (Ask request) = request_text request
 line_text (Set word) = codes "set " ++ octal word
-line_text (Epp n operand) = codes "epp " ++ octal n ++ codes " " ++ operand_text operand
+line_text (Epp number operand) = codes "epp " ++ octal number ++ codes " " ++ operand_text operand
 line_text (Lda operand) = codes "lda " ++ operand_text operand
 line_text (Sta operand) = codes "sta " ++ operand_text operand
-line_text (Spri n operand) = codes "spri " ++ octal n ++ codes " " ++ operand_text operand
+line_text (Spri number operand) = codes "spri " ++ octal number ++ codes " " ++ operand_text operand
 line_text Fetch = codes "fetch"
 line_text (Call operand) = codes "call " ++ operand_text operand
 line_text (Return operand) = codes "return " ++ operand_text operand
@@ -81,7 +81,7 @@ process_rows _ _ = []
 
 -- the lines of a session: header, limit, setup, processes, end
 abbrev pub rows_of : Outline → List Row
-rows_of x = setup_rows x.version x.history x.setup ++ process_rows x.principals x.scripts ++ row.End ∷ []
+rows_of session = setup_rows session.version session.history session.setup ++ process_rows session.principals session.scripts ++ row.End ∷ []
 
 -- lines, each with its newline
 abbrev pub lines_text : List (List ℕ) → List ℕ
@@ -92,10 +92,10 @@ lines_text (line ∷ lines) = line ++ 10 ∷ lines_text lines
 abbrev pub fits_line : Line → Bool
 fits_line (Ask request) = fits_request request
 fits_line (Set word) = nat_lt word (2 ^ 36)
-fits_line (Epp n operand) = is_register n && is_address operand
+fits_line (Epp number operand) = is_register number && is_address operand
 fits_line (Lda operand) = is_address operand
 fits_line (Sta operand) = is_address operand
-fits_line (Spri n operand) = is_register n && is_address operand
+fits_line (Spri number operand) = is_register number && is_address operand
 fits_line Fetch = true
 fits_line (Call operand) = is_address operand
 fits_line (Return operand) = is_address operand
@@ -108,14 +108,14 @@ fits (row.Process entrant) = is_none (components_fault entrant.who) && is_class 
 fits row.End = true
 
 abbrev pub session_text : Outline → List ℕ
-session_text x = lines_text (map row_text (rows_of x))
+session_text session = lines_text (map row_text (rows_of session))
 
 -- these bytes are the text of this session
-pub record IsText (spelled : List ℕ) (x : Outline) : Type 0 where
-  pub session : is_session x ≡ true
-  pub fits_all : list_all fits (rows_of x) ≡ true
-  pub text : spelled ≡ session_text x
+pub record IsText (spelled : List ℕ) (outline : Outline) : Type 0 where
+  pub session : is_session outline ≡ true
+  pub fits_all : list_all fits (rows_of outline) ≡ true
+  pub text : spelled ≡ session_text outline
 
 -- these bytes are the text of some session
 abbrev pub IsSomeSession : List ℕ → Type 0
-IsSomeSession spelled = (x : Outline) × IsText spelled x
+IsSomeSession spelled = (session : Outline) × IsText spelled session

@@ -73,12 +73,12 @@ is_for_script OfSupervisor = false
 
 -- the pointer registers are PR0 to PR7
 abbrev pub is_register : ℕ → Bool
-is_register n = nat_le n 7
+is_register number = nat_le number 7
 
 -- a segment number has at most four octal digits
 abbrev pub is_base : Base → Bool
 is_base (Segment segno) = nat_le segno 4095
-is_base (Register n) = is_register n
+is_base (Register number) = is_register number
 
 -- a word number has at most five, of which the first is at most 3
 abbrev pub is_address : Operand → Bool
@@ -88,10 +88,10 @@ is_address operand = is_base operand.base && nat_le operand.word 16383
 abbrev pub is_script_line : ℕ → Line → Bool
 is_script_line version (Ask request) = is_for_script (class_of request) && (nat_le (since_version request) version && is_short request)
 is_script_line version (Set word) = true
-is_script_line version (Epp n operand) = is_register n && is_address operand
+is_script_line version (Epp number operand) = is_register number && is_address operand
 is_script_line version (Lda operand) = is_address operand
 is_script_line version (Sta operand) = is_address operand
-is_script_line version (Spri n operand) = is_register n && is_address operand
+is_script_line version (Spri number operand) = is_register number && is_address operand
 is_script_line version Fetch = true
 is_script_line version (Call operand) = is_address operand
 is_script_line version (Return operand) = is_address operand
@@ -143,13 +143,13 @@ is_version version = nat_le 1 version && nat_le version greatest_version
 
 -- these are the parts of a session
 abbrev pub is_session : Outline → Bool
-is_session x =
-    is_version x.version && (is_limit x.history
-    && (list_all (is_setup_request x.version) x.setup && are_processes x.version x.principals x.scripts))
+is_session session =
+    is_version session.version && (is_limit session.history
+    && (list_all (is_setup_request session.version) session.setup && are_processes session.version session.principals session.scripts))
 
 -- the session of these parts
 abbrev pub session_of : Outline → Option Outline
-session_of x = if is_session x then Some x else None
+session_of session = if is_session session then Some session else None
 
 -- a session that sets a limit says so in a line
 abbrev pub history_lines : Option ℕ → ℕ
@@ -158,7 +158,7 @@ history_lines (Some limit) = 1
 
 -- the lines of its text: header, limit, setup, for each process its `process` line and its script, and `end`
 abbrev pub line_count : Outline → ℕ
-line_count x = 2 + history_lines x.history + length x.setup + length x.principals + sum_by length x.scripts
+line_count session = 2 + history_lines session.history + length session.setup + length session.principals + sum_by length session.scripts
 
 abbrev pub limit_or_most : Option ℕ → ℕ
 limit_or_most None = 262143
@@ -166,17 +166,17 @@ limit_or_most (Some limit) = limit
 
 -- the greatest number of journal entries
 abbrev pub limit_of : Outline → ℕ
-limit_of x = limit_or_most x.history
+limit_of session = limit_or_most session.history
 
 -- What whoever runs a session rests on: a version, a setup of requests on paths, 1 to 15 processes, for each its script,
 -- authorizations and requests of the version, and line numbers of 32 bits.
-pub record IsSession (x : Outline) : Type 0 where
-  pub version : is_version x.version ≡ true
-  pub setup : list_all (is_setup_request x.version) x.setup ≡ true
-  pub entrants : list_all (is_entrant x.version) x.principals ≡ true
-  pub some : 1 ≤ length x.principals
-  pub most : length x.principals ≤ 15
-  pub scripts : length x.scripts ≡ length x.principals
-  pub each : list_all (is_script x.version) x.scripts ≡ true
-  pub limit : limit_of x ≤ 262143
-  pub lines : line_count x < 2 ^ 32 - 1
+pub record IsSession (session : Outline) : Type 0 where
+  pub version : is_version session.version ≡ true
+  pub setup : list_all (is_setup_request session.version) session.setup ≡ true
+  pub entrants : list_all (is_entrant session.version) session.principals ≡ true
+  pub some : 1 ≤ length session.principals
+  pub most : length session.principals ≤ 15
+  pub scripts : length session.scripts ≡ length session.principals
+  pub each : list_all (is_script session.version) session.scripts ≡ true
+  pub limit : limit_of session ≤ 262143
+  pub lines : line_count session < 2 ^ 32 - 1

@@ -15,36 +15,36 @@ use Rattle.mx_sdw.specs.Operations.{reads, writes, executes, fetches, calls, ret
 -- the ring in which a call or return goes on: a call from above the second bracket enters at that bracket, and one from
 -- below the first bracket at the first
 abbrev pub ring_after : Descriptor → Op → ℕ → ℕ
-ring_after d (Call current same upward) ring =
-    if nat_lt ring d.brackets.r1 then d.brackets.r1 else min ring d.brackets.r2
-ring_after d _ ring = ring
+ring_after descriptor (Call current same upward) ring =
+    if nat_lt ring descriptor.brackets.r1 then descriptor.brackets.r1 else min ring descriptor.brackets.r2
+ring_after descriptor _ ring = ring
 
 -- the condition of each denial by itself, given those before it
 abbrev pub applies : Denial → Descriptor → Op → ℕ → ℕ → Bool
-applies UnknownSegment d op ring word = is_unknown d.kind
-applies NoSegment d op ring word = is_gone d.kind
-applies OutOfBounds d op ring word = nat_le d.bound word
-applies AimRead d op ring word = not (writes op) && is_neither d.aim
-applies AimWrite d op ring word = writes op && not (is_equal d.aim)
-applies NotReadable d op ring word = reads op && not d.r
-applies ReadBracket d op ring word = reads op && nat_lt d.brackets.r2 ring
-applies NotWritable d op ring word = writes op && not d.w
-applies WriteBracket d op ring word = writes op && nat_lt d.brackets.r1 ring
-applies NotExecutable d op ring word = executes op && not d.e
-applies ExecuteBracket d op ring word = fetches op && (nat_lt ring d.brackets.r1 || nat_lt d.brackets.r2 ring)
-applies CallBracket d op ring word = calls op && nat_lt d.brackets.r3 ring
-applies UpwardCall d op ring word = calls op && nat_lt ring d.brackets.r1 && not (is_upward op)
-applies Gate d op ring word =
-    calls op && nat_le d.gate word
-    && (nat_lt ring d.brackets.r1 || nat_lt d.brackets.r2 ring || not (is_within op))
-applies RaisedRing d op ring word = nat_le d.brackets.r1 ring && raises_to op (ring_after d op ring)
-applies BadReturn d op ring word = returns_to op && (nat_lt ring d.brackets.r1 || nat_lt d.brackets.r2 ring)
-applies NotPointer d op ring word = false
-applies IndirectLimit d op ring word = false
+applies UnknownSegment descriptor op ring word = is_unknown descriptor.kind
+applies NoSegment descriptor op ring word = is_gone descriptor.kind
+applies OutOfBounds descriptor op ring word = nat_le descriptor.bound word
+applies AimRead descriptor op ring word = not (writes op) && is_neither descriptor.aim
+applies AimWrite descriptor op ring word = writes op && not (is_equal descriptor.aim)
+applies NotReadable descriptor op ring word = reads op && not descriptor.r
+applies ReadBracket descriptor op ring word = reads op && nat_lt descriptor.brackets.r2 ring
+applies NotWritable descriptor op ring word = writes op && not descriptor.w
+applies WriteBracket descriptor op ring word = writes op && nat_lt descriptor.brackets.r1 ring
+applies NotExecutable descriptor op ring word = executes op && not descriptor.e
+applies ExecuteBracket descriptor op ring word = fetches op && (nat_lt ring descriptor.brackets.r1 || nat_lt descriptor.brackets.r2 ring)
+applies CallBracket descriptor op ring word = calls op && nat_lt descriptor.brackets.r3 ring
+applies UpwardCall descriptor op ring word = calls op && nat_lt ring descriptor.brackets.r1 && not (is_upward op)
+applies Gate descriptor op ring word =
+    calls op && nat_le descriptor.gate word
+    && (nat_lt ring descriptor.brackets.r1 || nat_lt descriptor.brackets.r2 ring || not (is_within op))
+applies RaisedRing descriptor op ring word = nat_le descriptor.brackets.r1 ring && raises_to op (ring_after descriptor op ring)
+applies BadReturn descriptor op ring word = returns_to op && (nat_lt ring descriptor.brackets.r1 || nat_lt descriptor.brackets.r2 ring)
+applies NotPointer descriptor op ring word = false
+applies IndirectLimit descriptor op ring word = false
 
 -- the cell of a word: pages have 64 words
 abbrev pub cell_of : Descriptor → ℕ → Cell
-cell_of d word = record { 0 = 64 * d.page + word }
+cell_of descriptor word = record { 0 = 64 * descriptor.page + word }
 
 -- granted with the cell, unless a denial was found
 abbrev pub granted_unless : Option Denial → Cell → Result Cell Denial
@@ -53,5 +53,5 @@ granted_unless (Some denial) cell = Err denial
 
 -- what the judging rule answers for a descriptor, an operation, a ring and a word
 unfoldable pub judgement : Descriptor → Op → ℕ → ℕ → Result Cell Denial
-judgement d op ring word =
-    granted_unless (find (λ denial. applies denial d op ring word) judging_order) (cell_of d word)
+judgement descriptor op ring word =
+    granted_unless (find (λ denial. applies denial descriptor op ring word) judging_order) (cell_of descriptor word)

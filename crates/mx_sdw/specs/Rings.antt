@@ -3,7 +3,7 @@ use Rattle.std.specs.Prelude.{ℕ, ◌≤◌, nat_le, ◌&&◌, Option, Some, No
 
 -- the ring of a number: there are rings 0 to 7
 abbrev pub ring_of : ℕ → Option ℕ
-ring_of n = if nat_le n 7 then Some n else None
+ring_of number = if nat_le number 7 then Some number else None
 
 -- the three brackets of a segment
 pub record Bracketing : Type 0 where

@@ -38,22 +38,22 @@ caller process ring =
 -- No right journal has a request that nobody may make: of a process that is not there, or of the initializer on a
 -- process's own state. So that every journal can be replayed, it is answered `ok` and leaves the state.
 abbrev pub unmade : Plain → Answer
-unmade s = answer Done s
+unmade state = answer Done state
 
 -- what a request on a path is answered, by its caller
 abbrev pub answered_caller : Plain → Asker → ℕ → (Caller → Answer) → Answer
-answered_caller s Initializer ring given = given (initial_caller ring)
-answered_caller s (Process process) ring given = given (caller process ring)
-answered_caller s Nobody ring given = unmade s
+answered_caller state Initializer ring given = given (initial_caller ring)
+answered_caller state (Process process) ring given = given (caller process ring)
+answered_caller state Nobody ring given = unmade state
 
 abbrev pub on_path : Plain → ℕ → ℕ → (Caller → Answer) → Answer
-on_path s p ring given = answered_caller s (asker s.processes p) ring given
+on_path state p ring given = answered_caller state (asker state.processes p) ring given
 
 -- what a request on a process's own state is answered, by that
 abbrev pub answered_process : Plain → Asker → (ProcessState → Answer) → Answer
-answered_process s Initializer given = unmade s
-answered_process s (Process process) given = given process
-answered_process s Nobody given = unmade s
+answered_process state Initializer given = unmade state
+answered_process state (Process process) given = given process
+answered_process state Nobody given = unmade state
 
 abbrev pub on_process : Plain → ℕ → (ProcessState → Answer) → Answer
-on_process s p given = answered_process s (asker s.processes p) given
+on_process state p given = answered_process state (asker state.processes p) given

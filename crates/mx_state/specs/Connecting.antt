@@ -14,10 +14,10 @@ use Rattle.mx_state.specs.Sections.{has_links, needs_section, section_made}
 -- the name stands in the ring for another number; the segment is not known, and no number is left, or only one where
 -- its linkage section needs a second; no page is left for a linkage section that is needed
 abbrev pub connect_refusals : Hierarchy → KnownSegments → ℕ → ℕ → Option (List ℕ) → List (Bool × Refusal)
-connect_refusals h known uid ring name =
+connect_refusals hierarchy known uid ring name =
     (is_taken known uid ring name, NameDup)
-    ∷ (is_full known uid (has_links h uid), KstFull)
-    ∷ (needs_section h known uid && is_none (page_given h), NoPages) ∷ []
+    ∷ (is_full known uid (has_links hierarchy uid), KstFull)
+    ∷ (needs_section hierarchy known uid && is_none (page_given hierarchy), NoPages) ∷ []
 
 -- how the segment is known, what the process knows then, and the hierarchy, of which a page may have been given out
 pub record Connected : Type 0 where
@@ -26,17 +26,17 @@ pub record Connected : Type 0 where
   pub hierarchy : Hierarchy
 
 abbrev pub with_section_page : Hierarchy → Option PlainSection → Hierarchy
-with_section_page h None = h
-with_section_page h (Some section) = with_page_given h
+with_section_page hierarchy None = hierarchy
+with_section_page hierarchy (Some section) = with_page_given hierarchy
 
 abbrev pub connected : Hierarchy → KnownSegments → ℕ → ℕ → Option (List ℕ) → Connected
-connected h known uid ring name =
-    let section : Option PlainSection = section_made h known uid in
+connected hierarchy known uid ring name =
+    let section : Option PlainSection = section_made hierarchy known uid in
     record {
       known = (initiated known uid ring name section).known;
       after = (initiated known uid ring name section).after;
-      hierarchy = with_section_page h section;
+      hierarchy = with_section_page hierarchy section;
     }
 
 abbrev pub connect : Hierarchy → KnownSegments → ℕ → Option (List ℕ) → ℕ → Result Connected Refusal
-connect h known ring name uid = unless (first_of (connect_refusals h known uid ring name)) (connected h known uid ring name)
+connect hierarchy known ring name uid = unless (first_of (connect_refusals hierarchy known uid ring name)) (connected hierarchy known uid ring name)

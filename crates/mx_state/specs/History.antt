@@ -35,20 +35,20 @@ opening version entrants = record {
 
 -- the state after these entries
 abbrev pub replay : Plain → List Entry → Plain
-replay s [] = s
-replay s (entry ∷ entries) = replay (plain s entry.process entry.ring entry.request).state entries
+replay state [] = state
+replay state (entry ∷ entries) = replay (plain state entry.process entry.ring entry.request).state entries
 
 -- who may make the request: the initializer one on a path, a process every request
 abbrev pub MayAsk : Plain → ℕ → Request → Type 0
-MayAsk s p request = (p ≤ length s.processes) × (p ≡ 0 → class_of request ≡ OfPath)
+MayAsk state p request = (p ≤ length state.processes) × (p ≡ 0 → class_of request ≡ OfPath)
 
 -- an entry in its place: its process may make it, and its reply is what the plain supervisor gives
-pub record IsRightEntry (s : Plain) (entry : Entry) : Type 0 where
-  pub maker : MayAsk s entry.process entry.request
-  pub reply : (plain s entry.process entry.ring entry.request).reply ≡ entry.reply
+pub record IsRightEntry (state : Plain) (entry : Entry) : Type 0 where
+  pub maker : MayAsk state entry.process entry.request
+  pub reply : (plain state entry.process entry.ring entry.request).reply ≡ entry.reply
 
 -- each entry is right in its place
 abbrev pub IsRight : Plain → List Entry → Type 0
-IsRight s [] = Unit {0}
-IsRight s (entry ∷ entries) =
-    IsRightEntry s entry × IsRight (plain s entry.process entry.ring entry.request).state entries
+IsRight state [] = Unit {0}
+IsRight state (entry ∷ entries) =
+    IsRightEntry state entry × IsRight (plain state entry.process entry.ring entry.request).state entries

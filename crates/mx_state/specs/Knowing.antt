@@ -18,52 +18,52 @@ use Rattle.mx_state.specs.Plain.{Plain, Answer, answer, with_process}
 
 -- the state in which a segment has become known to the process
 abbrev pub knowing_more : Plain → ℕ → ProcessState → Connected → Plain
-knowing_more s p process connected =
-    record (with_process s p (record process { known = connected.after })) { hierarchy = connected.hierarchy }
+knowing_more state p process connected =
+    record (with_process state p (record process { known = connected.after })) { hierarchy = connected.hierarchy }
 
 abbrev pub given : Plain → ℕ → ProcessState → Result Connected Refusal → Answer
-given s p process (Ok connected) = answer (Segno connected.known) (knowing_more s p process connected)
-given s p process (Err why) = answer (Refused why) s
+given state p process (Ok connected) = answer (Segno connected.known) (knowing_more state p process connected)
+given state p process (Err why) = answer (Refused why) state
 
 -- `initiate`, by the uid of the segment at the path, or why there is none
 abbrev pub initiate : Plain → ℕ → ℕ → ProcessState → Option (List ℕ) → Result ℕ Refusal → Answer
-initiate s p ring process name segment =
-    given s p process (onward segment (connect s.hierarchy process.known ring name))
+initiate state p ring process name segment =
+    given state p process (onward segment (connect state.hierarchy process.known ring name))
 
 -- `terminate`, by what is known without the number, unless that is not the number of a known segment
 abbrev pub terminate : Plain → ℕ → ProcessState → Option KnownSegments → Answer
-terminate s p process (Some known) = answer Done (with_process s p (record process { known = known }))
-terminate s p process None = answer (Refused refusal.UnknownSegno) s
+terminate state p process (Some known) = answer Done (with_process state p (record process { known = known }))
+terminate state p process None = answer (Refused refusal.UnknownSegno) state
 
 -- the name under which the segment that was found becomes known in the ring, unless the ring has it already
 abbrev pub free_name : KnownSegments → ℕ → List ℕ → Option (List ℕ)
 free_name known ring name = if is_some (named known.names ring name) then None else Some name
 
 abbrev pub linked : Plain → ℕ → ProcessState → ℕ → Result Connected Refusal → Answer
-linked s p process word (Ok connected) =
+linked state p process word (Ok connected) =
     answer (Linked connected.known.segno word connected.known.fresh connected.known.linkage)
-    (knowing_more s p process connected)
-linked s p process word (Err why) = answer (Refused why) s
+    (knowing_more state p process connected)
+linked state p process word (Err why) = answer (Refused why) state
 
 -- what is found is a segment of the hierarchy
 abbrev pub link_to : Plain → ℕ → ℕ → ProcessState → Link → ℕ → Option ℕ → Answer
-link_to s p ring process link word (Some uid) =
-    linked s p process word (connect s.hierarchy process.known ring (free_name process.known ring link.segment) uid)
-link_to s p ring process link word None = unmade s
+link_to state p ring process link word (Some uid) =
+    linked state p process word (connect state.hierarchy process.known ring (free_name process.known ring link.segment) uid)
+link_to state p ring process link word None = unmade state
 
 -- where the link leads, or why it leads nowhere; want of memory is no answer of the plain supervisor
 abbrev pub link_towards : Plain → ℕ → ℕ → ProcessState → Link → Result Target LinkError → Answer
-link_towards s p ring process link (Ok to) = link_to s p ring process link to.word (found_uid process.known to.found)
-link_towards s p ring process link (Err SegmentNotFound) = answer (Refused refusal.SegmentNotFound) s
-link_towards s p ring process link (Err NotObject) = answer (Refused refusal.NotObject) s
-link_towards s p ring process link (Err NoDefinition) = answer (Refused refusal.NoDefinition) s
-link_towards s p ring process link (Err Memory) = unmade s
+link_towards state p ring process link (Ok to) = link_to state p ring process link to.word (found_uid process.known to.found)
+link_towards state p ring process link (Err SegmentNotFound) = answer (Refused refusal.SegmentNotFound) state
+link_towards state p ring process link (Err NotObject) = answer (Refused refusal.NotObject) state
+link_towards state p ring process link (Err NoDefinition) = answer (Refused refusal.NoDefinition) state
+link_towards state p ring process link (Err Memory) = unmade state
 
 abbrev pub link_by : Plain → ℕ → ℕ → ProcessState → Option Link → Answer
-link_by s p ring process None = answer (Refused refusal.NotLinkage) s
-link_by s p ring process (Some link) =
-    link_towards s p ring process link (link_target s.hierarchy process ring link)
+link_by state p ring process None = answer (Refused refusal.NotLinkage) state
+link_by state p ring process (Some link) =
+    link_towards state p ring process link (link_target state.hierarchy process ring link)
 
 -- `link`, by the word of a linkage section at which the fault came, in the ring in which it was read
 abbrev pub link : Plain → ℕ → ℕ → ProcessState → ℕ → ℕ → Answer
-link s p ring process segno word = link_by s p ring process (link_at s.hierarchy process.known segno word)
+link state p ring process segno word = link_by state p ring process (link_at state.hierarchy process.known segno word)

@@ -8,9 +8,9 @@ use Rattle.mx_state.specs.Plain.{Plain, Answer, answer, with_process}
 
 -- `change_wdir`: the working directory becomes the resolved path, or is refused
 abbrev pub change_wdir : Plain → ℕ → ProcessState → Result (List (List ℕ)) Refusal → Answer
-change_wdir s p process (Ok path) = answer Done (with_process s p (record process { working_directory = path }))
-change_wdir s p process (Err why) = answer (Refused why) s
+change_wdir state p process (Ok path) = answer Done (with_process state p (record process { working_directory = path }))
+change_wdir state p process (Err why) = answer (Refused why) state
 
 -- `set_rules`: these are the search rules, in this order
 abbrev pub set_rules : Plain → ℕ → ProcessState → List Rule → Answer
-set_rules s p process rules = answer Done (with_process s p (record process { rules = rules }))
+set_rules state p process rules = answer Done (with_process state p (record process { rules = rules }))

@@ -26,4 +26,4 @@ abbrev pub process_at : List ProcessState → ℕ → Option ProcessState
 process_at processes p = if p == 0 then None else slice_get processes (p - 1)
 
 abbrev pub with_process : Plain → ℕ → ProcessState → Plain
-with_process s p process = record s { processes = slice_set s.processes (p - 1) process }
+with_process state p process = record state { processes = slice_set state.processes (p - 1) process }

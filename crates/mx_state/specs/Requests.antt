@@ -32,54 +32,54 @@ use Rattle.mx_state.specs.Shown.{shown}
 
 -- a request that changes the hierarchy is answered `ok`, or refused
 abbrev pub changed : Plain → Result Hierarchy Refusal → Answer
-changed s (Ok hierarchy) = answer reply.Done (record s { hierarchy = hierarchy })
-changed s (Err why) = answer (reply.Refused why) s
+changed state (Ok hierarchy) = answer reply.Done (record state { hierarchy = hierarchy })
+changed state (Err why) = answer (reply.Refused why) state
 
 -- one that asks of it is answered what it asks for, or refused
 abbrev pub told : {A : Type 0} → Plain → (A → Reply) → Result A Refusal → Answer
-told s as_reply (Ok value) = answer (as_reply value) s
-told s as_reply (Err why) = answer (reply.Refused why) s
+told state as_reply (Ok value) = answer (as_reply value) state
+told state as_reply (Err why) = answer (reply.Refused why) state
 
 abbrev pub plain : Plain → ℕ → ℕ → Request → Answer
-plain s p ring (ask.CreateDir path d1 d2) =
-    on_path s p ring (λ who. changed s (create_dir s.hierarchy who path d1 d2))
-plain s p ring (ask.CreateSeg path words brackets) =
-    on_path s p ring (λ who. changed s (create_seg s.hierarchy who path words brackets))
-plain s p ring (ask.CreateObject path words brackets object) =
-    on_path s p ring (λ who. changed s (create_object s.hierarchy who path words brackets object))
-plain s p ring (ask.CreateLink path target) =
-    on_path s p ring (λ who. changed s (create_link s.hierarchy who path target))
-plain s p ring (ask.Rename path name) =
-    on_path s p ring (λ who. changed s (rename s.hierarchy who path name))
-plain s p ring (ask.Delete path) =
-    on_path s p ring (λ who. changed s (delete s.hierarchy who path))
-plain s p ring (ask.SetAcl path id modes) =
-    on_path s p ring (λ who. changed s (set_acl s.hierarchy who path id modes))
-plain s p ring (ask.DelAcl path id) =
-    on_path s p ring (λ who. changed s (del_acl s.hierarchy who path id))
-plain s p ring (ask.SetIacl path kind id modes) =
-    on_path s p ring (λ who. changed s (set_iacl s.hierarchy who path kind id modes))
-plain s p ring (ask.DelIacl path kind id) =
-    on_path s p ring (λ who. changed s (del_iacl s.hierarchy who path kind id))
-plain s p ring (ask.SetBrackets path brackets) =
-    on_path s p ring (λ who. changed s (set_brackets s.hierarchy who path brackets))
-plain s p ring (ask.SetDirBrackets path d1 d2) =
-    on_path s p ring (λ who. changed s (set_dir_brackets s.hierarchy who path d1 d2))
-plain s p ring (ask.SetClass path class) =
-    on_path s p ring (λ who. changed s (set_class s.hierarchy who path class))
-plain s p ring (ask.Status path) =
-    on_path s p ring (λ who. told s (λ status. reply.Status (shown s.version status)) (status s.hierarchy who path))
-plain s p ring (ask.List path) =
-    on_path s p ring (λ who. told s reply.Names (list s.hierarchy who path))
-plain s p ring (ask.ChangeWdir path) =
-    on_process s p (λ process. change_wdir s p process (directory s.hierarchy (caller process ring) path))
-plain s p ring (ask.SetRules rules) = on_process s p (λ process. set_rules s p process rules)
-plain s p ring (ask.Initiate path name) =
-    on_process s p (λ process. initiate s p ring process name (segment s.hierarchy (caller process ring) path))
-plain s p ring (ask.Terminate segno) =
-    on_process s p (λ process. terminate s p process (kst.terminate process.known segno))
-plain s p ring (ask.Wakeup to word) = on_process s p (λ process. wakeup s p to word)
-plain s p ring ask.Block = on_process s p (λ process. block s p)
-plain s p ring (ask.Link segno word) = on_process s p (λ process. link s p ring process segno word)
-plain s p ring ask.Resume = on_process s p (λ process. block s p)
-plain s p ring ask.Logout = on_process s p (λ process. logout s p)
+plain state p ring (ask.CreateDir path d1 d2) =
+    on_path state p ring (λ who. changed state (create_dir state.hierarchy who path d1 d2))
+plain state p ring (ask.CreateSeg path words brackets) =
+    on_path state p ring (λ who. changed state (create_seg state.hierarchy who path words brackets))
+plain state p ring (ask.CreateObject path words brackets object) =
+    on_path state p ring (λ who. changed state (create_object state.hierarchy who path words brackets object))
+plain state p ring (ask.CreateLink path target) =
+    on_path state p ring (λ who. changed state (create_link state.hierarchy who path target))
+plain state p ring (ask.Rename path name) =
+    on_path state p ring (λ who. changed state (rename state.hierarchy who path name))
+plain state p ring (ask.Delete path) =
+    on_path state p ring (λ who. changed state (delete state.hierarchy who path))
+plain state p ring (ask.SetAcl path id modes) =
+    on_path state p ring (λ who. changed state (set_acl state.hierarchy who path id modes))
+plain state p ring (ask.DelAcl path id) =
+    on_path state p ring (λ who. changed state (del_acl state.hierarchy who path id))
+plain state p ring (ask.SetIacl path kind id modes) =
+    on_path state p ring (λ who. changed state (set_iacl state.hierarchy who path kind id modes))
+plain state p ring (ask.DelIacl path kind id) =
+    on_path state p ring (λ who. changed state (del_iacl state.hierarchy who path kind id))
+plain state p ring (ask.SetBrackets path brackets) =
+    on_path state p ring (λ who. changed state (set_brackets state.hierarchy who path brackets))
+plain state p ring (ask.SetDirBrackets path d1 d2) =
+    on_path state p ring (λ who. changed state (set_dir_brackets state.hierarchy who path d1 d2))
+plain state p ring (ask.SetClass path class) =
+    on_path state p ring (λ who. changed state (set_class state.hierarchy who path class))
+plain state p ring (ask.Status path) =
+    on_path state p ring (λ who. told state (λ status. reply.Status (shown state.version status)) (status state.hierarchy who path))
+plain state p ring (ask.List path) =
+    on_path state p ring (λ who. told state reply.Names (list state.hierarchy who path))
+plain state p ring (ask.ChangeWdir path) =
+    on_process state p (λ process. change_wdir state p process (directory state.hierarchy (caller process ring) path))
+plain state p ring (ask.SetRules rules) = on_process state p (λ process. set_rules state p process rules)
+plain state p ring (ask.Initiate path name) =
+    on_process state p (λ process. initiate state p ring process name (segment state.hierarchy (caller process ring) path))
+plain state p ring (ask.Terminate segno) =
+    on_process state p (λ process. terminate state p process (kst.terminate process.known segno))
+plain state p ring (ask.Wakeup to word) = on_process state p (λ process. wakeup state p to word)
+plain state p ring ask.Block = on_process state p (λ process. block state p)
+plain state p ring (ask.Link segno word) = on_process state p (λ process. link state p ring process segno word)
+plain state p ring ask.Resume = on_process state p (λ process. block state p)
+plain state p ring ask.Logout = on_process state p (λ process. logout state p)

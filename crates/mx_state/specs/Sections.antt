@@ -8,11 +8,11 @@ use Rattle.mx_kst.specs.Sections.{PlainSection}
 use Rattle.mx_sdw.specs.Rings.{Bracketing}
 
 abbrev pub has_links : Hierarchy → ℕ → Bool
-has_links h uid = nat_lt 0 (links_at h uid)
+has_links hierarchy uid = nat_lt 0 (links_at hierarchy uid)
 
 -- an object with links needs a linkage section, unless the process knows it already
 abbrev pub needs_section : Hierarchy → KnownSegments → ℕ → Bool
-needs_section h known uid = is_none (number_of known.lots uid) && has_links h uid
+needs_section hierarchy known uid = is_none (number_of known.lots uid) && has_links hierarchy uid
 
 -- of these parts, if there are all
 abbrev pub section_by : ℕ → Option Bracketing → Option ℕ → Option PlainSection
@@ -22,5 +22,5 @@ section_by links None page = None
 
 -- the section that is made with it: a word for each link, on the page that is given out next
 abbrev pub section_made : Hierarchy → KnownSegments → ℕ → Option PlainSection
-section_made h known uid =
-    if needs_section h known uid then section_by (links_at h uid) (linkage_brackets_at h uid) (page_given h) else None
+section_made hierarchy known uid =
+    if needs_section hierarchy known uid then section_by (links_at hierarchy uid) (linkage_brackets_at hierarchy uid) (page_given hierarchy) else None

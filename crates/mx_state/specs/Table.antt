@@ -17,18 +17,18 @@ stack_desc p ring = segment_desc (record { r1 = ring; r2 = ring; r3 = ring }) tr
 -- of a segment it is what its access list gives the principal and its class lets stand, and gone where it was deleted;
 -- a linkage section is to read and write within its brackets
 abbrev pub standing_desc : Hierarchy → ℕ → ProcessState → Lot → Desc
-standing_desc h p process Free = unknown_desc
-standing_desc h p process (Stack ring) = stack_desc p ring
-standing_desc h p process (Branch uid) = desc_of h uid process.principal process.authorization
-standing_desc h p process (Linkage of page brackets words) = segment_desc brackets true false true 0 page words
+standing_desc hierarchy p process Free = unknown_desc
+standing_desc hierarchy p process (Stack ring) = stack_desc p ring
+standing_desc hierarchy p process (Branch uid) = desc_of hierarchy uid process.principal process.authorization
+standing_desc hierarchy p process (Linkage of page brackets words) = segment_desc brackets true false true 0 page words
 
 -- where there is no process, every number is unknown
 abbrev pub process_desc : Hierarchy → ℕ → Option ProcessState → ℕ → Desc
-process_desc h p None segno = unknown_desc
-process_desc h p (Some process) segno = standing_desc h p process (stands_for process.known segno)
+process_desc hierarchy p None segno = unknown_desc
+process_desc hierarchy p (Some process) segno = standing_desc hierarchy p process (stands_for process.known segno)
 
 abbrev pub descriptor_in : Hierarchy → List ProcessState → ℕ → ℕ → Desc
-descriptor_in h processes p segno = process_desc h p (process_at processes p) segno
+descriptor_in hierarchy processes p segno = process_desc hierarchy p (process_at processes p) segno
 
 abbrev pub descriptor : Plain → ℕ → ℕ → Desc
-descriptor s p segno = descriptor_in s.hierarchy s.processes p segno
+descriptor state p segno = descriptor_in state.hierarchy state.processes p segno

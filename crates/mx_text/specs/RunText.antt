@@ -48,12 +48,12 @@ outcome_text (outcome.Denied denial) = codes " denied " ++ denial_text denial
 
 -- `KIND S|W ring R point K ..`
 abbrev pub element_text : Element → List ℕ
-element_text e =
-    kind_text e.kind ++ codes " " ++ address_text e.segno e.word ++ codes " ring " ++ decimal e.ring
-    ++ codes " point " ++ decimal e.point ++ outcome_text e.outcome ++ codes "\n"
+element_text element =
+    kind_text element.kind ++ codes " " ++ address_text element.segno element.word ++ codes " ring " ++ decimal element.ring
+    ++ codes " point " ++ decimal element.point ++ outcome_text element.outcome ++ codes "\n"
 
 abbrev pub event_text : Event2 → List ℕ
-event_text (Core (Seen e)) = element_text e
+event_text (Core (Seen element)) = element_text element
 event_text (Core (Missing segno by)) = codes "missing " ++ octal segno ++ codes " by " ++ decimal by ++ codes "\n"
 event_text (Entry number) = codes "entry " ++ decimal number ++ codes "\n"
 
@@ -63,12 +63,12 @@ events_text (event ∷ events) = event_text event ++ events_text events
 
 -- `N RING S|W`: a pointer register and the pointer that it holds now
 abbrev pub register_text : ℕ → PointerParts → List ℕ
-register_text n p = decimal n ++ codes " " ++ decimal p.ring ++ codes " " ++ address_text p.segno p.word
+register_text number p = decimal number ++ codes " " ++ decimal p.ring ++ codes " " ++ address_text p.segno p.word
 
 abbrev pub result_text : Result2 → List ℕ
 result_text result.Done = codes "done"
 result_text (result.A word) = codes "a " ++ octal word
-result_text (result.Pr n pointer) = codes "pr " ++ register_text n pointer
+result_text (result.Pr number pointer) = codes "pr " ++ register_text number pointer
 result_text (result.Moved ring procedure) =
     codes "ring " ++ decimal ring ++ codes " at " ++ address_text procedure.segno procedure.word
 result_text (result.Denied denial) = codes "denied " ++ denial_text denial

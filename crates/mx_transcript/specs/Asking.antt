@@ -63,13 +63,13 @@ linked control line reply.Waiting = Nowhere
 abbrev pub answered : Control → Line → Request → Reply → Next
 answered control (Ask asked) request given = replied control request given
 answered control (Set word) request given = Nowhere
-answered control (Epp n o) request given = linked control (Epp n o) given
-answered control (Lda o) request given = linked control (Lda o) given
-answered control (Sta o) request given = linked control (Sta o) given
-answered control (Spri n o) request given = linked control (Spri n o) given
+answered control (Epp number operand) request given = linked control (Epp number operand) given
+answered control (Lda operand) request given = linked control (Lda operand) given
+answered control (Sta operand) request given = linked control (Sta operand) given
+answered control (Spri number operand) request given = linked control (Spri number operand) given
 answered control Fetch request given = linked control Fetch given
-answered control (Call o) request given = linked control (Call o) given
-answered control (Return o) request given = linked control (Return o) given
+answered control (Call operand) request given = linked control (Call operand) given
+answered control (Return operand) request given = linked control (Return operand) given
 
 -- the writes that a reply asks for come first
 abbrev pub first_due : Option Reference → Next → Next

@@ -43,14 +43,14 @@ after_word control walk segno word ring (outcome.Denied denial) onward = Ends (r
 after_word _ _ _ _ _ _ _ = Nowhere
 
 abbrev pub after_seen : Control → Line → chains.Operand → Judged → Want → (ℕ → Next) → Next
-after_seen control line walk j (Word segno word ring) onward = after_word control walk segno word ring j.element.outcome onward
-after_seen control line walk j (Done target) onward = after_target control line target j.desc j.element.outcome
+after_seen control line walk judged (Word segno word ring) onward = after_word control walk segno word ring judged.element.outcome onward
+after_seen control line walk judged (Done target) onward = after_target control line target judged.desc judged.element.outcome
 
 -- what comes after all this was seen, from this place of the walk on
 abbrev pub along : Control → Line → chains.Operand → List Judged → Next
 along control line walk [] = wants control line (wanted walk)
-along control line walk (j ∷ seen) =
-    after_seen control line walk j (wanted walk) (λ value. along control line (read_on walk (parts_of value) j.desc.brackets.r1) seen)
+along control line walk (judged ∷ seen) =
+    after_seen control line walk judged (wanted walk) (λ value. along control line (read_on walk (parts_of value) judged.desc.brackets.r1) seen)
 
 abbrev pub attempting : Control → Line → List Judged → Option chains.Operand → Next
 attempting control line seen None = Nowhere

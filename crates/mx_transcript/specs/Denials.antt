@@ -11,7 +11,7 @@ abbrev pub denied_with : ℕ → Result2 → Option (ℕ × Denial)
 denied_with number (Denied denial) = Some (number, denial)
 denied_with number Done = None
 denied_with number (A word) = None
-denied_with number (Pr n pointer) = None
+denied_with number (Pr register pointer) = None
 denied_with number (Moved ring procedure) = None
 denied_with number Refused = None
 denied_with number HistoryFull = None

@@ -23,7 +23,7 @@ abbrev pub printed_ring : ℕ → Result2 → ℕ
 printed_ring ring (result.Moved entered procedure) = entered
 printed_ring ring result.Done = ring
 printed_ring ring (result.A word) = ring
-printed_ring ring (result.Pr n pointer) = ring
+printed_ring ring (result.Pr number pointer) = ring
 printed_ring ring (result.Denied denial) = ring
 printed_ring ring result.Refused = ring
 printed_ring ring result.HistoryFull = ring

@@ -51,7 +51,7 @@ writes_for entry links = section_words (section_in entry.reply) links ++ snapped
 -- has one at least.
 abbrev pub links_of : List Judged → ℕ
 links_of [] = 1
-links_of (j ∷ filled) = j.desc.bound
+links_of (judged ∷ filled) = judged.desc.bound
 
 -- the next write, after these
 abbrev pub due : journaled.Entry → List Judged → Option Reference

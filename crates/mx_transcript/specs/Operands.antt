@@ -21,7 +21,7 @@ beyond word p = record p { word = (p.word + word) % 16384 }
 -- `S|W` begins at that word, in the current ring; `prN|W` where the register points, in its ring
 abbrev pub base_of : Registers → Base → ℕ → Option PointerParts
 base_of registers (Segment segno) word = Some (record { ring = registers.ring; segno = segno; word = word; further = false })
-base_of registers (Register n) word = option_map (beyond word) (slice_get registers.pr n)
+base_of registers (Register number) word = option_map (beyond word) (slice_get registers.pr number)
 
 abbrev pub operand_walk : Registers → Operand → Option chains.Operand
 operand_walk registers operand = option_map (walk_from registers operand.indirect) (base_of registers operand.base operand.word)
@@ -30,10 +30,10 @@ operand_walk registers operand = option_map (walk_from registers operand.indirec
 abbrev pub walk_of : Registers → Line → Option chains.Operand
 walk_of registers (Ask request) = None
 walk_of registers (Set word) = None
-walk_of registers (Epp n operand) = operand_walk registers operand
+walk_of registers (Epp number operand) = operand_walk registers operand
 walk_of registers (Lda operand) = operand_walk registers operand
 walk_of registers (Sta operand) = operand_walk registers operand
-walk_of registers (Spri n operand) = operand_walk registers operand
+walk_of registers (Spri number operand) = operand_walk registers operand
 walk_of registers Fetch = Some (walk_from registers false (way_back registers))
 walk_of registers (Call operand) = operand_walk registers operand
 walk_of registers (Return operand) = operand_walk registers operand

@@ -4,11 +4,11 @@ use Rattle.mx_reads.specs.Deeds.{Deeds, Enters}
 use Rattle.mx_reads.specs.ReadRule as rule
 
 -- a store is known at a point where its process has an entry after it, numbered at most that point
-pub record IsKnown (done : Deeds) (u place q : ℕ) : Type 0 where
+pub record IsKnown (done : Deeds) (storer place q : ℕ) : Type 0 where
   pub later : ℕ
   pub number : ℕ
   pub after : place < later
-  pub entry : slice_get (done u) later ≡ Some (Enters number)
+  pub entry : slice_get (done storer) later ≡ Some (Enters number)
   pub within : number ≤ q
 
 abbrev pub AreRightReads : Deeds → Type 0

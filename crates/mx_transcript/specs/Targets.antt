@@ -25,10 +25,10 @@ abbrev pub keeping_gates : Control → Result2 → Registers → Next
 keeping_gates control ends registers = Ends ends (with_registers control registers)
 
 abbrev pub at_target : Control → Line → PointerParts → Next
-at_target control (Epp n operand) target = keeping_gates control (result.Pr n target) (loaded control.registers n target)
+at_target control (Epp number operand) target = keeping_gates control (result.Pr number target) (loaded control.registers number target)
 at_target control (Lda operand) target = Asks (at_place op.Read target)
 at_target control (Sta operand) target = Asks (storing control.registers.a target)
-at_target control (Spri n operand) target = spri_at target (slice_get control.registers.pr n)
+at_target control (Spri number operand) target = spri_at target (slice_get control.registers.pr number)
 at_target control Fetch target = Asks (at_place op.Fetch target)
 at_target control (Call operand) target = Asks (at_place (calling control target) target)
 at_target control (Return operand) target = Asks (at_place op.Return (returning control target))
@@ -45,7 +45,7 @@ after_target control line target descriptor (outcome.Denied denial) = Ends (resu
 after_target control (Lda operand) target descriptor (outcome.Read value writer stamp) =
     keeping_gates control (result.A value) (record control.registers { a = value })
 after_target control (Sta operand) target descriptor (outcome.Written value) = Ends result.Done control
-after_target control (Spri n operand) target descriptor (outcome.Written value) = Ends result.Done control
+after_target control (Spri number operand) target descriptor (outcome.Written value) = Ends result.Done control
 after_target control Fetch target descriptor (outcome.Read value writer stamp) = Ends result.Done control
 after_target control (Call operand) target descriptor (outcome.Entered ring) = moved (after_call control target descriptor)
 after_target control (Return operand) target descriptor (outcome.Entered ring) = moved (after_return control target)

@@ -20,22 +20,22 @@ ungated registers = record { registers = registers; gates = no_gates 0 }
 
 -- the same gates with other registers
 abbrev pub with_registers : Control → Registers → Control
-with_registers c registers = record c { registers = registers }
+with_registers control registers = record control { registers = registers }
 
 -- a call of a target: it may go upward where one more return gate may stand
 abbrev pub calling : Control → PointerParts → Op
-calling c target = Call c.registers.ring (nat_eq target.segno c.registers.procedure.segno) (has_room c.gates)
+calling control target = Call control.registers.ring (nat_eq target.segno control.registers.procedure.segno) (has_room control.gates)
 
 -- after a granted call: from below the first bracket it goes upward and leaves a gate
 abbrev pub after_call : Control → PointerParts → Descriptor → Control
-after_call c target d =
-    if nat_lt target.ring d.brackets.r1
-    then record { registers = upcalled c.registers target d; gates = pushed c.gates (gate_left c.registers d) }
-    else with_registers c (called c.registers target d)
+after_call control target descriptor =
+    if nat_lt target.ring descriptor.brackets.r1
+    then record { registers = upcalled control.registers target descriptor; gates = pushed control.gates (gate_left control.registers descriptor) }
+    else with_registers control (called control.registers target descriptor)
 
 -- the gate through which a return to a target goes, if it goes through one
 abbrev pub way_down : Control → PointerParts → Option ReturnGate
-way_down c target = usable c.gates c.registers.ring target
+way_down control target = usable control.gates control.registers.ring target
 
 -- where a return is asked: through a gate in the gate's lower ring
 abbrev pub returning_through : Option ReturnGate → PointerParts → PointerParts
@@ -43,13 +43,13 @@ returning_through None target = target
 returning_through (Some gate) target = record target { ring = gate.lower }
 
 abbrev pub returning : Control → PointerParts → PointerParts
-returning c target = returning_through (way_down c target) target
+returning control target = returning_through (way_down control target) target
 
 -- after a granted return: one through a gate takes the gate away
 abbrev pub after_return_through : Option ReturnGate → Control → PointerParts → Control
-after_return_through None c target = with_registers c (returned c.registers target)
-after_return_through (Some gate) c target =
-    record { registers = downreturned c.registers gate; gates = popped c.gates }
+after_return_through None control target = with_registers control (returned control.registers target)
+after_return_through (Some gate) control target =
+    record { registers = downreturned control.registers gate; gates = popped control.gates }
 
 abbrev pub after_return : Control → PointerParts → Control
-after_return c target = after_return_through (way_down c target) c target
+after_return control target = after_return_through (way_down control target) control target

@@ -21,18 +21,18 @@ no_gates most = record { most = most; gates = [] }
 
 -- whether one more may stand
 abbrev pub has_room : ReturnGates → Bool
-has_room g = nat_lt (length g.gates) g.most
+has_room gates = nat_lt (length gates.gates) gates.most
 
 -- the gates with one more on top
 abbrev pub pushed : ReturnGates → ReturnGate → ReturnGates
-pushed g gate = record g { gates = gate ∷ g.gates }
+pushed gates gate = record gates { gates = gate ∷ gates.gates }
 
 -- the top gate, and the gates without it
 abbrev pub top_gate : ReturnGates → Option ReturnGate
-top_gate g = slice_get g.gates 0
+top_gate gates = slice_get gates.gates 0
 
 abbrev pub popped : ReturnGates → ReturnGates
-popped g = record g { gates = drop 1 g.gates }
+popped gates = record gates { gates = drop 1 gates.gates }
 
 -- whether a gate leads back from a ring through a target: the word of its procedure pointer, whatever the target's ring
 abbrev pub leads_back : ReturnGate → ℕ → PointerParts → Bool
@@ -45,12 +45,12 @@ if_leads_back (Some gate) ring target = if leads_back gate ring target then Some
 
 -- the gate that a process of this ring can use at a target: the top one, if it leads back
 abbrev pub usable : ReturnGates → ℕ → PointerParts → Option ReturnGate
-usable g ring target = if_leads_back (top_gate g) ring target
+usable gates ring target = if_leads_back (top_gate gates) ring target
 
 -- the same, one field a rule
-pub record IsUsable (g : ReturnGates) (ring : ℕ) (target : PointerParts) (gate : ReturnGate) : Type 0 where
+pub record IsUsable (gates : ReturnGates) (ring : ℕ) (target : PointerParts) (gate : ReturnGate) : Type 0 where
   pub below : List ReturnGate
-  pub top : g.gates ≡ gate ∷ below
+  pub top : gates.gates ≡ gate ∷ below
   pub from : gate.upper ≡ ring
   pub segment : gate.procedure.segno ≡ target.segno
   pub word : gate.procedure.word ≡ target.word
