@@ -26,18 +26,13 @@ abbrev pub references_of : List (List Step) → List Element
 references_of transcripts = flat_map (λ steps. references_among (events_of steps)) transcripts
 
 abbrev pub is_denial : Outcome → Bool
-is_denial (outcome.Read value writer stamp) = false
-is_denial (outcome.Written value) = false
-is_denial (outcome.Entered ring) = false
 is_denial (outcome.Denied denial) = true
+is_denial _ = false
 
 abbrev pub is_access : Kind → Bool
 is_access kind.Read = true
-is_access kind.Ind = false
 is_access kind.Write = true
-is_access kind.Fetch = false
-is_access kind.Call = false
-is_access kind.Return = false
+is_access _ = false
 
 -- a reference that was denied
 abbrev pub is_denied : Element → Bool
@@ -49,10 +44,8 @@ is_granted element = is_access element.kind && not (is_denied element)
 
 -- the value that a granted store wrote
 abbrev pub value_in : Outcome → ℕ
-value_in (outcome.Read value writer stamp) = 0
 value_in (outcome.Written value) = value
-value_in (outcome.Entered ring) = 0
-value_in (outcome.Denied denial) = 0
+value_in _ = 0
 
 abbrev pub value_written : Element → ℕ
 value_written element = value_in element.outcome

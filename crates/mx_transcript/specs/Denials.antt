@@ -3,18 +3,13 @@ use Rattle.std.specs.Prelude.{ℕ, List, [], ◌∷◌, Option, Some, None}
 use Rattle.std.specs.List.{filter_map}
 use Rattle.mx_sdw.specs.declared.denials.Denial.{Denial}
 use Rattle.mx_transcript.specs.declared.transcripts.Result2.{Result2}
-use Rattle.mx_transcript.specs.declared.transcripts.Result2.TheVariants.{Done, A, Pr, Moved, Denied, Refused, HistoryFull}
+use Rattle.mx_transcript.specs.declared.transcripts.Result2.TheVariants.{Denied}
 use Rattle.mx_transcript.specs.Transcripts.{Step}
 
 -- the denial with which a line of this number ended, with the number; none where its result is another
 abbrev pub denied_with : ℕ → Result2 → Option (ℕ × Denial)
 denied_with number (Denied denial) = Some (number, denial)
-denied_with number Done = None
-denied_with number (A word) = None
-denied_with number (Pr register pointer) = None
-denied_with number (Moved ring procedure) = None
-denied_with number Refused = None
-denied_with number HistoryFull = None
+denied_with number _ = None
 
 abbrev pub denial_of : Step → Option (ℕ × Denial)
 denial_of step = denied_with step.0 step.2

@@ -21,12 +21,7 @@ use Rattle.mx_transcript.specs.Transcripts.{Step}
 -- the current ring after a line, as its result prints it
 abbrev pub printed_ring : ℕ → Result2 → ℕ
 printed_ring ring (result.Moved entered procedure) = entered
-printed_ring ring result.Done = ring
-printed_ring ring (result.A word) = ring
-printed_ring ring (result.Pr number pointer) = ring
-printed_ring ring (result.Denied denial) = ring
-printed_ring ring result.Refused = ring
-printed_ring ring result.HistoryFull = ring
+printed_ring ring _ = ring
 
 -- the last of these events is a granted call at a gate: one of the segment's first words, entered from above the
 -- second bracket up to the third, into the ring of the second
