@@ -13,7 +13,7 @@ use Rattle.mx_request.specs.WordNumbers.{word_number_of}
 use Rattle.mx_request.proofs.StepLaws.{both, both_hold, fails, some_is, bind_some, when_some, same_bytes}
 use Rattle.mx_script.proofs.FieldLaws.{at_most, at_most_test, octal_free, cut_none}
 use Rattle.mx_script.proofs.FrontLaws.{after_takes}
-use Rattle.mx_script.specs.Fields.{operand, register_at, register_base, segment_base, base_at, star_at, offset_of, offset_at, operand_at, register_operand_at}
+use Rattle.mx_script.specs.Fields.{operand, register_at, register_base, segment_base, base_at, star_at, indirect_at, offset_of, offset_at, operand_at, register_operand_at}
 use Rattle.mx_script.specs.Fronts.{after, read_or}
 use Rattle.mx_script.specs.Sessions.{is_register, is_base, is_address}
 use Rattle.mx_script.specs.SessionTexts.{base_text, indirect_text, offset_text, operand_text}
@@ -92,38 +92,55 @@ pub record IsOffset (text : List ℕ) (o : ℕ × Bool) : Type 0 where
   pub spelled : offset_text o.0 o.1 ≡ text
   pub fits : nat_le o.0 16383 ≡ true
 
-plain_offset : (text : List ℕ) (o : ℕ × Bool) → offset_of text None ≡ Some o → IsOffset text o
-plain_offset text o e =
-    let w = bind_some (word_number_of text) _ o e in
-    let f = word_number_takes text w.0 w.1 in
-    subst (IsOffset text) (some_is _ _ w.2) (record { spelled = append-nil (octal w.0) ∙ f.0; fits = f.1 })
-
-starred_offset : (text : List ℕ) (p : List ℕ × List ℕ) (o : ℕ × Bool) → cut_at 44 text ≡ Some p → offset_of text (Some p) ≡ Some o
+plain_offset : (text : List ℕ) (word : ℕ) (o : ℕ × Bool) → word_number_of text ≡ Some word → Some (word, false) ≡ Some o
     → IsOffset text o
-starred_offset text p o cut e =
-    let w = bind_some (word_number_of p.0) _ o e in
-    let i = bind_some (star_at p.1) _ o w.2 in
-    let f = word_number_takes p.0 w.0 w.1 in
-    let g = star_takes p.1 i.0 i.1 in
-    let parts = cut_takes 44 text p cut in
+plain_offset text word o is e =
+    let f = word_number_takes text word is in
+    subst (IsOffset text) (some_is _ _ e) (record { spelled = append-nil (octal word) ∙ f.0; fits = f.1 })
+
+starred_offset : (text : List ℕ) (o : ℕ × Bool) → indirect_at text ≡ Some o → IsOffset text o
+starred_offset text o e =
+    let p = bind_some (cut_at 44 text) _ o e in
+    let w = bind_some (word_number_of p.0.0) _ o p.2 in
+    let i = bind_some (star_at p.0.1) _ o w.2 in
+    let f = word_number_takes p.0.0 w.0 w.1 in
+    let g = star_takes p.0.1 i.0 i.1 in
+    let parts = cut_takes 44 text p.0 p.1 in
     subst (IsOffset text) (some_is _ _ i.2)
-    (record { spelled = spelled w.0 i.0 text p.0 p.1 g.1 f.0 g.0 parts.0; fits = f.1 })
+    (record { spelled = spelled w.0 i.0 text p.0.0 p.0.1 g.1 f.0 g.0 parts.0; fits = f.1 })
   where
     spelled : (w : ℕ) (indirect : Bool) (text front rest : List ℕ) → indirect ≡ true → octal w ≡ front → rest ≡ codes "*"
         → text ≡ front ++ 44 ∷ rest → offset_text w indirect ≡ text
     spelled w indirect text front rest i f r e = rw (i, f, e, r) refl
 
 offset_takes : (text : List ℕ) (o : ℕ × Bool) → offset_at text ≡ Some o → IsOffset text o
-offset_takes text o e = by_cut (cut_at 44 text) refl e
+offset_takes text o e = by_word (word_number_of text) refl e
   where
-    by_cut : (found : Option (List ℕ × List ℕ)) → cut_at 44 text ≡ found → offset_of text found ≡ Some o → IsOffset text o
-    by_cut None t e = plain_offset text o e
-    by_cut (Some p) t e = starred_offset text p o t e
+    by_word : (found : Option ℕ) → word_number_of text ≡ found → offset_of text found ≡ Some o → IsOffset text o
+    by_word None t e = starred_offset text o e
+    by_word (Some word) t e = plain_offset text word o t e
+
+-- a text with a comma is no word number, whose text has none
+starred_is_none : (front rest : List ℕ) (found : Option ℕ) → word_number_of (front ++ 44 ∷ rest) ≡ found → found ≡ None
+starred_is_none front rest None e = refl
+starred_is_none front rest (Some word) e =
+    let spelled : octal word ≡ front ++ 44 ∷ rest = (word_number_takes (front ++ 44 ∷ rest) word e).0 in
+    let free : is_free 44 (front ++ 44 ∷ rest) ≡ true = subst (λ xs. is_free 44 xs ≡ true) spelled (octal_free 44 word refl) in
+    let parts = both _ _ (sym (list_all-append (λ c. not (c == 44)) front (44 ∷ rest)) ∙ free) in
+    absurd (no_comma parts.1)
+  where
+    no_comma : false && is_free 44 rest ≡ true → ⊥
+    no_comma e = cc
 
 offset_again : (w : ℕ) (indirect : Bool) → nat_le w 16383 ≡ true
     → offset_at (offset_text w indirect) ≡ Some (w, indirect)
-offset_again w true e = rw (cut_again 44 (octal w) (codes "*") (octal_free 44 w refl), word_number_again w e) refl
-offset_again w false e = rw (append-nil (octal w), cut_none 44 (octal w) (octal_free 44 w refl), word_number_again w e) refl
+offset_again w true e =
+    rw (
+      starred_is_none (octal w) (codes "*") _ refl,
+      cut_again 44 (octal w) (codes "*") (octal_free 44 w refl),
+      word_number_again w e,
+    ) refl
+offset_again w false e = rw (append-nil (octal w), word_number_again w e) refl
 
 indirect_free : (byte : ℕ) (indirect : Bool) → is_free byte (codes ",*") ≡ true → is_free byte (indirect_text indirect) ≡ true
 indirect_free byte true e = e

@@ -15,7 +15,7 @@ use Rattle.mx_request.specs.Decimals.{decimal_number}
 use Rattle.mx_request.specs.Steps.{◌>>=◌}
 use Rattle.mx_script.specs.Fronts.{after, read_or}
 use Rattle.mx_script.specs.Fields.{entrant_at, operand_at, register_operand_at, word_at}
-use Rattle.mx_script.specs.Reading.{IsRow, set_at, epp_at, lda_at, sta_at, spri_at, call_at, return_at, memory_at, memory_row, header_row, history_row, plain_at, entrant_row, process_at}
+use Rattle.mx_script.specs.Reading.{IsRow, set_at, epp_at, lda_at, sta_at, spri_at, call_at, return_at, memory_at, memory_row, load_row, store_row, accumulator_at, header_row, history_row, plain_at, entrant_row, process_at}
 use Rattle.mx_request.specs.RequestTexts.{request_text, fits_request}
 use Rattle.mx_script.specs.Sessions.{is_version, is_history}
 use Rattle.mx_script.specs.SessionTexts.{entrant_text, row_text, line_text, fits, fits_line}
@@ -199,6 +199,14 @@ call_front rest = refl
 return_front : (rest : List ℕ) → plain_at (codes "return " ++ rest) ≡ (return_at rest >>= λ line. Some (row.Line line))
 unfolding plain_at memory_at after
 return_front rest = refl
+
+-- a load or a store is read alike by itself
+pub accumulator_plain : (text : List ℕ) (r : Row) → accumulator_at text ≡ Some r → plain_at text ≡ Some r
+unfolding accumulator_at
+accumulator_plain text r e =
+    let Is : List ℕ → Row → Type 0 = λ t row. plain_at t ≡ Some row in
+    read_or_takes Is (codes "lda ") text load_row _ r (λ rest f. lda_front rest ∙ f)
+    (read_or_takes Is (codes "sta ") text store_row None r (λ rest f. sta_front rest ∙ f) (λ e. cc)) e
 
 plain_request : (request : Request) → plain_at (request_text request) ≡ None
 unfolding plain_at memory_at after

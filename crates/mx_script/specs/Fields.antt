@@ -36,13 +36,21 @@ base_at text = read_or (after (codes "pr") text) register_base (segment_base tex
 abbrev pub star_at : List ℕ → Option Bool
 star_at text = when (pointwise ◌==◌ text (codes "*")) true
 
--- `W`, or `W,*` where the word is indirect
-abbrev pub offset_of : List ℕ → Option (List ℕ × List ℕ) → Option (ℕ × Bool)
-offset_of text None = word_number_of text >>= λ word. Some (word, false)
-offset_of text (Some p) = word_number_of p.0 >>= λ word. star_at p.1 >>= λ indirect. Some (word, indirect)
+-- `W,*`: the word is indirect
+abbrev pub indirect_at : List ℕ → Option (ℕ × Bool)
+indirect_at text =
+    cut_at 44 text >>= λ p.
+    word_number_of p.0 >>= λ word.
+    star_at p.1 >>= λ indirect.
+    Some (word, indirect)
+
+-- `W`, or else that
+abbrev pub offset_of : List ℕ → Option ℕ → Option (ℕ × Bool)
+offset_of text (Some word) = Some (word, false)
+offset_of text None = indirect_at text
 
 abbrev pub offset_at : List ℕ → Option (ℕ × Bool)
-offset_at text = offset_of text (cut_at 44 text)
+offset_at text = offset_of text (word_number_of text)
 
 -- `S|W` or `prN|W`, each with `,*` or without
 abbrev pub operand_at : List ℕ → Option Operand

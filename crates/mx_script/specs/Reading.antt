@@ -52,6 +52,17 @@ memory_at text =
 abbrev pub memory_row : List ℕ → Option Row
 memory_row text = memory_at text >>= λ line. Some (row.Line line)
 
+-- a load or a store of the accumulator: most lines of a session are such
+abbrev pub load_row : List ℕ → Option Row
+load_row text = lda_at text >>= λ line. Some (row.Line line)
+
+abbrev pub store_row : List ℕ → Option Row
+store_row text = sta_at text >>= λ line. Some (row.Line line)
+
+unfoldable pub accumulator_at : List ℕ → Option Row
+accumulator_at text =
+    read_or (after (codes "lda ") text) load_row (read_or (after (codes "sta ") text) store_row None)
+
 -- the version
 abbrev pub header_row : List ℕ → Option Row
 header_row text = decimal_number 1 text >>= λ version. when (is_version version) (row.Header version)

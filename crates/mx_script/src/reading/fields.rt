@@ -3,7 +3,7 @@
 ghost use Rattle.std.specs.Prelude.{◌≡◌};
 ghost use Rattle.mx_aim.specs.Classes.{equals, lowest};
 ghost use Rattle.mx_name.specs.Principals.{principal_of};
-ghost use Rattle.mx_script.specs.Fields.{written_class, entrant_at, register_at, register_base, segment_base, base_at, star_at, offset_at, operand_at, register_operand_at, word_at};
+ghost use Rattle.mx_script.specs.Fields.{written_class, entrant_at, register_at, register_base, segment_base, base_at, star_at, indirect_at, offset_at, operand_at, register_operand_at, word_at};
 
 use crate::lines::{Base, Operand};
 use crate::reading::cutting::after;
@@ -117,21 +117,23 @@ fn read_segment_base(text: &[u8]) -> Option<Base>
     Some(Base::Segment(segno as u16))
 }
 
-// `W`, or `W,*` where the word is indirect.
+// `W`, or `W,*` where the word is indirect. Most are the first.
 fn read_offset(text: &[u8]) -> Option<(u16, bool)>
     ensures { result ≡ offset_at text.now }
 {
-    match cut(b',', text) {
-        Some((word, star)) => {
-            let word = read_word_number(word)?;
-            let indirect = read_star(star)?;
-            Some((word, indirect))
-        }
-        None => {
-            let word = read_word_number(text)?;
-            Some((word, false))
-        }
+    match read_word_number(text) {
+        Some(word) => Some((word, false)),
+        None => read_indirect(text),
     }
+}
+
+fn read_indirect(text: &[u8]) -> Option<(u16, bool)>
+    ensures { result ≡ indirect_at text.now }
+{
+    let (word, star) = cut(b',', text)?;
+    let word = read_word_number(word)?;
+    let indirect = read_star(star)?;
+    Some((word, indirect))
 }
 
 fn read_star(text: &[u8]) -> Option<bool>

@@ -1,7 +1,7 @@
 //! What a line of a session text says by itself.
 
 ghost use Rattle.std.specs.Prelude.{◌≡◌, IfOk, IfSome, Some};
-ghost use Rattle.mx_script.specs.Reading.{IsRow, set_at, epp_at, lda_at, sta_at, spri_at, call_at, return_at, memory_at, header_row, history_row, plain_at, process_at};
+ghost use Rattle.mx_script.specs.Reading.{IsRow, set_at, epp_at, lda_at, sta_at, spri_at, call_at, return_at, accumulator_at, memory_at, header_row, history_row, plain_at, process_at};
 ghost use Rattle.mx_script.specs.declared.rows.Row.{Row};
 
 use crate::lines::{BoxedRequest, Line};
@@ -14,6 +14,32 @@ use std::alloc::{AllocError, Global};
 
 /// The row that a line spells, `None` where it spells none.
 pub(crate) fn read_row(alloc: Global, line: &[u8]) -> Result<Option<Row>, AllocError>
+    ensures found { IfOk result (λ told. IfSome told (λ r. IsRow line.now r)) }
+    ensures only { (r : Row) → IsRow line.now r → IfOk result (λ told. told ≡ Some r) }
+{
+    match read_accumulator(line) {
+        Some(row) => Ok(Some(row)),
+        None => read_other(alloc, line),
+    }
+}
+
+// `lda OPERAND` or `sta OPERAND`.
+#[tactic(auto, unfolding(crate::specs::Reading::accumulator_at))]
+fn read_accumulator(line: &[u8]) -> Option<Row>
+    ensures { result ≡ accumulator_at line.now }
+{
+    if let Some(fields) = after(b"lda ", line) {
+        Some(Row::Line(read_lda(fields)?))
+    } else if let Some(fields) = after(b"sta ", line) {
+        Some(Row::Line(read_sta(fields)?))
+    } else {
+        None
+    }
+}
+
+// The row of a line of any kind. It stands by itself, so that the others are read in few steps.
+#[inline(never)]
+fn read_other(alloc: Global, line: &[u8]) -> Result<Option<Row>, AllocError>
     ensures found { IfOk result (λ told. IfSome told (λ r. IsRow line.now r)) }
     ensures only { (r : Row) → IsRow line.now r → IfOk result (λ told. told ≡ Some r) }
 {
