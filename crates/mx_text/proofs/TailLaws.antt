@@ -1,8 +1,8 @@
 -- Laws on a line that is spelled from its last byte to its first.
-use Rattle.std.proofs.Common.{◌≡◌, ℕ, ◌+◌, ◌-◌, ◌<◌, ◌≤◌, ◌^◌, List, [], ◌++◌, length, drop, slice_set}
-use Rattle.std.proofs.Common.{refl, sym, ap, ◌∙◌, arith, length-append, length-drop}
-use Rattle.std.proofs.lemmas.List.{drop-set, drop_all}
-use Rattle.mx_sdw.proofs.OctalLaws.{HasSpelled, below_with_more, octal_small, length-octal}
+use Rattle.std.proofs.Common.{◌≡◌, ℕ, ◌+◌, ◌-◌, ◌<◌, ◌≤◌, ◌^◌, ◌/◌, ◌%◌, List, [], ◌++◌, length, drop, slice_set}
+use Rattle.std.proofs.Common.{refl, sym, ap, ◌∙◌, arith, length-append}
+use Rattle.std.proofs.lemmas.List.{drop-set, drop_all, length-set}
+use Rattle.mx_sdw.proofs.OctalLaws.{HasSpelled, below_with_more, last_written, octal_small, length-octal}
 use Rattle.mx_sdw.specs.Octal.{octal}
 
 -- behind the last byte is nothing
@@ -19,22 +19,20 @@ none_yet bytes end n room h =
       room = below_with_more n 22 (end - 1 + 1) (omega arith) (omega arith);
     }
 
+-- two digits of what is left to spell
+pub two_written : (whole bytes : List ℕ) (start n : ℕ) → HasSpelled whole bytes start n → start < length bytes → 64 ≤ n
+    → (0 < start) × (0 < start - 1)
+    × HasSpelled whole (slice_set (slice_set bytes start (48 + n % 8)) (start - 1) (48 + n / 8 % 8)) (start - 1 - 1) (n / 8 / 8)
+two_written whole bytes start n has s h =
+    let last = last_written whole bytes start n has s (omega (arith, h)) in
+    let within : start - 1 < length (slice_set bytes start (48 + n % 8)) = rw length-set (omega (arith, s)) in
+    let other = last_written whole _ (start - 1) (n / 8) last.1 within (omega (arith, h)) in (last.0, other.0, other.1)
+
 -- after the first digit is written, nothing is to come
 pub all_spelled : (whole bytes : List ℕ) (start n : ℕ) → HasSpelled whole bytes start n → start < length bytes → n < 8
     → drop start (slice_set bytes start (48 + n)) ≡ whole
 all_spelled whole bytes start n has s h =
     drop-set bytes start (48 + n) s ∙ ap (λ xs. xs ++ drop (start + 1) bytes) (sym (octal_small n h)) ∙ has.spelled
-
--- a number's digits start before what follows it
-pub spelled_within : (bytes old : List ℕ) (start end n : ℕ) → drop start bytes ≡ octal n ++ drop end old
-    → length bytes ≡ length old → start ≤ length bytes → end ≤ length old → start ≤ end
-spelled_within bytes old start end n e same s w =
-    let a : length (drop start bytes) ≡ length bytes - start = length-drop start bytes in
-    let b : length (octal n ++ drop end old) ≡ length (octal n) + length (drop end old)
-    = length-append (octal n) (drop end old) in
-    let c : length (drop end old) ≡ length old - end = length-drop end old in
-    let f : length (drop start bytes) ≡ length (octal n ++ drop end old) = ap length e in
-    omega (arith, a, b, c, f)
 
 -- a number has at most 22 digits
 pub octal_short : (n : ℕ) (after before : List ℕ) → after ≡ octal n ++ before → n < 2 ^ 64

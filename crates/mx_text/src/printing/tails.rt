@@ -132,6 +132,24 @@ impl Tail {
     }
 }
 
+// Spells the last digits of a number that are still to come, one or two, the last one at `start`; where they start.
+#[inline(always)]
+fn spell_front(bytes: &mut [u8; 192], start: usize, left: u64) -> usize
+    requires few { left < 64 }
+    requires within { start ≤ 191 }
+    requires room { 8 ≤ left → 1 ≤ start }
+    ensures spelled { drop result bytes.new ≡ octal left ++ drop (start + 1) bytes.old }
+    ensures within { result ≤ start }
+{
+    if left < 8 {
+        bytes[start] = b'0' + left as u8;
+        return start;
+    }
+    bytes[start] = b'0' + (left % 8) as u8;
+    bytes[start - 1] = b'0' + (left / 8) as u8;
+    start - 1
+}
+
 // Spells a number in octal so that it ends where the bytes from `end` on begin; where it starts.
 fn spell_octal(bytes: &mut [u8; 192], end: usize, n: u64) -> usize
     requires within { end ≤ 192 }
@@ -141,11 +159,14 @@ fn spell_octal(bytes: &mut [u8; 192], end: usize, n: u64) -> usize
 {
     let mut start = end - 1;
     let mut left = n;
-    while left >= 8 {
+    // Two digits a turn.
+    while left >= 64 {
+        bytes[start] = b'0' + (left % 8) as u8;
+        start -= 1;
+        left /= 8;
         bytes[start] = b'0' + (left % 8) as u8;
         start -= 1;
         left /= 8;
     }
-    bytes[start] = b'0' + left as u8;
-    start
+    spell_front(bytes, start, left)
 }

@@ -1,4 +1,4 @@
-use Rattle.std.proofs.Common.{◌≡◌, ◌≤◌, ◌++◌, drop, length}
+use Rattle.std.proofs.Common.{◌≡◌, ◌≤◌, ◌<◌, ◌++◌, drop, length}
 use Rattle.mx_sdw.proofs.OctalLaws.{HasSpelled}
 use Rattle.mx_sdw.specs.Octal.{octal}
 use Rattle.mx_text.proofs.printing.tails.spell_octal.Given as goal
@@ -9,6 +9,7 @@ invariant-loop-left l = record {
   has : HasSpelled (octal l.n ++ drop l.end l.initial.bytes) l.bytes l.start l.left;
   length : length l.bytes ≡ 192;
   start : l.start ≤ 191;
+  before : l.start < l.end;
 }
 
 -- the number that is left to spell
