@@ -1,13 +1,13 @@
 -- Laws on a line that is spelled from its last byte to its first.
 use Rattle.std.proofs.Common.{◌≡◌, ℕ, ◌+◌, ◌-◌, ◌<◌, ◌≤◌, ◌^◌, ◌/◌, ◌%◌, List, [], ◌++◌, length, drop, slice_set}
-use Rattle.std.proofs.Common.{refl, sym, ap, ◌∙◌, arith, length-append}
+use Rattle.std.proofs.Common.{refl, sym, ap, ◌∙◌, arith, append_assoc, codes, length-append}
 use Rattle.std.proofs.lemmas.List.{drop-set, drop_all, length-set}
 use Rattle.mx_sdw.proofs.OctalLaws.{HasSpelled, below_with_more, last_written, octal_small, length-octal}
 use Rattle.mx_sdw.specs.Octal.{octal}
 
 -- behind the last byte is nothing
-pub nothing : (bytes : List ℕ) → length bytes ≡ 192 → drop 192 bytes ≡ []
-nothing bytes e = drop_all 192 bytes (omega (arith, e))
+pub nothing : (bytes : List ℕ) → length bytes ≡ 384 → drop 384 bytes ≡ []
+nothing bytes e = drop_all 384 bytes (omega (arith, e))
 
 -- before the last digit is written, the number and what follows it are still to come
 pub none_yet : (bytes : List ℕ) (end n : ℕ) → 22 ≤ end → n < 2 ^ 64
@@ -33,6 +33,13 @@ pub all_spelled : (whole bytes : List ℕ) (start n : ℕ) → HasSpelled whole 
     → drop start (slice_set bytes start (48 + n)) ≡ whole
 all_spelled whole bytes start n has s h =
     drop-set bytes start (48 + n) s ∙ ap (λ xs. xs ++ drop (start + 1) bytes) (sym (octal_small n h)) ∙ has.spelled
+
+-- a reference's text before what follows it
+pub element_before : (kind address ring point outcome old : List ℕ)
+    → (kind ++ codes " ") ++ (address ++ (codes " ring " ++ (ring ++ (codes " point " ++ (point ++ (outcome ++ (codes "\n" ++ old)))))))
+    ≡ (kind ++ codes " " ++ address ++ codes " ring " ++ ring ++ codes " point " ++ point ++ outcome ++ codes "\n") ++ old
+element_before kind address ring point outcome old =
+    rw (append_assoc, append_assoc, append_assoc, append_assoc, append_assoc, append_assoc, append_assoc, append_assoc, append_assoc) refl
 
 -- a number has at most 22 digits
 pub octal_short : (n : ℕ) (after before : List ℕ) → after ≡ octal n ++ before → n < 2 ^ 64

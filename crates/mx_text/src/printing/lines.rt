@@ -26,8 +26,13 @@ pub(super) fn add_step(
 ) -> Result<(), AllocError>
     ensures { OnOk result (out.new.items ≡ out.old.items ++ step_text (number, events.now, ends)) }
 {
-    add_events(out, tail, events)?;
-    spell_line(tail, number, &ends);
+    if let [event] = events {
+        spell_line(tail, number, &ends);
+        put_event(tail, event);
+    } else {
+        add_events(out, tail, events)?;
+        spell_line(tail, number, &ends);
+    }
     out.extend_from_slice(tail.bytes())
 }
 
@@ -35,36 +40,40 @@ fn add_events(out: &mut Vec<u8>, tail: &mut Tail, events: &[Event2]) -> Result<(
     ensures { OnOk result (out.new.items ≡ out.old.items ++ events_text events.now) }
 {
     for event in events {
-        spell_event(tail, event);
+        tail.clear();
+        put_event(tail, event);
         out.extend_from_slice(tail.bytes())?;
     }
     Ok(())
 }
 
-fn spell_event(tail: &mut Tail, event: &Event2)
-    ensures { tail.new ≡ event_text event.now }
+fn put_event(tail: &mut Tail, event: &Event2)
+    requires { 192 + length tail.old ≤ 384 }
+    ensures { tail.new ≡ event_text event.now ++ tail.old }
 {
     match event {
-        Event2::Core(Event::Seen(element)) => spell_element(tail, element),
-        Event2::Core(Event::Missing { segno, by }) => spell_miss(tail, *segno, *by),
-        Event2::Entry(entry) => spell_entry(tail, *entry),
+        Event2::Core(Event::Seen(element)) => put_element(tail, element),
+        Event2::Core(Event::Missing { segno, by }) => put_miss(tail, *segno, *by),
+        Event2::Entry(entry) => put_entry(tail, *entry),
     }
 }
 
 // `entry N`
-fn spell_entry(tail: &mut Tail, entry: u32)
-    ensures { tail.new ≡ event_text (Entry entry) }
+fn put_entry(tail: &mut Tail, entry: u32)
+    requires { 192 + length tail.old ≤ 384 }
+    ensures { tail.new ≡ event_text (Entry entry) ++ tail.old }
 {
-    tail.begin();
+    tail.byte(b'\n');
     tail.decimal(u64::from(entry));
     tail.text(b"entry ");
 }
 
 // `missing S by K`
-fn spell_miss(tail: &mut Tail, segno: u16, by: u32)
-    ensures { tail.new ≡ event_text (Core (Missing segno by)) }
+fn put_miss(tail: &mut Tail, segno: u16, by: u32)
+    requires { 192 + length tail.old ≤ 384 }
+    ensures { tail.new ≡ event_text (Core (Missing segno by)) ++ tail.old }
 {
-    tail.begin();
+    tail.byte(b'\n');
     tail.decimal(u64::from(by));
     tail.text(b" by ");
     tail.octal(u64::from(segno));
@@ -72,10 +81,11 @@ fn spell_miss(tail: &mut Tail, segno: u16, by: u32)
 }
 
 // `KIND S|W ring R point K ..`
-fn spell_element(tail: &mut Tail, element: &Element)
-    ensures { tail.new ≡ element_text element.now }
+fn put_element(tail: &mut Tail, element: &Element)
+    requires { 192 + length tail.old ≤ 384 }
+    ensures { tail.new ≡ element_text element.now ++ tail.old }
 {
-    tail.begin();
+    tail.byte(b'\n');
     put_outcome(tail, &element.outcome);
     tail.decimal(u64::from(element.point));
     tail.text(b" point ");
@@ -87,7 +97,7 @@ fn spell_element(tail: &mut Tail, element: &Element)
 
 // A kind and a blank.
 fn put_kind(tail: &mut Tail, kind: &Kind)
-    requires { 7 + length tail.old ≤ 192 }
+    requires { 7 + length tail.old ≤ 384 }
     ensures { tail.new ≡ kind_text kind.now ++ codes " " ++ tail.old }
 {
     match kind {
@@ -101,7 +111,7 @@ fn put_kind(tail: &mut Tail, kind: &Kind)
 }
 
 fn put_outcome(tail: &mut Tail, outcome: &Outcome)
-    requires { 81 + length tail.old ≤ 192 }
+    requires { 81 + length tail.old ≤ 384 }
     ensures spelled { tail.new ≡ outcome_text outcome.now ++ tail.old }
     ensures short { length tail.new ≤ 81 + length tail.old }
 {
@@ -131,7 +141,7 @@ fn put_outcome(tail: &mut Tail, outcome: &Outcome)
 
 // ` word W`
 fn put_word(tail: &mut Tail, word: &Word)
-    requires { 28 + length tail.old ≤ 192 }
+    requires { 28 + length tail.old ≤ 384 }
     ensures spelled { tail.new ≡ codes " word " ++ octal word.now ++ tail.old }
     ensures short { length tail.new ≤ 28 + length tail.old }
 {
@@ -141,7 +151,7 @@ fn put_word(tail: &mut Tail, word: &Word)
 
 // The denial's name.
 fn put_denial(tail: &mut Tail, denial: &Denial)
-    requires { 15 + length tail.old ≤ 192 }
+    requires { 15 + length tail.old ≤ 384 }
     ensures spelled { tail.new ≡ denial_text denial.now ++ tail.old }
     ensures short { length tail.new ≤ 15 + length tail.old }
 {
@@ -150,7 +160,8 @@ fn put_denial(tail: &mut Tail, denial: &Denial)
 
 // `line N RESULT`
 fn spell_line(tail: &mut Tail, number: u32, ends: &Result2)
-    ensures { tail.new ≡ codes "line " ++ decimal number ++ codes " " ++ result_text ends.now ++ codes "\n" }
+    ensures spelled { tail.new ≡ codes "line " ++ decimal number ++ codes " " ++ result_text ends.now ++ codes "\n" }
+    ensures short { length tail.new ≤ 192 }
 {
     tail.begin();
     put_result(tail, ends);
@@ -160,7 +171,7 @@ fn spell_line(tail: &mut Tail, number: u32, ends: &Result2)
 }
 
 fn put_result(tail: &mut Tail, ends: &Result2)
-    requires { 100 + length tail.old ≤ 192 }
+    requires { 100 + length tail.old ≤ 384 }
     ensures spelled { tail.new ≡ result_text ends.now ++ tail.old }
     ensures short { length tail.new ≤ 100 + length tail.old }
 {
@@ -183,7 +194,7 @@ fn put_result(tail: &mut Tail, ends: &Result2)
 
 // `pr N RING S|W`
 fn put_register(tail: &mut Tail, n: u8, pointer: &Pointer)
-    requires { 90 + length tail.old ≤ 192 }
+    requires { 90 + length tail.old ≤ 384 }
     ensures spelled { tail.new ≡ result_text (Pr n pointer.now) ++ tail.old }
     ensures short { length tail.new ≤ 90 + length tail.old }
 {
@@ -197,7 +208,7 @@ fn put_register(tail: &mut Tail, n: u8, pointer: &Pointer)
 
 // `ring R at S|W`
 fn put_procedure(tail: &mut Tail, ring: Ring, procedure: &Pointer)
-    requires { 90 + length tail.old ≤ 192 }
+    requires { 90 + length tail.old ≤ 384 }
     ensures spelled { tail.new ≡ result_text (Moved ring procedure.now) ++ tail.old }
     ensures short { length tail.new ≤ 90 + length tail.old }
 {

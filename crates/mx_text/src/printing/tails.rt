@@ -9,13 +9,13 @@ ghost use Rattle.mx_request.specs.Fields.{address_text};
 use itoa::Buffer;
 use std::marker::Model;
 
-/// The bytes of the longest line.
-const ROOM: usize = 192;
+/// The bytes of the longest two lines.
+const ROOM: usize = 384;
 
-/// The end of a line's text, at most 192 bytes of it.
+/// The end of a line's text, at most 384 bytes of it.
 #[derive(Drop)]
 pub(super) struct Tail {
-    bytes: [u8; 192],
+    bytes: [u8; 384],
     start: usize,
 }
 
@@ -26,7 +26,7 @@ impl Model for Tail {
 
     ghost view = { λ a. drop a.start a.bytes };
 
-    ghost invariant = { λ a. a.start ≤ 192 };
+    ghost invariant = { λ a. a.start ≤ 384 };
 }
 
 impl Tail {
@@ -51,7 +51,7 @@ impl Tail {
 
     #[inline(always)]
     #[tactic(auto, using(crate::proofs::TailLaws::nothing))]
-    fn clear(&mut self)
+    pub(super) fn clear(&mut self)
         ensures { self.new ≡ [] }
     {
         self.start = ROOM;
@@ -68,7 +68,7 @@ impl Tail {
     /// Puts a byte before what is spelled.
     #[inline(always)]
     pub(super) fn byte(&mut self, byte: u8)
-        requires { length self.old < 192 }
+        requires { length self.old < 384 }
         ensures { self.new ≡ byte ∷ self.old }
     {
         self.start -= 1;
@@ -78,7 +78,7 @@ impl Tail {
     /// Puts a text before what is spelled.
     #[inline(always)]
     pub(super) fn text(&mut self, text: &[u8])
-        requires { length text.now + length self.old ≤ 192 }
+        requires { length text.now + length self.old ≤ 384 }
         ensures { self.new ≡ text.now ++ self.old }
     {
         let end = self.start;
@@ -88,7 +88,7 @@ impl Tail {
 
     /// Puts a number in octal before what is spelled, in at most 22 digits.
     pub(super) fn octal(&mut self, n: u64)
-        requires { 22 + length self.old ≤ 192 }
+        requires { 22 + length self.old ≤ 384 }
         ensures spelled { self.new ≡ octal n ++ self.old }
         ensures short { length self.new ≤ 22 + length self.old }
     {
@@ -97,7 +97,7 @@ impl Tail {
 
     /// Puts the address `S|W` before what is spelled.
     pub(super) fn address(&mut self, segno: u16, word: u16)
-        requires { 45 + length self.old ≤ 192 }
+        requires { 45 + length self.old ≤ 384 }
         ensures spelled { self.new ≡ address_text segno word ++ self.old }
         ensures short { length self.new ≤ 45 + length self.old }
     {
@@ -110,7 +110,7 @@ impl Tail {
     #[inline(always)]
     #[tactic(auto, using(std::proofs::lemmas::Fmt::decimal_digit))]
     pub(super) fn decimal(&mut self, n: u64)
-        requires { 20 + length self.old ≤ 192 }
+        requires { 20 + length self.old ≤ 384 }
         ensures spelled { self.new ≡ decimal n ++ self.old }
         ensures short { length self.new ≤ 20 + length self.old }
     {
@@ -123,7 +123,7 @@ impl Tail {
 
     #[inline(never)]
     fn long_decimal(&mut self, n: u64)
-        requires { 20 + length self.old ≤ 192 }
+        requires { 20 + length self.old ≤ 384 }
         ensures spelled { self.new ≡ decimal n ++ self.old }
         ensures short { length self.new ≤ 20 + length self.old }
     {
@@ -134,9 +134,9 @@ impl Tail {
 
 // Spells the last digits of a number that are still to come, one or two, the last one at `start`; where they start.
 #[inline(always)]
-fn spell_front(bytes: &mut [u8; 192], start: usize, left: u64) -> usize
+fn spell_front(bytes: &mut [u8; 384], start: usize, left: u64) -> usize
     requires few { left < 64 }
-    requires within { start ≤ 191 }
+    requires within { start ≤ 383 }
     requires room { 8 ≤ left → 1 ≤ start }
     ensures spelled { drop result bytes.new ≡ octal left ++ drop (start + 1) bytes.old }
     ensures within { result ≤ start }
@@ -151,8 +151,8 @@ fn spell_front(bytes: &mut [u8; 192], start: usize, left: u64) -> usize
 }
 
 // Spells a number in octal so that it ends where the bytes from `end` on begin; where it starts.
-fn spell_octal(bytes: &mut [u8; 192], end: usize, n: u64) -> usize
-    requires within { end ≤ 192 }
+fn spell_octal(bytes: &mut [u8; 384], end: usize, n: u64) -> usize
+    requires within { end ≤ 384 }
     requires room { 22 ≤ end }
     ensures spelled { drop result bytes.new ≡ octal n ++ drop end bytes.old }
     ensures within { result ≤ end }
