@@ -6,5 +6,5 @@ pub returns-in_err-session-clause-grown : goal.returns-in_err-session-clause-gro
 returns-in_err-session-clause-grown g c = grown_none _
 
 -- a drill's scripts are short
-pub run-requires-clause-room : goal.run-requires-clause-room
-run-requires-clause-room g c κs within = room_for_drill c.args.number c.in_ok-session.session _ c.in_ok-session.ensures c.requires.room
+pub ran-requires-clause-room : goal.ran-requires-clause-room
+ran-requires-clause-room g c κs within = room_for_drill c.args.number c.in_ok-session.session _ c.in_ok-session.ensures c.requires.room
