@@ -15,10 +15,10 @@ use Rattle.mx_state.specs.Table.{descriptor, process_desc, standing_desc}
 use Rattle.mx_state.specs.declared.states.ProcessState.{ProcessState}
 use Rattle.mx_spelling.proofs.NextBounds.{IsLow}
 use Rattle.mx_spelling.proofs.ReplyBounds.{segment_found}
-use Rattle.mx_spelling.proofs.StateBounds.{IsSpelt, IsSpeltHierarchy, IsSpeltLot, IsSpeltProcess}
+use Rattle.mx_spelling.proofs.StateBounds.{IsSpelled, IsSpelledHierarchy, IsSpelledLot, IsSpelledProcess}
 use Rattle.mx_spelling.proofs.WalkBounds.{at_place}
 
-segment_low : (h : Hierarchy) (uid : ℕ) (process : ProcessState) → IsSpeltHierarchy h
+segment_low : (h : Hierarchy) (uid : ℕ) (process : ProcessState) → IsSpelledHierarchy h
     → IsLow (desc_for process.principal process.authorization (gate_of (object_at h uid)) (segment_at h uid))
 segment_low h uid process is = by_segment (segment_at h uid) refl
   where
@@ -33,26 +33,26 @@ segment_low h uid process is = by_segment (segment_at h uid) refl
         let words = own.words in
         record { ring = omega (arith, first, last, low); bound = omega (arith, words) }
 
-standing_low : (h : Hierarchy) (p : ℕ) (process : ProcessState) (l : Lot) → IsSpeltHierarchy h → IsSpeltLot l → IsLow (standing_desc h p process l)
+standing_low : (h : Hierarchy) (p : ℕ) (process : ProcessState) (l : Lot) → IsSpelledHierarchy h → IsSpelledLot l → IsLow (standing_desc h p process l)
 standing_low h p process lot.Free is own = record { ring = omega arith; bound = omega arith }
 standing_low h p process (lot.Stack ring) is own = record { ring = own; bound = omega arith }
 standing_low h p process (lot.Branch uid) is own = segment_low h uid process is
 standing_low h p process (lot.Linkage of page brackets words) is own =
     record { ring = own.0; bound = let few = own.1 in omega (arith, few) }
 
-lot_at : (lots : List Lot) (n : ℕ) → All IsSpeltLot lots → IsSpeltLot (lot_of lots n)
+lot_at : (lots : List Lot) (n : ℕ) → All IsSpelledLot lots → IsSpelledLot (lot_of lots n)
 lot_at [] n all = tt
-lot_at (l ∷ lots) zero all = All-head IsSpeltLot l lots all
-lot_at (l ∷ lots) (suc n) all = lot_at lots n (All-tail IsSpeltLot l lots all)
+lot_at (l ∷ lots) zero all = All-head IsSpelledLot l lots all
+lot_at (l ∷ lots) (suc n) all = lot_at lots n (All-tail IsSpelledLot l lots all)
 
-stands_low : (process : ProcessState) (segno : ℕ) → IsSpeltProcess process → IsSpeltLot (stands_for process.known segno)
+stands_low : (process : ProcessState) (segno : ℕ) → IsSpelledProcess process → IsSpelledLot (stands_for process.known segno)
 stands_low process segno is = by_test (nat_lt process.known.last segno)
   where
-    by_test : (beyond : Bool) → IsSpeltLot (if beyond then lot.Free else lot_of process.known.lots segno)
+    by_test : (beyond : Bool) → IsSpelledLot (if beyond then lot.Free else lot_of process.known.lots segno)
     by_test true = tt
     by_test false = lot_at process.known.lots segno is.known.lots
 
-pub descriptor_low : (s : Plain) (p segno : ℕ) → IsSpelt s → IsLow (descriptor s p segno)
+pub descriptor_low : (s : Plain) (p segno : ℕ) → IsSpelled s → IsLow (descriptor s p segno)
 descriptor_low s p segno is = by_zero (p == 0)
   where
     none : IsLow (process_desc s.hierarchy p None segno)
@@ -62,7 +62,7 @@ descriptor_low s p segno is = by_zero (p == 0)
     by_place None e = none
     by_place (Some process) e =
         standing_low s.hierarchy p process (stands_for process.known segno) is.hierarchy
-        (stands_low process segno (at_place IsSpeltProcess s.processes (p - 1) process is.processes e))
+        (stands_low process segno (at_place IsSpelledProcess s.processes (p - 1) process is.processes e))
 
     by_zero : (zero : Bool) → IsLow (process_desc s.hierarchy p (if zero then None else slice_get s.processes (p - 1)) segno)
     by_zero true = none

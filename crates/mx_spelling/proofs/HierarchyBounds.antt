@@ -53,7 +53,7 @@ use Rattle.mx_request.specs.Fields.{is_name}
 use Rattle.mx_request.specs.ObjectTexts.{fits_object}
 use Rattle.mx_request.specs.RequestTexts.{are_brackets, is_class, is_pathname, is_ring}
 use Rattle.mx_sdw.specs.Rings.{Bracketing}
-use Rattle.mx_spelling.proofs.StateBounds.{AreSpeltBrackets, IsSpeltBranch, IsSpeltDirectory, IsSpeltHierarchy, IsSpeltNode, IsSpeltObject, IsSpeltSegment}
+use Rattle.mx_spelling.proofs.StateBounds.{AreSpelledBrackets, IsSpelledBranch, IsSpelledDirectory, IsSpelledHierarchy, IsSpelledNode, IsSpelledObject, IsSpelledSegment}
 
 -- names
 names_fit : (names : List (List ℕ)) → first_fault names ≡ None → list_all is_name names ≡ true
@@ -119,81 +119,81 @@ placed_name h who path at fits e = by_name (last_name path) refl e
 
 -- what a request leaves
 abbrev pub Keeps : Result Hierarchy Refusal → Type 0
-Keeps (Ok h) = IsSpeltHierarchy h
+Keeps (Ok h) = IsSpelledHierarchy h
 Keeps (Err why) = Unit {0}
 
 onward_keeps : {A : Type 0} (r : Result A Refusal) (rest : A → Result Hierarchy Refusal) → ((a : A) → r ≡ Ok a → Keeps (rest a)) → Keeps (onward r rest)
 onward_keeps (Ok a) rest each = each a refl
 onward_keeps (Err why) rest each = tt
 
-unless_keeps : (o : Option Refusal) (h : Hierarchy) → IsSpeltHierarchy h → Keeps (unless o h)
+unless_keeps : (o : Option Refusal) (h : Hierarchy) → IsSpelledHierarchy h → Keeps (unless o h)
 unless_keeps None h is = is
 unless_keeps (Some why) h is = tt
 
 -- one branch changed
-changed_spelt : (uid : ℕ) (f : Branch → Branch) (branches : List Branch) → ((branch : Branch) → IsSpeltBranch branch → IsSpeltBranch (f branch))
-    → All IsSpeltBranch branches → All IsSpeltBranch (changing.changed uid f branches)
-changed_spelt uid f [] keeps all = All-nil IsSpeltBranch
-changed_spelt uid f (branch ∷ branches) keeps all =
-    All-cons IsSpeltBranch (if branch.uid == uid then f branch else branch) (changing.changed uid f branches)
-    (by_test (branch.uid == uid) (All-head IsSpeltBranch branch branches all))
-    (changed_spelt uid f branches keeps (All-tail IsSpeltBranch branch branches all))
+changed_spelled : (uid : ℕ) (f : Branch → Branch) (branches : List Branch) → ((branch : Branch) → IsSpelledBranch branch → IsSpelledBranch (f branch))
+    → All IsSpelledBranch branches → All IsSpelledBranch (changing.changed uid f branches)
+changed_spelled uid f [] keeps all = All-nil IsSpelledBranch
+changed_spelled uid f (branch ∷ branches) keeps all =
+    All-cons IsSpelledBranch (if branch.uid == uid then f branch else branch) (changing.changed uid f branches)
+    (by_test (branch.uid == uid) (All-head IsSpelledBranch branch branches all))
+    (changed_spelled uid f branches keeps (All-tail IsSpelledBranch branch branches all))
   where
-    by_test : (own : Bool) → IsSpeltBranch branch → IsSpeltBranch (if own then f branch else branch)
+    by_test : (own : Bool) → IsSpelledBranch branch → IsSpelledBranch (if own then f branch else branch)
     by_test true is = keeps branch is
     by_test false is = is
 
-branch_spelt : (h : Hierarchy) (uid : ℕ) (f : Branch → Branch) → ((branch : Branch) → IsSpeltBranch branch → IsSpeltBranch (f branch))
-    → IsSpeltHierarchy h → IsSpeltHierarchy (with_branch h uid f)
-branch_spelt h uid f keeps is = record { root = is.root; branches = changed_spelt uid f h.branches keeps is.branches; objects = is.objects }
+branch_spelled : (h : Hierarchy) (uid : ℕ) (f : Branch → Branch) → ((branch : Branch) → IsSpelledBranch branch → IsSpelledBranch (f branch))
+    → IsSpelledHierarchy h → IsSpelledHierarchy (with_branch h uid f)
+branch_spelled h uid f keeps is = record { root = is.root; branches = changed_spelled uid f h.branches keeps is.branches; objects = is.objects }
 
-segment_spelt : (h : Hierarchy) (uid : ℕ) (f : Segment → Segment) → ((segment : Segment) → IsSpeltSegment segment → IsSpeltSegment (f segment))
-    → IsSpeltHierarchy h → IsSpeltHierarchy (with_segment h uid f)
-segment_spelt h uid f keeps is =
-    branch_spelt h uid (branch_with_segment f) (λ branch own. record { name = own.name; node = by_node branch.node own.node }) is
+segment_spelled : (h : Hierarchy) (uid : ℕ) (f : Segment → Segment) → ((segment : Segment) → IsSpelledSegment segment → IsSpelledSegment (f segment))
+    → IsSpelledHierarchy h → IsSpelledHierarchy (with_segment h uid f)
+segment_spelled h uid f keeps is =
+    branch_spelled h uid (branch_with_segment f) (λ branch own. record { name = own.name; node = by_node branch.node own.node }) is
   where
-    by_node : (node : Node) → IsSpeltNode node → IsSpeltNode (segment_changed f node)
+    by_node : (node : Node) → IsSpelledNode node → IsSpelledNode (segment_changed f node)
     by_node (IsSegment segment) own = keeps segment own
     by_node (IsDirectory directory) own = own
     by_node (IsLink target) own = own
 
-directory_spelt : (h : Hierarchy) (uid : ℕ) (f : Directory → Directory)
-    → ((directory : Directory) → IsSpeltDirectory directory → IsSpeltDirectory (f directory))
-    → IsSpeltHierarchy h → IsSpeltHierarchy (with_directory h uid f)
-directory_spelt h uid f keeps is = by_root (uid == 0)
+directory_spelled : (h : Hierarchy) (uid : ℕ) (f : Directory → Directory)
+    → ((directory : Directory) → IsSpelledDirectory directory → IsSpelledDirectory (f directory))
+    → IsSpelledHierarchy h → IsSpelledHierarchy (with_directory h uid f)
+directory_spelled h uid f keeps is = by_root (uid == 0)
   where
-    by_node : (node : Node) → IsSpeltNode node → IsSpeltNode (directory_changed f node)
+    by_node : (node : Node) → IsSpelledNode node → IsSpelledNode (directory_changed f node)
     by_node (IsDirectory directory) own = keeps directory own
     by_node (IsSegment segment) own = own
     by_node (IsLink target) own = own
 
-    by_root : (root : Bool) → IsSpeltHierarchy (if root then record h { root = f h.root } else with_branch h uid (branch_with_directory f))
+    by_root : (root : Bool) → IsSpelledHierarchy (if root then record h { root = f h.root } else with_branch h uid (branch_with_directory f))
     by_root true = record { root = keeps h.root is.root; branches = is.branches; objects = is.objects }
     by_root false =
-        branch_spelt h uid (branch_with_directory f) (λ branch own. record { name = own.name; node = by_node branch.node own.node }) is
+        branch_spelled h uid (branch_with_directory f) (λ branch own. record { name = own.name; node = by_node branch.node own.node }) is
 
-acl_spelt : (h : Hierarchy) (uid : ℕ) (f : Access → Access) → IsSpeltHierarchy h → IsSpeltHierarchy (with_acl h uid f)
-acl_spelt h uid f is = by_root (uid == 0)
+acl_spelled : (h : Hierarchy) (uid : ℕ) (f : Access → Access) → IsSpelledHierarchy h → IsSpelledHierarchy (with_acl h uid f)
+acl_spelled h uid f is = by_root (uid == 0)
   where
-    by_node : (node : Node) → IsSpeltNode node → IsSpeltNode (acl_changed f node)
+    by_node : (node : Node) → IsSpelledNode node → IsSpelledNode (acl_changed f node)
     by_node (IsDirectory directory) own = record { d1 = own.d1; d2 = own.d2 }
     by_node (IsSegment segment) own = record { words = own.words; class = own.class; brackets = own.brackets }
     by_node (IsLink target) own = own
 
     by_root : (root : Bool)
-        → IsSpeltHierarchy (if root then record h { root = record h.root { acl = f h.root.acl } } else with_branch h uid (branch_with_acl f))
+        → IsSpelledHierarchy (if root then record h { root = record h.root { acl = f h.root.acl } } else with_branch h uid (branch_with_acl f))
     by_root true = record { root = record { d1 = is.root.d1; d2 = is.root.d2 }; branches = is.branches; objects = is.objects }
-    by_root false = branch_spelt h uid (branch_with_acl f) (λ branch own. record { name = own.name; node = by_node branch.node own.node }) is
+    by_root false = branch_spelled h uid (branch_with_acl f) (λ branch own. record { name = own.name; node = by_node branch.node own.node }) is
 
 -- one made
-added_spelt : (h : Hierarchy) (at : Place) (node : Node) → is_name at.name ≡ true → IsSpeltNode node → IsSpeltHierarchy h
-    → IsSpeltHierarchy (added h at node)
-added_spelt h at node name own is =
+added_spelled : (h : Hierarchy) (at : Place) (node : Node) → is_name at.name ≡ true → IsSpelledNode node → IsSpelledHierarchy h
+    → IsSpelledHierarchy (added h at node)
+added_spelled h at node name own is =
     let new : Branch = record { uid = h.next; parent = at.dir; name = at.name; node = node } in
     record {
       root = is.root;
-      branches = All-append IsSpeltBranch h.branches (new ∷ []) is.branches
-          (All-cons IsSpeltBranch new [] (record { name = name; node = own }) (All-nil IsSpeltBranch));
+      branches = All-append IsSpelledBranch h.branches (new ∷ []) is.branches
+          (All-cons IsSpelledBranch new [] (record { name = name; node = own }) (All-nil IsSpelledBranch));
       objects = is.objects;
     }
 
@@ -222,7 +222,7 @@ none_applies (rule ∷ rules) more test why e = by_rule rule.0 e (none_applies r
     by_rule false e rest = rest e
 
 -- brackets
-three_rings : (rings : List ℕ) (b : Bracketing) → are_brackets rings ≡ true → bracketing rings ≡ Some b → AreSpeltBrackets b
+three_rings : (rings : List ℕ) (b : Bracketing) → are_brackets rings ≡ true → bracketing rings ≡ Some b → AreSpelledBrackets b
 three_rings [] b fits e = absurd cc
 three_rings (r1 ∷ []) b fits e = absurd cc
 three_rings (r1 ∷ r2 ∷ []) b fits e = absurd cc
@@ -236,22 +236,22 @@ three_rings (r1 ∷ r2 ∷ r3 ∷ []) b fits e = by_test (nat_le r1 r2) refl (na
         at_most r3 7 (both (is_ring r3) true g.1).0
 
     by_test : (first : Bool) → nat_le r1 r2 ≡ first → (last : Bool) → nat_le r2 r3 ≡ last
-        → (if first && last then Some (record { r1 = r1; r2 = r2; r3 = r3 }) else None) ≡ Some b → AreSpeltBrackets b
+        → (if first && last then Some (record { r1 = r1; r2 = r2; r3 = r3 }) else None) ≡ Some b → AreSpelledBrackets b
     by_test false f last g e = absurd cc
     by_test true f false g e = absurd cc
     by_test true f true g e =
         let same : record { r1 = r1; r2 = r2; r3 = r3 } ≡ b = cc in
-        subst AreSpeltBrackets same (record { write_first = at_most r1 r2 f; gate_last = at_most r2 r3 g; ring = low })
+        subst AreSpelledBrackets same (record { write_first = at_most r1 r2 f; gate_last = at_most r2 r3 g; ring = low })
 
-settable_spelt : (ring : ℕ) (rings : List ℕ) (b : Bracketing) → are_brackets rings ≡ true → settable ring rings ≡ Some b → AreSpeltBrackets b
-settable_spelt ring rings b fits e = by_brackets (bracketing rings) refl e
+settable_spelled : (ring : ℕ) (rings : List ℕ) (b : Bracketing) → are_brackets rings ≡ true → settable ring rings ≡ Some b → AreSpelledBrackets b
+settable_spelled ring rings b fits e = by_brackets (bracketing rings) refl e
   where
-    by_test : (own : Bracketing) (above : Bool) → bracketing rings ≡ Some own → (if above then Some own else None) ≡ Some b → AreSpeltBrackets b
-    by_test own true f e = let same : own ≡ b = cc in subst AreSpeltBrackets same (three_rings rings own fits f)
+    by_test : (own : Bracketing) (above : Bool) → bracketing rings ≡ Some own → (if above then Some own else None) ≡ Some b → AreSpelledBrackets b
+    by_test own true f e = let same : own ≡ b = cc in subst AreSpelledBrackets same (three_rings rings own fits f)
     by_test own false f e = absurd cc
 
     by_brackets : (o : Option Bracketing) → bracketing rings ≡ o
-        → option_and_then (λ (brackets : Bracketing). if nat_le ring brackets.r1 then Some brackets else None) o ≡ Some b → AreSpeltBrackets b
+        → option_and_then (λ (brackets : Bracketing). if nat_le ring brackets.r1 then Some brackets else None) o ≡ Some b → AreSpelledBrackets b
     by_brackets None f e = absurd cc
     by_brackets (Some own) f e = by_test own (nat_le ring own.r1) f e
 
@@ -260,7 +260,7 @@ required_some why None a e = absurd cc
 required_some why (Some value) a e = let same : value ≡ a = cc in ap Some same
 
 -- the requests that make an entry
-module _ (h : Hierarchy) (who : Caller) (text : List ℕ) (is : IsSpeltHierarchy h) (base : list_all is_name who.base ≡ true)
+module _ (h : Hierarchy) (who : Caller) (text : List ℕ) (is : IsSpelledHierarchy h) (base : list_all is_name who.base ≡ true)
     (fits : is_pathname text ≡ true) where
   pub create_dir_keeps : (d1 d2 : ℕ) → is_ring d1 ≡ true → is_ring d2 ≡ true → Keeps (create_dir h who text d1 d2)
   create_dir_keeps d1 d2 first second =
@@ -268,7 +268,7 @@ module _ (h : Hierarchy) (who : Caller) (text : List ℕ) (is : IsSpeltHierarchy
       (λ path e. onward_keeps (place h who.subject path) _
       (λ at f. made_keeps h at (create_dir_refusals h who.subject at d1 d2)
       (λ parent. Ok (added h at (IsDirectory (new_directory parent who.subject d1 d2))))
-      (λ parent none. added_spelt h at (IsDirectory (new_directory parent who.subject d1 d2))
+      (λ parent none. added_spelled h at (IsDirectory (new_directory parent who.subject d1 d2))
       (placed_name h who.subject path at (resolved_names who text path base fits e) f)
       (record { d1 = at_most d1 7 first; d2 = at_most d2 7 second }) is)))
 
@@ -278,23 +278,23 @@ module _ (h : Hierarchy) (who : Caller) (text : List ℕ) (is : IsSpeltHierarchy
       (λ path e. onward_keeps (resolved who to) _
       (λ target f. onward_keeps (place h who.subject path) _
       (λ at g. made_keeps h at (making_refusals h who.subject at) (λ parent. Ok (added h at (IsLink target)))
-      (λ parent none. added_spelt h at (IsLink target)
+      (λ parent none. added_spelled h at (IsLink target)
       (placed_name h who.subject path at (resolved_names who text path base fits e) g)
       (resolved_names who to target base fits_to f) is))))
 
   -- an object's map, and its segment
   module _ (class : is_class who.subject.authorization ≡ true) (wanted : Wanted) (rings : are_brackets wanted.rings ≡ true)
       (object : IfSome wanted.object (λ o. fits_object o ≡ true)) where
-    objects_with : (o : Option PlainObjectMap) → IfSome o (λ o. fits_object o ≡ true) → All IsSpeltObject (with_object h.objects h.next o)
+    objects_with : (o : Option PlainObjectMap) → IfSome o (λ o. fits_object o ≡ true) → All IsSpelledObject (with_object h.objects h.next o)
     objects_with None own = is.objects
     objects_with (Some map) own =
-        All-append IsSpeltObject h.objects ((h.next, map) ∷ []) is.objects
-        (All-cons IsSpeltObject (h.next, map) [] own (All-nil IsSpeltObject))
+        All-append IsSpelledObject h.objects ((h.next, map) ∷ []) is.objects
+        (All-cons IsSpelledObject (h.next, map) [] own (All-nil IsSpelledObject))
 
-    segment_made : (at : Place) (segment : Segment) → is_name at.name ≡ true → IsSpeltSegment segment
-        → IsSpeltHierarchy (segment_added h at segment wanted.object)
+    segment_made : (at : Place) (segment : Segment) → is_name at.name ≡ true → IsSpelledSegment segment
+        → IsSpelledHierarchy (segment_added h at segment wanted.object)
     segment_made at segment name own =
-        let entry = added_spelt h at (IsSegment segment) name own is in
+        let entry = added_spelled h at (IsSegment segment) name own is in
         record { root = entry.root; branches = entry.branches; objects = objects_with wanted.object object }
 
     good : (at : Place) → first_of (make_segment_refusals h who.subject at wanted) ≡ None → is_bad_length wanted.words wanted.object ≡ false
@@ -315,71 +315,71 @@ module _ (h : Hierarchy) (who : Caller) (text : List ℕ) (is : IsSpeltHierarchy
         (record {
           words = (good_length wanted.words wanted.object (good at none)).few;
           class = class;
-          brackets = settable_spelt who.subject.ring wanted.rings brackets rings
+          brackets = settable_spelled who.subject.ring wanted.rings brackets rings
               (required_some BadBrackets (settable who.subject.ring wanted.rings) brackets g);
         }))))))
 
 -- the requests that change one
-module _ (h : Hierarchy) (who : Caller) (text : List ℕ) (is : IsSpeltHierarchy h) where
+module _ (h : Hierarchy) (who : Caller) (text : List ℕ) (is : IsSpelledHierarchy h) where
   pub rename_keeps : (name : List ℕ) → is_name name ≡ true → Keeps (rename h who text name)
   rename_keeps name fits =
       onward_keeps (entry h who text false) _
       (λ uid e. unless_keeps (first_of (rename_refusals h who.subject uid name)) _
-      (branch_spelt h uid (λ branch. record branch { name = name }) (λ branch own. record { name = fits; node = own.node }) is))
+      (branch_spelled h uid (λ branch. record branch { name = name }) (λ branch own. record { name = fits; node = own.node }) is))
 
   pub delete_keeps : Keeps (delete h who text)
   delete_keeps =
       onward_keeps (entry h who text false) _
       (λ uid e. unless_keeps (first_of (delete_refusals h who.subject uid)) _ (record {
         root = is.root;
-        branches = All-filter (λ (branch : Branch). not (branch.uid == uid)) IsSpeltBranch h.branches is.branches;
+        branches = All-filter (λ (branch : Branch). not (branch.uid == uid)) IsSpelledBranch h.branches is.branches;
         objects = is.objects;
       }))
 
   pub set_acl_keeps : (id : PlainAclId) (modes : Modes) → Keeps (set_acl h who text id modes)
   set_acl_keeps id modes =
       onward_keeps (entry h who text true) _
-      (λ uid e. unless_keeps (first_of (set_acl_refusals h who.subject uid id modes)) _ (acl_spelt h uid (λ acl. with_entry acl id modes) is))
+      (λ uid e. unless_keeps (first_of (set_acl_refusals h who.subject uid id modes)) _ (acl_spelled h uid (λ acl. with_entry acl id modes) is))
 
   pub del_acl_keeps : (id : PlainAclId) → Keeps (del_acl h who text id)
   del_acl_keeps id =
       onward_keeps (entry h who text true) _
-      (λ uid e. unless_keeps (first_of (del_acl_refusals h who.subject uid id)) _ (acl_spelt h uid (λ acl. without_entry acl id) is))
+      (λ uid e. unless_keeps (first_of (del_acl_refusals h who.subject uid id)) _ (acl_spelled h uid (λ acl. without_entry acl id) is))
 
-  initial_spelt : (uid : ℕ) (kind : AclKind) (f : Access → Access) → IsSpeltHierarchy (with_initial h uid kind f)
-  initial_spelt uid kind f = directory_spelt h uid (initial_changed kind f) (λ directory own. record { d1 = own.d1; d2 = own.d2 }) is
+  initial_spelled : (uid : ℕ) (kind : AclKind) (f : Access → Access) → IsSpelledHierarchy (with_initial h uid kind f)
+  initial_spelled uid kind f = directory_spelled h uid (initial_changed kind f) (λ directory own. record { d1 = own.d1; d2 = own.d2 }) is
 
   pub set_iacl_keeps : (kind : AclKind) (id : PlainAclId) (modes : Modes) → Keeps (set_iacl h who text kind id modes)
   set_iacl_keeps kind id modes =
       onward_keeps (entry h who text true) _
       (λ uid e. unless_keeps (first_of (set_iacl_refusals h who.subject uid kind id modes)) _
-      (initial_spelt uid kind (λ initial. with_entry initial id modes)))
+      (initial_spelled uid kind (λ initial. with_entry initial id modes)))
 
   pub del_iacl_keeps : (kind : AclKind) (id : PlainAclId) → Keeps (del_iacl h who text kind id)
   del_iacl_keeps kind id =
       onward_keeps (entry h who text true) _
       (λ uid e. unless_keeps (first_of (del_iacl_refusals h who.subject uid kind id)) _
-      (initial_spelt uid kind (λ initial. without_entry initial id)))
+      (initial_spelled uid kind (λ initial. without_entry initial id)))
 
   pub set_brackets_keeps : (rings : List ℕ) → are_brackets rings ≡ true → Keeps (set_brackets h who text rings)
   set_brackets_keeps rings fits =
       onward_keeps (entry h who text true) _
       (λ at e. onward_keeps (unless (first_of (set_brackets_refusals h who.subject at rings)) at) _
       (λ uid f. onward_keeps (required BadBrackets (settable who.subject.ring rings)) _
-      (λ brackets g. segment_spelt h uid (bracketed brackets) (λ segment own. record {
+      (λ brackets g. segment_spelled h uid (bracketed brackets) (λ segment own. record {
         words = own.words;
         class = own.class;
-        brackets = settable_spelt who.subject.ring rings brackets fits (required_some BadBrackets (settable who.subject.ring rings) brackets g);
+        brackets = settable_spelled who.subject.ring rings brackets fits (required_some BadBrackets (settable who.subject.ring rings) brackets g);
       }) is)))
 
   pub set_dir_brackets_keeps : (d1 d2 : ℕ) → is_ring d1 ≡ true → is_ring d2 ≡ true → Keeps (set_dir_brackets h who text d1 d2)
   set_dir_brackets_keeps d1 d2 first second =
       onward_keeps (entry h who text true) _
       (λ uid e. unless_keeps (first_of (set_dir_brackets_refusals h who.subject uid d1 d2)) _
-      (directory_spelt h uid (dir_bracketed d1 d2) (λ directory own. record { d1 = at_most d1 7 first; d2 = at_most d2 7 second }) is))
+      (directory_spelled h uid (dir_bracketed d1 d2) (λ directory own. record { d1 = at_most d1 7 first; d2 = at_most d2 7 second }) is))
 
   pub set_class_keeps : (class : PlainClass) → is_class class ≡ true → Keeps (set_class h who text class)
   set_class_keeps class fits =
       onward_keeps (entry h who text true) _
       (λ uid e. unless_keeps (first_of (set_class_refusals h who.subject uid class)) _
-      (segment_spelt h uid (classed class) (λ segment own. record { words = own.words; class = fits; brackets = own.brackets }) is))
+      (segment_spelled h uid (classed class) (λ segment own. record { words = own.words; class = fits; brackets = own.brackets }) is))

@@ -24,61 +24,61 @@ use Rattle.mx_spelling.specs.Laws.{SpellableLaw}
 use Rattle.mx_spelling.proofs.CallBounds.{IsFittingEntry, IsFittingEvent, done_fitting}
 use Rattle.mx_spelling.proofs.DescriptorBounds.{descriptor_low}
 use Rattle.mx_spelling.proofs.ReplyBounds.{IsSaid}
-use Rattle.mx_spelling.proofs.RequestBounds.{IsFitting, IsSpeltAnswer, answer_spelt}
+use Rattle.mx_spelling.proofs.RequestBounds.{IsFitting, IsSpelledAnswer, answer_spelled}
 use Rattle.mx_spelling.proofs.RunBounds.{AreBounded, bounded_run, is_said, listed, named_at, part_within, same_entry}
 use Rattle.mx_spelling.proofs.SessionBounds.{parts_fit, session_low}
-use Rattle.mx_spelling.proofs.StateBounds.{IsSpelt, IsSpeltEntrant, opening_spelt}
+use Rattle.mx_spelling.proofs.StateBounds.{IsSpelled, IsSpelledEntrant, opening_spelled}
 use Rattle.mx_spelling.proofs.WalkBounds.{at_place}
 
 -- a journal of fitting requests, from a state that can be spelled
-pub record IsSpeltHistory (s : Plain) (journal : List journaled.Entry) : Type 0 where
+pub record IsSpelledHistory (s : Plain) (journal : List journaled.Entry) : Type 0 where
   pub replies : list_all is_said journal ≡ true
-  pub states : (q : ℕ) → IsSpelt (replay s (take q journal))
+  pub states : (q : ℕ) → IsSpelled (replay s (take q journal))
 
-longer_spelt : (s : Plain) (entry : journaled.Entry) (journal : List journaled.Entry) → IsSpelt s → IsRightEntry s entry
-    → IsSpeltAnswer (plain s entry.process entry.ring entry.request)
-    → IsSpeltHistory (plain s entry.process entry.ring entry.request).state journal → IsSpeltHistory s (entry ∷ journal)
-longer_spelt s entry journal is right here rest = record {
+longer_spelled : (s : Plain) (entry : journaled.Entry) (journal : List journaled.Entry) → IsSpelled s → IsRightEntry s entry
+    → IsSpelledAnswer (plain s entry.process entry.ring entry.request)
+    → IsSpelledHistory (plain s entry.process entry.ring entry.request).state journal → IsSpelledHistory s (entry ∷ journal)
+longer_spelled s entry journal is right here rest = record {
   replies = both_hold (is_said entry) (list_all is_said journal) (subst IsSaid right.reply here.said) rest.replies;
   states = state;
 }
   where
-    state : (q : ℕ) → IsSpelt (replay s (take q (entry ∷ journal)))
+    state : (q : ℕ) → IsSpelled (replay s (take q (entry ∷ journal)))
     state zero = is
     state (suc q) = rest.states q
 
-history_spelt : (s : Plain) (journal : List journaled.Entry) → IsSpelt s
+history_spelled : (s : Plain) (journal : List journaled.Entry) → IsSpelled s
     → ((place : ℕ) (entry : journaled.Entry) → slice_get journal place ≡ Some entry → IsFitting entry.request) → IsRight s journal
-    → IsSpeltHistory s journal
-history_spelt s [] is fitting right = record { replies = refl; states = state }
+    → IsSpelledHistory s journal
+history_spelled s [] is fitting right = record { replies = refl; states = state }
   where
-    state : (q : ℕ) → IsSpelt (replay s (take q []))
+    state : (q : ℕ) → IsSpelled (replay s (take q []))
     state zero = is
     state (suc q) = is
-history_spelt s (entry ∷ journal) is fitting right =
-    let here = answer_spelt s entry.process entry.ring is entry.request (fitting 0 entry refl) in
-    longer_spelt s entry journal is right.0 here
-    (history_spelt (plain s entry.process entry.ring entry.request).state journal here.state
+history_spelled s (entry ∷ journal) is fitting right =
+    let here = answer_spelled s entry.process entry.ring is entry.request (fitting 0 entry refl) in
+    longer_spelled s entry journal is right.0 here
+    (history_spelled (plain s entry.process entry.ring entry.request).state journal here.state
     (λ place other at. fitting (suc place) other at) right.1)
 
 -- the processes of a session
 entrants_fit : (entrants : List Entrant) (scripts : List (List Line)) → length scripts ≡ length entrants
-    → list_all fits (process_rows entrants scripts) ≡ true → All IsSpeltEntrant entrants
-entrants_fit [] scripts same e = All-nil IsSpeltEntrant
+    → list_all fits (process_rows entrants scripts) ≡ true → All IsSpelledEntrant entrants
+entrants_fit [] scripts same e = All-nil IsSpelledEntrant
 entrants_fit (entrant ∷ entrants) [] same e = absurd (omega (arith, same))
 entrants_fit (entrant ∷ entrants) (script ∷ scripts) same e =
     let f = both (fits (row.Process entrant)) (list_all fits (map row.Line script ++ process_rows entrants scripts)) e in
     let own = both (is_none (components_fault entrant.who)) (is_class entrant.authorization) f.0 in
-    All-cons IsSpeltEntrant entrant entrants own.1
+    All-cons IsSpelledEntrant entrant entrants own.1
     (entrants_fit entrants scripts (omega (arith, same)) (parts_fit (map row.Line script) (process_rows entrants scripts) f.1).1)
 
 module _ (x : Outline) (journal : List journaled.Entry) (transcripts : List (List Step)) (session : IsSession x)
     (text : list_all fits (rows_of x) ≡ true) (legal : IsLegal x journal transcripts) where
-  begins : IsSpelt (opening_of x)
+  begins : IsSpelled (opening_of x)
   begins =
       let f = parts_fit (setup_rows x.version x.history x.setup ++ process_rows x.principals x.scripts) (row.End ∷ []) text in
       let g = parts_fit (setup_rows x.version x.history x.setup) (process_rows x.principals x.scripts) f.0 in
-      opening_spelt x.version x.principals session.most (entrants_fit x.principals x.scripts session.scripts g.1)
+      opening_spelled x.version x.principals session.most (entrants_fit x.principals x.scripts session.scripts g.1)
 
   -- each entry is named by an event of its process, and so its request is one that a line enters
   named_entry : (place : ℕ) (entry : journaled.Entry) → slice_get journal place ≡ Some entry
@@ -102,7 +102,7 @@ module _ (x : Outline) (journal : List journaled.Entry) (transcripts : List (Lis
 
   journal_bounded : AreBounded x journal
   journal_bounded =
-      let history = history_spelt (opening_of x) journal begins entry_fitting legal.right in
+      let history = history_spelled (opening_of x) journal begins entry_fitting legal.right in
       record {
         replies = history.replies;
         descriptors = λ p e. descriptor_low (replay (opening_of x) (take e.point journal)) p e.segno (history.states e.point);

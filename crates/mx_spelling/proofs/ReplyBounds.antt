@@ -39,7 +39,7 @@ use Rattle.mx_request.specs.declared.replies.Reply.{Reply}
 use Rattle.mx_sdw.specs.Rings.{Bracketing}
 use Rattle.mx_state.specs.Shown.{shown, without_class}
 use Rattle.mx_spelling.specs.Spelling.{are_ordered, bounds_reply, bounds_status, is_amount, is_none_or}
-use Rattle.mx_spelling.proofs.StateBounds.{AreSpeltBrackets, IsSpeltBranch, IsSpeltDirectory, IsSpeltHierarchy, IsSpeltNode, IsSpeltObject, IsSpeltSegment}
+use Rattle.mx_spelling.proofs.StateBounds.{AreSpelledBrackets, IsSpelledBranch, IsSpelledDirectory, IsSpelledHierarchy, IsSpelledNode, IsSpelledObject, IsSpelledSegment}
 
 abbrev pub IsSaid : Reply → Type 0
 IsSaid reply = bounds_reply reply ≡ true
@@ -53,39 +53,39 @@ found_is P test (y ∷ ys) x all e = by_test (test y) e (found_is P test ys x (A
     by_test true e rest = let same : y ≡ x = cc in subst P same (All-head P y ys all)
     by_test false e rest = rest e
 
-pub branch_found : (branches : List Branch) (uid : ℕ) (branch : Branch) → All IsSpeltBranch branches → branch_of branches uid ≡ Some branch
-    → IsSpeltBranch branch
-branch_found branches uid branch all e = found_is IsSpeltBranch (λ b. b.uid == uid) branches branch all e
+pub branch_found : (branches : List Branch) (uid : ℕ) (branch : Branch) → All IsSpelledBranch branches → branch_of branches uid ≡ Some branch
+    → IsSpelledBranch branch
+branch_found branches uid branch all e = found_is IsSpelledBranch (λ b. b.uid == uid) branches branch all e
 
-pub segment_found : (h : Hierarchy) (uid : ℕ) (segment : Segment) → IsSpeltHierarchy h → segment_at h uid ≡ Some segment → IsSpeltSegment segment
+pub segment_found : (h : Hierarchy) (uid : ℕ) (segment : Segment) → IsSpelledHierarchy h → segment_at h uid ≡ Some segment → IsSpelledSegment segment
 segment_found h uid segment is e = by_branch (branch_of h.branches uid) refl e
   where
-    by_node : (node : Node) → IsSpeltNode node → as_segment node ≡ Some segment → IsSpeltSegment segment
-    by_node (IsSegment own) own_is e = let same : own ≡ segment = cc in subst IsSpeltSegment same own_is
+    by_node : (node : Node) → IsSpelledNode node → as_segment node ≡ Some segment → IsSpelledSegment segment
+    by_node (IsSegment own) own_is e = let same : own ≡ segment = cc in subst IsSpelledSegment same own_is
     by_node (IsDirectory directory) own_is e = absurd cc
     by_node (IsLink target) own_is e = absurd cc
 
     by_branch : (o : Option Branch) → branch_of h.branches uid ≡ o → option_and_then (λ (branch : Branch). as_segment branch.node) o ≡ Some segment
-        → IsSpeltSegment segment
+        → IsSpelledSegment segment
     by_branch None f e = absurd cc
     by_branch (Some branch) f e = by_node branch.node (branch_found h.branches uid branch is.branches f).node e
 
 -- an object map
-pub object_found : (objects : Objects) (uid : ℕ) (object : PlainObjectMap) → All IsSpeltObject objects → object_of objects uid ≡ Some object
+pub object_found : (objects : Objects) (uid : ℕ) (object : PlainObjectMap) → All IsSpelledObject objects → object_of objects uid ≡ Some object
     → fits_object object ≡ true
 object_found [] uid object all e = absurd cc
 object_found (first ∷ objects) uid object all e =
-    by_test (uid == first.0) e (object_found objects uid object (All-tail IsSpeltObject first objects all))
+    by_test (uid == first.0) e (object_found objects uid object (All-tail IsSpelledObject first objects all))
   where
     by_test : (b : Bool) → (if b then Some first.1 else object_of objects uid) ≡ Some object
         → (object_of objects uid ≡ Some object → fits_object object ≡ true) → fits_object object ≡ true
     by_test true e rest =
         let same : first.1 ≡ object = cc in
-        subst (λ (o : PlainObjectMap). fits_object o ≡ true) same (All-head IsSpeltObject first objects all)
+        subst (λ (o : PlainObjectMap). fits_object o ≡ true) same (All-head IsSpelledObject first objects all)
     by_test false e rest = rest e
 
-pub object_spelt : (h : Hierarchy) (uid : ℕ) → IsSpeltHierarchy h → IfSome (object_at h uid) (λ o. fits_object o ≡ true)
-object_spelt h uid is = by_object (object_at h uid) refl
+pub object_spelled : (h : Hierarchy) (uid : ℕ) → IsSpelledHierarchy h → IfSome (object_at h uid) (λ o. fits_object o ≡ true)
+object_spelled h uid is = by_object (object_at h uid) refl
   where
     by_object : (o : Option PlainObjectMap) → object_at h uid ≡ o → IfSome o (λ o. fits_object o ≡ true)
     by_object None e = tt
@@ -141,7 +141,7 @@ defined_low (Some object) symbol word fits e = word_defined object.definitions s
 abbrev pub IsSaidStatus : said.Status → Type 0
 IsSaidStatus status = bounds_status status ≡ true
 
-order_said : (b : Bracketing) → AreSpeltBrackets b → are_ordered b ≡ true
+order_said : (b : Bracketing) → AreSpelledBrackets b → are_ordered b ≡ true
 order_said b is =
     both_hold _ _ (at_most_test b.r1 b.r2 is.write_first)
     (both_hold _ _ (at_most_test b.r2 b.r3 is.gate_last) (at_most_test b.r3 7 is.ring))
@@ -149,13 +149,13 @@ order_said b is =
 amount_test : (n : ℕ) → n ≤ 9999 → is_amount n ≡ true
 amount_test n h = at_most_test n 65535 (omega (arith, h))
 
-segment_said : (words : ℕ) (b : Bracketing) (modes : Modes) (class : Option PlainClass) → words ≤ 1024 → AreSpeltBrackets b
+segment_said : (words : ℕ) (b : Bracketing) (modes : Modes) (class : Option PlainClass) → words ≤ 1024 → AreSpelledBrackets b
     → is_none_or class is_class ≡ true → IsSaidStatus (told.Segment words b modes class)
 segment_said words b modes class few is fits =
     both_hold _ _ (amount_test words (omega (arith, few))) (both_hold _ _ (order_said b is) fits)
 
 object_said : (words : ℕ) (b : Bracketing) (object : PlainObjectMap) (modes : Modes) (class : Option PlainClass) → words ≤ 1024
-    → AreSpeltBrackets b → IsSmallObject object → is_none_or class is_class ≡ true
+    → AreSpelledBrackets b → IsSmallObject object → is_none_or class is_class ≡ true
     → IsSaidStatus (told.Object words b object.gate (length object.definitions) (length object.links) modes class)
 object_said words b object modes class few is small fits =
     let definitions = small.definitions in
@@ -164,12 +164,12 @@ object_said words b object modes class few is small fits =
     (both_hold _ _ (amount_test (length object.definitions) (omega (arith, definitions)))
     (both_hold _ _ (amount_test (length object.links) (omega (arith, links))) (both_hold _ _ (order_said b is) fits))))
 
-directory_said : (directory : Directory) (modes : Modes) → IsSpeltDirectory directory
+directory_said : (directory : Directory) (modes : Modes) → IsSpelledDirectory directory
     → IsSaidStatus (told.Directory directory.d1 directory.d2 modes)
 directory_said directory modes is = both_hold _ _ (at_most_test directory.d1 7 is.d1) (at_most_test directory.d2 7 is.d2)
 
 -- with the class of a segment or without
-node_said : (version : ℕ) (who : Subject) (object : Option PlainObjectMap) (node : Node) → IsSpeltNode node → IfSome object (λ o. fits_object o ≡ true)
+node_said : (version : ℕ) (who : Subject) (object : Option PlainObjectMap) (node : Node) → IsSpelledNode node → IfSome object (λ o. fits_object o ≡ true)
     → IsSaidStatus (shown version (status_of who object node))
 node_said version who object (IsDirectory directory) is fits = by_classes (has_classes version)
   where
@@ -198,17 +198,17 @@ node_said version who (Some object) (IsSegment segment) is fits = by_classes (ha
         object_said segment.words segment.brackets object (modes_for segment.acl who.principal) None is.words is.brackets
         (small_object object fits) refl
 
-node_found : (h : Hierarchy) (uid : ℕ) (node : Node) → IsSpeltHierarchy h → node_at h uid ≡ Some node → IsSpeltNode node
+node_found : (h : Hierarchy) (uid : ℕ) (node : Node) → IsSpelledHierarchy h → node_at h uid ≡ Some node → IsSpelledNode node
 node_found h uid node is e = by_root (uid == 0) e
   where
-    by_branch : (o : Option Branch) → branch_of h.branches uid ≡ o → option_map (λ (branch : Branch). branch.node) o ≡ Some node → IsSpeltNode node
+    by_branch : (o : Option Branch) → branch_of h.branches uid ≡ o → option_map (λ (branch : Branch). branch.node) o ≡ Some node → IsSpelledNode node
     by_branch None f e = absurd cc
     by_branch (Some branch) f e =
-        let same : branch.node ≡ node = cc in subst IsSpeltNode same (branch_found h.branches uid branch is.branches f).node
+        let same : branch.node ≡ node = cc in subst IsSpelledNode same (branch_found h.branches uid branch is.branches f).node
 
     by_root : (root : Bool) → (if root then Some (IsDirectory h.root) else option_map (λ (branch : Branch). branch.node) (branch_of h.branches uid)) ≡ Some node
-        → IsSpeltNode node
-    by_root true e = let same : IsDirectory h.root ≡ node = cc in subst IsSpeltNode same is.root
+        → IsSpelledNode node
+    by_root true e = let same : IsDirectory h.root ≡ node = cc in subst IsSpelledNode same is.root
     by_root false e = by_branch (branch_of h.branches uid) refl e
 
 -- what is asked for is told, or refused
@@ -230,13 +230,13 @@ pub unless_told : {A : Type 0} (P : A → Type 0) (o : Option Refusal) (value : 
 unless_told P None value is = is
 unless_told P (Some why) value is = tt
 
-pub status_said : (version : ℕ) (h : Hierarchy) (who : Caller) (text : List ℕ) → IsSpeltHierarchy h
+pub status_said : (version : ℕ) (h : Hierarchy) (who : Caller) (text : List ℕ) → IsSpelledHierarchy h
     → AllTold (λ status. IsSaidStatus (shown version status)) (status h who text)
 status_said version h who text is =
     onward_told (λ status. IsSaidStatus (shown version status)) (entry h who text false) _
     (λ at e. onward_told (λ status. IsSaidStatus (shown version status)) (unless (first_of (status_refusals h who.subject at)) at) _
     (λ uid f. required_told (λ status. IsSaidStatus (shown version status)) NoInfo (node_at h uid) _
-    (λ node g. node_said version who.subject (object_at h uid) node (node_found h uid node is g) (object_spelt h uid is))))
+    (λ node g. node_said version who.subject (object_at h uid) node (node_found h uid node is g) (object_spelled h uid is))))
 
 -- `list`
 placed_names : (name : List ℕ) (names : List (List ℕ)) → is_name name ≡ true → list_all is_name names ≡ true → list_all is_name (placed name names) ≡ true
@@ -256,15 +256,15 @@ ordered_names (name ∷ names) e =
     let f = both (is_name name) (list_all is_name names) e in
     placed_names name (in_byte_order names) f.0 (ordered_names names f.1)
 
-names_of_branches : (branches : List Branch) → All IsSpeltBranch branches → list_all is_name (map (λ (branch : Branch). branch.name) branches) ≡ true
+names_of_branches : (branches : List Branch) → All IsSpelledBranch branches → list_all is_name (map (λ (branch : Branch). branch.name) branches) ≡ true
 names_of_branches [] all = refl
 names_of_branches (branch ∷ branches) all =
-    both_hold _ _ (All-head IsSpeltBranch branch branches all).name (names_of_branches branches (All-tail IsSpeltBranch branch branches all))
+    both_hold _ _ (All-head IsSpelledBranch branch branches all).name (names_of_branches branches (All-tail IsSpelledBranch branch branches all))
 
-pub list_said : (h : Hierarchy) (who : Caller) (text : List ℕ) → IsSpeltHierarchy h → AllTold (λ names. list_all is_name names ≡ true) (list h who text)
+pub list_said : (h : Hierarchy) (who : Caller) (text : List ℕ) → IsSpelledHierarchy h → AllTold (λ names. list_all is_name names ≡ true) (list h who text)
 list_said h who text is =
     onward_told (λ names. list_all is_name names ≡ true) (entry h who text true) _
     (λ uid e. unless_told (λ names. list_all is_name names ≡ true) (first_of (list_refusals h who.subject uid)) (in_byte_order (names_in h uid))
     (ordered_names (names_in h uid)
     (names_of_branches (entries_of h.branches uid)
-    (All-filter (λ (branch : Branch). branch.parent == uid) IsSpeltBranch h.branches is.branches))))
+    (All-filter (λ (branch : Branch). branch.parent == uid) IsSpelledBranch h.branches is.branches))))

@@ -59,10 +59,10 @@ use Rattle.mx_state.specs.Shown.{shown}
 use Rattle.mx_state.specs.declared.linking.Link.{Link}
 use Rattle.mx_state.specs.declared.states.ProcessState.{ProcessState}
 use Rattle.mx_spelling.proofs.HierarchyBounds.{Keeps, create_dir_keeps, create_link_keeps, del_acl_keeps, del_iacl_keeps, delete_keeps, make_segment_keeps, rename_keeps, resolved_names, set_acl_keeps, set_brackets_keeps, set_class_keeps, set_dir_brackets_keeps, set_iacl_keeps}
-use Rattle.mx_spelling.proofs.KnownBounds.{connected_spelt, terminated_spelt}
+use Rattle.mx_spelling.proofs.KnownBounds.{connected_spelled, terminated_spelled}
 use Rattle.mx_spelling.proofs.NextBounds.{address_test}
-use Rattle.mx_spelling.proofs.ReplyBounds.{AllTold, IsSaid, IsSaidStatus, defined_low, list_said, object_spelt, onward_told, status_said, unless_told}
-use Rattle.mx_spelling.proofs.StateBounds.{IsSpelt, IsSpeltHierarchy, IsSpeltKnown, IsSpeltMail, IsSpeltMessage, IsSpeltProcess}
+use Rattle.mx_spelling.proofs.ReplyBounds.{AllTold, IsSaid, IsSaidStatus, defined_low, list_said, object_spelled, onward_told, status_said, unless_told}
+use Rattle.mx_spelling.proofs.StateBounds.{IsSpelled, IsSpelledHierarchy, IsSpelledKnown, IsSpelledMail, IsSpelledMessage, IsSpelledProcess}
 use Rattle.mx_spelling.proofs.WalkBounds.{at_place, place_below}
 
 -- a request that a journal has: one of its grammar, or one that asks to have a link snapped
@@ -71,85 +71,85 @@ IsFitting (ask.Link segno word) = Unit {0}
 IsFitting request = fits_request request ≡ true
 
 -- an answer that can be spelled
-pub record IsSpeltAnswer (given : Answer) : Type 0 where
-  pub state : IsSpelt given.state
+pub record IsSpelledAnswer (given : Answer) : Type 0 where
+  pub state : IsSpelled given.state
   pub said : IsSaid given.reply
 
 -- who asks
-record IsSpeltCaller (who : Caller) : Type 0 where
+record IsSpelledCaller (who : Caller) : Type 0 where
   authorization : is_class who.subject.authorization ≡ true
   base : list_all is_name who.base ≡ true
 
-module _ (s : Plain) (p ring : ℕ) (is : IsSpelt s) where
-  plainly : (why : Reply) → IsSaid why → IsSpeltAnswer (record { reply = why; state = s })
+module _ (s : Plain) (p ring : ℕ) (is : IsSpelled s) where
+  plainly : (why : Reply) → IsSaid why → IsSpelledAnswer (record { reply = why; state = s })
   plainly why said = record { state = is; said = said }
 
   -- requests on a path
-  path_answer : (given : Caller → Answer) → ((who : Caller) → IsSpeltCaller who → IsSpeltAnswer (given who)) → IsSpeltAnswer (on_path s p ring given)
+  path_answer : (given : Caller → Answer) → ((who : Caller) → IsSpelledCaller who → IsSpelledAnswer (given who)) → IsSpelledAnswer (on_path s p ring given)
   path_answer given each = by_zero (p == 0)
     where
-      by_place : (o : Option ProcessState) → slice_get s.processes (p - 1) ≡ o → IsSpeltAnswer (answered_caller s (process_or_nobody o) ring given)
+      by_place : (o : Option ProcessState) → slice_get s.processes (p - 1) ≡ o → IsSpelledAnswer (answered_caller s (process_or_nobody o) ring given)
       by_place None e = plainly reply.Done refl
       by_place (Some process) e =
-          let own = at_place IsSpeltProcess s.processes (p - 1) process is.processes e in
+          let own = at_place IsSpelledProcess s.processes (p - 1) process is.processes e in
           each (caller process ring) (record { authorization = own.authorization; base = own.directory })
 
-      by_zero : (zero : Bool) → IsSpeltAnswer (answered_caller s
+      by_zero : (zero : Bool) → IsSpelledAnswer (answered_caller s
           (if zero then Initializer else process_or_nobody (if zero then None else slice_get s.processes (p - 1))) ring given)
       by_zero true = each (initial_caller ring) (record { authorization = refl; base = refl })
       by_zero false = by_place (slice_get s.processes (p - 1)) refl
 
-  change : (meant : Result Hierarchy Refusal) → Keeps meant → IsSpeltAnswer (changed s meant)
+  change : (meant : Result Hierarchy Refusal) → Keeps meant → IsSpelledAnswer (changed s meant)
   change (Ok h) own = record {
     state = record { count = is.count; hierarchy = own; processes = is.processes; mail = is.mail };
     said = refl;
   }
   change (Err why) own = plainly (reply.Refused why) refl
 
-  changing : (meant : Caller → Result Hierarchy Refusal) → ((who : Caller) → IsSpeltCaller who → Keeps (meant who))
-      → IsSpeltAnswer (on_path s p ring (λ who. changed s (meant who)))
+  changing : (meant : Caller → Result Hierarchy Refusal) → ((who : Caller) → IsSpelledCaller who → Keeps (meant who))
+      → IsSpelledAnswer (on_path s p ring (λ who. changed s (meant who)))
   changing meant each = path_answer (λ who. changed s (meant who)) (λ who own. change (meant who) (each who own))
 
   tell : {A : Type 0} (P : A → Type 0) (as_reply : A → Reply) → ((value : A) → P value → IsSaid (as_reply value)) → (meant : Result A Refusal)
-      → AllTold P meant → IsSpeltAnswer (told s as_reply meant)
+      → AllTold P meant → IsSpelledAnswer (told s as_reply meant)
   tell P as_reply each (Ok value) own = plainly (as_reply value) (each value own)
   tell P as_reply each (Err why) own = plainly (reply.Refused why) refl
 
   -- messages
-  mail_changed : (q : ℕ) (process : PlainProcess) → IsSpeltMail process → All IsSpeltMail (mail.with_process s.mail q process)
+  mail_changed : (q : ℕ) (process : PlainProcess) → IsSpelledMail process → All IsSpelledMail (mail.with_process s.mail q process)
   mail_changed q process own = by_zero (q == 0)
     where
-      by_zero : (zero : Bool) → All IsSpeltMail (if zero then s.mail else slice_set s.mail (q - 1) process)
+      by_zero : (zero : Bool) → All IsSpelledMail (if zero then s.mail else slice_set s.mail (q - 1) process)
       by_zero true = is.mail
-      by_zero false = All-set IsSpeltMail s.mail (q - 1) process own is.mail
+      by_zero false = All-set IsSpelledMail s.mail (q - 1) process own is.mail
 
-  with_mail : (after : List PlainProcess) → All IsSpeltMail after → IsSpelt (record s { mail = after })
+  with_mail : (after : List PlainProcess) → All IsSpelledMail after → IsSpelled (record s { mail = after })
   with_mail after own = record { count = is.count; hierarchy = is.hierarchy; processes = is.processes; mail = own }
 
-  waiting : All IsSpeltMessage (messages_of s.mail p)
+  waiting : All IsSpelledMessage (messages_of s.mail p)
   waiting = by_zero (p == 0)
     where
-      by_place : (o : Option PlainProcess) → slice_get s.mail (p - 1) ≡ o → All IsSpeltMessage (messages_in o)
-      by_place None e = All-nil IsSpeltMessage
-      by_place (Some process) e = at_place IsSpeltMail s.mail (p - 1) process is.mail e
+      by_place : (o : Option PlainProcess) → slice_get s.mail (p - 1) ≡ o → All IsSpelledMessage (messages_in o)
+      by_place None e = All-nil IsSpelledMessage
+      by_place (Some process) e = at_place IsSpelledMail s.mail (p - 1) process is.mail e
 
-      by_zero : (zero : Bool) → All IsSpeltMessage (messages_in (if zero then None else slice_get s.mail (p - 1)))
-      by_zero true = All-nil IsSpeltMessage
+      by_zero : (zero : Bool) → All IsSpelledMessage (messages_in (if zero then None else slice_get s.mail (p - 1)))
+      by_zero true = All-nil IsSpelledMessage
       by_zero false = by_place (slice_get s.mail (p - 1)) refl
 
-  taken_said : (nobody : Bool) (messages : List (ℕ × ℕ)) → All IsSpeltMessage messages → IsSaid (taken_reply (taken_from nobody messages))
+  taken_said : (nobody : Bool) (messages : List (ℕ × ℕ)) → All IsSpelledMessage messages → IsSaid (taken_reply (taken_from nobody messages))
   taken_said nobody (message ∷ later) all =
-      let own = All-head IsSpeltMessage message later all in
+      let own = All-head IsSpelledMessage message later all in
       both_hold _ _ (at_most_test message.0 15 own.sender) own.word
   taken_said true [] all = refl
   taken_said false [] all = refl
 
-  left_waiting : (nobody : Bool) (messages : List (ℕ × ℕ)) → All IsSpeltMessage messages → IsSpeltMail (process_after nobody messages)
-  left_waiting nobody (message ∷ later) all = All-tail IsSpeltMessage message later all
-  left_waiting true [] all = All-nil IsSpeltMessage
-  left_waiting false [] all = All-nil IsSpeltMessage
+  left_waiting : (nobody : Bool) (messages : List (ℕ × ℕ)) → All IsSpelledMessage messages → IsSpelledMail (process_after nobody messages)
+  left_waiting nobody (message ∷ later) all = All-tail IsSpelledMessage message later all
+  left_waiting true [] all = All-nil IsSpelledMessage
+  left_waiting false [] all = All-nil IsSpelledMessage
 
-  blocked : IsSpeltAnswer (block s p)
+  blocked : IsSpelledAnswer (block s p)
   blocked =
       let nobody : Bool = nobody_else s.mail p in
       let messages : List (ℕ × ℕ) = messages_of s.mail p in
@@ -159,34 +159,34 @@ module _ (s : Plain) (p ring : ℕ) (is : IsSpelt s) where
         said = taken_said nobody messages waiting;
       }
 
-  ended : IsSpeltAnswer (logout s p)
+  ended : IsSpelledAnswer (logout s p)
   ended = record {
-    state = with_mail (mail.end_process s.mail p) (mail_changed p (process_in Ended []) (All-nil IsSpeltMessage));
+    state = with_mail (mail.end_process s.mail p) (mail_changed p (process_in Ended []) (All-nil IsSpelledMessage));
     said = refl;
   }
 
-  delivered : (to word : ℕ) → p ≤ 15 → is_word word ≡ true → All IsSpeltMail (deliver s.mail to (mail.process_at s.mail to) (p, word))
+  delivered : (to word : ℕ) → p ≤ 15 → is_word word ≡ true → All IsSpelledMail (deliver s.mail to (mail.process_at s.mail to) (p, word))
   delivered to word low fits = by_zero (to == 0)
     where
-      by_place : (o : Option PlainProcess) → slice_get s.mail (to - 1) ≡ o → All IsSpeltMail (deliver s.mail to o (p, word))
+      by_place : (o : Option PlainProcess) → slice_get s.mail (to - 1) ≡ o → All IsSpelledMail (deliver s.mail to o (p, word))
       by_place None e = is.mail
       by_place (Some process) e =
           mail_changed to (with_message process (p, word))
-          (All-append IsSpeltMessage process.messages ((p, word) ∷ []) (at_place IsSpeltMail s.mail (to - 1) process is.mail e)
-          (All-cons IsSpeltMessage (p, word) [] (record { sender = low; word = fits }) (All-nil IsSpeltMessage)))
+          (All-append IsSpelledMessage process.messages ((p, word) ∷ []) (at_place IsSpelledMail s.mail (to - 1) process is.mail e)
+          (All-cons IsSpelledMessage (p, word) [] (record { sender = low; word = fits }) (All-nil IsSpelledMessage)))
 
-      by_zero : (zero : Bool) → All IsSpeltMail (deliver s.mail to (if zero then None else slice_get s.mail (to - 1)) (p, word))
+      by_zero : (zero : Bool) → All IsSpelledMail (deliver s.mail to (if zero then None else slice_get s.mail (to - 1)) (p, word))
       by_zero true = is.mail
       by_zero false = by_place (slice_get s.mail (to - 1)) refl
 
-  send : (meant : Result (List PlainProcess) Refusal) → AllTold (All IsSpeltMail) meant → IsSpeltAnswer (sent s meant)
+  send : (meant : Result (List PlainProcess) Refusal) → AllTold (All IsSpelledMail) meant → IsSpelledAnswer (sent s meant)
   send (Ok after) own = record { state = with_mail after own; said = refl }
   send (Err why) own = plainly (reply.Refused why) refl
 
   -- what a process has of its own
   module _ (process : ProcessState) (low : 1 ≤ p) (at : slice_get s.processes (p - 1) ≡ Some process) where
-    own : IsSpeltProcess process
-    own = at_place IsSpeltProcess s.processes (p - 1) process is.processes at
+    own : IsSpelledProcess process
+    own = at_place IsSpelledProcess s.processes (p - 1) process is.processes at
 
     few : p ≤ 15
     few =
@@ -194,21 +194,21 @@ module _ (s : Plain) (p ring : ℕ) (is : IsSpelt s) where
         let count = is.count in
         omega (arith, low, below, count)
 
-    replaced : (other : ProcessState) (h : Hierarchy) → IsSpeltProcess other → IsSpeltHierarchy h
-        → IsSpelt (record (with_process s p other) { hierarchy = h })
+    replaced : (other : ProcessState) (h : Hierarchy) → IsSpelledProcess other → IsSpelledHierarchy h
+        → IsSpelled (record (with_process s p other) { hierarchy = h })
     replaced other h other_is h_is = record {
       count = let same = length-set s.processes (p - 1) other in
           let count = is.count in
           omega (arith, same, count);
       hierarchy = h_is;
-      processes = All-set IsSpeltProcess s.processes (p - 1) other other_is is.processes;
+      processes = All-set IsSpelledProcess s.processes (p - 1) other other_is is.processes;
       mail = is.mail;
     }
 
-    knowing : (known : KnownSegments) → IsSpeltKnown known → IsSpeltProcess (record process { known = known })
+    knowing : (known : KnownSegments) → IsSpelledKnown known → IsSpelledProcess (record process { known = known })
     knowing known known_is = record { authorization = own.authorization; directory = own.directory; known = known_is }
 
-    moved : (meant : Result (List (List ℕ)) Refusal) → AllTold (λ path. list_all is_name path ≡ true) meant → IsSpeltAnswer (change_wdir s p process meant)
+    moved : (meant : Result (List (List ℕ)) Refusal) → AllTold (λ path. list_all is_name path ≡ true) meant → IsSpelledAnswer (change_wdir s p process meant)
     moved (Ok path) names = record {
       state = replaced (record process { working_directory = path }) s.hierarchy
           (record { authorization = own.authorization; directory = names; known = own.known }) is.hierarchy;
@@ -224,147 +224,147 @@ module _ (s : Plain) (p ring : ℕ) (is : IsSpelt s) where
         (λ uid f. unless_told (λ path. list_all is_name path ≡ true) (first_of (directory_refusals s.hierarchy (caller process ring).subject uid)) path
         (resolved_names (caller process ring) text path own.directory fits e)))
 
-    ruled : (rules : List Rule) → IsSpeltAnswer (set_rules s p process rules)
+    ruled : (rules : List Rule) → IsSpelledAnswer (set_rules s p process rules)
     ruled rules = record {
       state = replaced (record process { rules = rules }) s.hierarchy
           (record { authorization = own.authorization; directory = own.directory; known = own.known }) is.hierarchy;
       said = refl;
     }
 
-    ends : (segno : ℕ) (meant : Option KnownSegments) → kst.terminate process.known segno ≡ meant → IsSpeltAnswer (terminate s p process meant)
+    ends : (segno : ℕ) (meant : Option KnownSegments) → kst.terminate process.known segno ≡ meant → IsSpelledAnswer (terminate s p process meant)
     ends segno (Some known) e = record {
-      state = replaced (record process { known = known }) s.hierarchy (knowing known (terminated_spelt process.known known segno own.known e)) is.hierarchy;
+      state = replaced (record process { known = known }) s.hierarchy (knowing known (terminated_spelled process.known known segno own.known e)) is.hierarchy;
       said = refl;
     }
     ends segno None e = plainly (reply.Refused UnknownSegno) refl
 
     known_more : (uid : ℕ) (name : Option (List ℕ)) (meant : Result Connected Refusal) → connect s.hierarchy process.known ring name uid ≡ meant
-        → IsSpeltAnswer (given s p process meant)
+        → IsSpelledAnswer (given s p process meant)
     known_more uid name (Ok c) e =
-        let made = connected_spelt s.hierarchy process.known uid ring name c is.hierarchy own.known e in
+        let made = connected_spelled s.hierarchy process.known uid ring name c is.hierarchy own.known e in
         record {
           state = replaced (record process { known = c.after }) c.hierarchy (knowing c.after made.known) made.hierarchy;
           said = both_hold _ _ (at_most_test c.known.segno 4095 made.segno) made.linkage;
         }
     known_more uid name (Err why) e = plainly (reply.Refused why) refl
 
-    initiated : (name : Option (List ℕ)) (found : Result ℕ Refusal) → IsSpeltAnswer (initiate s p ring process name found)
+    initiated : (name : Option (List ℕ)) (found : Result ℕ Refusal) → IsSpelledAnswer (initiate s p ring process name found)
     initiated name (Ok uid) = known_more uid name (connect s.hierarchy process.known ring name uid) refl
     initiated name (Err why) = plainly (reply.Refused why) refl
 
     snapped : (uid word : ℕ) (name : Option (List ℕ)) → word ≤ 16383 → (meant : Result Connected Refusal)
-        → connect s.hierarchy process.known ring name uid ≡ meant → IsSpeltAnswer (linked s p process word meant)
+        → connect s.hierarchy process.known ring name uid ≡ meant → IsSpelledAnswer (linked s p process word meant)
     snapped uid word name short (Ok c) e =
-        let made = connected_spelt s.hierarchy process.known uid ring name c is.hierarchy own.known e in
+        let made = connected_spelled s.hierarchy process.known uid ring name c is.hierarchy own.known e in
         record {
           state = replaced (record process { known = c.after }) c.hierarchy (knowing c.after made.known) made.hierarchy;
           said = both_hold _ _ (address_test c.known.segno word made.segno short) made.linkage;
         }
     snapped uid word name short (Err why) e = plainly (reply.Refused why) refl
 
-    linking : (o : Option Link) → IsSpeltAnswer (link_by s p ring process o)
+    linking : (o : Option Link) → IsSpelledAnswer (link_by s p ring process o)
     linking None = plainly (reply.Refused NotLinkage) refl
     linking (Some it) = by_target (link_target s.hierarchy process ring it) refl
       where
         by_uid : (to : Target) → link_target s.hierarchy process ring it ≡ Ok to → (o : Option ℕ) → found_uid process.known to.found ≡ o
-            → IsSpeltAnswer (link_to s p ring process it to.word o)
+            → IsSpelledAnswer (link_to s p ring process it to.word o)
         by_uid to e (Some uid) f =
             snapped uid to.word (free_name process.known ring it.segment)
-            (defined_low (object_at s.hierarchy uid) it.symbol to.word (object_spelt s.hierarchy uid is.hierarchy)
+            (defined_low (object_at s.hierarchy uid) it.symbol to.word (object_spelled s.hierarchy uid is.hierarchy)
             (found_word s.hierarchy process ring it to uid e f))
             (connect s.hierarchy process.known ring (free_name process.known ring it.segment) uid) refl
         by_uid to e None f = plainly reply.Done refl
 
-        by_target : (r : Result Target LinkError) → link_target s.hierarchy process ring it ≡ r → IsSpeltAnswer (link_towards s p ring process it r)
+        by_target : (r : Result Target LinkError) → link_target s.hierarchy process ring it ≡ r → IsSpelledAnswer (link_towards s p ring process it r)
         by_target (Ok to) e = by_uid to e (found_uid process.known to.found) refl
         by_target (Err error.SegmentNotFound) e = plainly (reply.Refused SegmentNotFound) refl
         by_target (Err error.NotObject) e = plainly (reply.Refused NotObject) refl
         by_target (Err error.NoDefinition) e = plainly (reply.Refused NoDefinition) refl
         by_target (Err error.Memory) e = plainly reply.Done refl
 
-    woken : (to word : ℕ) → is_word word ≡ true → IsSpeltAnswer (wakeup s p to word)
+    woken : (to word : ℕ) → is_word word ≡ true → IsSpelledAnswer (wakeup s p to word)
     woken to word fits =
         send (unless (first_of (wakeup_refusals (mail.process_at s.mail to))) (deliver s.mail to (mail.process_at s.mail to) (p, word)))
-        (unless_told (All IsSpeltMail) (first_of (wakeup_refusals (mail.process_at s.mail to)))
+        (unless_told (All IsSpelledMail) (first_of (wakeup_refusals (mail.process_at s.mail to)))
         (deliver s.mail to (mail.process_at s.mail to) (p, word)) (delivered to word few fits))
 
   own_answer : (given : ProcessState → Answer)
-      → ((process : ProcessState) → 1 ≤ p → slice_get s.processes (p - 1) ≡ Some process → IsSpeltAnswer (given process))
-      → IsSpeltAnswer (on_process s p given)
-  own_answer given each = by_process IsSpeltAnswer s p given (plainly reply.Done refl) each
+      → ((process : ProcessState) → 1 ≤ p → slice_get s.processes (p - 1) ≡ Some process → IsSpelledAnswer (given process))
+      → IsSpelledAnswer (on_process s p given)
+  own_answer given each = by_process IsSpelledAnswer s p given (plainly reply.Done refl) each
 
   -- each request
-  pub answer_spelt : (request : Request) → IsFitting request → IsSpeltAnswer (plain s p ring request)
-  answer_spelt (ask.CreateDir path d1 d2) fits =
+  pub answer_spelled : (request : Request) → IsFitting request → IsSpelledAnswer (plain s p ring request)
+  answer_spelled (ask.CreateDir path d1 d2) fits =
       let f = both (is_pathname path) (is_ring d1 && is_ring d2) fits in
       let g = both (is_ring d1) (is_ring d2) f.1 in
       changing (λ who. create_dir s.hierarchy who path d1 d2)
       (λ who own. create_dir_keeps s.hierarchy who path is.hierarchy own.base f.0 d1 d2 g.0 g.1)
-  answer_spelt (ask.CreateSeg path words brackets) fits =
+  answer_spelled (ask.CreateSeg path words brackets) fits =
       let f = both (is_pathname path) (nat_le words 99999 && are_brackets brackets) fits in
       let g = both (nat_le words 99999) (are_brackets brackets) f.1 in
       changing (λ who. create_seg s.hierarchy who path words brackets)
       (λ who own. make_segment_keeps s.hierarchy who path is.hierarchy own.base f.0 own.authorization
       (record { words = words; rings = brackets; modes = Rw; object = None }) g.1 tt)
-  answer_spelt (ask.CreateObject path words brackets object) fits =
+  answer_spelled (ask.CreateObject path words brackets object) fits =
       let f = both (is_pathname path) (nat_le words 99999 && (are_brackets brackets && fits_object object)) fits in
       let g = both (nat_le words 99999) (are_brackets brackets && fits_object object) f.1 in
       let k = both (are_brackets brackets) (fits_object object) g.1 in
       changing (λ who. create_object s.hierarchy who path words brackets object)
       (λ who own. make_segment_keeps s.hierarchy who path is.hierarchy own.base f.0 own.authorization
       (record { words = words; rings = brackets; modes = Re; object = Some object }) k.0 k.1)
-  answer_spelt (ask.CreateLink path target) fits =
+  answer_spelled (ask.CreateLink path target) fits =
       let f = both (is_pathname path) (is_pathname target) fits in
       changing (λ who. create_link s.hierarchy who path target)
       (λ who own. create_link_keeps s.hierarchy who path is.hierarchy own.base f.0 target f.1)
-  answer_spelt (ask.Rename path name) fits =
+  answer_spelled (ask.Rename path name) fits =
       changing (λ who. rename s.hierarchy who path name)
       (λ who own. rename_keeps s.hierarchy who path is.hierarchy name (both (is_pathname path) (is_name name) fits).1)
-  answer_spelt (ask.Delete path) fits =
+  answer_spelled (ask.Delete path) fits =
       changing (λ who. delete s.hierarchy who path) (λ who own. delete_keeps s.hierarchy who path is.hierarchy)
-  answer_spelt (ask.SetAcl path id modes) fits =
+  answer_spelled (ask.SetAcl path id modes) fits =
       changing (λ who. set_acl s.hierarchy who path id modes) (λ who own. set_acl_keeps s.hierarchy who path is.hierarchy id modes)
-  answer_spelt (ask.DelAcl path id) fits =
+  answer_spelled (ask.DelAcl path id) fits =
       changing (λ who. del_acl s.hierarchy who path id) (λ who own. del_acl_keeps s.hierarchy who path is.hierarchy id)
-  answer_spelt (ask.SetIacl path kind id modes) fits =
+  answer_spelled (ask.SetIacl path kind id modes) fits =
       changing (λ who. set_iacl s.hierarchy who path kind id modes)
       (λ who own. set_iacl_keeps s.hierarchy who path is.hierarchy kind id modes)
-  answer_spelt (ask.DelIacl path kind id) fits =
+  answer_spelled (ask.DelIacl path kind id) fits =
       changing (λ who. del_iacl s.hierarchy who path kind id) (λ who own. del_iacl_keeps s.hierarchy who path is.hierarchy kind id)
-  answer_spelt (ask.SetBrackets path brackets) fits =
+  answer_spelled (ask.SetBrackets path brackets) fits =
       changing (λ who. set_brackets s.hierarchy who path brackets)
       (λ who own. set_brackets_keeps s.hierarchy who path is.hierarchy brackets (both (is_pathname path) (are_brackets brackets) fits).1)
-  answer_spelt (ask.SetDirBrackets path d1 d2) fits =
+  answer_spelled (ask.SetDirBrackets path d1 d2) fits =
       let g = both (is_ring d1) (is_ring d2) (both (is_pathname path) (is_ring d1 && is_ring d2) fits).1 in
       changing (λ who. set_dir_brackets s.hierarchy who path d1 d2)
       (λ who own. set_dir_brackets_keeps s.hierarchy who path is.hierarchy d1 d2 g.0 g.1)
-  answer_spelt (ask.SetClass path class) fits =
+  answer_spelled (ask.SetClass path class) fits =
       changing (λ who. set_class s.hierarchy who path class)
       (λ who own. set_class_keeps s.hierarchy who path is.hierarchy class (both (is_pathname path) (is_class class) fits).1)
-  answer_spelt (ask.Status path) fits =
+  answer_spelled (ask.Status path) fits =
       path_answer (λ who. told s (λ status. reply.Status (shown s.version status)) (status s.hierarchy who path))
       (λ who own. tell (λ status. IsSaidStatus (shown s.version status)) (λ status. reply.Status (shown s.version status)) (λ status said. said)
       (status s.hierarchy who path) (status_said s.version s.hierarchy who path is.hierarchy))
-  answer_spelt (ask.List path) fits =
+  answer_spelled (ask.List path) fits =
       path_answer (λ who. told s reply.Names (list s.hierarchy who path))
       (λ who own. tell (λ names. list_all is_name names ≡ true) reply.Names (λ names said. said)
       (list s.hierarchy who path) (list_said s.hierarchy who path is.hierarchy))
-  answer_spelt (ask.ChangeWdir path) fits =
+  answer_spelled (ask.ChangeWdir path) fits =
       own_answer (λ process. change_wdir s p process (directory s.hierarchy (caller process ring) path))
       (λ process low at. moved process low at (directory s.hierarchy (caller process ring) path) (directory_names process low at path fits))
-  answer_spelt (ask.SetRules rules) fits = own_answer (λ process. set_rules s p process rules) (λ process low at. ruled process low at rules)
-  answer_spelt (ask.Initiate path name) fits =
+  answer_spelled (ask.SetRules rules) fits = own_answer (λ process. set_rules s p process rules) (λ process low at. ruled process low at rules)
+  answer_spelled (ask.Initiate path name) fits =
       own_answer (λ process. initiate s p ring process name (segment s.hierarchy (caller process ring) path))
       (λ process low at. initiated process low at name (segment s.hierarchy (caller process ring) path))
-  answer_spelt (ask.Terminate segno) fits =
+  answer_spelled (ask.Terminate segno) fits =
       own_answer (λ process. terminate s p process (kst.terminate process.known segno))
       (λ process low at. ends process low at segno (kst.terminate process.known segno) refl)
-  answer_spelt (ask.Wakeup to word) fits =
+  answer_spelled (ask.Wakeup to word) fits =
       own_answer (λ process. wakeup s p to word)
       (λ process low at. woken process low at to word (both (is_process_number to) (is_word word) fits).1)
-  answer_spelt ask.Block fits = own_answer (λ process. block s p) (λ process low at. blocked)
-  answer_spelt (ask.Link segno word) fits =
+  answer_spelled ask.Block fits = own_answer (λ process. block s p) (λ process low at. blocked)
+  answer_spelled (ask.Link segno word) fits =
       own_answer (λ process. link s p ring process segno word)
       (λ process low at. linking process low at (link_at s.hierarchy process.known segno word))
-  answer_spelt ask.Resume fits = own_answer (λ process. block s p) (λ process low at. blocked)
-  answer_spelt ask.Logout fits = own_answer (λ process. logout s p) (λ process low at. ended)
+  answer_spelled ask.Resume fits = own_answer (λ process. block s p) (λ process low at. blocked)
+  answer_spelled ask.Logout fits = own_answer (λ process. logout s p) (λ process low at. ended)

@@ -1,6 +1,6 @@
 -- What one run of a session comes to: what it prints, or another status.
 use Rattle.std.specs.Prelude.{◌≡◌, ◌≢◌, ◌⊎◌, ℕ, List, [], ◌∷◌, Option, Some, codes}
-use Rattle.mx_transcript.specs.Runs as run
+use Rattle.mx_transcript.specs.Runs as legal
 use Rattle.mx_transcript.specs.Transcripts.{Step}
 use Rattle.mx_run.specs.Done.{IsDone, IsDrilled, IsDoneBy}
 use Rattle.mx_run.specs.Statuses.{IsStopped, IsDueStatus}
@@ -19,7 +19,7 @@ IsRunOf session printed = (left : Option (List ℕ)) × IsDone (Some session) le
 pub record IsPrintedOf (session : Outline) (printed : List ℕ) : Type 0 where
   pub journal : List Entry
   pub transcripts : List (List Step)
-  pub run : run.IsRunOf session journal transcripts
+  pub run : legal.IsRunOf session journal transcripts
   pub spellable : IsSpellable journal transcripts
   pub text : printed ≡ run_text journal transcripts
 

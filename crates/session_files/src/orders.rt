@@ -6,7 +6,7 @@ ghost use Rattle.mx_proc.specs.Stepping.{HaveEnded};
 ghost use Rattle.mx_script.specs.SessionTexts.{fits, rows_of};
 ghost use Rattle.mx_spelling.specs.Spelling.{IsSpellable};
 ghost use Rattle.mx_text.specs.RunText.{run_text};
-ghost use Rattle.mx_transcript.specs.Runs as run;
+ghost use Rattle.mx_transcript.specs.Runs as legal;
 ghost use Rattle.session_files.specs.Runs.{IsRunOf, IsPrintedOf};
 
 use mx_io::MemorySink;
@@ -101,7 +101,7 @@ fn ran(
     steps: &mut Vec<u8>,
 ) -> Result<Option<(Journal, Transcripts)>, AllocError>
     requires { list_all fits (rows_of session.now) ≡ true }
-    ensures run { IfOk result (λ told. IfSome told (λ ran. run.IsRunOf session.now ran.0 ran.1)) }
+    ensures run { IfOk result (λ told. IfSome told (λ ran. legal.IsRunOf session.now ran.0 ran.1)) }
     ensures spellable { IfOk result (λ told. IfSome told (λ ran. IsSpellable ran.0 ran.1)) }
 {
     // The lines of each session have numbers of 32 bits.
