@@ -9,9 +9,6 @@ use Rattle.mx_run.specs.Done.{IsDrilled, IsDoneBy}
 use Rattle.mx_run.specs.Statuses.{IsDueStatus}
 use Rattle.mx_script.specs.Sessions.{Outline}
 use Rattle.mx_script.specs.SessionTexts.{IsText}
-use Rattle.mx_transcript.specs.Transcripts.{Step}
-use Rattle.mx_state.specs.declared.journal.Entry.{Entry}
-use Rattle.mx_text.specs.RunText.{run_text}
 use Rattle.session_files.specs.Runs.{IsRunOf, IsPrintedOf, IsSummaryOf, IsEnded, IsDrillEnded, IsEndedBy}
 use Rattle.session_files.specs.declared.orders.InOrder.{InOrder}
 use Rattle.session_files.specs.declared.runs.Ended.{Ended}
