@@ -1,3 +1,4 @@
 pub mod CommandLaws
 pub mod VerdictLaws
 mod RoomLaws
+mod SpellingLaws

@@ -82,7 +82,8 @@ done_of words source source' sink sink' accounts accounts' (Drilled number journ
       journal = journal;
       transcripts = transcripts;
       run = right.1;
-      told = right.3;
+      spellable = right.2;
+      told = right.4;
       printed = printed;
     })
 done_of words source source' sink sink' accounts accounts' BadWords grown right printed done = absurd (omega (arith, done))
@@ -113,6 +114,7 @@ of_read words source source' spelled accounts accounts' (Ran journal transcripts
     within = within;
     text = subst (λ (l : List ℕ). IsText l right.1.session) (sym right.1.read.0) right.1.text;
     run = right.1.run;
+    spellable = right.1.spellable;
   },
   right.2,
 )

@@ -7,9 +7,10 @@ use Rattle.mx_audit.specs.Accounts.{Account}
 use Rattle.mx_script.specs.SessionTexts.{IsText}
 use Rattle.mx_script.specs.Sessions.{Outline}
 use Rattle.mx_state.specs.declared.journal.Entry.{Entry}
-use Rattle.mx_transcript.specs.Legal.{IsLegal, HasGatedFalls, HasSoundRegisters}
+use Rattle.mx_transcript.specs.Runs.{IsRunOf}
 use Rattle.mx_transcript.specs.Transcripts.{Step}
 use Rattle.mx_proc.specs.Auditors.{WereTold}
+use Rattle.mx_spelling.specs.Spelling.{IsSpellable}
 use Rattle.mx_drill.specs.Drills.{drill_session}
 use Rattle.mx_drill.specs.Summaries.{summary_text}
 use Rattle.mx_text.specs.RunText.{run_text}
@@ -19,14 +20,8 @@ use Rattle.mx_run.specs.Commands.{IsRun, IsDrill}
 abbrev pub most_bytes : ℕ
 most_bytes = 4194304
 
--- The journal and the transcripts are a legal run of the session, whose rings fall only through gates and whose pointer
--- registers never have less than the ring.
-pub record IsRunOf (session : Outline) (journal : List Entry) (transcripts : List (List Step)) : Type 0 where
-  pub legal : IsLegal session journal transcripts
-  pub gated : HasGatedFalls session journal transcripts
-  pub sound : HasSoundRegisters session journal transcripts
-
--- The source was read to its end, and its bytes are the text of a session, within the limit, of which this is a run.
+-- The source was read to its end, and its bytes are the text of a session, within the limit, of which this is a run that a run text
+-- can say.
 pub record IsRunFrom (source source' : Option (List ℕ)) (journal : List Entry)
     (transcripts : List (List Step)) : Type 0 where
   pub spelled : List ℕ
@@ -35,6 +30,7 @@ pub record IsRunFrom (source source' : Option (List ℕ)) (journal : List Entry)
   pub within : length spelled ≤ most_bytes
   pub text : IsText spelled session
   pub run : IsRunOf session journal transcripts
+  pub spellable : IsSpellable journal transcripts
 
 -- under `run`
 pub record IsDone (source source' sink sink' : Option (List ℕ)) (accounts accounts' : List Account) : Type 0 where
@@ -51,6 +47,7 @@ pub record IsDrilled (words : List (List ℕ)) (sink sink' : Option (List ℕ)) 
   pub journal : List Entry
   pub transcripts : List (List Step)
   pub run : IsRunOf (drill_session number) journal transcripts
+  pub spellable : IsSpellable journal transcripts
   pub told : WereTold accounts transcripts accounts'
   pub printed : Appends sink sink' (summary_text number journal transcripts)
 

@@ -1,5 +1,5 @@
 -- Helpers: what the words of a command line are read as.
-use Rattle.std.specs.Prelude.{◌≡◌, ℕ, ◌≤◌, List, Option, None, Some}
+use Rattle.std.specs.Prelude.{ℕ, ◌≤◌, List, Option, None, Some}
 use Rattle.mx_run.specs.Commands.{IsRun, IsNumber, IsDrill, IsAccepted}
 use Rattle.mx_run.specs.declared.words.Command.{Command}
 use Rattle.mx_run.specs.declared.words.Command.TheVariants.{Run, Drill, Other}

@@ -6,11 +6,13 @@ use Rattle.mx_audit.specs.Accounts.{Account}
 use Rattle.mx_io.specs.Bytes.{TakesAll, TakesTooMany}
 use Rattle.mx_proc.specs.Auditors.{WereTold}
 use Rattle.mx_script.specs.FirstBadLine.{IsFirstBad}
+use Rattle.mx_spelling.specs.Spelling.{IsSpellable}
 use Rattle.mx_text.specs.RunText.{run_text}
+use Rattle.mx_transcript.specs.Runs.{IsRunOf}
 use Rattle.mx_drill.specs.Drills.{drill_session}
 use Rattle.mx_drill.specs.Summaries.{summary_text}
 use Rattle.mx_run.specs.Commands.{IsRun, IsDrill, IsAccepted}
-use Rattle.mx_run.specs.Done.{IsRunOf, IsRunFrom, most_bytes}
+use Rattle.mx_run.specs.Done.{IsRunFrom, most_bytes}
 use Rattle.mx_run.specs.declared.verdicts.Verdict.{Verdict}
 use Rattle.mx_run.specs.declared.verdicts.Verdict.TheVariants.{Ran, Drilled, BadWords, BadLine, TooLong}
 
@@ -27,7 +29,8 @@ abbrev pub IsVerdict : List (List ℕ) → Option (List ℕ) → Option (List �
 IsVerdict words source source' accounts accounts' (Ran journal transcripts) =
     IsRun words × IsRunFrom source source' journal transcripts × WereTold accounts transcripts accounts'
 IsVerdict words source source' accounts accounts' (Drilled number journal transcripts) =
-    IsDrill words number × IsRunOf (drill_session number) journal transcripts × (source' ≡ source) × WereTold accounts transcripts accounts'
+    IsDrill words number × IsRunOf (drill_session number) journal transcripts × IsSpellable journal transcripts × (source' ≡ source)
+    × WereTold accounts transcripts accounts'
 IsVerdict words source source' accounts accounts' BadWords = (IsAccepted words → ⊥) × (source' ≡ source) × (accounts' ≡ accounts)
 IsVerdict words source source' accounts accounts' (BadLine number) = IsRun words × IsBadLineOf source source' number × (accounts' ≡ accounts)
 IsVerdict words source source' accounts accounts' TooLong = IsRun words × TakesTooMany most_bytes source source' × (accounts' ≡ accounts)

@@ -1,15 +1,18 @@
 //! What comes of a command.
 
-ghost use Rattle.std.specs.Prelude.{◌≡◌, ◌⊎◌, ℕ, ◌≤◌, [], ◌∷◌, ◌++◌, map, length, Some, Ok, IfOk, OnOk, OnErr, IsErrOf, codes};
+ghost use Rattle.std.specs.Prelude.{◌≡◌, ◌⊎◌, ℕ, ◌≤◌, true, [], ◌∷◌, ◌++◌, map, length, Some, Ok, IfOk, OnOk, OnErr, IsErrOf, codes};
 ghost use Rattle.std.specs.Fmt.{decimal};
+ghost use Rattle.std.specs.List.{list_all};
 ghost use Rattle.std.specs.String.{string_bytes};
 ghost use Rattle.mx_audit.specs.Accounts.{HaveGrown, HaveRoom};
 ghost use Rattle.mx_io.specs.Bytes.{Appends, AppendsPart};
 ghost use Rattle.mx_io.specs.Faults.{Rose};
 ghost use Rattle.mx_drill.specs.Drills.{drill_session};
-ghost use Rattle.mx_proc.specs.Auditors.{WereTold};
+ghost use Rattle.mx_proc.specs.Auditors.{HaveRoomForLines, WereTold};
+ghost use Rattle.mx_script.specs.SessionTexts.{fits, rows_of};
+ghost use Rattle.mx_spelling.specs.Spelling.{IsSpellable};
+ghost use Rattle.mx_transcript.specs.Runs.{IsRunOf};
 ghost use Rattle.mx_run.specs.Commands.{IsRun, IsDrill, IsAccepted};
-ghost use Rattle.mx_run.specs.Done.{IsRunOf};
 ghost use Rattle.mx_run.specs.Verdicts.{IsVerdict, verdict_status, verdict_text};
 ghost use Rattle.mx_run.specs.declared.verdicts.Unreached.TheVariants.{Fault, Memory};
 
@@ -19,7 +22,7 @@ use mx_audit::Auditor;
 use mx_drill::{session_of, summary};
 use mx_io::{ReadError, Sink, Source, read_all, write_all};
 use mx_proc::{Gate, run};
-use mx_script::{SessionError, read_session};
+use mx_script::{Session, SessionError, read_session};
 use mx_state::Journal;
 use mx_text::{TextError, print};
 use mx_transcript::Transcripts;
@@ -145,7 +148,7 @@ impl Verdict {
     {
         match read_session(alloc, bytes) {
             Ok(session) => {
-                let (journal, transcripts) = run(rt, alloc, &session, gate, auditors)?;
+                let (journal, transcripts) = ran(rt, alloc, &session, gate, auditors)?;
                 Ok(Verdict::Ran {
                     journal,
                     transcripts,
@@ -213,11 +216,32 @@ fn drilled<R: Threads + Wait + Sync, G: Gate>(
     requires number { number ≤ 999999 }
     requires room { HaveRoom 700000 (map account auditors.old.items) }
     ensures run { IfOk result (λ ran. IsRunOf (drill_session number) ran.0 ran.1) }
+    ensures spellable { IfOk result (λ ran. IsSpellable ran.0 ran.1) }
     ensures told { IfOk result (λ ran. WereTold (map account auditors.old.items) ran.1 (map account auditors.new.items)) }
     ensures grown { HaveGrown (map account auditors.old.items) (map account auditors.new.items) }
 {
     let session = session_of(alloc, number)?;
-    run(rt, alloc, &session, gate, auditors)
+    ran(rt, alloc, &session, gate, auditors)
+}
+
+// A run of a session whose lines can be written: a run text can say it.
+fn ran<R: Threads + Wait + Sync, G: Gate>(
+    rt: &R,
+    alloc: Global,
+    session: &Session,
+    gate: &G,
+    auditors: &mut Vec<Box<dyn Auditor + Send>>,
+) -> Result<(Journal, Transcripts), AllocError>
+    requires text { list_all fits (rows_of session.now) ≡ true }
+    requires room { HaveRoomForLines session.now (map account auditors.old.items) }
+    ensures run { IfOk result (λ ran. IsRunOf session.now ran.0 ran.1) }
+    ensures spellable { IfOk result (λ ran. IsSpellable ran.0 ran.1) }
+    ensures told { IfOk result (λ ran. WereTold (map account auditors.old.items) ran.1 (map account auditors.new.items)) }
+    ensures grown { HaveGrown (map account auditors.old.items) (map account auditors.new.items) }
+{
+    // The lines of each session have numbers of 32 bits.
+    let _scripts = session.scripts();
+    run(rt, alloc, session, gate, auditors)
 }
 
 // Writes a text. The only error is `Fault`.

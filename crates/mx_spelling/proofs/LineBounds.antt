@@ -29,9 +29,8 @@ use Rattle.mx_transcript.specs.Transcripts.{Step, events_of}
 use Rattle.mx_transcript.specs.declared.transcripts.Event2.{Event2}
 use Rattle.mx_transcript.specs.declared.transcripts.Event2.TheVariants.{Core, Entry}
 use Rattle.mx_transcript.specs.declared.transcripts.Result2.{Result2}
-use Rattle.mx_spelling.specs.Laws.{IsLow}
 use Rattle.mx_spelling.specs.Spelling.{bounds_reply, fits_result}
-use Rattle.mx_spelling.proofs.NextBounds.{IsGood, IsGoodCourse, IsGoodEntry, IsFine, IsLowOutcome, IsSeen, IsWithin, next_fine}
+use Rattle.mx_spelling.proofs.NextBounds.{IsGood, IsGoodCourse, IsGoodEntry, IsFine, IsLow, IsLowOutcome, IsSeen, IsWithin, next_fine}
 
 -- what a line is held against is within the bounds
 pub record IsLowSetting (s : Setting) : Type 0 where

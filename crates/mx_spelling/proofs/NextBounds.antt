@@ -44,9 +44,13 @@ use Rattle.mx_transcript.specs.Filling.{due, fill, link_words, links_of, section
 use Rattle.mx_transcript.specs.Next.{Next, Reference, Asks, Fills, Calls, Ends, Nowhere, at_place}
 use Rattle.mx_transcript.specs.Operands.{walk_of}
 use Rattle.mx_transcript.specs.Targets.{at_target, after_target, moved, spri_at}
-use Rattle.mx_spelling.specs.Laws.{IsLow}
-use Rattle.mx_spelling.specs.Spelling.{bounds_reply, fits_pointer, fits_result, is_segno_or_none}
+use Rattle.mx_spelling.specs.Spelling.{bounds_reply, fits_pointer, fits_result, is_none_or}
 use Rattle.mx_spelling.proofs.WalkBounds.{at_place as item_at, pointer_small, link_small, IsGoodWalk, IsGoodWant, wanted_good, read_good, operand_good, fetch_good}
+
+-- the first bracket of a descriptor is a ring, and it bounds no more words than a segment can have
+pub record IsLow (d : Descriptor) : Type 0 where
+  pub ring : d.brackets.r1 ≤ 7
+  pub bound : d.bound ≤ 16384
 
 -- tests
 pub is_word_test : (value : ℕ) → value < 2 ^ 36 → is_word value ≡ true
@@ -326,7 +330,7 @@ link_words_within section first (suc links) s h =
     (record { ring = omega arith; segno = s; word = omega arith; stores = link_small first (omega arith) })
     (link_words_within section (suc first) links s (omega arith))
 
-section_within : (section : Option ℕ) (links : ℕ) → is_segno_or_none section ≡ true → links ≤ 16384 → All IsWithin (section_words section links)
+section_within : (section : Option ℕ) (links : ℕ) → is_none_or section is_segno ≡ true → links ≤ 16384 → All IsWithin (section_words section links)
 section_within None links e h = All-nil IsWithin
 section_within (Some section) links e h = link_words_within section 0 links (at_most section 4095 e) (omega arith)
 
@@ -350,7 +354,7 @@ stored_within _ target fits at plain = All-nil IsWithin
 snapped_within : (request : Request) (ring : ℕ) (given : Reply) → fits_request request ≡ true → ring ≤ 7 → bounds_reply given ≡ true
     → All IsWithin (snapped request ring given)
 snapped_within request ring (reply.Linked segno word fresh linkage) fits low e =
-    let f = both (is_word_address segno word) (is_segno_or_none linkage) e in
+    let f = both (is_word_address segno word) (is_none_or linkage is_segno) e in
     let a = both (nat_le segno 4095) (nat_le word 16383) f.0 in
     stored_within request (record { ring = ring; segno = segno; word = word; further = false }) fits
     (record { ring = low; segno = at_most segno 4095 a.0; word = at_most word 16383 a.1 }) refl
@@ -364,9 +368,9 @@ snapped_within request ring (reply.Message sender word) fits low e = All-nil IsW
 snapped_within request ring reply.Nobody fits low e = All-nil IsWithin
 snapped_within request ring reply.Waiting fits low e = All-nil IsWithin
 
-section_low : (given : Reply) → bounds_reply given ≡ true → is_segno_or_none (section_in given) ≡ true
-section_low (reply.Linked segno word fresh linkage) e = (both (is_word_address segno word) (is_segno_or_none linkage) e).1
-section_low (reply.Segno known) e = (both (is_segno known.segno) (is_segno_or_none known.linkage) e).1
+section_low : (given : Reply) → bounds_reply given ≡ true → is_none_or (section_in given) is_segno ≡ true
+section_low (reply.Linked segno word fresh linkage) e = (both (is_word_address segno word) (is_none_or linkage is_segno) e).1
+section_low (reply.Segno known) e = (both (is_segno known.segno) (is_none_or known.linkage is_segno) e).1
 section_low reply.Done e = refl
 section_low (reply.Refused why) e = refl
 section_low (reply.Status status) e = refl

@@ -1,4 +1,4 @@
--- A legal run is within the bounds: its entries, and the events and results of its lines.
+-- A legal run is within the bounds, where its replies and descriptors are: its entries, and the events and results of its lines.
 use Rattle.std.proofs.Common.{◌≡◌, ◌≢◌, ℕ, zero, suc, ◌+◌, ◌==◌, ◌<◌, ◌≤◌, ◌^◌, nat_le, nat_eq, Bool, true, false, ◌&&◌, if◌then◌else◌, List, [], ◌∷◌, length, map, Option, Some, None, Result, Ok, Err, refl, ap, sym, subst, ◌∙◌, arith, take}
 use Rattle.std.specs.List.{All, list_all, slice_get}
 use Rattle.std.proofs.lemmas.Bool.Decides.{nat_tests}
@@ -17,8 +17,7 @@ use Rattle.mx_core.specs.declared.elements.Event.TheVariants.{Seen, Missing}
 use Rattle.mx_core.specs.declared.elements.Outcome.{Outcome}
 use Rattle.mx_core.specs.declared.elements.Outcome.TheVariants as outcome
 use Rattle.mx_request.proofs.FieldLaws.{at_most_test}
-use Rattle.mx_request.proofs.StepLaws.{both, both_hold}
-use Rattle.mx_request.specs.ReplyTexts.{fits_reply}
+use Rattle.mx_request.proofs.StepLaws.{both, both_hold, some_is}
 use Rattle.mx_request.specs.RequestTexts.{fits_request}
 use Rattle.mx_request.specs.Versions.{last_number}
 use Rattle.mx_script.specs.SessionTexts.{fits, rows_of}
@@ -39,12 +38,20 @@ use Rattle.mx_transcript.specs.Settings.{entry_at}
 use Rattle.mx_transcript.specs.Transcripts.{Step, part, events_of, entries_named, numbers_from}
 use Rattle.mx_transcript.specs.declared.transcripts.Event2.{Event2}
 use Rattle.mx_transcript.specs.declared.transcripts.Event2.TheVariants.{Core, Entry}
-use Rattle.mx_spelling.specs.Laws.{AreBounded, SpellableLaw, is_said}
-use Rattle.mx_spelling.specs.Spelling.{bounds_reply, fits_entry, fits_event, fits_outcome, fits_result, fits_step, is_entry_number, is_line_number}
+use Rattle.mx_spelling.specs.Spelling.{IsSpellable, bounds_reply, fits_entry, fits_event, fits_outcome, fits_result, fits_step, is_entry_number, is_line_number}
 use Rattle.mx_spelling.proofs.LineBounds.{AreLow, IsLowElement, IsLowEvent, IsLowSetting, IsLowStep, done_low}
-use Rattle.mx_spelling.proofs.NextBounds.{IsLowOutcome, address_test, is_word_test}
+use Rattle.mx_spelling.proofs.NextBounds.{IsLow, IsLowOutcome, address_test, is_word_test}
 use Rattle.mx_spelling.proofs.SessionBounds.{session_low, start_good}
-use Rattle.mx_spelling.proofs.WalkBounds.{at_place}
+use Rattle.mx_spelling.proofs.WalkBounds.{at_place, place_below}
+
+-- a reply that its text can say
+abbrev pub is_said : journaled.Entry → Bool
+is_said entry = bounds_reply entry.reply
+
+-- what the states of the supervisor bound: replies, and the descriptors of each process at each point
+pub record AreBounded (x : Outline) (journal : List journaled.Entry) : Type 0 where
+  pub replies : list_all is_said journal ≡ true
+  pub descriptors : (p : ℕ) (e : Element) → IsLow (descriptor_of x journal p e)
 
 -- lists
 list_at : {X : Type 0} (f : X → Bool) (xs : List X) (n : ℕ) (x : X) → list_all f xs ≡ true → slice_get xs n ≡ Some x → f x ≡ true
@@ -57,11 +64,6 @@ list_at f (y ∷ ys) (suc n) x all e = list_at f ys n x (both (f y) (list_all f 
 by_places : {X : Type 0} (f : X → Bool) (xs : List X) → ((n : ℕ) (x : X) → slice_get xs n ≡ Some x → f x ≡ true) → list_all f xs ≡ true
 by_places f [] each = refl
 by_places f (x ∷ xs) each = both_hold (f x) (list_all f xs) (each 0 x refl) (by_places f xs (λ n y e. each (suc n) y e))
-
-place_below : {X : Type 0} (xs : List X) (n : ℕ) (x : X) → slice_get xs n ≡ Some x → n < length xs
-place_below [] n x e = absurd cc
-place_below (y ∷ ys) zero x e = omega arith
-place_below (y ∷ ys) (suc n) x e = let h = place_below ys n x e in omega (arith, h)
 
 mapped_at : {X Y : Type 0} (f : X → Y) (xs : List X) (n : ℕ) (y : Y) → slice_get (map f xs) n ≡ Some y
     → (x : X) × (slice_get xs n ≡ Some x) × (f x ≡ y)
@@ -85,14 +87,21 @@ entry_within : (journal : List journaled.Entry) (number : ℕ) (entry : journale
 entry_within journal zero entry e = absurd cc
 entry_within journal (suc place) entry e = let h = place_below journal place entry e in omega (arith, h)
 
+-- and an entry of a number is the one in its place
+pub same_entry : (journal : List journaled.Entry) (place : ℕ) (a b : journaled.Entry) → entry_at journal (1 + place) ≡ Some a
+    → slice_get journal place ≡ Some b → a ≡ b
+same_entry journal place a b e f = some_is a b (sym e ∙ ap (λ (n : ℕ). entry_at journal n) next ∙ f)
+  where
+    next : 1 + place ≡ suc place
+    next = omega arith
+
 said_at : (journal : List journaled.Entry) (number : ℕ) (entry : journaled.Entry) → list_all is_said journal ≡ true
     → entry_at journal number ≡ Some entry → bounds_reply entry.reply ≡ true
 said_at journal zero entry all e = absurd cc
-said_at journal (suc place) entry all e =
-    (both (fits_reply entry.reply) (bounds_reply entry.reply) (list_at is_said journal place entry all e)).1
+said_at journal (suc place) entry all e = list_at is_said journal place entry all e
 
 -- a part that has an event is there
-part_within : (transcripts : List (List Step)) (p place : ℕ) (event : Event2) → slice_get (events_of (part transcripts p)) place ≡ Some event
+pub part_within : (transcripts : List (List Step)) (p place : ℕ) (event : Event2) → slice_get (events_of (part transcripts p)) place ≡ Some event
     → p < length transcripts
 part_within [] p place event e = absurd cc
 part_within (steps ∷ parts) zero place event e = omega arith
@@ -119,7 +128,7 @@ steps_fit (step ∷ steps) all e =
     line_test n h = grind (arith, nat_tests)
 
 -- the entries that events name
-named_at : (events : List Event2) (n number : ℕ) → slice_get (entries_named events) n ≡ Some number
+pub named_at : (events : List Event2) (n number : ℕ) → slice_get (entries_named events) n ≡ Some number
     → (place : ℕ) × (slice_get events place ≡ Some (Entry number))
 named_at [] n number e = absurd cc
 named_at (Entry first ∷ events) zero number e =
@@ -127,7 +136,7 @@ named_at (Entry first ∷ events) zero number e =
 named_at (Entry first ∷ events) (suc n) number e = let found = named_at events n number e in (suc found.0, found.1)
 named_at (Core event ∷ events) n number e = let found = named_at events n number e in (suc found.0, found.1)
 
-listed : (first p : ℕ) (journal : List journaled.Entry) (place : ℕ) (entry : journaled.Entry) → slice_get journal place ≡ Some entry
+pub listed : (first p : ℕ) (journal : List journaled.Entry) (place : ℕ) (entry : journaled.Entry) → slice_get journal place ≡ Some entry
     → entry.process ≡ p → (n : ℕ) × (slice_get (numbers_from first p journal) n ≡ Some (first + place))
 listed first p [] place entry e own = absurd cc
 listed first p (other ∷ journal) zero entry e own =
@@ -347,24 +356,16 @@ module _ (x : Outline) (journal : List journaled.Entry) (transcripts : List (Lis
       let there = part_within transcripts entry.process named.0 (Entry (1 + place)) named.1 in
       let low = at_place (IsLowEvent (setting_of x journal entry.process)) (events_of (part transcripts entry.process)) named.0 (Entry (1 + place))
       (low_part entry.process there).0 named.1 in
-      let same = same_entry place low.entry entry low.there at in
+      let same = same_entry journal place low.entry entry low.there at in
       let parts = few_parts in
       both_hold _ _ (at_most_test entry.process 15 (omega (arith, parts, there)))
       (both_hold _ _ (at_most_test entry.ring 7 (subst (λ (e : journaled.Entry). e.ring ≤ 7) same low.good.ring))
       (both_hold _ _ (subst (λ (e : journaled.Entry). fits_request e.request ≡ true) same low.good.request)
       (list_at is_said journal place entry bounded.replies at)))
-    where
-      some_same : (a b : journaled.Entry) → Some a ≡ Some b → a ≡ b
-      some_same a b e = cc
 
-      same_entry : (place : ℕ) (a b : journaled.Entry) → entry_at journal (1 + place) ≡ Some a → slice_get journal place ≡ Some b → a ≡ b
-      same_entry place a b e f = some_same a b (sym e ∙ ap (λ (n : ℕ). entry_at journal n) next ∙ f)
-        where
-          next : 1 + place ≡ suc place
-          next = omega arith
-
-pub spellable_law : SpellableLaw
-spellable_law x journal transcripts session text bounded legal = record {
+pub bounded_run : (x : Outline) (journal : List journaled.Entry) (transcripts : List (List Step)) → IsSession x → list_all fits (rows_of x) ≡ true
+    → AreBounded x journal → IsLegal x journal transcripts → IsSpellable journal transcripts
+bounded_run x journal transcripts session text bounded legal = record {
   count = number_test x journal transcripts session text bounded legal (length journal) (omega arith);
   entries = by_places fits_entry journal (entry_fits x journal transcripts session text bounded legal);
   parts = at_most_test (length transcripts) 16 (few_parts x journal transcripts session text bounded legal);

@@ -35,7 +35,7 @@ numbered_low first (line ∷ lines) h e =
     All-cons IsLowLine (first, line) (numbered (suc first) lines) (omega (arith, h), f.0)
     (numbered_low (suc first) lines (omega (arith, h)) f.1)
 
-parts_fit : (xs ys : List Row) → list_all fits (xs ++ ys) ≡ true → (list_all fits xs ≡ true) × (list_all fits ys ≡ true)
+pub parts_fit : (xs ys : List Row) → list_all fits (xs ++ ys) ≡ true → (list_all fits xs ≡ true) × (list_all fits ys ≡ true)
 parts_fit xs ys e = both (list_all fits xs) (list_all fits ys) (sym (list_all-append fits xs ys) ∙ e)
 
 setup_fits : (version : ℕ) (history : Option ℕ) (setup : List Request) → list_all fits (setup_rows version history setup) ≡ true

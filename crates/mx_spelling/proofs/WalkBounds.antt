@@ -1,5 +1,5 @@
 -- Pointers and walks of operands within their bounds: what an indirect word and a register say is a place of a segment.
-use Rattle.std.proofs.Common.{◌≡◌, ℕ, zero, suc, ◌+◌, ◌*◌, ◌<◌, ◌≤◌, ◌^◌, Bool, true, false, if◌then◌else◌, List, [], ◌∷◌, Option, Some, None, IfSome, refl, subst, arith}
+use Rattle.std.proofs.Common.{◌≡◌, ℕ, zero, suc, ◌+◌, ◌*◌, ◌<◌, ◌≤◌, ◌^◌, Bool, true, false, if◌then◌else◌, List, [], ◌∷◌, length, Option, Some, None, IfSome, refl, subst, arith}
 use Rattle.std.specs.List.{All, slice_get}
 use Rattle.std.specs.Option.{option_map}
 use Rattle.std.proofs.lemmas.List.Elements.{All-nil, All-cons, All-head, All-tail, All-append}
@@ -26,6 +26,12 @@ at_place P (y ∷ ys) zero x all e =
     let same : y ≡ x = cc in
     subst P same (All-head P y ys all)
 at_place P (y ∷ ys) (suc n) x all e = at_place P ys n x (All-tail P y ys all) e
+
+-- and the place is one of the list
+pub place_below : {X : Type 0} (xs : List X) (n : ℕ) (x : X) → slice_get xs n ≡ Some x → n < length xs
+place_below [] n x e = absurd cc
+place_below (y ∷ ys) zero x e = omega arith
+place_below (y ∷ ys) (suc n) x e = let h = place_below ys n x e in omega (arith, h)
 
 -- the parts of a word are those of a pointer
 pub parts_packable : (value : ℕ) → value < 2 ^ 36 → IsPackable (parts_of value)

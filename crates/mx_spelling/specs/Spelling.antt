@@ -1,5 +1,5 @@
 -- What a run text can say, with exact bounds. Within them a text is of one run. Each bound is said once, by a named test;
--- those of rings, segment numbers, addresses, words and registers are the tests of requests and scripts.
+-- those of names, rings, classes, segment numbers, addresses, words and registers are the tests of requests and scripts.
 use Rattle.std.specs.Prelude.{◌≡◌, ℕ, ◌^◌, ◌==◌, nat_le, nat_lt, Bool, true, not, ◌&&◌, List, length, Option, None, Some}
 use Rattle.std.specs.List.{list_all}
 use Rattle.mx_sdw.specs.Rings.{Bracketing}
@@ -12,8 +12,8 @@ use Rattle.mx_hier.specs.declared.asking.Status as said
 use Rattle.mx_hier.specs.declared.asking.Status.TheVariants as status
 use Rattle.mx_request.specs.declared.replies.Reply.{Reply}
 use Rattle.mx_request.specs.declared.replies.Reply.TheVariants as reply
-use Rattle.mx_request.specs.ReplyTexts.{fits_reply}
-use Rattle.mx_request.specs.RequestTexts.{fits_request, is_ring, is_segno, is_word_address, is_word}
+use Rattle.mx_request.specs.Fields.{is_name}
+use Rattle.mx_request.specs.RequestTexts.{fits_request, is_class, is_ring, is_segno, is_word_address, is_word}
 use Rattle.mx_script.specs.Sessions.{is_register}
 use Rattle.mx_state.specs.declared.journal.Entry as journaled
 use Rattle.mx_transcript.specs.declared.transcripts.Event2.{Event2}
@@ -38,39 +38,34 @@ is_line_number n = nat_lt n (2 ^ 32)
 abbrev pub is_amount : ℕ → Bool
 is_amount n = nat_le n 65535
 
--- the brackets of a segment are in order
+-- brackets are rings in order
 abbrev pub are_ordered : Bracketing → Bool
-are_ordered b = nat_le b.r1 b.r2 && nat_le b.r2 b.r3
+are_ordered b = nat_le b.r1 b.r2 && (nat_le b.r2 b.r3 && is_ring b.r3)
 
--- the number of a linkage section, where one was made
-abbrev pub is_segno_or_none : Option ℕ → Bool
-is_segno_or_none None = true
-is_segno_or_none (Some segno) = is_segno segno
+-- what is there passes a test
+abbrev pub is_none_or : {A : Type 0} → Option A → (A → Bool) → Bool
+is_none_or None test = true
+is_none_or (Some a) test = test a
 
--- the numbers of a reply, within the texts of replies
+-- the replies: names of their grammar, and numbers that there are
 abbrev pub bounds_status : said.Status → Bool
-bounds_status (status.Segment words brackets modes class) = is_amount words && are_ordered brackets
+bounds_status (status.Segment words brackets modes class) = is_amount words && (are_ordered brackets && is_none_or class is_class)
 bounds_status (status.Object words brackets gate definitions links modes class) =
-    is_amount words && (is_amount gate && (is_amount definitions && (is_amount links && are_ordered brackets)))
-bounds_status (status.Directory d1 d2 modes) = true
-bounds_status (status.Link target) = true
+    is_amount words && (is_amount gate && (is_amount definitions && (is_amount links && (are_ordered brackets && is_none_or class is_class))))
+bounds_status (status.Directory d1 d2 modes) = is_ring d1 && is_ring d2
+bounds_status (status.Link target) = list_all is_name target
 
 abbrev pub bounds_reply : Reply → Bool
-bounds_reply reply.Done = true
-bounds_reply (reply.Refused why) = true
 bounds_reply (reply.Status status) = bounds_status status
-bounds_reply (reply.Names names) = true
-bounds_reply (reply.Segno known) = is_segno known.segno && is_segno_or_none known.linkage
-bounds_reply (reply.Linked segno word fresh linkage) = is_word_address segno word && is_segno_or_none linkage
-bounds_reply reply.Sent = true
+bounds_reply (reply.Names names) = list_all is_name names
+bounds_reply (reply.Segno known) = is_segno known.segno && is_none_or known.linkage is_segno
+bounds_reply (reply.Linked segno word fresh linkage) = is_word_address segno word && is_none_or linkage is_segno
 bounds_reply (reply.Message sender word) = is_process sender && is_word word
-bounds_reply reply.Nobody = true
-bounds_reply reply.Waiting = true
+bounds_reply _ = true
 
--- an entry: its process, its ring, and a request and a reply of their grammar
+-- an entry: its process, its ring, a request of its grammar, and its reply
 abbrev pub fits_entry : journaled.Entry → Bool
-fits_entry entry =
-    is_process entry.process && (is_ring entry.ring && (fits_request entry.request && (fits_reply entry.reply && bounds_reply entry.reply)))
+fits_entry entry = is_process entry.process && (is_ring entry.ring && (fits_request entry.request && bounds_reply entry.reply))
 
 abbrev pub fits_outcome : Outcome → Bool
 fits_outcome (outcome.Read value writer stamp) = is_word value && (is_process writer && is_entry_number stamp)
@@ -92,13 +87,10 @@ fits_pointer p = is_ring p.ring && (is_word_address p.segno p.word && not p.furt
 
 -- and one that a process moves to with its ring alone
 abbrev pub fits_result : Result2 → Bool
-fits_result result.Done = true
 fits_result (result.A word) = is_word word
 fits_result (result.Pr n pointer) = is_register n && fits_pointer pointer
 fits_result (result.Moved ring procedure) = (procedure.ring == ring) && fits_pointer procedure
-fits_result (result.Denied denial) = true
-fits_result result.Refused = true
-fits_result result.HistoryFull = true
+fits_result _ = true
 
 abbrev pub fits_step : Step → Bool
 fits_step step = is_line_number step.0 && (list_all fits_event step.1 && fits_result step.2)

@@ -2,7 +2,7 @@
 
 ghost use Rattle.mx_spelling.specs.Laws.{SpellableLaw};
 
-/// A legal run of a session can be spelled, where replies and descriptors are within their bounds.
+/// A legal run of a session can be spelled: each number of it is within its bounds, and each name is of its grammar.
 pub fn each_legal_run_is_spellable()
     ensures { SpellableLaw }
 {}

@@ -36,6 +36,7 @@ use Rattle.mx_script.specs.SessionTexts.{lines_text}
 use Rattle.mx_state.specs.declared.journal.Entry as journaled
 use Rattle.mx_text.proofs.EventLaws.{event_again, event_at, event_fields, event_free, result_again, result_at, result_fields, result_free, word_free}
 use Rattle.mx_text.specs.RunText.{element_text, entries_text, entry_text, event_text, events_text, kind_text, parts_text, register_text, result_text, run_text, step_text, steps_text}
+use Rattle.mx_spelling.proofs.SaidReplies.{reply_fits}
 use Rattle.mx_spelling.specs.Spelling.{IsSpellable, bounds_reply, fits_entry, fits_event, fits_result, fits_step, is_line_number, is_process}
 use Rattle.mx_text.proofs.NumberLaws.{is_number, at_most_number, line_number}
 use Rattle.mx_text.specs.Spelling.{OneRunLaw}
@@ -470,14 +471,14 @@ record HasParts (entry : journaled.Entry) : Type 0 where
 
 entry_parts : (entry : journaled.Entry) → fits_entry entry ≡ true → HasParts entry
 entry_parts entry e =
-    let f = both (is_process entry.process) (is_ring entry.ring && (fits_request entry.request && (fits_reply entry.reply && bounds_reply entry.reply))) e in
-    let g = both (is_ring entry.ring) (fits_request entry.request && (fits_reply entry.reply && bounds_reply entry.reply)) f.1 in
-    let h = both (fits_request entry.request) (fits_reply entry.reply && bounds_reply entry.reply) g.1 in
+    let f = both (is_process entry.process) (is_ring entry.ring && (fits_request entry.request && bounds_reply entry.reply)) e in
+    let g = both (is_ring entry.ring) (fits_request entry.request && bounds_reply entry.reply) f.1 in
+    let h = both (fits_request entry.request) (bounds_reply entry.reply) g.1 in
     record {
       process = at_most_number entry.process 15 (omega arith) f.0;
       ring = at_most_number entry.ring 7 (omega arith) g.0;
       request = h.0;
-      reply = (both (fits_reply entry.reply) (bounds_reply entry.reply) h.1).0;
+      reply = reply_fits entry.reply h.1;
     }
 
 one_entry : (number : ℕ) (x y : journaled.Entry) → fits_entry x ≡ true → fits_entry y ≡ true → entry_line number x ≡ entry_line number y → x ≡ y

@@ -5,14 +5,10 @@ use Rattle.std.specs.Prelude.{codes, IfSome}
 use Rattle.mx_audit.specs.Accounts.{Account}
 use Rattle.mx_run.proofs.VerdictLaws.{run_done}
 use Rattle.mx_run.specs.Commands.{IsRun}
-use Rattle.mx_run.specs.Done as done
 use Rattle.mx_run.specs.Done.{IsDrilled, IsDoneBy}
 use Rattle.mx_run.specs.Statuses.{IsDueStatus}
 use Rattle.mx_script.specs.Sessions.{Outline}
 use Rattle.mx_script.specs.SessionTexts.{IsText}
-use Rattle.mx_transcript.specs.Transcripts.{Step}
-use Rattle.mx_state.specs.declared.journal.Entry.{Entry}
-use Rattle.mx_text.specs.RunText.{run_text}
 use Rattle.session_files.specs.Runs.{IsRunOf, IsPrintedOf, IsSummaryOf, IsEnded, IsDrillEnded, IsEndedBy}
 use Rattle.session_files.specs.declared.orders.InOrder.{InOrder}
 use Rattle.session_files.specs.declared.runs.Ended.{Ended}
@@ -37,6 +33,7 @@ without words source left sink sink' told (inr drilled) = inr (record {
   journal = drilled.journal;
   transcripts = drilled.transcripts;
   run = drilled.run;
+  spellable = drilled.spellable;
   told = refl;
   printed = drilled.printed;
 })
@@ -92,6 +89,7 @@ printed_of text printed session within spelled told = (
       within = within;
       text = spelled;
       run = told.run;
+      spellable = told.spellable;
     };
     told = refl;
     printed = ap Some told.text;

@@ -1,10 +1,11 @@
 -- What one run of a session comes to: what it prints, or another status.
 use Rattle.std.specs.Prelude.{◌≡◌, ◌≢◌, ◌⊎◌, ℕ, List, [], ◌∷◌, Option, Some, codes}
+use Rattle.mx_transcript.specs.Runs as legal
 use Rattle.mx_transcript.specs.Transcripts.{Step}
-use Rattle.mx_run.specs.Done as done
 use Rattle.mx_run.specs.Done.{IsDone, IsDrilled, IsDoneBy}
 use Rattle.mx_run.specs.Statuses.{IsStopped, IsDueStatus}
 use Rattle.mx_script.specs.Sessions.{Outline}
+use Rattle.mx_spelling.specs.Spelling.{IsSpellable}
 use Rattle.mx_state.specs.declared.journal.Entry.{Entry}
 use Rattle.mx_text.specs.RunText.{run_text}
 use Rattle.session_files.specs.declared.runs.Ended.{Ended}
@@ -14,11 +15,12 @@ use Rattle.session_files.specs.declared.runs.Ended.TheVariants.{Ran, Otherwise}
 abbrev pub IsRunOf : List ℕ → List ℕ → Type 0
 IsRunOf session printed = (left : Option (List ℕ)) × IsDone (Some session) left (Some []) (Some printed) [] []
 
--- The bytes are the run text of a legal run of a session.
+-- The bytes are the run text of a legal run of a session, which it can say.
 pub record IsPrintedOf (session : Outline) (printed : List ℕ) : Type 0 where
   pub journal : List Entry
   pub transcripts : List (List Step)
-  pub run : done.IsRunOf session journal transcripts
+  pub run : legal.IsRunOf session journal transcripts
+  pub spellable : IsSpellable journal transcripts
   pub text : printed ≡ run_text journal transcripts
 
 -- The status of a command to run these bytes that is not 0: that of one which memory or an end stopped, or else the one that is due.

@@ -1,9 +1,12 @@
 //! A run of a session in a chosen order.
 
 ghost use Rattle.std.specs.Prelude.{◌≡◌, Ok, true, IfOk, IfSome};
+ghost use Rattle.std.specs.List.{list_all};
 ghost use Rattle.mx_proc.specs.Stepping.{HaveEnded};
-ghost use Rattle.mx_run.specs.Done as done;
+ghost use Rattle.mx_script.specs.SessionTexts.{fits, rows_of};
+ghost use Rattle.mx_spelling.specs.Spelling.{IsSpellable};
 ghost use Rattle.mx_text.specs.RunText.{run_text};
+ghost use Rattle.mx_transcript.specs.Runs as legal;
 ghost use Rattle.session_files.specs.Runs.{IsRunOf, IsPrintedOf};
 
 use mx_io::MemorySink;
@@ -59,6 +62,7 @@ fn in_order(
     order: &[u8],
     room: usize,
 ) -> Result<Option<InOrder>, AllocError>
+    requires { list_all fits (rows_of session.now) ≡ true }
     ensures { IfOk result (λ told. IfSome told (λ ran. IsPrintedOf session.now ran.printed.items)) }
 {
     let mut steps = Vec::new(alloc);
@@ -96,8 +100,12 @@ fn ran(
     order: &[u8],
     steps: &mut Vec<u8>,
 ) -> Result<Option<(Journal, Transcripts)>, AllocError>
-    ensures { IfOk result (λ told. IfSome told (λ ran. done.IsRunOf session.now ran.0 ran.1)) }
+    requires { list_all fits (rows_of session.now) ≡ true }
+    ensures run { IfOk result (λ told. IfSome told (λ ran. legal.IsRunOf session.now ran.0 ran.1)) }
+    ensures spellable { IfOk result (λ told. IfSome told (λ ran. IsSpellable ran.0 ran.1)) }
 {
+    // The lines of each session have numbers of 32 bits.
+    let _scripts = session.scripts();
     let mut bench = Bench::new(alloc, session)?;
     match drive(&mut bench, alloc, order, steps) {
         Ok(true) => Ok(Some(bench.finish())),

@@ -1,4 +1,4 @@
-use Rattle.std.proofs.Common.{◌≡◌, true, ap, sym, subst, ◌∙◌}
+use Rattle.std.proofs.Common.{◌≡◌, true, sym, subst, ◌∙◌}
 use Rattle.std.specs.Prelude.{string_bytes, codes}
 use Rattle.std.specs.Cmp.Lexicographic.{told_text}
 use Rattle.mx_run.proofs.CommandLaws.{drill_words}

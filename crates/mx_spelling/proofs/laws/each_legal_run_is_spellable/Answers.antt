@@ -1,4 +1,4 @@
-use Rattle.mx_spelling.proofs.RunBounds.{spellable_law}
+use Rattle.mx_spelling.proofs.JournalBounds.{spellable_law}
 use Rattle.mx_spelling.proofs.laws.each_legal_run_is_spellable.Goals as goal
 
 pub returns : goal.returns

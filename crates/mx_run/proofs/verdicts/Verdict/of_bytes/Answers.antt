@@ -24,5 +24,5 @@ pub returns-in-Err-Memory-clause-grown : goal.returns-in-Err-Memory-clause-grown
 returns-in-Err-Memory-clause-grown g c = grown_none _
 
 -- the text's scripts are short
-pub run-requires-clause-room : goal.run-requires-clause-room
-run-requires-clause-room g c κs within = room_for_text c.args.bytes.now _ _ c.in-Ok.ensures.found c.requires.within c.requires.room
+pub ran-requires-clause-room : goal.ran-requires-clause-room
+ran-requires-clause-room g c κs within = room_for_text c.args.bytes.now _ _ c.in-Ok.ensures.found c.requires.within c.requires.room
