@@ -1,0 +1,4 @@
+pub mod Views
+pub mod Keeping
+pub mod Closing
+pub mod Opening
