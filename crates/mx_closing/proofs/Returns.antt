@@ -1,8 +1,9 @@
 -- Passes that come back one after another.
-use Rattle.std.proofs.Common.{◌≡◌, ℕ, zero, suc, List, [], ◌∷◌, ◌++◌, length, refl, subst, Some, arith}
+use Rattle.std.proofs.Common.{◌≡◌, ℕ, zero, suc, List, [], ◌∷◌, ◌++◌, length, refl, ap, sym, ◌∙◌, subst, Some, arith, append_assoc}
 use Rattle.std.specs.List.{slice_get, sum_by, Contains}
 use Rattle.std.proofs.lemmas.List.Elements.{Contains-append_right}
 use Rattle.mx_desc.specs.Passes.{PassValue}
+use Rattle.mx_rule.specs.Dealing.{retired_view}
 use Rattle.mx_rule.specs.Ending.{IsRightEnd}
 use Rattle.mx_rule.specs.declared.views.PassView.{PassView}
 use Rattle.mx_rule.specs.declared.views.SuperView.{SuperView}
@@ -40,11 +41,11 @@ come_back (p ∷ passes) views zero o at =
 come_back (p ∷ passes) views (suc place) o at = come_back passes (p.view ∷ views) place o at
 
 pub finished : (x : Outline) (setup : List journaled.Entry) (v v' : SuperView journaled.Entry)
-    (passes : List (PassValue journaled.Entry)) → v' ≡ record v { retired = returned passes v.retired }
-    → AreOfAll v.processes passes
-    → sum_by (λ (o : PassValue journaled.Entry). o.amount) passes ≡ length v.history → IsRightEnd v'
+    (items passes : List (PassValue journaled.Entry)) → items ≡ passes
+    → v' ≡ record v { retired = returned items v.retired } → AreOfAll v.processes passes
+    → sum_by (λ (o : PassValue journaled.Entry). o.amount) items ≡ length v.history → IsRightEnd v'
     → KeepsJournal x setup v → IsClosed x setup (marked_in v.history) (views_in passes)
-finished x setup v v' passes is all counted end keeps =
+finished x setup v v' items passes same is all counted end keeps =
     let w : SuperView journaled.Entry = record v { retired = returned passes v.retired } in
     closing_law x setup w passes
     (record {
@@ -57,4 +58,23 @@ finished x setup v v' passes is all counted end keeps =
       entries = keeps.entries;
       tables = keeps.tables;
     })
-    (record { all = all; back = come_back passes v.retired; amounts = counted }) (subst IsRightEnd is end)
+    (record {
+      all = all;
+      back = come_back passes v.retired;
+      amounts = ap (sum_by (λ (o : PassValue journaled.Entry). o.amount)) (sym same) ∙ counted;
+    })
+    (subst IsRightEnd
+    (is ∙ ap (λ (all : List (PassValue journaled.Entry)). record v { retired = returned all v.retired }) same) end)
+
+pub one_more_back : {E : Type 0} (old chief new : SuperView E) (passes : List (PassValue E)) (o : PassValue E)
+    → chief ≡ record old { retired = returned passes old.retired } → new ≡ retired_view o.view chief
+    → new ≡ record old { retired = returned (passes ++ o ∷ []) old.retired }
+one_more_back old chief new passes o so_far more =
+    more
+    ∙ ap (retired_view o.view) so_far
+    ∙ ap (λ (views : List (PassView _)). record old { retired = views }) (sym (returned_one passes o old.retired))
+
+pub taken : {A : Type 0} (all before rest rest' : List A) (one : A) → all ≡ before ++ rest → rest ≡ one ∷ rest'
+    → all ≡ (before ++ one ∷ []) ++ rest'
+taken all before rest rest' one is next =
+    is ∙ ap (λ (l : List _). before ++ l) next ∙ sym (append_assoc before (one ∷ []) rest')

@@ -1,8 +1,9 @@
 -- A table is that of its known descriptors.
-use Rattle.std.proofs.Common.{◌≡◌, ◌≢◌, inl, inr, ℕ, zero, suc, ◌<◌, ◌≤◌, Bool, true, false, List, [], ◌∷◌, ◌++◌, refl, ap, sym, ◌∙◌, subst, Some, arith}
+use Rattle.std.proofs.Common.{◌≡◌, ◌≢◌, inl, inr, ℕ, zero, suc, ◌+◌, ◌<◌, ◌≤◌, Bool, true, false, List, [], ◌∷◌, ◌++◌, refl, ap, sym, ◌∙◌, subst, Some, arith, append_assoc}
 use Rattle.std.specs.Prelude.{if◌then◌else◌}
 use Rattle.std.specs.List.{slice_get}
 use Rattle.std.proofs.lemmas.Bool.{cases_eq, cases_lt}
+use Rattle.std.proofs.lemmas.List.{append-nil}
 use Rattle.mx_core.proofs.Puts.{put_here, put_else}
 use Rattle.mx_core.specs.Append.{with_changes}
 use Rattle.mx_core.specs.Put.{put}
@@ -191,3 +192,69 @@ placed_rows y table (suc p) most admissible =
     (placed_rows y table p (omega (arith, most)) (λ q n a b c. admissible q n a (omega (arith, b)) c))
     (placed_row y (suc p) (table (suc p)) (omega arith) most y.numbers (omega arith)
     (λ n l. admissible (suc p) n (omega arith) (omega arith) l))
+
+-- the list with one number more
+next : (n : ℕ) → suc n ≡ n + 1
+next n = omega arith
+
+told : (p n : ℕ) (desc : Descriptor) (b : Bool) → same_desc desc unknown_desc ≡ b
+    → known_desc p n desc ≡ (if b then [] else change p n desc ∷ [])
+told p n desc b e = ap (λ (t : Bool). if t then [] else change p n desc ∷ []) e
+
+row_longer : (all now more : List Change) (p n : ℕ) (row : ℕ → Descriptor) → now ≡ all ++ known_row p row n
+    → known_desc p n (row n) ≡ more → now ++ more ≡ all ++ known_row p row (n + 1)
+row_longer all now more p n row is here =
+    ap (λ (l : List Change). l ++ more) is
+    ∙ append_assoc all (known_row p row n) more
+    ∙ ap (λ (l : List Change). all ++ (known_row p row n ++ l)) (sym here)
+    ∙ ap (λ (m : ℕ). all ++ known_row p row m) (next n)
+
+pub row_added : (all now now' : List Change) (p n : ℕ) (row : ℕ → Descriptor) (desc unknown : Descriptor)
+    (test : Bool) → now ≡ all ++ known_row p row n → desc ≡ row n → unknown ≡ unknown_desc
+    → test ≡ same_desc desc unknown → test ≡ false → now' ≡ now ++ change p n desc ∷ []
+    → now' ≡ all ++ known_row p row (n + 1)
+row_added all now now' p n row desc unknown test is here none tested other more =
+    more
+    ∙ row_longer all now (change p n desc ∷ []) p n row is
+    (ap (known_desc p n) (sym here)
+    ∙ told p n desc false (ap (same_desc desc) (sym none) ∙ sym tested ∙ other))
+
+pub row_skipped : (all now : List Change) (p n : ℕ) (row : ℕ → Descriptor) (desc unknown : Descriptor)
+    (test : Bool) → now ≡ all ++ known_row p row n → desc ≡ row n → unknown ≡ unknown_desc
+    → test ≡ same_desc desc unknown → test ≡ true → now ≡ all ++ known_row p row (n + 1)
+row_skipped all now p n row desc unknown test is here none tested other =
+    sym (append-nil now)
+    ∙ row_longer all now [] p n row is
+    (ap (known_desc p n) (sym here)
+    ∙ told p n desc true (ap (same_desc desc) (sym none) ∙ sym tested ∙ other))
+
+pub rows_longer : (numbers : ℕ) (table : ℕ → ℕ → Descriptor) (i p : ℕ) (now now' : List Change)
+    → now ≡ known_rows numbers table i → p ≡ i + 1 → now' ≡ now ++ known_row p (table p) numbers
+    → now' ≡ known_rows numbers table (i + 1)
+rows_longer numbers table i p now now' is one more =
+    more
+    ∙ ap (λ (l : List Change). l ++ known_row p (table p) numbers) is
+    ∙ ap (λ (q : ℕ). known_rows numbers table i ++ known_row q (table q) numbers) (one ∙ sym (next i))
+    ∙ ap (known_rows numbers table) (next i)
+
+-- what holds below a number, and at it, holds below the next
+pub below_more : (P : ℕ → Type 0) (n : ℕ) → ((k : ℕ) → k < n → P k) → P n → (k : ℕ) → k < n + 1 → P k
+below_more P n all here k l = elim (cases_eq k n) [
+  | inl e ↦ subst P (sym e) here
+  | inr not ↦ all k (elim (cases_lt k n) [
+    | inl less ↦ less
+    | inr more ↦ absurd (not (omega (arith, l, more)))
+  ])
+]
+
+pub rows_admissible : (numbers : ℕ) (table : ℕ → ℕ → Descriptor) (i : ℕ)
+    → ((p n : ℕ) → 1 ≤ p → p ≤ i → n < numbers → IsAdmissible (table p n))
+    → ((n : ℕ) → n < numbers → IsAdmissible (table (i + 1) n))
+    → (p n : ℕ) → 1 ≤ p → p ≤ i + 1 → n < numbers → IsAdmissible (table p n)
+rows_admissible numbers table i before last p n some most within = elim (cases_eq p (i + 1)) [
+  | inl e ↦ subst (λ (q : ℕ). IsAdmissible (table q n)) (sym e) (last n within)
+  | inr not ↦ before p n some (elim (cases_lt i p) [
+    | inl more ↦ absurd (not (omega (arith, most, more)))
+    | inr less ↦ less
+  ]) within
+]

@@ -8,6 +8,10 @@
 //! memory.
 #![tactic(auto)]
 
+mod finishing;
 mod laws;
+mod opening;
 
+pub use finishing::finish;
 pub use laws::closing_law;
+pub use opening::{layout_of, opening_key};
