@@ -3,11 +3,13 @@ use Rattle.std.proofs.Common.{◌≡◌, inl, inr, ℕ, ◌+◌, ◌<◌, ◌≤
 use Rattle.std.proofs.lemmas.Bool.{cases_lt}
 use Rattle.std.proofs.lemmas.List.{append-nil, take_all}
 use Rattle.mx_core.specs.declared.changes.Change.{Change}
+use Rattle.mx_desc.specs.Openings.{IsOpening}
 use Rattle.mx_request.specs.Versions.{last_number}
 use Rattle.mx_rule.specs.Dealing.{opening_view}
 use Rattle.mx_rule.specs.Openings.{MayOpen, ArePlaced}
 use Rattle.mx_rule.specs.Shown.{base_of}
 use Rattle.mx_rule.specs.declared.layout.Layout.{Layout}
+use Rattle.mx_rule.specs.declared.views.SuperView.{SuperView}
 use Rattle.mx_script.specs.Sessions.{Outline, limit_of}
 use Rattle.mx_sdw.specs.Admissible.{IsAdmissible}
 use Rattle.mx_state.proofs.NumberedLaws.{unknown_law}
@@ -102,3 +104,25 @@ keeps_now x s y start i base own history laid begun all is many next =
     opening_keeps x s.journal y.processes y.numbers start next base
     (subst (λ (o : Outline). IsHistory (supervised o s.journal)) own history) many
     (ap (λ (l : Layout). l.processes) laid) begun (opens x s y i base own laid all is)
+
+-- the seat's view as the opening gives it
+pub begins : (processes numbers start many : ℕ) (base : List Change) (v : SuperView journaled.Entry)
+    → v ≡ opening_view processes numbers start base → start ≡ many → IsOpening many v
+begins processes numbers start many base v is same = record {
+  begun = ap (λ (u : SuperView journaled.Entry). u.start) is ∙ same;
+  none = ap (λ (u : SuperView journaled.Entry). u.history) is;
+  still = ap (λ (u : SuperView journaled.Entry). u.length) is ∙ same;
+  unwritten = ap (λ (u : SuperView journaled.Entry). u.words) is;
+  first = ap (λ (u : SuperView journaled.Entry). u.next) is;
+}
+
+pub listed : (processes numbers start : ℕ) (base : List Change) (v : SuperView journaled.Entry)
+    → v ≡ opening_view processes numbers start base → base ≡ v.base
+listed processes numbers start base v is = ap (λ (u : SuperView journaled.Entry). u.base) (sym is)
+
+pub still_keeps : (x : Outline) (setup : List journaled.Entry) (processes numbers start : ℕ) (base : List Change)
+    (v : SuperView journaled.Entry) → v ≡ opening_view processes numbers start base → (next : ℕ)
+    → KeepsJournal x setup (record (opening_view {E = journaled.Entry} processes numbers start base) { next = next })
+    → KeepsJournal x setup (record v { next = next })
+still_keeps x setup processes numbers start base v is next keeps =
+    subst (λ (u : SuperView journaled.Entry). KeepsJournal x setup (record u { next = next })) (sym is) keeps

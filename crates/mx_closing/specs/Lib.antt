@@ -2,3 +2,4 @@ pub mod Views
 pub mod Keeping
 pub mod Closing
 pub mod Opening
+pub mod Preparing

@@ -11,7 +11,9 @@
 mod finishing;
 mod laws;
 mod opening;
+mod preparing;
 
 pub use finishing::finish;
 pub use laws::closing_law;
 pub use opening::{layout_of, opening_key};
+pub use preparing::{Prepared, prepare};
