@@ -6,13 +6,16 @@ use Rattle.std.proofs.lemmas.List.Sums.{sum_by-cons}
 use Rattle.std.proofs.lemmas.Option.{slice_get_past, slice_get-get_or}
 use Rattle.mx_core.specs.declared.elements.Kept.{Kept as Recorded}
 use Rattle.mx_core.specs.declared.elements.Kept.TheVariants as recorded
+use Rattle.mx_desc.specs.Openings.{AreFreshPasses}
 use Rattle.mx_desc.specs.Passes.{PassValue}
+use Rattle.mx_rule.specs.declared.views.PassView.{PassView}
 use Rattle.mx_sdw.specs.declared.operations.Op.{Op}
 use Rattle.mx_state.specs.declared.journal.Entry as journaled
 use Rattle.mx_ties.specs.Counting.{total}
 use Rattle.mx_ties.specs.Views.{Referred, Missed}
 use Rattle.mx_ties.proofs.JournalLists.{there}
 use Rattle.mx_transcript.specs.Courses.{Judged}
+use Rattle.mx_closing.specs.Closing.{AreOfAll}
 use Rattle.mx_closing.specs.Views.{kept_in, idle_view, view_in, view_or_idle, views_in}
 
 -- where something stands
@@ -108,3 +111,26 @@ missed (Some (recorded.Missed n k)) segno by e =
 
     second : Some (Missed n k) ≡ Some (Missed segno by) → k ≡ by
     second e = cc
+
+-- fresh passes are those of the processes from this one on
+fresh_at : (start p : ℕ) (passes : List (PassValue journaled.Entry)) → AreFreshPasses start p passes
+    → (place : ℕ) (o : PassValue journaled.Entry) → slice_get passes place ≡ Some o → o.view.process ≡ p + place
+fresh_at start p [] fresh place o at = absurd (none at)
+  where
+    none : slice_get {X = PassValue journaled.Entry} [] place ≡ Some o → ⊥
+    none at = cc
+fresh_at start p (q ∷ passes) fresh zero o at =
+    ap (λ (r : PassValue journaled.Entry). r.view.process) (sym (same at))
+    ∙ ap (λ (v : PassView journaled.Entry). v.process) fresh.0 ∙ omega arith
+  where
+    same : Some q ≡ Some o → q ≡ o
+    same at = cc
+fresh_at start p (q ∷ passes) fresh (suc place) o at =
+    fresh_at start (p + 1) passes fresh.2 place o at ∙ omega arith
+
+pub fresh_of_all : (start processes : ℕ) (passes : List (PassValue journaled.Entry))
+    → AreFreshPasses start 1 passes → length passes ≡ processes → AreOfAll processes passes
+fresh_of_all start processes passes fresh many = record {
+  count = many;
+  owners = λ place o at. fresh_at start 1 passes fresh place o at ∙ omega arith;
+}

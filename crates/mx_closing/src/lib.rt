@@ -12,6 +12,8 @@ mod finishing;
 mod laws;
 mod opening;
 mod preparing;
+#[cfg(test)]
+mod tests;
 
 pub use finishing::finish;
 pub use laws::closing_law;
