@@ -1,0 +1,7 @@
+pub mod Histories
+pub mod Deeds
+pub mod PassLists
+pub mod Closings
+pub mod Returns
+pub mod Tables
+pub mod Openings

@@ -1,0 +1,5 @@
+pub mod Views
+pub mod Keeping
+pub mod Closing
+pub mod Opening
+pub mod Preparing

@@ -1,0 +1,23 @@
+-- A session whose setup is entered, and whose shared words are open.
+use Rattle.std.specs.Prelude.{◌≡◌, ℕ, length}
+use Rattle.mx_desc.specs.Openings.{IsOpening}
+use Rattle.mx_rule.specs.Openings.{ArePlaced}
+use Rattle.mx_rule.specs.Seats.{super_of}
+use Rattle.mx_script.specs.Sessions.{Outline}
+use Rattle.mx_sup.specs.Entering.{IsOpened}
+use Rattle.mx_closing.specs.Keeping.{KeepsJournal}
+use Rattle.mx_closing.specs.Opening.{layout_of}
+use Rattle.mx_closing.specs.declared.preparing.Prepared.{Prepared}
+
+-- The setup was entered and nothing else, and this is the initializer's part. The supervisor's seat is of these words,
+-- which open after the setup with the descriptors that are listed, and keeps the journal, whichever seats it deals.
+pub record IsPrepared (x : Outline) (o : Prepared) : Type 0 where
+  pub opened : IsOpened x o.supervisor o.part
+  pub slots : o.words.shared.table_id.slots ≡ 0
+  pub layout : o.words.shared.key.layout ≡ layout_of x
+  pub place : o.seat.seat.table_id ≡ o.words.shared.table_id
+  pub laid : o.seat.layout ≡ layout_of x
+  pub opening : IsOpening (length o.supervisor.journal) (super_of o.seat.seat.me.0)
+  pub listed : o.base ≡ (super_of o.seat.seat.me.0).base
+  pub placed : ArePlaced (layout_of x) o.base
+  pub keeps : (next : ℕ) → KeepsJournal x o.supervisor.journal (record (super_of o.seat.seat.me.0) { next = next })
