@@ -8,7 +8,7 @@ ghost use Rattle.mx_core.specs.declared.elements.Element.{Element as ElementValu
 ghost use Rattle.mx_core.specs.declared.words.Stage.TheVariants.{Outside, Ready};
 ghost use Rattle.mx_core.specs.declared.words.Triple.{Triple as TripleValue};
 ghost use Rattle.mx_desc.specs.Passes.{HasBasis};
-ghost use Rattle.mx_desc.specs.Referring.{HasMissed, HasReferred};
+ghost use Rattle.mx_desc.specs.Referring.{HasMissed};
 ghost use Rattle.mx_desc.specs.declared.referring.Referred.TheVariants.{Seen, Missing};
 ghost use Rattle.mx_rule.specs.Entering.{connected_view, entered_view};
 
@@ -91,41 +91,15 @@ impl Cam {
     {
         match self.places.recall(segno) {
             Some(on) => Referred::Seen(pass.recall(shared, on, op, ring, word, value)),
-            None => self.load(pass, shared, segno, op, ring, word, value),
-        }
-    }
-
-    /// The same where the memory has not the number.
-    #[inline(never)]
-    fn load<E, B: Naming>(
-        &mut self,
-        pass: &mut Pass<E, B>,
-        shared: &Board<E>,
-        segno: u16,
-        op: Op,
-        ring: Ring,
-        word: u16,
-        value: Word,
-    ) -> Referred
-        requires fits { shared.now.table_id ≡ B.table }
-        requires layout { shared.now.key.layout ≡ B.layout }
-        requires same { self.old ≡ pass.old.view.memory }
-        requires ready { pass.old.view.stage ≡ Ready }
-        requires spare { 1 ≤ pass.old.spare }
-        ensures seen { (e : ElementValue) → result ≡ Seen e → HasReferred B.layout.numbers segno
-            (record { op = op; ring = ring; word = word }) value pass.old.view e pass.new.view }
-        ensures missing { (by : ℕ) → result ≡ Missing by → HasMissed segno by pass.old.view pass.new.view }
-        ensures stage { pass.new.view.stage ≡ pass.old.view.stage }
-        ensures same { self.new ≡ pass.new.view.memory }
-        ensures amount { pass.new.amount ≡ pass.old.amount }
-        ensures spare { pass.old.spare ≤ pass.new.spare + 1 }
-    {
-        match pass.refer(shared, segno, op, ring, word, value) {
-            Referred::Seen(element) => {
-                self.remember(pass, segno);
-                Referred::Seen(element)
+            None => {
+                match pass.refer(shared, segno, op, ring, word, value) {
+                    Referred::Seen(element) => {
+                        self.remember(pass, segno);
+                        Referred::Seen(element)
+                    },
+                    Referred::Missing { by } => Referred::Missing { by },
+                }
             },
-            Referred::Missing { by } => Referred::Missing { by },
         }
     }
 

@@ -4,7 +4,7 @@ use Rattle.mx_core.specs.declared.elements.Element.{Element}
 use Rattle.mx_desc.specs.Referring.{HasSeen}
 use Rattle.mx_desc.specs.declared.referring.Referred.TheVariants.{Seen}
 use Rattle.mx_rule.specs.declared.views.PassView.{PassView}
-use Rattle.mx_cam.proofs.CamLaws.{recalled_number}
+use Rattle.mx_cam.proofs.CamLaws.{has_basis, memory_is, memory_missed, recalled_number}
 use Rattle.mx_cam.proofs.cams.Cam.refer.Goals as goal
 
 pub recall-requires-in-Some-clause-recall : goal.recall-requires-in-Some-clause-recall
@@ -15,6 +15,12 @@ recall-requires-in-Some-clause-recall g c =
     let at = sym (ap (recalled n) memory) ∙ c.in-Some.ensures in
     subst (λ (k : ℕ). recalled k c.args.pass.now.view.memory ≡ Some on)
     (sym (recalled_number n c.args.pass.now.view.memory on at)) at
+
+pub remember-requires : goal.remember-requires
+remember-requires g c = record {
+  based = has_basis g.B.Naming.layout.numbers c.args.segno _ c.args.value c.args.pass.now.view c.refer.new.self.view
+      c.in-Seen.element (c.refer.ensures.seen c.in-Seen.element c.in-Seen.is);
+}
 
 same_seen : (e f : Element) → Seen e ≡ Seen f → e ≡ f
 same_seen e f h = cc
@@ -31,6 +37,18 @@ returns-in-Some-clause-seen g c e is =
           c.args.value c.args.pass.now.view z c.recall-in-Some.new.self.view) (same_seen c.recall-in-Some.result e is)
           c.recall-in-Some.ensures.seen;
     })
+
+pub returns-in-Seen-clause-same : goal.returns-in-Seen-clause-same
+returns-in-Seen-clause-same g c =
+    memory_is g.B.Naming.layout.numbers c.args.segno _ c.args.value c.args.pass.now.view c.refer.new.self.view
+    c.in-Seen.element (c.refer.ensures.seen c.in-Seen.element c.in-Seen.is) c.args.self.now c.remember.new.self
+    c.requires.same c.remember.ensures
+
+pub returns-in-Missing-clause-same : goal.returns-in-Missing-clause-same
+returns-in-Missing-clause-same g c =
+    c.requires.same
+    ∙ memory_missed c.args.segno c.in-Missing.by c.args.pass.now.view c.refer.new.self.view
+    (c.refer.ensures.missing c.in-Missing.by c.in-Missing.is)
 
 pub returns-in-Some-clause-stage : goal.returns-in-Some-clause-stage
 returns-in-Some-clause-stage g c =
