@@ -4,7 +4,7 @@
 use std::sync::atomic::{AtomicU64, Ordering::SeqCst};
 
 #[derive(Clone, Copy, PartialEq, Eq)]
-enum Kind {
+enum DescKind {
     Unknown,
     Gone,
     Segment,
@@ -19,7 +19,7 @@ enum Aim {
 
 #[derive(Clone, Copy)]
 struct Desc {
-    kind: Kind,
+    kind: DescKind,
     brackets: (u8, u8, u8),
     r: bool,
     e: bool,
@@ -69,8 +69,18 @@ enum Outcome {
 }
 
 #[derive(Clone, Copy)]
+enum Kind {
+    Read,
+    Ind,
+    Write,
+    Fetch,
+    Call,
+    Return,
+}
+
+#[derive(Clone, Copy)]
 struct Element {
-    op: Op,
+    kind: Kind,
     segno: u16,
     word: u16,
     ring: u8,
@@ -80,7 +90,7 @@ struct Element {
 
 #[derive(Clone, Copy)]
 enum Event {
-    Seen { element: Element, desc: Desc },
+    Seen { element: Element, op: Op, desc: Desc },
     Missed { segno: u16, by: u32 },
 }
 
@@ -133,7 +143,7 @@ fn desc_in(word: u64) -> Desc {
         (true, true) => Aim::Neither,
     };
     Desc {
-        kind: Kind::Segment,
+        kind: DescKind::Segment,
         brackets: ((word >> 59 & 7) as u8, (word >> 56 & 7) as u8, (word >> 53 & 7) as u8),
         r: word >> 52 & 1 == 1,
         e: word >> 51 & 1 == 1,
@@ -145,17 +155,17 @@ fn desc_in(word: u64) -> Desc {
     }
 }
 
-fn without_segment(kind: Kind) -> Desc {
+fn without_segment(kind: DescKind) -> Desc {
     Desc { kind, brackets: (0, 0, 0), r: false, e: false, w: false, gate: 0, page: 0, bound: 0, aim: Aim::Equal }
 }
 
 fn found_in(word: u64) -> Found {
     let number = (word & 0x3FFFF) as u32;
     match word >> 62 {
-        0 => Found::Valid(number, without_segment(Kind::Unknown)),
+        0 => Found::Valid(number, without_segment(DescKind::Unknown)),
         1 => Found::Fault(number),
         2 => Found::Valid(number, desc_in(word)),
-        _ => Found::Valid(number, without_segment(Kind::Gone)),
+        _ => Found::Valid(number, without_segment(DescKind::Gone)),
     }
 }
 
@@ -176,9 +186,9 @@ fn word_of(number: u32, d: &Desc) -> u64 {
 // The cell, where the operation is granted.
 fn judge(desc: &Desc, op: Op, ring: u8, word: u16) -> Result<u16, Denial> {
     match desc.kind {
-        Kind::Unknown => return Err(Denial::UnknownSegment),
-        Kind::Gone => return Err(Denial::NoSegment),
-        Kind::Segment => {}
+        DescKind::Unknown => return Err(Denial::UnknownSegment),
+        DescKind::Gone => return Err(Denial::NoSegment),
+        DescKind::Segment => {}
     }
     if word >= desc.bound {
         return Err(Denial::OutOfBounds);
@@ -253,6 +263,17 @@ fn new_ring(desc: &Desc, op: Op, ring: u8) -> u8 {
     }
 }
 
+fn kind_of(op: Op) -> Kind {
+    match op {
+        Op::Read => Kind::Read,
+        Op::Indirect => Kind::Ind,
+        Op::Write => Kind::Write,
+        Op::Fetch => Kind::Fetch,
+        Op::Call { .. } => Kind::Call,
+        Op::Return => Kind::Return,
+    }
+}
+
 struct Memory {
     triples: [Triple; 16],
     len: usize,
@@ -320,8 +341,8 @@ impl Process {
                 }
             },
         };
-        let element = Element { op, segno: on.segno, word, ring, point, outcome };
-        self.trace.push(Event::Seen { element, desc: on.desc });
+        let element = Element { kind: kind_of(op), segno: on.segno, word, ring, point, outcome };
+        self.trace.push(Event::Seen { element, op, desc: on.desc });
         self.basis = Some(*on);
         element
     }
@@ -329,7 +350,7 @@ impl Process {
     fn refer(&mut self, shared: &Shared, segno: u16, op: Op, ring: u8, word: u16, value: u64) -> Referred {
         if segno as usize >= shared.numbers {
             shared.flag(self.process).load(SeqCst);
-            let on = Triple { segno, number: 0, desc: without_segment(Kind::Unknown) };
+            let on = Triple { segno, number: 0, desc: without_segment(DescKind::Unknown) };
             return Referred::Seen(self.complete(shared, &on, op, ring, word, value));
         }
         match found_in(shared.descriptor(self.process, segno).load(SeqCst)) {
@@ -386,7 +407,7 @@ fn main() {
     let count_of_words = 2 + 2 * processes + numbers * processes + 65_536;
     let shared = Shared { processes, numbers, words: (0..count_of_words).map(|_| AtomicU64::new(0)).collect() };
     let desc = Desc {
-        kind: Kind::Segment,
+        kind: DescKind::Segment,
         brackets: (4, 4, 4),
         r: true,
         e: false,
@@ -399,7 +420,7 @@ fn main() {
     for process in 1..3 {
         shared.descriptor(process, 8).store(word_of(0, &desc), SeqCst);
     }
-    let blank = Triple { segno: 0, number: 0, desc: without_segment(Kind::Unknown) };
+    let blank = Triple { segno: 0, number: 0, desc: without_segment(DescKind::Unknown) };
     let mut process = Process {
         process: 2,
         turn: 0,

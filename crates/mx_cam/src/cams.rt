@@ -90,12 +90,7 @@ impl Cam {
         ensures spare { pass.old.spare ≤ pass.new.spare + 1 }
     {
         match self.places.recall(segno) {
-            Some(on) => {
-                let element = pass.recall(
-                    shared, segno, on.number, &on.desc, op, ring, word, value,
-                );
-                Referred::Seen(element)
-            },
+            Some(on) => Referred::Seen(pass.recall(shared, on, op, ring, word, value)),
             None => {
                 match pass.refer(shared, segno, op, ring, word, value) {
                     Referred::Seen(element) => {

@@ -1,6 +1,6 @@
 //! Sixteen places for triples, of which the first so many are taken.
 
-ghost use Rattle.std.specs.Prelude.{◌≡◌, ◌≤◌, [], MatchOption, length};
+ghost use Rattle.std.specs.Prelude.{◌≡◌, ◌≤◌, [], None, Some, MatchOption, length};
 ghost use Rattle.mx_core.specs.AssociativeMemory.{HasNot, IsAt, recalled, remembered};
 
 use mx_core::Triple;
@@ -42,11 +42,11 @@ impl Places {
 
     /// What it has of a number.
     #[inline(always)]
-    pub(crate) fn recall(&self, segno: u16) -> Option<Triple>
-        ensures { result ≡ recalled segno self.now }
+    pub(crate) fn recall(&self, segno: u16) -> Option<&Triple>
+        ensures { MatchOption result (recalled segno self.now ≡ None) (λ on. recalled segno self.now ≡ Some on.now) }
     {
         match self.place(segno) {
-            Some(place) => Some(self.triples[place]),
+            Some(place) => Some(&self.triples[place]),
             None => None,
         }
     }

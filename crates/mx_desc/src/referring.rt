@@ -35,6 +35,7 @@ impl<E, B: Naming> Pass<E, B> {
     /// grants reads or writes the cell. `value` is what a write stores. A fault, and a word by an entry of which the
     /// process was not told, are missed. A number from `numbers` on is judged on the unknown descriptor. Conditions:
     /// the process is ready, and there is room for an event. It takes no memory, and waits for nobody.
+    #[inline(always)]
     pub fn refer(
         &mut self,
         shared: &Board<E>,
@@ -74,16 +75,14 @@ impl<E, B: Naming> Pass<E, B> {
         }
     }
 
-    /// Refers to a word of a segment number by what the memory has of it: that descriptor is judged on, which stands
-    /// since this entry. Conditions: the process is ready, its memory has just this of the number, and there is room
-    /// for an event. It takes no memory, and waits for nobody.
+    /// Refers to a word of a segment number by what the memory has of it: that descriptor is judged on. Conditions: the
+    /// process is ready, its memory has just this of the number, and there is room for an event. It takes no memory, and
+    /// waits for nobody.
     #[inline(always)]
     pub fn recall(
         &mut self,
         shared: &Board<E>,
-        segno: u16,
-        number: u32,
-        desc: &Desc,
+        on: &Triple,
         op: Op,
         ring: Ring,
         word: u16,
@@ -93,22 +92,19 @@ impl<E, B: Naming> Pass<E, B> {
         requires layout { shared.now.key.layout ≡ B.layout }
         requires ready { self.old.view.stage ≡ Ready }
         requires spare { 1 ≤ self.old.spare }
-        requires recall { recalled segno self.old.view.memory
-            ≡ Some (record { segno = segno; number = number; desc = desc.now }) }
-        ensures seen { HasSeen (record { segno = segno; number = number; desc = desc.now })
-            (record { op = op; ring = ring; word = word }) value self.old.view result self.new.view }
+        requires recall { recalled on.now.segno self.old.view.memory ≡ Some on.now }
+        ensures seen { HasSeen on.now (record { op = op; ring = ring; word = word }) value self.old.view result
+            self.new.view }
         ensures amount { self.new.amount ≡ self.old.amount }
         ensures spare { self.old.spare ≤ self.new.spare + 1 }
     {
         let asked = asked_of(&op, &ring, word);
-        let on = triple(segno, number, desc);
-        self.seat
-            .recall(shared, segno, number, desc, op, ring, word);
+        self.seat.recall(shared, on, op, ring, word);
         let point = self.seat.floor;
-        let outcome = complete(&mut self.seat, shared, &on, &asked, value);
-        let element = element(&on, &asked, point, outcome);
-        push(&mut self.trace, kept(&element, &asked, &on));
-        self.basis = some(&on);
+        let outcome = complete(&mut self.seat, shared, on, &asked, value);
+        let element = element(on, &asked, point, outcome);
+        push(&mut self.trace, kept(&element, &asked, on));
+        self.basis = some(on);
         element
     }
 }

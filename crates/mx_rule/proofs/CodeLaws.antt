@@ -1,8 +1,11 @@
 -- What a word says of a descriptor word, or of a cell, is what was put into it.
-use Rattle.std.proofs.Common.{◌≡◌, ℕ, ◌≤◌, refl, ap, sym, ◌∙◌, subst}
-use Rattle.mx_sdw.specs.Admissible.{IsAdmissible}
-use Rattle.mx_sdw.specs.DescriptorWords.{FitsWord, IsDescWord, desc_word}
+use Rattle.std.proofs.Common.{◌≡◌, ℕ, ◌≤◌, nat_eq, refl, ap, sym, ◌∙◌, subst}
+use Rattle.std.specs.Prelude.{if◌then◌else◌}
+use Rattle.mx_sdw.specs.Admissible.{IsAdmissible, IsInRange}
+use Rattle.mx_sdw.specs.Bits.{bits}
+use Rattle.mx_sdw.specs.DescriptorWords.{FitsWord, IsDescWord, desc_in, desc_view, desc_word}
 use Rattle.mx_sdw.specs.Descriptors.{Descriptor}
+use Rattle.mx_sdw.specs.declared.descriptor_words.DescView.TheVariants as view
 use Rattle.mx_sdw.specs.declared.descriptors.DescKind.{DescKind}
 use Rattle.mx_sdw.specs.declared.descriptors.DescKind.TheVariants.{Unknown, Gone, Segment}
 use Rattle.mx_sdw.proofs.WordLaws.{view_back, value_back, writer_back, stamp_back}
@@ -50,3 +53,11 @@ code_is_word n code =
 
 pub said_codable : (n : ℕ) → IsWordCode n → IsCodable (word_said n)
 said_codable n code = subst IsCodable (sym (ap word_said code.is ∙ word_back code.word code.codable)) code.codable
+
+-- a word of a segment has its fields in range
+pub in_range : (n : ℕ) → bits n 62 2 ≡ 2 → FitsWord (desc_view n) → IsInRange (desc_in n)
+in_range n is fits =
+    let number : ℕ = bits n 0 18 in
+    let set : FitsWord (view.Set number (desc_in n)) = subst (λ (k : ℕ). FitsWord (if nat_eq k 0 then view.Unknown number
+    else if nat_eq k 1 then view.Fault number else if nat_eq k 2 then view.Set number (desc_in n) else view.Gone number)) is fits in
+    set.2

@@ -9,7 +9,7 @@ ghost use Rattle.mx_rule.specs.declared.views.View.TheVariants.{Pass};
 ghost use Rattle.mx_sdw.specs.CellWords.{value_in};
 ghost use Rattle.mx_sdw.specs.Operations.{writes};
 
-use crate::holding::cell_in;
+use crate::decoding::cell_in;
 use crate::passes::PassSeat;
 use crate::rule::Board;
 use crate::views::View;

@@ -1,8 +1,8 @@
-//! What a reference comes to before its cell step, and what a shared word says.
+//! What a reference comes to before its cell step.
 
 ghost use Rattle.std.specs.Prelude.{◌≡◌, Ok, Err, MatchBool};
 ghost use Rattle.mx_core.specs.declared.words.DescriptorWord.TheVariants.{Valid};
-ghost use Rattle.mx_rule.specs.Codes.{IsCellCode, IsCodable, IsWordCode, word_by, word_said};
+ghost use Rattle.mx_rule.specs.Codes.{IsCodable, word_by};
 ghost use Rattle.mx_rule.specs.Holding.{cell_on, waiting_cell};
 ghost use Rattle.mx_sdw.specs.Admissible.{IsAdmissible};
 ghost use Rattle.mx_sdw.specs.Judging.{judgement};
@@ -11,32 +11,7 @@ ghost use Rattle.mx_sdw.specs.declared.denials.Denial.{Denial};
 ghost use Rattle.mx_sdw.specs.declared.descriptors.Cell.{Cell as CellValue};
 
 use mx_core::Asked;
-use mx_sdw::{CellWord, Desc, DescView, DescWord, Op, Word, judge};
-
-/// What a descriptor word says.
-#[inline(always)]
-pub(crate) fn said(found: u64) -> DescView
-    requires { IsWordCode found }
-    ensures word { word_by result ≡ word_said found }
-    ensures codable { IsCodable (word_by result) }
-{
-    match DescWord::read(found) {
-        Some(word) => word.view(),
-        None => DescView::Unknown(0),
-    }
-}
-
-/// What a cell word says.
-#[inline(always)]
-pub(crate) fn cell_in(found: u64) -> CellWord
-    requires { IsCellCode found }
-    ensures { result ≡ found }
-{
-    match CellWord::read(found) {
-        Some(word) => word,
-        None => CellWord::new(Word::zero(), 0, 0),
-    }
-}
+use mx_sdw::{Desc, DescView, Op, judge};
 
 /// Whether what is asked is granted.
 #[inline(always)]

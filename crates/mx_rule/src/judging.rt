@@ -16,13 +16,14 @@ ghost use Rattle.mx_sdw.specs.Descriptors.{unknown_desc};
 ghost use Rattle.mx_sdw.specs.declared.descriptor_words.DescView.TheVariants.{Unknown};
 ghost use Rattle.mx_sdw.specs.declared.operations.Op.TheVariants.{Read};
 
-use crate::holding::{found_cell, held_cell, said};
+use crate::decoding::said;
+use crate::holding::{found_cell, held_cell};
 use crate::passes::PassSeat;
 use crate::rule::Board;
 use crate::views::View;
 use atomic_table::Play;
-use mx_core::Asked;
-use mx_sdw::{Desc, DescView, Op, Ring};
+use mx_core::{Asked, Triple};
+use mx_sdw::{DescView, Op, Ring};
 use std::marker::{Brand, PhantomData};
 
 /// What a process asks: of which of so many numbers, and what; and on which entry of its memory it judges. Each call
@@ -150,56 +151,37 @@ impl<E> PassSeat<E> {
     }
 
     /// Judges on an entry of the memory, and reads the own flag. Condition: the process is ready, and its memory has
-    /// this descriptor of the number, since this entry.
+    /// this of the number.
     #[inline(always)]
-    pub fn recall(
-        &mut self,
-        shared: &Board<E>,
-        segno: u16,
-        number: u32,
-        desc: &Desc,
-        op: Op,
-        ring: Ring,
-        word: u16,
-    )
+    pub fn recall(&mut self, shared: &Board<E>, on: &Triple, op: Op, ring: Ring, word: u16)
         requires fits { self.old.seat.table_id ≡ shared.now.table_id }
         requires layout { shared.now.key.layout ≡ self.old.layout }
         requires ready { (pass_of self.old.seat.me.0).stage ≡ Ready }
-        requires recall { recalled segno (pass_of self.old.seat.me.0).memory
-            ≡ Some (record { segno = segno; number = number; desc = desc.now }) }
+        requires recall { recalled on.now.segno (pass_of self.old.seat.me.0).memory ≡ Some on.now }
         ensures view { pass_of self.new.seat.me.0
-            ≡ judged_view (at_once desc.now (record { op = op; ring = ring; word = word }))
-            (record { segno = segno; number = number; desc = desc.now }) (record { op = op; ring = ring; word = word })
-            (pass_of self.old.seat.me.0) }
+            ≡ judged_view (at_once on.now.desc (record { op = op; ring = ring; word = word })) on.now
+            (record { op = op; ring = ring; word = word }) (pass_of self.old.seat.me.0) }
         ensures place { self.new.seat.table_id ≡ self.old.seat.table_id }
         ensures layout { self.new.layout ≡ self.old.layout }
     {
         let asked = Asked { op, ring, word };
-        self.recall_on::<Brand>(shared, segno, number, desc, &asked);
+        self.recall_on::<Brand>(shared, on, &asked);
     }
 
     #[inline(always)]
-    fn recall_on<J: Asking>(
-        &mut self,
-        shared: &Board<E>,
-        segno: u16,
-        number: u32,
-        desc: &Desc,
-        asked: &Asked,
-    )
+    fn recall_on<J: Asking>(&mut self, shared: &Board<E>, on: &Triple, asked: &Asked)
         requires fits { self.old.seat.table_id ≡ shared.now.table_id }
         requires layout { shared.now.key.layout ≡ self.old.layout }
         requires ready { (pass_of self.old.seat.me.0).stage ≡ Ready }
-        requires asking { (J.on ≡ record { segno = segno; number = number; desc = desc.now }) × (J.asked ≡ asked.now) }
-        requires recall { recalled segno (pass_of self.old.seat.me.0).memory
-            ≡ Some (record { segno = segno; number = number; desc = desc.now }) }
-        ensures view { pass_of self.new.seat.me.0 ≡ judged_view (at_once desc.now asked.now)
-            (record { segno = segno; number = number; desc = desc.now }) asked.now (pass_of self.old.seat.me.0) }
+        requires asking { (J.on ≡ on.now) × (J.asked ≡ asked.now) }
+        requires recall { recalled on.now.segno (pass_of self.old.seat.me.0).memory ≡ Some on.now }
+        ensures view { pass_of self.new.seat.me.0
+            ≡ judged_view (at_once on.now.desc asked.now) on.now asked.now (pass_of self.old.seat.me.0) }
         ensures place { self.new.seat.table_id ≡ self.old.seat.table_id }
         ensures layout { self.new.layout ≡ self.old.layout }
     {
         let word = self.layout.flag(self.process);
         shared.load::<Recalls<J>>(&mut self.seat, word);
-        self.cell = held_cell(desc, asked);
+        self.cell = held_cell(&on.desc, asked);
     }
 }

@@ -7,6 +7,7 @@
 
 mod appending;
 mod cells;
+mod decoding;
 mod ending;
 mod holding;
 mod judging;

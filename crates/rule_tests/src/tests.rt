@@ -15,12 +15,14 @@ mod greatest;
 mod memories;
 mod pages;
 mod passing;
+mod racing;
 mod referring;
 mod reusing;
 mod revocation;
 mod revoking;
 mod supervising;
 mod turning;
+mod watching;
 mod working;
 
 use mx_core::{Change, Changes};

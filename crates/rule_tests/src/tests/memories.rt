@@ -45,16 +45,10 @@ fn remembered(
     ensures pass_place { pass.new.seat.table_id ≡ pass.old.seat.table_id }
 {
     go_in(shared, pass);
-    let (number, own) = remember(shared, pass, reference(8, Op::Read, ring, value))?;
+    let own = remember(shared, pass, reference(8, Op::Read, ring, value))?;
     append(shared, chief, changes, none, 2, 8, desc);
     strike(shared, chief, 2, 8);
-    let recalled = recall(
-        shared,
-        pass,
-        number,
-        &own,
-        reference(8, Op::Write, ring, value),
-    );
+    let recalled = recall(shared, pass, &own, reference(8, Op::Write, ring, value));
     connect(shared, chief, 2, 8);
     if look(shared, chief, 2, 8) {
         return None;

@@ -12,6 +12,7 @@ ghost use Rattle.rule_tests.specs.Reusing.{AreGiven, three};
 use super::passing::{came, opened_passes, take_last};
 use super::referring::Seen;
 use super::reusing::{Boxes, Plan, plan_of, reuse, take};
+use super::watching::Watch;
 use super::working::{Worker, begin};
 use super::{ring, word};
 use mx_core::{Change, Changes, Outcome};
@@ -150,7 +151,7 @@ fn run<R: Wait, B: Naming>(
     let (mut first, mut second) = (begin(first), begin(second));
     first.reserve(2)?;
     second.reserve(4)?;
-    let boxes = Boxes::new();
+    let boxes = Boxes::new(Watch::new(false));
     Ok(used_again(
         rt,
         shared,

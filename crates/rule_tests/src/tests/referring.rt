@@ -8,7 +8,7 @@ ghost use Rattle.mx_rule.specs.Seats.{pass_of};
 ghost use Rattle.rule_tests.specs.Referring.{HoldsFor};
 ghost use Rattle.mx_sdw.specs.Operations.{transfers};
 
-use mx_core::Outcome;
+use mx_core::{Outcome, Triple};
 use mx_rule::{Board, PassSeat};
 use mx_sdw::{Desc, DescView, Op, Ring, Word, judge, new_ring};
 
@@ -149,21 +149,20 @@ pub(super) fn refer(shared: &Board<u32>, pass: &mut PassSeat<u32>, asked: Refere
     }
 }
 
-// The first reference by a process that has nothing in its memory: the entry and the descriptor that it has then,
-// where it was told of the entry.
+// The first reference by a process that has nothing in its memory: what it has then, where it was told of the entry.
 pub(super) fn remember(
     shared: &Board<u32>,
     pass: &mut PassSeat<u32>,
     asked: Reference,
-) -> Option<(u32, Desc)>
+) -> Option<Triple>
     requires place { pass.old.seat.table_id ≡ shared.now.table_id }
     requires layout { shared.now.key.layout ≡ pass.old.layout }
     requires ready { (pass_of pass.old.seat.me.0).stage ≡ Ready }
     requires empty { (pass_of pass.old.seat.me.0).memory ≡ [] }
     requires number { asked.segno < pass.old.layout.numbers }
     ensures ready { (pass_of pass.new.seat.me.0).stage ≡ Ready }
-    ensures memory { MatchOption result (Unit {0}) (λ found. recalled asked.segno (pass_of pass.new.seat.me.0).memory
-        ≡ Some (record { segno = asked.segno; number = found.0; desc = found.1 })) }
+    ensures memory { MatchOption result (Unit {0}) (λ on. recalled on.segno (pass_of pass.new.seat.me.0).memory
+        ≡ Some on) }
     ensures place { pass.new.seat.table_id ≡ pass.old.seat.table_id }
     ensures layout { pass.new.layout ≡ pass.old.layout }
 {
@@ -181,36 +180,29 @@ pub(super) fn remember(
     if number > point {
         return None;
     }
-    Some((number, desc))
+    Some(Triple {
+        segno: asked.segno,
+        number,
+        desc,
+    })
 }
 
-// A reference by the memory, which has this descriptor of the number: what comes of it, if it is granted and no
-// transfer.
+// A reference by the memory, which has this of the number: what comes of it, if it is granted and no transfer.
 pub(super) fn recall(
     shared: &Board<u32>,
     pass: &mut PassSeat<u32>,
-    number: u32,
-    desc: &Desc,
+    on: &Triple,
     asked: Reference,
 ) -> Seen
     requires place { pass.old.seat.table_id ≡ shared.now.table_id }
     requires layout { shared.now.key.layout ≡ pass.old.layout }
     requires ready { (pass_of pass.old.seat.me.0).stage ≡ Ready }
-    requires recall { recalled asked.segno (pass_of pass.old.seat.me.0).memory
-        ≡ Some (record { segno = asked.segno; number = number; desc = desc.now }) }
+    requires recall { recalled on.now.segno (pass_of pass.old.seat.me.0).memory ≡ Some on.now }
     ensures ready { (pass_of pass.new.seat.me.0).stage ≡ Ready }
     ensures place { pass.new.seat.table_id ≡ pass.old.seat.table_id }
     ensures layout { pass.new.layout ≡ pass.old.layout }
 {
     let point = pass.floor;
-    pass.recall(
-        shared,
-        asked.segno,
-        number,
-        desc,
-        asked.op,
-        asked.ring,
-        asked.word,
-    );
-    take(shared, pass, 0, point, desc, asked)
+    pass.recall(shared, on, asked.op, asked.ring, asked.word);
+    take(shared, pass, 0, point, &on.desc, asked)
 }

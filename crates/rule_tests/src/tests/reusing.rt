@@ -1,5 +1,6 @@
 //! A segment that three processes have as number 0 is taken away from one after another; its pages are cleared, and the
-//! segment is given again, with its pages given out anew. After each change every process is sent a note.
+//! segment is given again, with its pages given out anew. Each process is sent a note when all are without it, and when all
+//! have it again.
 
 ghost use Rattle.std.specs.Prelude.{◌≡◌, ◌≢◌, ◌≤◌, ◌<◌, ◌+◌, [], ◌∷◌, IfOk, MatchBool};
 ghost use Rattle.mx_core.specs.Put.{put};
@@ -12,6 +13,7 @@ ghost use Rattle.rule_tests.specs.Reusing.{AreGiven, IsBare, IsCleared};
 
 use super::one;
 use super::supervising::{append, finish};
+use super::watching::Watch;
 use mx_core::{Changes, Run, Runs};
 use mx_desc::{Naming, Note, Super};
 use mx_rule::Board;
@@ -64,20 +66,22 @@ pub(super) struct Plan {
     ghost pages_are: { pages ≡ (record { page = 20; pages = 16 }) ∷ [] },
 }
 
-// For each process the note that was sent last, until it takes it.
+// For each process the note that was sent last, until it takes it; and what is told beside notes.
 #[derive(Drop)]
 pub(super) struct Boxes<B: Naming> {
     pub(super) first: Mutex<Option<Note<u32, B>>>,
     pub(super) second: Mutex<Option<Note<u32, B>>>,
     pub(super) third: Mutex<Option<Note<u32, B>>>,
+    pub(super) watch: Watch,
 }
 
 impl<B: Naming> Boxes<B> {
-    pub(super) fn new() -> Boxes<B> {
+    pub(super) fn new(watch: Watch) -> Boxes<B> {
         Boxes {
             first: Mutex::new(None),
             second: Mutex::new(None),
             third: Mutex::new(None),
+            watch,
         }
     }
 }
@@ -127,12 +131,29 @@ fn post_all<R: Wait, B: Naming>(
     post(rt, shared, chief, &boxes.third);
 }
 
-// One change, from its entry to the notes, unless the journal is full.
-fn change<R: Wait, B: Naming>(
+// All are told of what is settled after so many entries.
+fn tell<R: Wait, B: Naming>(
     rt: &R,
     shared: &Board<u32>,
     chief: &mut Super<u32, B>,
     boxes: &Boxes<B>,
+    start: u32,
+)
+    requires place { shared.now.table_id ≡ B.table }
+    requires layout { shared.now.key.layout ≡ B.layout }
+    requires rest { IsAtRest (office_of chief.old) }
+    ensures rest { IsAtRest (office_of chief.new) }
+    ensures present { present (office_of chief.new) ≡ present (office_of chief.old) }
+{
+    boxes.watch.settle(rt, start);
+    post_all(rt, shared, chief, boxes);
+}
+
+// One change, from its entry to its word, unless the journal is full.
+fn change<R: Wait, B: Naming>(
+    rt: &R,
+    shared: &Board<u32>,
+    chief: &mut Super<u32, B>,
     to: &Move,
     from: &Desc,
     none: &Runs,
@@ -155,7 +176,6 @@ fn change<R: Wait, B: Naming>(
     }
     append(shared, chief, &to.changes, none, to.process, 0, &to.desc);
     finish(rt, shared, chief, to.process, 0);
-    post_all(rt, shared, chief, boxes);
     true
 }
 
@@ -180,7 +200,6 @@ fn give<R: Wait, B: Naming>(
     rt: &R,
     shared: &Board<u32>,
     chief: &mut Super<u32, B>,
-    boxes: &Boxes<B>,
     to: &Move,
     from: &Desc,
     pages: &Runs,
@@ -203,7 +222,6 @@ fn give<R: Wait, B: Naming>(
     }
     append_given(shared, chief, to, pages);
     finish(rt, shared, chief, to.process, 0);
-    post_all(rt, shared, chief, boxes);
     true
 }
 
@@ -227,7 +245,6 @@ fn take_all<R: Wait, B: Naming>(
     rt: &R,
     shared: &Board<u32>,
     chief: &mut Super<u32, B>,
-    boxes: &Boxes<B>,
     plan: &Plan,
 ) -> bool
     requires place { shared.now.table_id ≡ B.table }
@@ -239,37 +256,13 @@ fn take_all<R: Wait, B: Naming>(
     ensures rest { MatchBool result (IsAtRest (office_of chief.new)) (Unit {0}) }
     ensures given { MatchBool result (AreGiven (office_of chief.new) plan.now.gone plan.now.here 4) (Unit {0}) }
 {
-    if !change(
-        rt,
-        shared,
-        chief,
-        boxes,
-        &plan.take_first,
-        &plan.here,
-        &plan.none,
-    ) {
+    if !change(rt, shared, chief, &plan.take_first, &plan.here, &plan.none) {
         return false;
     }
-    if !change(
-        rt,
-        shared,
-        chief,
-        boxes,
-        &plan.take_second,
-        &plan.here,
-        &plan.none,
-    ) {
+    if !change(rt, shared, chief, &plan.take_second, &plan.here, &plan.none) {
         return false;
     }
-    change(
-        rt,
-        shared,
-        chief,
-        boxes,
-        &plan.take_third,
-        &plan.here,
-        &plan.none,
-    )
+    change(rt, shared, chief, &plan.take_third, &plan.here, &plan.none)
 }
 
 // It is given to each again.
@@ -277,7 +270,6 @@ fn give_all<R: Wait, B: Naming>(
     rt: &R,
     shared: &Board<u32>,
     chief: &mut Super<u32, B>,
-    boxes: &Boxes<B>,
     plan: &Plan,
 ) -> bool
     requires place { shared.now.table_id ≡ B.table }
@@ -289,37 +281,13 @@ fn give_all<R: Wait, B: Naming>(
     ensures rest { MatchBool result (IsAtRest (office_of chief.new)) (Unit {0}) }
     ensures given { MatchBool result (AreGiven (office_of chief.new) plan.now.here plan.now.gone 4) (Unit {0}) }
 {
-    if !give(
-        rt,
-        shared,
-        chief,
-        boxes,
-        &plan.give_first,
-        &plan.gone,
-        &plan.pages,
-    ) {
+    if !give(rt, shared, chief, &plan.give_first, &plan.gone, &plan.pages) {
         return false;
     }
-    if !change(
-        rt,
-        shared,
-        chief,
-        boxes,
-        &plan.give_second,
-        &plan.gone,
-        &plan.none,
-    ) {
+    if !change(rt, shared, chief, &plan.give_second, &plan.gone, &plan.none) {
         return false;
     }
-    change(
-        rt,
-        shared,
-        chief,
-        boxes,
-        &plan.give_third,
-        &plan.gone,
-        &plan.none,
-    )
+    change(rt, shared, chief, &plan.give_third, &plan.gone, &plan.none)
 }
 
 // The segment is taken away from all, its pages are cleared, and it is given to all again: six changes, unless the
@@ -340,11 +308,20 @@ pub(super) fn reuse<R: Wait, B: Naming>(
     ensures rest { MatchBool result (IsAtRest (office_of chief.new)) (Unit {0}) }
     ensures given { MatchBool result (AreGiven (office_of chief.new) plan.now.gone plan.now.here 1) (Unit {0}) }
 {
-    if !take_all(rt, shared, chief, boxes, plan) {
+    let start = chief.length();
+    boxes.watch.begin(rt, start);
+    if !take_all(rt, shared, chief, plan) {
         return false;
     }
+    tell(rt, shared, chief, boxes, start);
+    let start = chief.length();
+    boxes.watch.begin(rt, start);
     clear(shared, chief, &plan.pages);
-    give_all(rt, shared, chief, boxes, plan)
+    if !give_all(rt, shared, chief, plan) {
+        return false;
+    }
+    tell(rt, shared, chief, boxes, start);
+    true
 }
 
 fn move_of(alloc: Global, process: u8, desc: Desc) -> Result<Move, Fail>

@@ -5,6 +5,7 @@ ghost use Rattle.mx_core.specs.declared.words.Stage.TheVariants.{Outside};
 ghost use Rattle.rule_tests.specs.Passing.{IsNew};
 
 use mx_cam::Cam;
+use mx_core::Kept;
 use mx_desc::{Naming, Note, Pass, Referred};
 use mx_rule::Board;
 use mx_sdw::{Op, Ring, Word};
@@ -54,6 +55,18 @@ impl<B: Naming> Worker<B> {
         self.pass.leave(shared);
         self.room -= 1;
         Some(referred)
+    }
+
+    // What it did.
+    pub(super) fn trace(&self) -> &[Kept] {
+        self.pass.trace()
+    }
+
+    // It is at work no more.
+    pub(super) fn into_pass(self) -> Pass<u32, B>
+        ensures { result ≡ self.pass }
+    {
+        self.pass
     }
 
     // It gets room for so many events more.

@@ -7,17 +7,14 @@ use Rattle.mx_rule.specs.declared.views.PassView.{PassView}
 use Rattle.mx_cam.proofs.CamLaws.{has_basis, memory_is, memory_missed, recalled_number}
 use Rattle.mx_cam.proofs.cams.Cam.refer.Goals as goal
 
-pub recall-element-requires-clause-recall : goal.recall-element-requires-clause-recall
-recall-element-requires-clause-recall g c =
+pub recall-requires-in-Some-clause-recall : goal.recall-requires-in-Some-clause-recall
+recall-requires-in-Some-clause-recall g c =
     let n = c.args.segno in
-    let on = c.in-Some.on in
+    let on = c.in-Some.on.now in
     let memory : c.self.inside.places ≡ c.args.pass.now.view.memory = c.self.view_is ∙ c.requires.same in
-    let at = sym (ap (recalled n) memory) ∙ sym c.recall.ensures ∙ c.in-Some.is in
-    at ∙ (λ i. Some (record {
-      segno = recalled_number n c.args.pass.now.view.memory on at i;
-      number = on.number;
-      desc = on.desc;
-    }))
+    let at = sym (ap (recalled n) memory) ∙ c.in-Some.ensures in
+    subst (λ (k : ℕ). recalled k c.args.pass.now.view.memory ≡ Some on)
+    (sym (recalled_number n c.args.pass.now.view.memory on at)) at
 
 pub remember-requires : goal.remember-requires
 remember-requires g c = record {
@@ -31,17 +28,14 @@ same_seen e f h = cc
 pub returns-in-Some-clause-seen : goal.returns-in-Some-clause-seen
 returns-in-Some-clause-seen g c e is =
     let n = c.args.segno in
-    let on = c.in-Some.on in
+    let on = c.in-Some.on.now in
     let memory : c.self.inside.places ≡ c.args.pass.now.view.memory = c.self.view_is ∙ c.requires.same in
-    let at = sym (ap (recalled n) memory) ∙ sym c.recall.ensures ∙ c.in-Some.is in
-    let number = recalled_number n c.args.pass.now.view.memory on at in
     inl (record {
       on = on;
-      at = at;
-      seen = subst (λ (z : ℕ × Element). HasSeen (record { segno = z.0; number = on.number; desc = on.desc })
-          (record { op = c.args.op; ring = c.args.ring; word = c.args.word }) c.args.value c.args.pass.now.view z.1
-          c.recall-element.new.self.view) (λ i. (sym number i, same_seen c.recall-element.result e is i))
-          c.recall-element.ensures.seen;
+      at = sym (ap (recalled n) memory) ∙ c.in-Some.ensures;
+      seen = subst (λ (z : Element). HasSeen on (record { op = c.args.op; ring = c.args.ring; word = c.args.word })
+          c.args.value c.args.pass.now.view z c.recall-in-Some.new.self.view) (same_seen c.recall-in-Some.result e is)
+          c.recall-in-Some.ensures.seen;
     })
 
 pub returns-in-Seen-clause-same : goal.returns-in-Seen-clause-same
@@ -58,4 +52,4 @@ returns-in-Missing-clause-same g c =
 
 pub returns-in-Some-clause-stage : goal.returns-in-Some-clause-stage
 returns-in-Some-clause-stage g c =
-    ap (λ (v : PassView g.row.E.Denot). v.stage) c.recall-element.ensures.seen.after
+    ap (λ (v : PassView g.row.E.Denot). v.stage) c.recall-in-Some.ensures.seen.after

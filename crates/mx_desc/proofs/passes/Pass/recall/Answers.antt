@@ -4,7 +4,6 @@ use Rattle.mx_core.specs.Loading.{element_of}
 use Rattle.mx_core.specs.declared.elements.Element.{Element}
 use Rattle.mx_core.specs.declared.elements.Kept.TheVariants.{Judged}
 use Rattle.mx_core.specs.declared.words.Asked.{Asked}
-use Rattle.mx_core.specs.declared.words.Triple.{Triple}
 use Rattle.mx_rule.specs.Loading.{judged_view}
 use Rattle.mx_rule.specs.Seats.{pass_of}
 use Rattle.mx_rule.specs.declared.views.PassView.{PassView}
@@ -18,22 +17,20 @@ use Rattle.mx_desc.proofs.passes.Pass.recall.Goals as goal
 
 pub complete-outcome-requires-clause-waits : goal.complete-outcome-requires-clause-waits
 complete-outcome-requires-clause-waits g c =
-    let on = c.triple-on.result in
+    let on = c.args.on.now in
     let v = pass_of c.self.inside.seat.seat.me.0 in
     let a = c.asked_of-asked.result in
     let asked : a ≡ record { op = c.args.op; ring = c.args.ring; word = c.args.word } = search rules in
-    let is = c.recall.ensures.view ∙ (λ i. judged_view (at_once (sym c.triple-on.ensures i).desc (sym asked i))
-    (sym c.triple-on.ensures i) (sym asked i) v) in
+    let is = c.recall.ensures.view ∙ (λ i. judged_view (at_once on.desc (sym asked i)) on (sym asked i) v) in
     subst (AwaitsCellUnless (at_once on.desc a) on a) (sym is) (waits_by (at_once on.desc a) on a v)
 
 pub invariant_of-self : goal.invariant_of-self
 invariant_of-self g c =
-    let on = c.triple-on.result in
+    let on = c.args.on.now in
     let v = pass_of c.self.inside.seat.seat.me.0 in
     let a = c.asked_of-asked.result in
     let asked : a ≡ record { op = c.args.op; ring = c.args.ring; word = c.args.word } = search rules in
-    let is = c.recall.ensures.view ∙ (λ i. judged_view (at_once (sym c.triple-on.ensures i).desc (sym asked i))
-    (sym c.triple-on.ensures i) (sym asked i) v) in
+    let is = c.recall.ensures.view ∙ (λ i. judged_view (at_once on.desc (sym asked i)) on (sym asked i) v) in
     let at = sym (judged_unmoved (at_once on.desc a) on a v).floor
     ∙ ap (λ (z : PassView g.row.E.Denot). z.floor) (sym is) ∙ c.recall.new.self.floor_is in
     let seen = subst (λ (f : ℕ). HasSeen on a c.args.value v (element_of on.segno a f c.complete-outcome.result)
@@ -48,12 +45,11 @@ invariant_of-self g c =
 
 pub returns-clause-seen : goal.returns-clause-seen
 returns-clause-seen g c =
-    let on = c.triple-on.result in
+    let on = c.args.on.now in
     let v = pass_of c.self.inside.seat.seat.me.0 in
     let a = c.asked_of-asked.result in
     let asked : a ≡ record { op = c.args.op; ring = c.args.ring; word = c.args.word } = search rules in
-    let is = c.recall.ensures.view ∙ (λ i. judged_view (at_once (sym c.triple-on.ensures i).desc (sym asked i))
-    (sym c.triple-on.ensures i) (sym asked i) v) in
+    let is = c.recall.ensures.view ∙ (λ i. judged_view (at_once on.desc (sym asked i)) on (sym asked i) v) in
     let at = sym (judged_unmoved (at_once on.desc a) on a v).floor
     ∙ ap (λ (z : PassView g.row.E.Denot). z.floor) (sym is) ∙ c.recall.new.self.floor_is in
     let seen = subst (λ (f : ℕ). HasSeen on a c.args.value v (element_of on.segno a f c.complete-outcome.result)
@@ -61,6 +57,6 @@ returns-clause-seen g c =
     (seen_then on a c.args.value v _ (pass_of c.complete-outcome.new.seat.seat.me.0) c.complete-outcome.result is
     c.complete-outcome.ensures.done) in
     let view : v ≡ c.args.self.now.view = search rules in
-    subst (λ (z : Triple × PassView g.row.E.Denot × Asked × Element). HasSeen z.0 z.2 c.args.value z.1 z.3
+    subst (λ (z : PassView g.row.E.Denot × Asked × Element). HasSeen on z.1 c.args.value z.0 z.2
     (pass_of c.complete-outcome.new.seat.seat.me.0))
-    (λ i. (c.triple-on.ensures i, view i, asked i, sym c.element-element.ensures i)) seen
+    (λ i. (view i, asked i, sym c.element-element.ensures i)) seen

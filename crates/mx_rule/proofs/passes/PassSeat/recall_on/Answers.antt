@@ -25,7 +25,7 @@ load-requires g c =
       omega arith,
       pass_tells g.row.E.Denot y v (λ m. judged_view (at_once u.desc a) u a v) (λ m. IsAdmissible u.desc)
           (Flag v.process) _ _
-          (recall_allowed g.row.E.Denot y v c.args.segno a u c.requires.ready (c.requires.recall ∙ ap Some (sym is.0)))
+          (recall_allowed g.row.E.Denot y v c.args.on.now.segno a u c.requires.ready (c.requires.recall ∙ ap Some (sym is.0)))
           seat.posed
           ((λ i. number_in (c.requires.layout i) (Flag (seat.process_is i))) ∙ sym place) _ _,
     )
