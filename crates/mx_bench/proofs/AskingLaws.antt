@@ -50,15 +50,17 @@ use Rattle.mx_bench.proofs.NextLaws.{seat_of}
 use Rattle.mx_bench.proofs.OpeningLaws.{seat_of as process_of}
 use Rattle.mx_line.proofs.OperandLaws.{no_request, target_asks, target_goes, link_asks, led_to}
 use Rattle.mx_line.proofs.SeatLaws.{set_here}
+use Rattle.mx_line.proofs.StandingLaws.{waits_next}
 use Rattle.mx_bench.specs.Asking.{HasSeat, HasSeatWith, IsAsking, IsTold, IsToFill, IsUnfilled, IsUntold, IsReadyBelow, IsUnreadyBelow, IsAiming, IsEnding, IsToldToWait, IsCalling, IsStoring}
 use Rattle.mx_line.specs.Fills.{IsAnsweredBy}
 use Rattle.mx_line.specs.Making.{IsStore}
-use Rattle.mx_bench.proofs.WorldLaws.{IsAt, IsFree, not_told, told_blocks, waits_next}
+use Rattle.mx_bench.proofs.WorldLaws.{IsAt, IsFree, not_told, told_blocks}
 use Rattle.mx_bench.specs.Stepping.{IsLastDenial, IsAtLine, IsWaiting, state_in}
 use Rattle.mx_bench.specs.Benches.{world_in, IsKept}
 use Rattle.mx_line.specs.Operands.{operand_of, AsksFor, IsPlaced, IsTarget, IsRegisterWord, IsLed, IsGoodProgress, IsSayable}
 use Rattle.mx_line.specs.Processes.{seat_in, IsGoodAt, IsLedAt, IsStill, HasProgress, ReadsOperand, StoresNothing, HasAsked, HasFill, HasLastDenial, HasRegisters, fill_of}
-use Rattle.mx_bench.specs.Running.{IsAnswered, IsCome, IsRunning, left_of}
+use Rattle.mx_line.specs.AtWork.{IsAnswered}
+use Rattle.mx_bench.specs.Running.{IsCome, IsRunning, left_of}
 use Rattle.mx_line.specs.Seats.{Seat}
 use Rattle.mx_bench.specs.Worlds.{World}
 use Rattle.mx_line.specs.declared.fills.Fill.{Fill}

@@ -1,5 +1,5 @@
 -- The same as a caller sees it, whose old world is the bench's.
-use Rattle.std.proofs.Common.{◌≡◌, ℕ, ◌+◌, ◌<◌, ◌≤◌, ◌-◌, false, List, [], ◌∷◌, ◌++◌, length, length-append, Some, None, sym, ◌∙◌, ap, refl, subst, arith}
+use Rattle.std.proofs.Common.{◌≡◌, ℕ, suc, ◌+◌, ◌<◌, ◌≤◌, ◌-◌, false, List, [], ◌∷◌, ◌++◌, length, length-append, Some, None, sym, ◌∙◌, ap, refl, subst, arith}
 use Rattle.std.specs.List.{slice_get}
 use Rattle.std.specs.Prelude.{Result, Ok, Err, OnErr}
 use Rattle.mx_call.specs.Registers.{Registers}
@@ -40,13 +40,15 @@ use Rattle.mx_line.proofs.MadeLaws.{refers_asks, stores_made}
 use Rattle.mx_line.proofs.OperandLaws.{memory_next, no_request, aims_no_request, walked, led_to, word_asks, word_denied, fewer_steps, after_packable, first_low}
 use Rattle.mx_line.proofs.SeatLaws.{set_here}
 use Rattle.mx_line.specs.Fills.{IsNoRequest, IsShort, after_fill, write_of}
+use Rattle.mx_bench.proofs.NextLaws.{seat_of}
+use Rattle.mx_line.proofs.PlaceLaws.{HasPlaceAfter, place_after}
 use Rattle.mx_bench.specs.Asking.{IsToFill, IsUnfilled, IsAsking, IsAiming, IsEnding, IsCalling, IsStoring}
 use Rattle.mx_line.specs.Making.{IsReferring, IsMade, IsLooked, HasRead, HasCome, looks, beside}
 use Rattle.mx_bench.specs.Benches.{world_in, first_of, IsKept}
 use Rattle.mx_bench.specs.Replies.{IsReplied, IsReplyTo}
 use Rattle.mx_line.specs.Operands.{operand_of, walk_at, IsPlaced, AsksFor, IsGoodProgress, IsTarget, IsOnward, IsGoodOnward, IsCloser}
 use Rattle.mx_line.specs.Processes.{seat_in, IsStill, IsCountable, HasControl, HasGateRoom, HasEnded, HasGoneOn, HasFed, Feeds, Goes}
-use Rattle.mx_bench.specs.Stepping.{IsAtLine, HasMoved, HasStepped, HasGone}
+use Rattle.mx_bench.specs.Stepping.{IsAtLine, HasMoved, HasStepped, HasGone, state_in}
 use Rattle.mx_line.specs.Seats.{Seat}
 use Rattle.mx_bench.specs.Worlds.{World}
 use Rattle.mx_line.specs.declared.steps.Stepped.{Stepped}
@@ -164,6 +166,16 @@ seen_short x s whole room cells processes p i q it w k view place here f =
     subst (IsGoodProgress q.control.registers)
     (filling_at x s whole cells processes p i q it place here (subst (λ (v : World). IsToFill v p it) (sym view) f))
     (k.good i q here).progress
+
+-- a write of the bench is followed by another, by a new attempt or by the line's end
+pub fill_leads : (x : Outline) (s : Supervised) (whole : List (List Step)) (room : ℕ) (cells : List Contents) (processes : List Process) (p i : ℕ) (q : Process) (it : Fill) (w : World)
+    → IsKept x s whole room cells processes → world_in x s whole cells processes ≡ w → i ≡ p - 1 → slice_get processes i ≡ Some q → IsToFill w p it
+    → filled.Nowhere ≡ after_fill it → ⊥
+fill_leads x s whole room cells processes p i q it w k view place here f nowhere =
+    let at = filling_at x s whole cells processes p i q it place here (subst (λ (v : World). IsToFill v p it) (sym view) f) in
+    let state = state_in (world_in x s whole cells processes) in
+    subst (HasPlaceAfter state (suc i)) (sym nowhere)
+    (place_after state (suc i) it ((k.standing i (seat_in q) (seat_of processes i q here)).places it at))
 
 -- what the line does next
 pub more_after : {after : Filled} {next : Fill} → filled.More next ≡ after → IsProgressAfter after (Filling next)

@@ -516,6 +516,7 @@ impl<'a> Bench<'a> {
                     .end_line(i, Some(event), Result2::Done, &registers);
                 Ok(Stepped::LineDone)
             }
+            Filled::Nowhere => unreachable!(),
         }
     }
 

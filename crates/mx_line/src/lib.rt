@@ -8,6 +8,8 @@
 //! (the walk of an operand), `mx_transcript` (the rule of a line, transcripts) and `mx_ties` (what is known of cells).
 #![tactic(auto)]
 
+mod asking;
+mod at_work;
 mod fills;
 mod memory;
 mod operands;
@@ -15,7 +17,11 @@ mod processes;
 mod references;
 mod steps;
 
-pub use fills::{Fill, Filled, LinkWords, Snap, first_fill, section_in, snap_of};
+pub use asking::{Called, End, Next, Reference};
+pub use at_work::{LineAtWork, one_course_law};
+pub use fills::{
+    Behind, Fill, Filled, LinkWords, Snap, behind_of, first_fill, section_in, snap_of,
+};
 pub use memory::{Contents, Memory};
 pub use operands::{Asked, Onward, Place, Progress, Way, here, loaded, register_word};
 pub use processes::{Process, Processes};
