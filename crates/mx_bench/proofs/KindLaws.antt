@@ -108,7 +108,7 @@ not_ended g (lines.Call o) request e = cc
 not_ended g (lines.Return o) request e = cc
 
 -- no write is due of a process that is to store nothing
-free_here : (x : Outline) (s : Supervised) (whole : List (List Step)) (cells : List Contents) (processes : List Process) (p i : ℕ) (line : Line)
+pub free_here : (x : Outline) (s : Supervised) (whole : List (List Step)) (cells : List Contents) (processes : List Process) (p i : ℕ) (line : Line)
     (left : List (ℕ × Line)) (before : Process) → i ≡ p - 1 → IsUnfilled (world_in x s whole cells processes) p
     → IsAt (world_in x s whole cells processes) i (seat_in before) (before.first + length before.recording.steps) line left
     → IsFree before.progress

@@ -1,34 +1,38 @@
 -- An event that answers leads to where the line stands after it.
 use Rattle.std.proofs.Common.{◌≡◌, inl, inr, ℕ, suc, ◌<◌, ◌≤◌, ◌-◌, ◌==◌, Bool, true, false, if◌then◌else◌, List, [], ◌∷◌, ◌++◌, length, Option, Some, None, Result, Ok, Err, refl, sym, ◌∙◌, ap, subst, arith}
 use Rattle.std.proofs.lemmas.Bool.{eqb-true}
+use Rattle.std.specs.List.{slice_get}
 use Rattle.mx_core.specs.declared.elements.Element.{Element}
 use Rattle.mx_core.specs.declared.elements.Event.TheVariants.{Seen, Missing}
 use Rattle.mx_core.specs.declared.elements.Outcome.{Outcome}
 use Rattle.mx_core.specs.declared.elements.Outcome.TheVariants as outcome
 use Rattle.mx_effring.specs.Chains as chains
 use Rattle.mx_effring.specs.Walks.{wanted}
-use Rattle.mx_ptr.specs.Pointers.{link_word}
+use Rattle.mx_ptr.specs.Pointers.{PointerParts, link_word, pointer_word}
 use Rattle.mx_request.specs.declared.replies.Reply.{Reply}
 use Rattle.mx_request.specs.declared.requests.Request.{Request}
 use Rattle.mx_request.specs.declared.requests.Request.TheVariants.{Block, Link, Resume}
 use Rattle.mx_script.specs.Sessions.{is_script_line}
 use Rattle.mx_script.specs.declared.lines.Line.{Line}
 use Rattle.mx_script.specs.declared.lines.Line.TheVariants as line
+use Rattle.mx_script.specs.declared.lines.Operand.{Operand}
 use Rattle.mx_sdw.proofs.JudgingLaws.{granted_is_allowed}
 use Rattle.mx_sdw.specs.Descriptors.{Descriptor}
 use Rattle.mx_sdw.specs.Judging.{judgement, ring_after}
 use Rattle.mx_sdw.specs.declared.denials.Denial.{Denial}
 use Rattle.mx_sdw.specs.declared.descriptors.Cell.{Cell}
+use Rattle.mx_sdw.specs.declared.operations.Op.{Op}
 use Rattle.mx_sdw.specs.declared.operations.Op.TheVariants as op
 use Rattle.mx_state.specs.declared.journal.Entry as journaled
 use Rattle.mx_transcript.proofs.WalkLaws.{walk_begun_law}
 use Rattle.mx_transcript.specs.Asking.{next, attempts}
 use Rattle.mx_transcript.specs.Attempts.{wants, attempt}
 use Rattle.mx_transcript.specs.Courses.{Course, Attempt, Answer, Judged, seen_in}
-use Rattle.mx_transcript.specs.Elements.{IsJudged, Agrees}
+use Rattle.mx_transcript.specs.Elements.{IsJudged, Agrees, Gives}
 use Rattle.mx_transcript.specs.Events.{IsEvent, IsReference, IsFill, IsCall}
 use Rattle.mx_transcript.specs.Filling.{fill}
-use Rattle.mx_transcript.specs.Next.{Next, Reference, Asks, Fills, Calls, Ends, Nowhere}
+use Rattle.mx_transcript.specs.Next.{Next, Reference, Asks, Fills, Calls, Ends, Nowhere, at_place, storing}
+use Rattle.mx_transcript.specs.Targets.{at_target, spri_at}
 use Rattle.mx_transcript.specs.Operands.{walk_of}
 use Rattle.mx_transcript.specs.Settings.{Setting, entry_at, judged}
 use Rattle.mx_transcript.specs.Standing.{IsWalked}
@@ -36,12 +40,12 @@ use Rattle.mx_transcript.specs.declared.transcripts.Event2.{Event2}
 use Rattle.mx_transcript.specs.declared.transcripts.Event2.TheVariants.{Core, Entry}
 use Rattle.mx_transcript.specs.declared.transcripts.Result2.TheVariants as result
 use Rattle.mx_upcall.proofs.ChangeLaws.{kept_all}
-use Rattle.mx_upcall.specs.Control.{Control}
+use Rattle.mx_upcall.specs.Control.{Control, calling, returning}
 use Rattle.mx_line.proofs.FillLaws.{Bounds, IsAfter, after_write}
 use Rattle.mx_line.proofs.StandingLaws.{walk_asks, no_walk_asks, wants_calls, memory_calls, begun_fills, refers, memory_attempts, before_asks, walking_asks, link_calls, link_refers, waiting_calls, waiting_blocks, filling_asks}
-use Rattle.mx_line.specs.AtWork.{IsMemoryLine, IsWalker, IsCome, StandsAt, IsTaken, IsWithin, IsOver, HasSeen, IsUnlinked, OneCourseLaw, after_writing, beside, standing}
+use Rattle.mx_line.specs.AtWork.{IsMemoryLine, IsWalker, IsCome, StandsAt, IsTaken, IsWithin, IsOver, IsReader, IsWriter, IsMover, IsMet, HasSeen, IsUnlinked, OneCourseLaw, after_writing, beside, standing}
 use Rattle.mx_line.specs.Fills.{IsFilling, after_fill, counted, write_of}
-use Rattle.mx_line.specs.Operands.{IsOnward, IsSayable}
+use Rattle.mx_line.specs.Operands.{operand_of, IsOnward, IsSayable}
 use Rattle.mx_line.specs.declared.at_work.LineAtWork.{LineAtWork}
 use Rattle.mx_line.specs.declared.at_work.LineAtWork.TheVariants as at
 use Rattle.mx_line.specs.declared.fills.Fill.{Fill}
@@ -77,17 +81,30 @@ asks_fills asks a b e f = cc
 calls_fills : (asks : Next) (ring : ℕ) (request : Request) (a : Reference) → asks ≡ Calls ring request → asks ≡ Fills a → ⊥
 calls_fills asks ring request a e f = cc
 
+-- a line that refers to memory may walk
+pub walker : (l : Line) (progress : Progress) → IsMemoryLine l → IsWalker l progress
+walker l Before memory = tt
+walker l (Walking walk) memory = memory
+walker l (AtLink place) memory = memory
+walker l Waiting memory = tt
+walker l (Filling it) memory = tt
+
+-- as one with an operand does
+pub walks : (l : Line) (o : Operand) → operand_of l ≡ Some o → IsMemoryLine l
+walks (line.Ask request) o e = absurd cc
+walks (line.Set word) o e = absurd cc
+walks (line.Epp n operand) o e = tt
+walks (line.Lda operand) o e = tt
+walks (line.Sta operand) o e = tt
+walks (line.Spri n operand) o e = tt
+walks line.Fetch o e = tt
+walks (line.Call operand) o e = tt
+walks (line.Return operand) o e = tt
+
 -- an attempt that has seen this stands there
 seen_stands : (g : Control) (l : Line) (seen : List Judged) (after : LineAtWork) → IsMemoryLine l → HasSeen g l seen after
     → StandsAt g l (Attempt seen) after
-seen_stands g l seen (at.At progress) memory has = (has, walker progress)
-  where
-    walker : (progress : Progress) → IsWalker l progress
-    walker Before = tt
-    walker (Walking walk) = memory
-    walker (AtLink place) = memory
-    walker Waiting = tt
-    walker (Filling it) = tt
+seen_stands g l seen (at.At progress) memory has = (has, walker l progress memory)
 seen_stands g l seen (at.Ended end) memory has = memory_attempts g l seen memory ∙ has
 seen_stands g l seen at.Nowhere memory has = memory_attempts g l seen memory ∙ has
 
@@ -330,3 +347,123 @@ sayable_unlinked request sayable segno word is =
   where
     never : (version segno word : ℕ) → is_script_line version (line.Ask (Link segno word)) ≡ true → ⊥
     never version segno word h = cc
+
+-- What a line's own reference came to tells which line it is.
+pub judged_gives : (asked : Reference) (d : Descriptor) (e : Element) (came : Outcome) → IsJudged asked d e → e.outcome ≡ came
+    → ((denial : Denial) → came ≡ outcome.Denied denial → ⊥)
+    → Gives asked.op asked.stores (ring_after d asked.op asked.ring) came
+judged_gives asked d e came right is granted =
+    by_ruling (judgement d asked.op asked.ring asked.word)
+    (subst (Agrees asked (ring_after d asked.op asked.ring) (judgement d asked.op asked.ring asked.word)) is right.outcome)
+  where
+    by_ruling : (ruled : Result Cell Denial) → Agrees asked (ring_after d asked.op asked.ring) ruled came
+        → Gives asked.op asked.stores (ring_after d asked.op asked.ring) came
+    by_ruling (Ok cell) agrees = agrees
+    by_ruling (Err denial) agrees = absurd (granted denial agrees)
+
+pub same_asked : (a b : Reference) → Asks a ≡ Asks b → a ≡ b
+same_asked a b e = cc
+
+comes_as : (r asked : Reference) (d : Descriptor) (came : Outcome) → Asks r ≡ Asks asked
+    → Gives asked.op asked.stores (ring_after d asked.op asked.ring) came → Gives r.op r.stores (ring_after d r.op r.ring) came
+comes_as r asked d came e gives =
+    subst (λ (x : Reference). Gives x.op x.stores (ring_after d x.op x.ring) came) (sym (same_asked r asked e)) gives
+
+spri_asks : (target : PointerParts) (p : Option PointerParts) (asked : Reference) → spri_at target p ≡ Asks asked → asked.op ≡ op.Write
+spri_asks target None asked e = absurd cc
+spri_asks target (Some p) asked e = sym (ap (λ (r : Reference). r.op) (same_asked (storing (pointer_word (record p { further = false })) target) asked e))
+
+pub reader : (g : Control) (l : Line) (target : PointerParts) (asked : Reference) (d : Descriptor) (value writer stamp : ℕ)
+    → at_target g l target ≡ Asks asked
+    → Gives asked.op asked.stores (ring_after d asked.op asked.ring) (outcome.Read value writer stamp) → IsReader l
+reader g (line.Ask request) target asked d value writer stamp e gives = absurd cc
+reader g (line.Set word) target asked d value writer stamp e gives = absurd cc
+reader g (line.Epp n o) target asked d value writer stamp e gives = absurd cc
+reader g (line.Lda o) target asked d value writer stamp e gives = tt
+reader g line.Fetch target asked d value writer stamp e gives = tt
+reader g (line.Sta o) target asked d value writer stamp e gives =
+    absurd (comes_as (storing g.registers.a target) asked d (outcome.Read value writer stamp) e gives)
+reader g (line.Spri n o) target asked d value writer stamp e gives =
+    absurd (subst (λ (o : Op). Gives o asked.stores (ring_after d asked.op asked.ring) (outcome.Read value writer stamp))
+    (spri_asks target (slice_get g.registers.pr n) asked e) gives)
+reader g (line.Call o) target asked d value writer stamp e gives =
+    absurd (comes_as (at_place (calling g target) target) asked d (outcome.Read value writer stamp) e gives)
+reader g (line.Return o) target asked d value writer stamp e gives =
+    absurd (comes_as (at_place op.Return (returning g target)) asked d (outcome.Read value writer stamp) e gives)
+
+pub writer : (g : Control) (l : Line) (target : PointerParts) (asked : Reference) (d : Descriptor) (value : ℕ)
+    → at_target g l target ≡ Asks asked
+    → Gives asked.op asked.stores (ring_after d asked.op asked.ring) (outcome.Written value) → IsWriter l
+writer g (line.Ask request) target asked d value e gives = absurd cc
+writer g (line.Set word) target asked d value e gives = absurd cc
+writer g (line.Epp n o) target asked d value e gives = absurd cc
+writer g (line.Sta o) target asked d value e gives = tt
+writer g (line.Spri n o) target asked d value e gives = tt
+writer g (line.Lda o) target asked d value e gives =
+    absurd (comes_as (at_place op.Read target) asked d (outcome.Written value) e gives)
+writer g line.Fetch target asked d value e gives =
+    absurd (comes_as (at_place op.Fetch target) asked d (outcome.Written value) e gives)
+writer g (line.Call o) target asked d value e gives =
+    absurd (comes_as (at_place (calling g target) target) asked d (outcome.Written value) e gives)
+writer g (line.Return o) target asked d value e gives =
+    absurd (comes_as (at_place op.Return (returning g target)) asked d (outcome.Written value) e gives)
+
+pub mover : (g : Control) (l : Line) (target : PointerParts) (asked : Reference) (d : Descriptor) (ring : ℕ)
+    → at_target g l target ≡ Asks asked
+    → Gives asked.op asked.stores (ring_after d asked.op asked.ring) (outcome.Entered ring) → IsMover l
+mover g (line.Ask request) target asked d ring e gives = absurd cc
+mover g (line.Set word) target asked d ring e gives = absurd cc
+mover g (line.Epp n o) target asked d ring e gives = absurd cc
+mover g (line.Call o) target asked d ring e gives = tt
+mover g (line.Return o) target asked d ring e gives = tt
+mover g (line.Lda o) target asked d ring e gives =
+    absurd (comes_as (at_place op.Read target) asked d (outcome.Entered ring) e gives)
+mover g line.Fetch target asked d ring e gives =
+    absurd (comes_as (at_place op.Fetch target) asked d (outcome.Entered ring) e gives)
+mover g (line.Sta o) target asked d ring e gives =
+    absurd (comes_as (storing g.registers.a target) asked d (outcome.Entered ring) e gives)
+mover g (line.Spri n o) target asked d ring e gives =
+    absurd (subst (λ (o : Op). Gives o asked.stores (ring_after d asked.op asked.ring) (outcome.Entered ring))
+    (spri_asks target (slice_get g.registers.pr n) asked e) gives)
+
+-- an indirect word is read
+abbrev pub IsRead : Outcome → Type 0
+IsRead (outcome.Read value writer stamp) = Unit {0}
+IsRead _ = ⊥
+
+pub word_gives : (place : Place) (d : Descriptor) (came : Outcome) → Gives op.Indirect None (ring_after d op.Indirect place.ring) came → IsRead came
+word_gives place d (outcome.Read value writer stamp) gives = tt
+word_gives place d (outcome.Written value) gives = absurd gives
+word_gives place d (outcome.Entered ring) gives = absurd gives
+word_gives place d (outcome.Denied denial) gives = absurd gives
+
+-- what a line asks for whose reference was made, by how far it has come
+pub begun_met : (g : Control) (l : Line) (walk : chains.Operand) (e : Element) (d : Descriptor) → walk_of g.registers l ≡ Some walk
+    → (m : IsMet g l (at.At Before) e d) → wants g l (wanted walk) ≡ Asks m.asked
+begun_met g l walk e d has m = sym (walk_asks g l walk has) ∙ sym (before_asks g l m.course m.stands) ∙ m.asks
+
+pub unwalked_met : (g : Control) (l : Line) (e : Element) (d : Descriptor) → walk_of g.registers l ≡ None → IsMet g l (at.At Before) e d → ⊥
+unwalked_met g l e d none m =
+    let begun = sym (before_asks g l m.course m.stands) ∙ m.asks in
+    nowhere m.asked (sym (no_walk_asks g l (refers g l [] m.asked begun) none) ∙ begun)
+  where
+    nowhere : (r : Reference) → Nowhere ≡ Asks r → ⊥
+    nowhere r e = cc
+
+pub walking_met : (g : Control) (l : Line) (walk : chains.Operand) (e : Element) (d : Descriptor)
+    → (m : IsMet g l (at.At (Walking walk)) e d) → wants g l (wanted walk) ≡ Asks m.asked
+walking_met g l walk e d m = sym (walking_asks g l m.course walk m.stands) ∙ m.asks
+
+pub filling_met : (g : Control) (l : Line) (it : Fill) (e : Element) (d : Descriptor) → IsMet g l (at.At (Filling it)) e d → ⊥
+filling_met g l it e d m = asks_fills (next g l m.course) m.asked (write_of it) m.asks (filling_asks g l m.course it m.stands)
+
+calls_asks : (asks : Next) (ring : ℕ) (request : Request) (a : Reference) → asks ≡ Calls ring request → asks ≡ Asks a → ⊥
+calls_asks asks ring request a e f = cc
+
+pub linking_met : (g : Control) (l : Line) (place : Place) (e : Element) (d : Descriptor) → IsMet g l (at.At (AtLink place)) e d → ⊥
+linking_met g l place e d m =
+    calls_asks (next g l m.course) place.ring (Link place.segno place.word) m.asked (link_calls g l m.course place m.stands) m.asks
+
+pub waiting_met : (g : Control) (l : Line) (e : Element) (d : Descriptor) → IsMet g l (at.At Waiting) e d → ⊥
+waiting_met g l e d m =
+    calls_asks (next g l m.course) g.registers.ring Resume m.asked (waiting_calls g l m.course m.stands) m.asks

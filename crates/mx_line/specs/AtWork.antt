@@ -152,6 +152,36 @@ IsOver (at.At progress) = ⊥
 IsOver (at.Ended end) = Unit {0}
 IsOver at.Nowhere = Unit {0}
 
+-- it asks for something
+abbrev pub IsKnown : LineAtWork → Type 0
+IsKnown (at.At progress) = Unit {0}
+IsKnown (at.Ended end) = Unit {0}
+IsKnown at.Nowhere = ⊥
+
+-- the element is the reference for which the line asks, judged on this descriptor
+pub record IsMet (g : Control) (l : Line) (work : LineAtWork) (e : Element) (d : Descriptor) : Type 0 where
+  pub course : Course
+  pub stands : StandsAt g l course work
+  pub asked : Reference
+  pub asks : next g l course ≡ Asks asked
+  pub right : IsJudged asked d e
+
+-- which lines read a word at their target, store one there, or go on there
+abbrev pub IsReader : Line → Type 0
+IsReader (line.Lda o) = Unit {0}
+IsReader line.Fetch = Unit {0}
+IsReader _ = ⊥
+
+abbrev pub IsWriter : Line → Type 0
+IsWriter (line.Sta o) = Unit {0}
+IsWriter (line.Spri n o) = Unit {0}
+IsWriter _ = ⊥
+
+abbrev pub IsMover : Line → Type 0
+IsMover (line.Call o) = Unit {0}
+IsMover (line.Return o) = Unit {0}
+IsMover _ = ⊥
+
 abbrev pub IsNearer : LineAtWork → LineAtWork → Type 0
 IsNearer (at.At progress) after = IsWithin (steps_in progress) after
 IsNearer (at.Ended end) after = Unit {0}

@@ -28,8 +28,9 @@ ghost use Rattle.mx_transcript.specs.declared.transcripts.Event2.TheVariants.{Co
 ghost use Rattle.mx_upcall.specs.Changes.{changed};
 ghost use Rattle.mx_upcall.specs.Control.{Control as Parts};
 ghost use Rattle.mx_upcall.specs.Soundness.{IsPackableControl};
-ghost use Rattle.mx_line.specs.AtWork.{HasSeen, IsCome, IsGoodWork, IsMemoryLine, IsNearer, IsOver, IsSaid, IsStorable, IsTaken, IsUnlinked, IsWithin, OneCourseLaw, StandsAt, after_writing, begun, beside, end_of, ended, filling_or, meant, moved_on, standing};
+ghost use Rattle.mx_line.specs.AtWork.{HasSeen, IsCome, IsGoodWork, IsKnown, IsMemoryLine, IsMet, IsMover, IsNearer, IsOver, IsReader, IsSaid, IsStorable, IsTaken, IsUnlinked, IsWithin, IsWriter, OneCourseLaw, StandsAt, after_writing, begun, beside, end_of, ended, filling_or, meant, moved_on, standing};
 ghost use Rattle.mx_line.specs.Fills.{IsShort, after_fill, counted, first_fill, steps_to_fill};
+ghost use Rattle.mx_line.specs.Making.{looks};
 ghost use Rattle.mx_line.specs.Operands.{IsGoodProgress, IsGoodWalk, IsSayable, IsTarget};
 ghost use Rattle.mx_line.specs.declared.at_work.LineAtWork.TheVariants.{At, Ended, Nowhere};
 ghost use Rattle.mx_line.specs.declared.operands.Progress.TheVariants.{Waiting};
@@ -92,6 +93,7 @@ impl LineAtWork {
             → IsTaken control.now line.now setting (Core (Seen element.now)) self result }
         ensures good { IsGoodWork control.now result }
         ensures nearer { IsNearer self result }
+        ensures known { IsMet control.now line.now self element.now desc.now → IsKnown result }
     {
         match self {
             LineAtWork::At(progress) => seen_at(progress, line, control, element, desc),
@@ -105,7 +107,7 @@ impl LineAtWork {
             → IsTaken g l setting (Core (Missing segno by)) self result }
         ensures good { (g : Parts) → IsGoodWork g result }
     {
-        LineAtWork::At(Progress::Before)
+        LineAtWork::begin()
     }
 
     /// The call for which the line asks was entered, and has this reply.
@@ -184,6 +186,7 @@ fn seen_at(
         → IsTaken control.now line.now setting (Core (Seen element.now)) (At progress) result }
     ensures good { IsGoodWork control.now result }
     ensures nearer { IsNearer (At progress) result }
+    ensures known { IsMet control.now line.now (At progress) element.now desc.now → IsKnown result }
 {
     match progress {
         Progress::Before => match walk_of(line, &control.registers) {
@@ -192,7 +195,8 @@ fn seen_at(
         },
         Progress::Walking(walk) => led_by(walk, line, control, element, desc),
         Progress::Filling(fill) => stored(&fill, control, element, desc),
-        Progress::AtLink(_) | Progress::Waiting => LineAtWork::Nowhere,
+        Progress::AtLink(_) => LineAtWork::Nowhere,
+        Progress::Waiting => LineAtWork::Nowhere,
     }
 }
 
@@ -207,6 +211,8 @@ fn led_by(walk: Walk, line: &Line, control: &Control, element: &Element, desc: &
         → HasSeen control.now line.now (seen ++ beside element.now desc.now ∷ []) result }
     ensures good { IsGoodWork control.now result }
     ensures nearer { IsWithin (9 - length walk.chain) result }
+    ensures known { (asked : Reference) → wants control.now line.now (wanted walk) ≡ Asks asked
+        → IsJudged asked desc.now element.now → IsKnown result }
 {
     match walk.want() {
         Want::Word { segno, word, ring } => {
@@ -240,18 +246,21 @@ fn word_read(
         → HasSeen control.now line.now (seen ++ beside element.now desc.now ∷ []) result }
     ensures good { IsGoodWork control.now result }
     ensures nearer { IsWithin (9 - length walk.chain) result }
+    ensures known { IsJudged (looks place) desc.now element.now → IsKnown result }
 {
     match element.outcome {
         Outcome::Read { value, .. } => {
             standing(feed(line, control, walk, place, value, desc.brackets().r1()))
         }
         Outcome::Denied(denial) => ended(Result2::Denied(denial), control),
-        Outcome::Written { .. } | Outcome::Entered { .. } => LineAtWork::Nowhere,
+        Outcome::Written { .. } => LineAtWork::Nowhere,
+        Outcome::Entered { .. } => LineAtWork::Nowhere,
     }
 }
 
 fn standing(onward: Onward) -> LineAtWork
-    ensures { result ≡ standing onward }
+    ensures is { result ≡ standing onward }
+    ensures known { IsKnown result }
 {
     match onward {
         Onward::More(progress) => LineAtWork::At(progress),
@@ -277,6 +286,8 @@ fn did(
         → IsSaid control.now (after_target control.now line.now target.now desc.now element.now.outcome) result }
     ensures good { IsGoodWork control.now result }
     ensures over { IsOver result }
+    ensures known { (asked : Reference) → at_target control.now line.now target.now ≡ Asks asked
+        → IsJudged asked desc.now element.now → IsKnown result }
 {
     match element.outcome {
         Outcome::Denied(denial) => ended(Result2::Denied(denial), control),
@@ -293,6 +304,7 @@ fn read(line: &Line, control: &Control, value: Word) -> LineAtWork
         → IsSaid control.now (after_target control.now line.now target d (WasRead value writer stamp)) result }
     ensures good { IsGoodWork control.now result }
     ensures over { IsOver result }
+    ensures known { IsReader line.now → IsKnown result }
 {
     match line {
         Line::Lda { .. } => LineAtWork::Ended(End {
@@ -320,6 +332,7 @@ fn written(line: &Line, control: &Control) -> LineAtWork
         → IsSaid control.now (after_target control.now line.now target d (WasWritten value)) result }
     ensures good { IsGoodWork control.now result }
     ensures over { IsOver result }
+    ensures known { IsWriter line.now → IsKnown result }
 {
     match line {
         Line::Sta { .. } | Line::Spri { .. } => ended(Result2::Done, control),
@@ -343,6 +356,8 @@ fn entered(line: &Line, control: &Control, target: &Pointer, desc: &Desc) -> Lin
         → IsSaid control.now (after_target control.now line.now target.now desc.now (HasEntered ring)) result }
     ensures good { IsGoodWork control.now result }
     ensures over { IsOver result }
+    ensures known { (ring : ℕ) (asked : Reference) (e : PlainElement) → at_target control.now line.now target.now ≡ Asks asked
+        → IsJudged asked desc.now e → e.outcome ≡ HasEntered ring → IsMover line.now → IsKnown result }
 {
     match line {
         Line::Call { .. } => match control.call(target, desc) {
