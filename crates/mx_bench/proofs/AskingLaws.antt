@@ -48,17 +48,19 @@ use Rattle.mx_bench.proofs.BenchLaws.{seat_is}
 use Rattle.mx_bench.proofs.BoundLaws.{at_script_line, good_at}
 use Rattle.mx_bench.proofs.NextLaws.{seat_of}
 use Rattle.mx_bench.proofs.OpeningLaws.{seat_of as process_of}
-use Rattle.mx_line.proofs.OperandLaws.{no_request, target_asks, target_goes, link_asks, led_to}
+use Rattle.mx_line.proofs.OperandLaws.{no_request, target_asks, target_goes, link_asks}
 use Rattle.mx_line.proofs.SeatLaws.{set_here}
+use Rattle.mx_line.proofs.StandingLaws.{waits_next}
 use Rattle.mx_bench.specs.Asking.{HasSeat, HasSeatWith, IsAsking, IsTold, IsToFill, IsUnfilled, IsUntold, IsReadyBelow, IsUnreadyBelow, IsAiming, IsEnding, IsToldToWait, IsCalling, IsStoring}
 use Rattle.mx_line.specs.Fills.{IsAnsweredBy}
 use Rattle.mx_line.specs.Making.{IsStore}
-use Rattle.mx_bench.proofs.WorldLaws.{IsAt, IsFree, not_told, told_blocks, waits_next}
+use Rattle.mx_bench.proofs.WorldLaws.{IsAt, IsFree, not_told, told_blocks}
 use Rattle.mx_bench.specs.Stepping.{IsLastDenial, IsAtLine, IsWaiting, state_in}
 use Rattle.mx_bench.specs.Benches.{world_in, IsKept}
-use Rattle.mx_line.specs.Operands.{operand_of, AsksFor, IsPlaced, IsTarget, IsRegisterWord, IsLed, IsGoodProgress, IsSayable}
-use Rattle.mx_line.specs.Processes.{seat_in, IsGoodAt, IsLedAt, IsStill, HasProgress, ReadsOperand, StoresNothing, HasAsked, HasFill, HasLastDenial, HasRegisters, fill_of}
-use Rattle.mx_bench.specs.Running.{IsAnswered, IsCome, IsRunning, left_of}
+use Rattle.mx_line.specs.Operands.{operand_of, AsksFor, IsPlaced, IsTarget, IsRegisterWord, IsGoodProgress, IsSayable}
+use Rattle.mx_line.specs.Processes.{seat_in, IsGoodAt, IsStill, HasProgress, ReadsOperand, StoresNothing, HasAsked, HasFill, HasLastDenial, HasRegisters, fill_of}
+use Rattle.mx_line.specs.AtWork.{IsAnswered}
+use Rattle.mx_bench.specs.Running.{IsCome, IsRunning, left_of}
 use Rattle.mx_line.specs.Seats.{Seat}
 use Rattle.mx_bench.specs.Worlds.{World}
 use Rattle.mx_line.specs.declared.fills.Fill.{Fill}
@@ -128,21 +130,6 @@ good_still processes middle i good still =
       packable = subst IsPackableControl (sym is) good.packable;
       progress = subst (λ (g : Control). IsGoodProgress g.registers still.after.progress) (sym is)
           (subst (λ (r : Progress). IsGoodProgress good.process.control.registers r) (sym came) good.progress);
-    }
-
-pub led_still : (x : Outline) (s : Supervised) (whole : List (List Step)) (cells : List Contents) (processes middle : List Process) (w : World) (p i : ℕ)
-    (o : Operand) (place : Place) → world_in x s whole cells processes ≡ w → i ≡ p - 1 → IsAsking w p o (First (way.Word place))
-    → IsStill processes i middle → IsLedAt middle i o place
-led_still x s whole cells processes middle w p i o place view at c still =
-    let seat : c.seat ≡ seat_in still.before
-    = seat_is x s whole cells processes p i c.seat still.before at (ap (λ (v : World). slice_get v.seats (p - 1)) view ∙ c.seated) still.at in
-    let is : c.seat.control ≡ still.after.control = ap (λ (seat : Seat). seat.control) seat ∙ sym still.control in
-    let came : c.seat.progress ≡ still.after.progress = ap (λ (seat : Seat). seat.progress) seat ∙ sym still.progress in
-    record {
-      process = still.after;
-      at = ap (λ (l : List Process). slice_get l i) still.set ∙ set_here processes i still.before still.after still.at;
-      led = subst (λ (g : Control). IsLed g.registers o still.after.progress place) is
-          (subst (λ (r : Progress). IsLed c.seat.control.registers o r place) came (led_to c.seat.control.registers o c.seat.progress place c.asks));
     }
 
 at_most_seven : (n : ℕ) → nat_le n 7 ≡ true → n ≤ 7

@@ -1,5 +1,5 @@
 -- Each kind of step keeps the bench.
-use Rattle.std.proofs.Common.{◌≡◌, inl, inr, ℕ, suc, ◌<◌, ◌≤◌, ◌+◌, ◌-◌, List, [], ◌∷◌, ◌++◌, map, length, None, Some, refl, sym, ◌∙◌, ap, subst, arith, append-nil, length-append}
+use Rattle.std.proofs.Common.{◌≡◌, inl, inr, ℕ, suc, ◌<◌, ◌≤◌, ◌+◌, ◌-◌, ◌==◌, Bool, true, false, if◌then◌else◌, List, [], ◌∷◌, ◌++◌, map, length, None, Some, refl, sym, ◌∙◌, ap, subst, arith, append-nil, length-append}
 use Rattle.std.proofs.lemmas.List.{take_all}
 use Rattle.std.specs.List.{slice_get}
 use Rattle.std.specs.Option.{option_map}
@@ -40,7 +40,7 @@ use Rattle.mx_sup.proofs.ReplyLaws.{next_answered}
 use Rattle.mx_sup.specs.Entering.{HasEntered}
 use Rattle.mx_sup.specs.Supervised.{Supervised, state_of}
 use Rattle.mx_bench.proofs.BenchLaws.{line_done, line_moved, done_kept, done_stepped, moved_kept, moved_stepped, at_process, seat_is}
-use Rattle.mx_line.proofs.FillLaws.{Bounds, IsAfter, IsCloserBy, IsShortAfter, after_write, asks_nothing, closer_after, fills_no_logout, first_filling, logout_done, nothing_asked, short_after}
+use Rattle.mx_line.proofs.FillLaws.{Bounds, IsAfter, IsCloserBy, IsShortAfter, after_write, asks_nothing, closer_after, first_filling, logout_done, nothing_asked, short_after}
 use Rattle.mx_bench.proofs.NextLaws.{seat_of}
 use Rattle.mx_line.proofs.PlaceLaws.{HasPlaceAfter, IsGrantable, IsGranted, first_place, grantable, granted, place_after}
 use Rattle.mx_bench.proofs.WorldLaws.{Asking, Calling, IsAt, IsFree, after_line, at_line, moved, stepped, storing_now, end_law, entered_law, fill_end_law, fill_law, full_law, call_law, refer_law, look_law, not_told, look_awake, look_free}
@@ -53,14 +53,15 @@ use Rattle.mx_bench.specs.Benches.{world_in, IsKept}
 use Rattle.mx_bench.specs.Replies.{IsReplied, IsReplyTo}
 use Rattle.mx_line.specs.Operands.{IsPlaced, IsGoodProgress, steps_in}
 use Rattle.mx_line.specs.Processes.{seat_in, IsStill, HasEnded, HasGoneOn}
-use Rattle.mx_bench.specs.Running.{IsAnswered, IsRunning, left_of}
+use Rattle.mx_line.specs.AtWork.{IsAnswered}
+use Rattle.mx_bench.specs.Running.{IsRunning, left_of}
 use Rattle.mx_bench.specs.Standing.{AreStanding}
 use Rattle.mx_bench.specs.Stepping.{IsAtLine, IsWaiting, HasMoved, HasStepped, state_in}
 use Rattle.mx_line.specs.Seats.{Seat}
 use Rattle.mx_line.specs.declared.fills.Fill.{Fill}
 use Rattle.mx_line.specs.declared.fills.Fill.TheVariants.{Words, Pointer}
 use Rattle.mx_line.specs.declared.fills.Filled.{Filled}
-use Rattle.mx_line.specs.declared.fills.Filled.TheVariants.{More, Anew, Done}
+use Rattle.mx_line.specs.declared.fills.Filled.TheVariants.{More, Anew, Done, Nowhere}
 use Rattle.mx_line.specs.declared.memory.Contents.{Contents}
 use Rattle.mx_line.specs.declared.operands.Progress.{Progress}
 use Rattle.mx_line.specs.declared.operands.Progress.TheVariants.{Before, Waiting, Filling}
@@ -107,7 +108,7 @@ not_ended g (lines.Call o) request e = cc
 not_ended g (lines.Return o) request e = cc
 
 -- no write is due of a process that is to store nothing
-free_here : (x : Outline) (s : Supervised) (whole : List (List Step)) (cells : List Contents) (processes : List Process) (p i : ℕ) (line : Line)
+pub free_here : (x : Outline) (s : Supervised) (whole : List (List Step)) (cells : List Contents) (processes : List Process) (p i : ℕ) (line : Line)
     (left : List (ℕ × Line)) (before : Process) → i ≡ p - 1 → IsUnfilled (world_in x s whole cells processes) p
     → IsAt (world_in x s whole cells processes) i (seat_in before) (before.first + length before.recording.steps) line left
     → IsFree before.progress
@@ -284,7 +285,7 @@ wait_goes x s s' whole room cells processes middle processes' p i number line ri
     ] in
     let there = at_process x s whole cells processes p i line d.before k.good place a d.at in
     let w = entered_law (world_in x s whole cells processes) i (seat_in d.before) (d.before.first + length d.before.recording.steps) line a.left entry
-    Waiting k.running there own asks (told.waits, told.blocks, told.line_is) below
+    Waiting k.running there own asks (told.waits, told.blocks, told.line_is) (λ it e out. waits_for_none it e) below
     (subst (λ (y : Outline). IsRightEntry (replay (opening_of y) s.journal) entry) k.same e.right) in
     let st = event_standing (world_in x s whole cells processes) i (seat_in d.before) (d.before.first + length d.before.recording.steps) line a.left
     (s.journal ++ entry ∷ []) cells (Entry (length s.journal + 1)) Waiting there k.standing
@@ -348,10 +349,10 @@ store_goes x s s' whole room cells processes middle processes' p i number line r
     let there_is = first_place before p ring request e.reply it right.reply first in
     let stays : line ≡ lines.Ask Logout → ⊥
     = λ out. logs_nothing before p ring request e.reply it (c.logs_out out) right.reply first in
-    let filling = first_filling (plain before p ring request).state p d.before.control line entry it first by stays there_is.1 in
+    let filling = first_filling (plain before p ring request).state p d.before.control line entry it first by there_is.1 in
     let there = at_process x s whole cells processes p i line d.before k.good place a d.at in
     let w = entered_law (world_in x s whole cells processes) i (seat_in d.before) (d.before.first + length d.before.recording.steps) line a.left entry
-    (Filling it) k.running there own asks filling below right in
+    (Filling it) k.running there own asks filling (λ other e out. stays out) below right in
     let st = event_standing (world_in x s whole cells processes) i (seat_in d.before) (d.before.first + length d.before.recording.steps) line a.left
     (s.journal ++ entry ∷ []) cells (Entry (length s.journal + 1)) (Filling it) there k.standing
     (λ j. entered_there (world_in x s whole cells processes) entry i j own) (one_longer s.journal (s.journal ++ entry ∷ []) entry refl)
@@ -394,8 +395,12 @@ store_goes x s s' whole room cells processes middle processes' p i number line r
         ≡ stepped (world_in x s whole cells processes) i s'.journal cells (moved (seat_in before) (Entry number) (Filling it))
     store_same s s' before number entry i journal at = rw (journal, at) refl
 
+    few : (words next : ℕ) (first : Bool) → words ≤ 1024 → (if first then 1036 else words - next + 12) ≤ 1100
+    few words next true most = omega arith
+    few words next false most = omega (arith, most)
+
     short_steps : (it : Fill) → IsShort it → steps_in (Filling it) ≤ 1100
-    short_steps (Words words) short = let most = short.1 in omega (arith, most)
+    short_steps (Words words) short = few words.words words.next (words.next == 0) short.1
     short_steps (Pointer snap) short = omega arith
 
 -- what an element is judged on is the access at its point
@@ -498,22 +503,26 @@ abbrev pub IsProgressAfter : Filled → Progress → Type 0
 IsProgressAfter (More it) progress = progress ≡ Filling it
 IsProgressAfter Anew progress = progress ≡ Before
 IsProgressAfter Done progress = ⊥
+IsProgressAfter Nowhere progress = ⊥
 
 answered_after : (g : Control) (line : Line) (entry : journaled.Entry) (filled : List Judged) (after : Filled) (progress : Progress)
     → IsProgressAfter after progress → IsAfter g line entry filled after → IsAnswered g line entry filled progress
 answered_after g line entry filled (More it) progress at is = subst (IsAnswered g line entry filled) (sym at) is
 answered_after g line entry filled Anew progress at is = subst (IsAnswered g line entry filled) (sym at) is
 answered_after g line entry filled Done progress at is = absurd at
+answered_after g line entry filled Nowhere progress at is = absurd at
 
 good_after : (g : Registers) (after : Filled) (progress : Progress) → IsProgressAfter after progress → IsShortAfter after → IsGoodProgress g progress
 good_after g (More it) progress at short = subst (IsGoodProgress g) (sym at) short
 good_after g Anew progress at short = subst (IsGoodProgress g) (sym at) tt
 good_after g Done progress at short = absurd at
+good_after g Nowhere progress at short = absurd at
 
 closer_by : (steps : ℕ) (after : Filled) (progress : Progress) → IsProgressAfter after progress → IsCloserBy steps after → steps_in progress < steps
 closer_by steps (More it) progress at closer = subst (λ (r : Progress). steps_in r < steps) (sym at) closer
 closer_by steps Anew progress at closer = subst (λ (r : Progress). steps_in r < steps) (sym at) closer
 closer_by steps Done progress at closer = absurd at
+closer_by steps Nowhere progress at closer = absurd at
 
 places_after : (s : Plain) (p : ℕ) (after : Filled) (progress : Progress) → IsProgressAfter after progress → HasPlaceAfter s p after
     → (it : Fill) → progress ≡ Filling it → HasPlace s p it
@@ -526,6 +535,7 @@ places_after s p Anew progress at place it e = absurd (none it (sym at ∙ e))
     none : (it : Fill) → Before ≡ Filling it → ⊥
     none it e = cc
 places_after s p Done progress at place it e = absurd at
+places_after s p Nowhere progress at place it e = absurd at
 
 awake_after : (after : Filled) (progress : Progress) → IsProgressAfter after progress → progress ≡ Waiting → ⊥
 awake_after (More it) progress at e = none it (sym at ∙ e)
@@ -537,6 +547,7 @@ awake_after Anew progress at e = none (sym at ∙ e)
     none : Before ≡ Waiting → ⊥
     none e = cc
 awake_after Done progress at e = at
+awake_after Nowhere progress at e = at
 
 -- what is known of a write of process p
 pub record IsFillMade (s : Supervised) (p point : ℕ) (cells cells' : List Contents) (it : Fill) (j : Judged) : Type 0 where
@@ -593,7 +604,7 @@ fill_no_logout x s whole room cells processes i line left before it k there at o
     let now = storing_now x r.setup (suc i) (seat_in before) (before.first + length before.recording.steps) line left it (r.views (suc i)) at
     (at_line x r.setup (suc i) (seat_in before) (left_of x (suc i) (seat_in before)) (before.first + length before.recording.steps) line left
     (r.views (suc i)) there.at (r.each i (seat_in before) there.seated)) in
-    fills_no_logout before.control line now.entry now.filled it now.is out
+    now.stays out
 
 -- a write that a reply asks for, after which the line goes on
 pub fill_goes : (x : Outline) (s : Supervised) (whole : List (List Step)) (room : ℕ) (cells cells' : List Contents) (processes middle processes' : List Process)

@@ -32,6 +32,7 @@ use Rattle.mx_bench.specs.Running.{IsBefore, left_of}
 use Rattle.mx_bench.specs.Stepping.{IsOpening}
 use Rattle.mx_line.specs.Seats.{Seat}
 use Rattle.mx_line.specs.Cells.{held, held_when, held_in, contents_at, empty_contents, always}
+use Rattle.mx_bench.proofs.WorldLaws.{begun_free}
 use Rattle.mx_line.specs.declared.fills.Fill.{Fill}
 use Rattle.mx_line.specs.declared.memory.Contents.{Contents}
 use Rattle.mx_line.specs.declared.operands.Progress.TheVariants.{Before, Waiting, Filling}
@@ -87,6 +88,7 @@ first_before x setup i (next ∷ left) e begun = record {
   course = Attempt [];
   benched = first_line_law x setup (suc i) next.0 next.1 left (length setup) (λ segno. limit_of x) e begun;
   come = (refl, λ none. refl);
+  stays = λ fill e out. begun_free fill e;
 }
 
 -- which process a seat is of

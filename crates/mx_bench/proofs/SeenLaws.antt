@@ -1,5 +1,5 @@
 -- The same as a caller sees it, whose old world is the bench's.
-use Rattle.std.proofs.Common.{◌≡◌, ℕ, ◌+◌, ◌<◌, ◌≤◌, ◌-◌, false, List, [], ◌∷◌, ◌++◌, length, length-append, Some, None, sym, ◌∙◌, ap, refl, subst, arith}
+use Rattle.std.proofs.Common.{◌≡◌, inl, ℕ, suc, ◌+◌, ◌<◌, ◌≤◌, ◌-◌, false, List, [], ◌∷◌, ◌++◌, length, length-append, Some, None, sym, ◌∙◌, ap, refl, subst, arith}
 use Rattle.std.specs.List.{slice_get}
 use Rattle.std.specs.Prelude.{Result, Ok, Err, OnErr}
 use Rattle.mx_call.specs.Registers.{Registers}
@@ -7,12 +7,13 @@ use Rattle.mx_upcall.proofs.ChangeLaws.{kept_all}
 use Rattle.mx_upcall.specs.Changes.{keeping, changed}
 use Rattle.mx_upcall.specs.Control.{Control}
 use Rattle.mx_upcall.specs.Soundness.{IsPackableControl}
+use Rattle.mx_core.specs.declared.elements.Element.{Element}
 use Rattle.mx_core.specs.declared.elements.Event.TheVariants.{Seen}
-use Rattle.mx_core.specs.declared.elements.Outcome.TheVariants.{Denied}
 use Rattle.mx_transcript.specs.Asking.{next}
 use Rattle.mx_transcript.specs.Courses.{Attempt, Judged}
 use Rattle.mx_transcript.specs.Elements.{IsJudged}
 use Rattle.mx_transcript.specs.Next.{Reference, Asks, Ends, storing}
+use Rattle.mx_transcript.specs.Settings.{Setting}
 use Rattle.mx_transcript.specs.Targets.{at_target, after_target}
 use Rattle.mx_transcript.specs.Transcripts.{Step}
 use Rattle.mx_transcript.specs.declared.transcripts.Event2.TheVariants.{Core, Entry}
@@ -28,25 +29,31 @@ use Rattle.mx_script.specs.declared.lines.Line.TheVariants as lines
 use Rattle.mx_script.specs.declared.lines.Operand.{Operand}
 use Rattle.mx_sdw.specs.Admissible.{IsAdmissible}
 use Rattle.mx_sdw.specs.Descriptors.{Descriptor}
-use Rattle.mx_sdw.specs.declared.denials.Denial.{Denial}
 use Rattle.mx_state.specs.Table.{descriptor}
 use Rattle.mx_state.specs.Told.{IsLinkedWithin}
 use Rattle.mx_sup.specs.Entering.{HasEntered}
 use Rattle.mx_sup.specs.Supervised.{Supervised, state_of}
-use Rattle.mx_bench.proofs.BenchLaws.{gate_room, still_seats, seat_is}
+use Rattle.mx_bench.proofs.BenchLaws.{gate_room, still_seats, seat_is, at_process}
 use Rattle.mx_bench.proofs.BoundLaws.{at_within, at_principal, at_countable, still_within}
-use Rattle.mx_bench.proofs.KindLaws.{IsFillMade, IsProgressAfter, end_goes, entered_reply, fill_end_goes, fill_goes, full_goes, call_goes, store_goes, wait_goes, refer_goes, look_goes}
+use Rattle.mx_bench.proofs.KindLaws.{IsFillMade, IsProgressAfter, end_goes, entered_reply, free_here, fill_end_goes, fill_goes, full_goes, call_goes, store_goes, wait_goes, refer_goes, look_goes}
 use Rattle.mx_line.proofs.MadeLaws.{refers_asks, stores_made}
-use Rattle.mx_line.proofs.OperandLaws.{memory_next, no_request, aims_no_request, walked, led_to, word_asks, word_denied, fewer_steps, after_packable, first_low}
+use Rattle.mx_bench.proofs.WorldLaws.{at_line, attempting}
+use Rattle.mx_line.proofs.OperandLaws.{no_request, aims_no_request, led_to, word_asks, after_packable, first_low}
+use Rattle.mx_line.proofs.ProcessLaws.{met_so}
 use Rattle.mx_line.proofs.SeatLaws.{set_here}
+use Rattle.mx_line.proofs.TakenLaws.{walker, walks}
+use Rattle.mx_line.specs.AtWork.{IsGoodWork, IsMet, IsNearer, StandsAt}
 use Rattle.mx_line.specs.Fills.{IsNoRequest, IsShort, after_fill, write_of}
+use Rattle.mx_bench.proofs.NextLaws.{seat_of}
+use Rattle.mx_line.proofs.PlaceLaws.{HasPlaceAfter, place_after}
 use Rattle.mx_bench.specs.Asking.{IsToFill, IsUnfilled, IsAsking, IsAiming, IsEnding, IsCalling, IsStoring}
-use Rattle.mx_line.specs.Making.{IsReferring, IsMade, IsLooked, HasRead, HasCome, looks, beside}
+use Rattle.mx_line.specs.Making.{IsReferring, IsMade, IsLooked, looks, beside}
 use Rattle.mx_bench.specs.Benches.{world_in, first_of, IsKept}
 use Rattle.mx_bench.specs.Replies.{IsReplied, IsReplyTo}
-use Rattle.mx_line.specs.Operands.{operand_of, walk_at, IsPlaced, AsksFor, IsGoodProgress, IsTarget, IsOnward, IsGoodOnward, IsCloser}
-use Rattle.mx_line.specs.Processes.{seat_in, IsStill, IsCountable, HasControl, HasGateRoom, HasEnded, HasGoneOn, HasFed, Feeds, Goes}
-use Rattle.mx_bench.specs.Stepping.{IsAtLine, HasMoved, HasStepped, HasGone}
+use Rattle.mx_line.specs.Operands.{operand_of, IsPlaced, AsksFor, IsGoodProgress, IsTarget}
+use Rattle.mx_line.specs.Processes.{seat_in, IsStill, IsCountable, HasControl, HasGateRoom, HasEnded, HasGoneOn, HasMet, IsMetAt, Takes, Goes}
+use Rattle.mx_bench.specs.Running.{left_of}
+use Rattle.mx_bench.specs.Stepping.{IsAtLine, HasMoved, HasStepped, HasGone, state_in}
 use Rattle.mx_line.specs.Seats.{Seat}
 use Rattle.mx_bench.specs.Worlds.{World}
 use Rattle.mx_line.specs.declared.steps.Stepped.{Stepped}
@@ -55,14 +62,13 @@ use Rattle.mx_line.specs.declared.fills.Filled.{Filled}
 use Rattle.mx_line.specs.declared.fills.Filled.TheVariants as filled
 use Rattle.mx_line.specs.declared.memory.Contents.{Contents}
 use Rattle.mx_line.specs.declared.operands.Asked.TheVariants.{First}
-use Rattle.mx_line.specs.declared.operands.Onward.{Onward}
-use Rattle.mx_line.specs.declared.operands.Onward.TheVariants.{More, End}
+use Rattle.mx_line.specs.declared.at_work.LineAtWork.{LineAtWork}
+use Rattle.mx_line.specs.declared.at_work.LineAtWork.TheVariants as works
 use Rattle.mx_line.specs.declared.operands.Place.{Place}
 use Rattle.mx_line.specs.declared.operands.Progress.{Progress}
 use Rattle.mx_line.specs.declared.operands.Progress.TheVariants.{Before, Waiting, Filling}
 use Rattle.mx_line.specs.declared.operands.Way.TheVariants as way
 use Rattle.mx_line.specs.declared.processes.Process.{Process}
-use Rattle.mx_line.specs.declared.references.Looked.{Looked}
 use Rattle.mx_line.specs.declared.references.Made.{Made}
 use Rattle.mx_bench.specs.declared.replied.Replied.{Replied}
 use Rattle.mx_bench.specs.declared.replied.Replied.TheVariants as replied
@@ -164,6 +170,16 @@ seen_short x s whole room cells processes p i q it w k view place here f =
     subst (IsGoodProgress q.control.registers)
     (filling_at x s whole cells processes p i q it place here (subst (λ (v : World). IsToFill v p it) (sym view) f))
     (k.good i q here).progress
+
+-- a write of the bench is followed by another, by a new attempt or by the line's end
+pub fill_leads : (x : Outline) (s : Supervised) (whole : List (List Step)) (room : ℕ) (cells : List Contents) (processes : List Process) (p i : ℕ) (q : Process) (it : Fill) (w : World)
+    → IsKept x s whole room cells processes → world_in x s whole cells processes ≡ w → i ≡ p - 1 → slice_get processes i ≡ Some q → IsToFill w p it
+    → filled.Nowhere ≡ after_fill it → ⊥
+fill_leads x s whole room cells processes p i q it w k view place here f nowhere =
+    let at = filling_at x s whole cells processes p i q it place here (subst (λ (v : World). IsToFill v p it) (sym view) f) in
+    let state = state_in (world_in x s whole cells processes) in
+    subst (HasPlaceAfter state (suc i)) (sym nowhere)
+    (place_after state (suc i) it ((k.standing i (seat_in q) (seat_of processes i q here)).places it at))
 
 -- what the line does next
 pub more_after : {after : Filled} {next : Fill} → filled.More next ≡ after → IsProgressAfter after (Filling next)
@@ -308,61 +324,60 @@ store_done x s whole room cells cells' processes middle processes' p i point val
     idle t does here is admissible on_desc at_end wide
     (stores_made line (storing value target) control desc target p point cells cells' made st.stores sta spri) still ended
 
--- an indirect word is denied
-pub denied_done : (x : Outline) (s : Supervised) (whole : List (List Step)) (room : ℕ) (cells : List Contents) (processes middle processes' : List Process)
-    (p i point : ℕ) (line : Line) (o : Operand) (q : Process) (registers : Registers) (place : Place) (desc : Descriptor) (looked : Looked) (denial : Denial)
-    (w : World)
+-- a memory line that asks for an indirect word meets it
+pub word_met : (x : Outline) (s : Supervised) (whole : List (List Step)) (room : ℕ) (cells : List Contents) (processes middle : List Process)
+    (p i point : ℕ) (line : Line) (o : Operand) (place : Place) (desc : Descriptor) (e : Element) (w : World)
     → IsKept x s whole room cells processes → world_in x s whole cells processes ≡ w → i ≡ p - 1 → IsAtLine w p line
     → IsUnfilled w p → operand_of line ≡ Some o → IsAsking w p o (First (way.Word place))
-    → slice_get processes i ≡ Some q → registers ≡ q.control.registers
-    → desc ≡ descriptor (state_of s) p place.segno → point ≡ length s.journal
-    → IsLooked place desc p point cells looked → looked.came ≡ Err denial
-    → IsStill processes i middle → HasEnded middle i (Core (Seen looked.element) ∷ []) (result.Denied denial) (keeping registers) processes'
-    → IsKept x s whole room cells processes' × HasStepped w p (world_in x s whole cells processes')
-denied_done x s whole room cells processes middle processes' p i point line o q registers place desc looked denial w k view at a idle own c here is on_desc at_end l came still ended =
-    subst (λ (v : World). IsAtLine v p line → IsUnfilled v p → IsAsking v p o (First (way.Word place))
-    → IsKept x s whole room cells processes' × HasStepped v p (world_in x s whole cells processes')) view
-    (λ a idle c. goes a idle c) a idle c
+    → IsLooked place desc p point cells e → IsStill processes i middle → IsMetAt middle i line e desc
+word_met x s whole room cells processes middle p i point line o place desc e w k view here a idle own c l still =
+    subst (λ (v : World). IsAtLine v p line → IsUnfilled v p → IsAsking v p o (First (way.Word place)) → IsMetAt middle i line e desc)
+    view (λ a idle c. met a idle c) a idle c
   where
-    goes : IsAtLine (world_in x s whole cells processes) p line → IsUnfilled (world_in x s whole cells processes) p
-        → IsAsking (world_in x s whole cells processes) p o (First (way.Word place))
-        → IsKept x s whole room cells processes' × HasStepped (world_in x s whole cells processes) p (world_in x s whole cells processes')
-    goes a idle c =
-        let seat : c.seat ≡ seat_in q = seat_is x s whole cells processes p i c.seat q at c.seated here in
+    met : IsAtLine (world_in x s whole cells processes) p line → IsUnfilled (world_in x s whole cells processes) p
+        → IsAsking (world_in x s whole cells processes) p o (First (way.Word place)) → IsMetAt middle i line e desc
+    met a idle c =
+        let q : Process = still.before in
+        let r = k.running in
+        let seat : c.seat ≡ seat_in q = seat_is x s whole cells processes p i c.seat q here c.seated still.at in
         let asks : AsksFor q.control.registers o q.progress (First (way.Word place))
         = subst (λ (seat : Seat). AsksFor seat.control.registers o seat.progress (First (way.Word place))) seat c.asks in
-        let led = led_to q.control.registers o q.progress place asks in
-        let denied : looked.element.outcome ≡ Denied denial = subst (λ (r : Result ℕ Denial). HasCome r looked.element.outcome) came l.came in
-        refer_goes x s whole room cells cells processes middle processes' p i place.segno point line q (looks place)
-        (record { element = looked.element; desc = desc }) (result.Denied denial) (keeping registers) k at a idle here (no_request line o own)
-        (λ seen placed. word_asks q.control line o q.progress place own led seen placed)
-        l.judged (record { on = on_desc; segno_is = l.segno; at_end = at_end; point_is = l.point_is }) k.wide (l.access k.wide)
-        (λ seen placed. word_denied q.control line o q.progress place denial own led (record { element = looked.element; desc = desc }) denied seen placed
-        ∙ ap (λ (g : Control). Ends (result.Denied denial) g) (kept_all q.control registers is))
-        (subst IsPackableControl (kept_all q.control registers is) (k.good i q here).packable)
-        still ended
+        let there = at_process x s whole cells processes p i line q k.good here a still.at in
+        let now = attempting x r.setup (suc i) (seat_in q) (q.first + length q.recording.steps) line a.left (r.views (suc i)) (no_request line o own)
+        (free_here x s whole cells processes p i line a.left q here idle there)
+        (at_line x r.setup (suc i) (seat_in q) (left_of x (suc i) (seat_in q)) (q.first + length q.recording.steps) line a.left (r.views (suc i))
+        there.at (r.each i (seat_in q) there.seated)) in
+        let meets : IsMet q.control line (works.At q.progress) e desc = record {
+          course = Attempt now.seen;
+          stands = (now.placed.0, walker line q.progress (walks line o own));
+          asked = looks place;
+          asks = word_asks q.control line o q.progress place own (led_to q.control.registers o q.progress place asks) now.seen now.placed;
+          right = l.judged;
+        } in
+        record {
+          process = still.after;
+          at = ap (λ (l : List Process). slice_get l i) still.set ∙ set_here processes i q still.after still.at;
+          met = met_so q still.after.control still.after.progress line e desc still.control still.progress meets;
+        }
 
--- an indirect word is read, and taken or not
-pub fed_done : (x : Outline) (s : Supervised) (whole : List (List Step)) (room : ℕ) (cells : List Contents) (processes middle processes' : List Process)
-    (p i point value r1 : ℕ) (line : Line) (o : Operand) (q : Process) (place : Place) (desc : Descriptor) (looked : Looked) (stepped : Stepped)
-    (w : World)
+-- and goes on by it, or ends
+pub word_done : (x : Outline) (s : Supervised) (whole : List (List Step)) (room : ℕ) (cells : List Contents) (processes middle processes' : List Process)
+    (p i point : ℕ) (line : Line) (o : Operand) (place : Place) (desc : Descriptor) (e : Element) (stepped : Stepped) (w : World)
     → IsKept x s whole room cells processes → world_in x s whole cells processes ≡ w → i ≡ p - 1 → IsAtLine w p line
     → IsUnfilled w p → operand_of line ≡ Some o → IsAsking w p o (First (way.Word place))
-    → slice_get processes i ≡ Some q
     → desc ≡ descriptor (state_of s) p place.segno → point ≡ length s.journal
-    → IsLooked place desc p point cells looked → looked.came ≡ Ok value → r1 ≡ desc.brackets.r1
-    → IsStill processes i middle → HasFed middle i line o value r1 (Core (Seen looked.element)) processes' stepped
+    → IsLooked place desc p point cells e → IsStill processes i middle → HasMet middle i line e desc processes' stepped
     → IsKept x s whole room cells processes' × HasGone w p stepped (world_in x s whole cells processes')
-fed_done x s whole room cells processes middle processes' p i point value r1 line o q place desc looked stepped w k view at a idle own c here on_desc at_end l came r1_is still f =
+word_done x s whole room cells processes middle processes' p i point line o place desc e stepped w k view here a idle own c on_desc at_end l still f =
     subst (λ (v : World). IsAtLine v p line → IsUnfilled v p → IsAsking v p o (First (way.Word place))
     → IsKept x s whole room cells processes' × HasGone v p stepped (world_in x s whole cells processes')) view
     (λ a idle c. goes a idle c) a idle c
   where
-    j : Judged
-    j = record { element = looked.element; desc = desc }
+    q : Process
+    q = still.before
 
-    read : HasRead value looked.element.outcome
-    read = subst (λ (r : Result ℕ Denial). HasCome r looked.element.outcome) came l.came
+    j : Judged
+    j = record { element = e; desc = desc }
 
     one : (a b : Process) → Some a ≡ Some b → a ≡ b
     one a b e = cc
@@ -370,42 +385,45 @@ fed_done x s whole room cells processes middle processes' p i point value r1 lin
     before_is : f.before ≡ still.after
     before_is = one f.before still.after (sym f.at ∙ ap (λ (l : List Process). slice_get l i) still.set ∙ set_here processes i still.before still.after still.at)
 
-    q_is : q ≡ still.before
-    q_is = one q still.before (sym here ∙ still.at)
-
     same_control : f.before.control ≡ q.control
-    same_control = ap (λ (r : Process). r.control) before_is ∙ still.control ∙ ap (λ (r : Process). r.control) (sym q_is)
+    same_control = ap (λ (r : Process). r.control) before_is ∙ still.control
 
     same_progress : f.before.progress ≡ q.progress
-    same_progress = ap (λ (r : Process). r.progress) before_is ∙ still.progress ∙ ap (λ (r : Process). r.progress) (sym q_is)
+    same_progress = ap (λ (r : Process). r.progress) before_is ∙ still.progress
 
-    walks : walk_at q.control.registers o q.progress ≡ Some f.fed.walk
-    walks = ap (λ (g : Control). walk_at g.registers o q.progress) (sym same_control)
-        ∙ ap (λ (r : Progress). walk_at f.before.control.registers o r) (sym same_progress) ∙ f.fed.walks
-
-    feeds : Feeds q.control line f.fed.walk value r1 f.fed.onward
-    feeds = subst (λ (g : Control). Feeds g line f.fed.walk value r1 f.fed.onward) same_control f.fed.feeds
+    takes : Takes q.control line q.progress e desc f.seen.work
+    takes = subst (λ (g : Control). Takes g line q.progress e desc f.seen.work) same_control
+        (subst (λ (r : Progress). Takes f.before.control line r e desc f.seen.work) same_progress f.seen.takes)
 
     own_operand : (seen : List Judged) → operand_of line ≡ None → seen ≡ []
     own_operand seen none = let same = own in absurd (cc)
 
-    leads : (seen : List Judged) → IsPlaced q.control line seen q.progress → IsOnward q.control line (seen ++ j ∷ []) f.fed.onward
-    leads seen placed =
-        feeds.leads seen j read.writer read.stamp (walked q.control line o q.progress f.fed.walk seen own walks placed) read.is (sym r1_is)
+    setting : Setting
+    setting = record { process = 0; journal = []; full = false; descriptor = λ other. desc }
 
-    by_onward : (onward : Onward) → Goes f.before (Core (Seen looked.element)) onward f.after stepped
-        → ((seen : List Judged) → IsPlaced q.control line seen q.progress → IsOnward q.control line (seen ++ j ∷ []) onward)
-        → IsGoodOnward q.control.registers onward → IsCloser (9 - length f.fed.walk.chain) onward
+    stands : AsksFor q.control.registers o q.progress (First (way.Word place)) → (seen : List Judged) → IsPlaced q.control line seen q.progress
+        → StandsAt q.control line (Attempt (seen ++ j ∷ [])) f.seen.work
+    stands asks seen placed =
+        takes.taken setting refl (Attempt seen) (Attempt (seen ++ j ∷ [])) (placed.0, walker line q.progress (walks line o own)) (inl (record {
+          asked = looks place;
+          next = word_asks q.control line o q.progress place own (led_to q.control.registers o q.progress place asks) seen placed;
+          right = l.judged;
+          leads = refl;
+        }))
+
+    by_work : (work : LineAtWork) → Goes f.before (Core (Seen e)) work f.after stepped
+        → ((seen : List Judged) → IsPlaced q.control line seen q.progress → StandsAt q.control line (Attempt (seen ++ j ∷ [])) work)
+        → IsGoodWork q.control work → IsNearer (works.At q.progress) work
         → IsAtLine (world_in x s whole cells processes) p line → IsUnfilled (world_in x s whole cells processes) p
         → AsksFor q.control.registers o q.progress (First (way.Word place))
         → IsKept x s whole room cells processes' × HasGone (world_in x s whole cells processes) p stepped (world_in x s whole cells processes')
-    by_onward (More progress) g on good closer a idle asks =
+    by_work works.Nowhere g on good nearer a idle asks = absurd g
+    by_work (works.At progress) g on good nearer a idle asks =
         let led = led_to q.control.registers o q.progress place asks in
-        let fewer = fewer_steps q.control.registers o q.progress f.fed.walk walks in
-        let moves = look_goes x s whole room cells processes middle processes' p i place.segno point line q (looks place) j progress k at a idle here (no_request line o own)
+        let moves = look_goes x s whole room cells processes middle processes' p i place.segno point line q (looks place) j progress k here a idle still.at (no_request line o own)
         (λ seen placed. word_asks q.control line o q.progress place own led seen placed)
         l.judged (record { on = on_desc; segno_is = l.segno; at_end = at_end; point_is = l.point_is }) (l.access k.wide)
-        (λ seen placed. (on seen placed, own_operand (seen ++ j ∷ []))) good (omega (arith, fewer, closer)) still
+        (λ seen placed. ((on seen placed).0, own_operand (seen ++ j ∷ []))) good nearer still
         (record {
           before = f.before;
           at = f.at;
@@ -418,13 +436,13 @@ fed_done x s whole room cells processes middle processes' p i point value r1 lin
           set = f.set;
         }) in
         (moves.0, subst (λ (r : Stepped). HasGone (world_in x s whole cells processes) p r (world_in x s whole cells processes')) (sym g.0) moves.1)
-    by_onward (End ends after) g on good closer a idle asks =
+    by_work (works.Ended end) g on good nearer a idle asks =
         let led = led_to q.control.registers o q.progress place asks in
-        let done = refer_goes x s whole room cells cells processes middle processes' p i place.segno point line q (looks place) j ends (keeping after) k at a idle here (no_request line o own)
+        let done = refer_goes x s whole room cells cells processes middle processes' p i place.segno point line q (looks place) j end.ends end.after k here a idle still.at (no_request line o own)
         (λ seen placed. word_asks q.control line o q.progress place own led seen placed)
         l.judged (record { on = on_desc; segno_is = l.segno; at_end = at_end; point_is = l.point_is }) k.wide (l.access k.wide)
-        (λ seen placed. memory_next q.control line o (seen ++ j ∷ []) own ∙ on seen placed)
-        (record { registers = good; gates = (k.good i q here).packable.gates }) still
+        (λ seen placed. on seen placed)
+        good.packable still
         (record {
           before = f.before;
           at = f.at;
@@ -442,9 +460,9 @@ fed_done x s whole room cells processes middle processes' p i point value r1 lin
         → IsAsking (world_in x s whole cells processes) p o (First (way.Word place))
         → IsKept x s whole room cells processes' × HasGone (world_in x s whole cells processes) p stepped (world_in x s whole cells processes')
     goes a idle c =
-        let seat : c.seat ≡ seat_in q = seat_is x s whole cells processes p i c.seat q at c.seated here in
-        by_onward f.fed.onward f.fed.goes leads feeds.good feeds.closer a idle
-        (subst (λ (seat : Seat). AsksFor seat.control.registers o seat.progress (First (way.Word place))) seat c.asks)
+        let seat : c.seat ≡ seat_in q = seat_is x s whole cells processes p i c.seat q here c.seated still.at in
+        let asks = subst (λ (seat : Seat). AsksFor seat.control.registers o seat.progress (First (way.Word place))) seat c.asks in
+        by_work f.seen.work f.seen.goes (stands asks) takes.good takes.nearer a idle asks
 
 -- what a call asks, as a caller sees it
 pub seen_within : (x : Outline) (s : Supervised) (whole : List (List Step)) (cells : List Contents) (processes : List Process) (p i : ℕ) (line : Line) (w : World)

@@ -10,10 +10,9 @@ use Rattle.mx_core.specs.declared.elements.Event.TheVariants.{Seen}
 use Rattle.mx_core.specs.declared.elements.Outcome.TheVariants.{Read, Written}
 use Rattle.mx_sdw.specs.Descriptors.{Descriptor}
 use Rattle.mx_transcript.specs.Access.{descriptor_of}
-use Rattle.mx_transcript.specs.Asking.{next, awaits, first_due, replied, answered, result_of}
+use Rattle.mx_transcript.specs.Asking.{next, first_due, answered, result_of}
 use Rattle.mx_transcript.specs.Courses.{Course, Attempt, Answer, Judged, seen_in}
 use Rattle.mx_transcript.specs.Elements.{IsJudged}
-use Rattle.mx_transcript.specs.Filling.{links_of, section_words, snapped}
 use Rattle.mx_transcript.specs.Lines.{IsEnd}
 use Rattle.mx_transcript.specs.Next.{Next, Reference, Asks, Calls, Ends}
 use Rattle.mx_transcript.specs.Scripts.{lines_of}
@@ -22,10 +21,8 @@ use Rattle.mx_transcript.specs.declared.transcripts.Event2.{Event2}
 use Rattle.mx_transcript.specs.declared.transcripts.Event2.TheVariants.{Core, Entry}
 use Rattle.mx_transcript.specs.declared.transcripts.Result2.{Result2}
 use Rattle.mx_transcript.specs.declared.transcripts.Result2.TheVariants as result
-use Rattle.mx_request.specs.Sections.{section_in}
 use Rattle.mx_request.specs.declared.requests.Request.{Request}
-use Rattle.mx_request.specs.declared.replies.Reply.{Reply}
-use Rattle.mx_request.specs.declared.requests.Request.TheVariants.{Block, Resume}
+use Rattle.mx_request.specs.declared.requests.Request.TheVariants.{Block, Logout}
 use Rattle.mx_script.specs.Sessions.{Outline, limit_of}
 use Rattle.mx_script.specs.declared.lines.Line.{Line}
 use Rattle.mx_script.specs.declared.lines.Line.TheVariants as lines
@@ -48,7 +45,8 @@ use Rattle.mx_line.proofs.SeatLaws.{set_here, set_there, set_length, left_more}
 use Rattle.mx_line.specs.Access.{IsAccess, stored}
 use Rattle.mx_line.specs.Operands.{IsPlaced}
 use Rattle.mx_line.specs.Fills.{IsNoRequest, IsFilling, write_of}
-use Rattle.mx_bench.specs.Running.{IsAnswered, IsCome, IsAtWork, IsBefore, left_of, IsRunning}
+use Rattle.mx_line.specs.AtWork.{IsAnswered}
+use Rattle.mx_bench.specs.Running.{IsCome, IsAtWork, IsBefore, left_of, IsRunning}
 use Rattle.mx_line.specs.Seats.{Seat}
 use Rattle.mx_bench.specs.Worlds.{World}
 use Rattle.mx_line.specs.Cells.{held, held_in, contents_at, always}
@@ -97,6 +95,10 @@ put_other p v views u n = by_test (u == p) refl
     by_test true e = absurd (n (eqb-true u p e))
     by_test false e = rw e refl
 
+-- a line that begins has nothing to store
+pub begun_free : (fill : Fill) → Before ≡ Filling fill → ⊥
+begun_free fill e = cc
+
 -- the line at work ends
 ended : (x : Outline) (setup : List journaled.Entry) (p : ℕ) (seat : Seat) (number : ℕ) (line : Line) (left : List (ℕ × Line))
     (events : List Event2) (course : Course) (ends : Result2) (after : Control) (v : View)
@@ -110,6 +112,7 @@ ended x setup p seat number line (other ∷ left) events course ends after v end
   benched = line_step_law x setup p seat.steps number other.0 line other.1 left seat.control after (seat.events ++ events) course ends v
       (λ segno. limit_of x) end r;
   come = (refl, λ none. refl);
+  stays = λ fill e out. begun_free fill e;
 }
 
 -- at the line that is left
@@ -403,9 +406,10 @@ pub entered_law : (w : World) (i : ℕ) (seat : Seat) (number : ℕ) (line : Lin
     (progress : Progress)
     → IsRunning w → IsAt w i seat number line left
     → entry.process ≡ suc i → Calling seat line entry.ring entry.request → IsAnswered seat.control line entry [] progress
+    → ((fill : Fill) → progress ≡ Filling fill → line ≡ lines.Ask Logout → ⊥)
     → length w.journal < limit_of w.session → IsRightEntry (replay (opening_of w.session) w.journal) entry
     → IsRunning (stepped w i (w.journal ++ entry ∷ []) w.cells (moved seat (Entry (length w.journal + 1)) progress))
-entered_law w i seat number line left entry progress r a maker asks come below right =
+entered_law w i seat number line left entry progress r a maker asks come stays below right =
     let p : ℕ = suc i in
     let t = called_at w r i seat number line left entry a maker asks below right in
     let next_seat : Seat = moved seat (Entry (length w.journal + 1)) progress in
@@ -413,6 +417,7 @@ entered_law w i seat number line left entry progress r a maker asks come below r
       course = Answer entry [];
       benched = t.benched;
       come = come;
+      stays = stays;
     } in
     record {
       setup = r.setup;
@@ -533,6 +538,7 @@ pub record IsStoring (x : Outline) (setup : List journaled.Entry) (p : ℕ) (sea
   pub filled : List Judged
   pub benched : IsBenched x setup p seat.steps number line left seat.control seat.events (Answer entry filled) v
   pub is : IsFilling seat.control line entry filled it
+  pub stays : line ≡ lines.Ask Logout → ⊥
 
 pub storing_now : (x : Outline) (setup : List journaled.Entry) (p : ℕ) (seat : Seat) (number : ℕ) (line : Line) (left : List (ℕ × Line))
     (it : Fill) (v : View) → seat.progress ≡ Filling it → IsAtWork x setup p seat number line left v
@@ -547,6 +553,7 @@ storing_now x setup p seat number line left it v at now = by_course now.course n
       filled = filled;
       benched = benched;
       is = subst (IsAnswered seat.control line entry filled) at come;
+      stays = now.stays it at;
     }
 
 filled_to : (w : World) (r : IsRunning w) (i : ℕ) (seat : Seat) (number : ℕ) (line : Line) (left : List (ℕ × Line)) (it : Fill)
@@ -586,6 +593,7 @@ fill_law w i seat number line left it j value cells progress r a at judged grant
       course = Answer now.entry (now.filled ++ j ∷ []);
       benched = t.benched;
       come = comes now.entry now.filled now.is;
+      stays = λ fill e out. now.stays out;
     } in
     record {
       setup = r.setup;
@@ -682,6 +690,7 @@ look_law w i seat number line left asked j cells progress r a other free asks ju
       course = Attempt (now.seen ++ j ∷ []);
       benched = t.benched;
       come = placed now.seen now.placed;
+      stays = λ fill e out. (subst (IsPlaced seat.control line (now.seen ++ j ∷ [])) e (placed now.seen now.placed)).0;
     } in
     record {
       setup = r.setup;
@@ -737,12 +746,3 @@ look_free w i seat number line left j progress r a other free placed it at =
     let now = attempting w.session r.setup (suc i) seat number line left (r.views (suc i)) other free
     (at_line w.session r.setup (suc i) seat (left_of w.session (suc i) seat) number line left (r.views (suc i)) a.at (r.each i seat a.seated)) in
     (subst (IsPlaced seat.control line (now.seen ++ j ∷ [])) at (placed now.seen now.placed)).0
-
--- what a line asks for whose process was told to wait
-pub waits_next : (g : Control) (line : Line) (entry : journaled.Entry) (filled : List Judged)
-    → IsAnswered g line entry filled Waiting → next g line (Answer entry filled) ≡ Calls g.registers.ring Resume
-waits_next g line entry filled come =
-    ap (λ (d : Option Reference). first_due d (answered g line entry.request entry.reply))
-    (ap (λ (given : Reply). slice_get (section_words (section_in given) (links_of filled) ++ snapped entry.request entry.ring given) (length filled)) come.0)
-    ∙ ap (λ (l : Line). answered g l entry.request entry.reply) come.2 ∙ ap (λ (given : Reply). replied g entry.request given) come.0
-    ∙ ap (awaits g) come.1

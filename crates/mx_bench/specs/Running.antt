@@ -1,11 +1,10 @@
 -- What is true of a bench, whatever has been stepped: all that a legal run asks, so far.
 use Rattle.std.specs.Prelude.{◌≡◌, ℕ, suc, List, [], ◌∷◌, drop, length, Some, slice_get}
 use Rattle.mx_upcall.specs.Control.{Control}
-use Rattle.mx_transcript.specs.Courses.{Course, Attempt, Answer, Judged}
+use Rattle.mx_transcript.specs.Courses.{Course, Attempt, Answer}
 use Rattle.mx_transcript.specs.Scripts.{lines_of}
 use Rattle.mx_script.specs.Sessions.{Outline}
-use Rattle.mx_request.specs.declared.replies.Reply.TheVariants as reply
-use Rattle.mx_request.specs.declared.requests.Request.TheVariants.{Block}
+use Rattle.mx_request.specs.declared.requests.Request.TheVariants.{Logout}
 use Rattle.mx_script.specs.declared.lines.Line.{Line}
 use Rattle.mx_script.specs.declared.lines.Line.TheVariants.{Ask}
 use Rattle.mx_state.specs.declared.journal.Entry as journaled
@@ -14,23 +13,14 @@ use Rattle.mx_ties.specs.BenchGoing.{IsBenched}
 use Rattle.mx_ties.specs.Closed.{followed}
 use Rattle.mx_ties.specs.Ran.{HasRun, IsSetUp}
 use Rattle.mx_ties.specs.Views.{Marked, View}
-use Rattle.mx_line.specs.Fills.{IsFilling, IsAnew}
+use Rattle.mx_line.specs.AtWork.{IsAnswered}
 use Rattle.mx_line.specs.Operands.{IsPlaced}
 use Rattle.mx_line.specs.Seats.{Seat}
 use Rattle.mx_bench.specs.Worlds.{World}
 use Rattle.mx_line.specs.Cells.{held_in, always}
+use Rattle.mx_line.specs.declared.fills.Fill.{Fill}
 use Rattle.mx_line.specs.declared.operands.Progress.{Progress}
-use Rattle.mx_line.specs.declared.operands.Progress.TheVariants.{Before, Walking, AtLink, Waiting, Filling}
-
--- since its last call a line has come so far: it is a `block`, and its process was told to wait; or a write is next that
--- the reply asks for; or the line begins anew
-abbrev pub IsAnswered : Control → Line → journaled.Entry → List Judged → Progress → Type 0
-IsAnswered g l entry filled Waiting =
-    (entry.reply ≡ reply.Waiting) × (entry.request ≡ Block) × (l ≡ Ask Block)
-IsAnswered g l entry filled (Filling fill) = IsFilling g l entry filled fill
-IsAnswered g l entry filled Before = IsAnew g l entry filled
-IsAnswered g l entry filled (Walking walk) = ⊥
-IsAnswered g l entry filled (AtLink place) = ⊥
+use Rattle.mx_line.specs.declared.operands.Progress.TheVariants.{Filling}
 
 -- A line has done this, and has come so far: its attempt has seen what its operand asked for, or it has made a call.
 abbrev pub IsCome : Control → Line → Course → Progress → Type 0
@@ -43,6 +33,8 @@ pub record IsAtWork (x : Outline) (setup : List journaled.Entry) (p : ℕ) (seat
   pub course : Course
   pub benched : IsBenched x setup p seat.steps number line left seat.control seat.events course v
   pub come : IsCome seat.control line course seat.progress
+  -- a `logout` stores nothing
+  pub stays : (fill : Fill) → seat.progress ≡ Filling fill → line ≡ Ask Logout → ⊥
 
 -- before these lines: the first of them is at work; where none is left, the process has run
 abbrev pub IsBefore : Outline → List journaled.Entry → ℕ → Seat → List (ℕ × Line) → View → Type 0

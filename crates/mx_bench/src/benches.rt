@@ -464,26 +464,11 @@ impl<'a> Bench<'a> {
         ensures err { OnErr result (self.new ≡ self.old) }
     {
         let i = usize::from(p) - 1;
-        let registers = self.processes.registers(i);
         self.processes.reserve(i)?;
         let desc = self.supervisor.descriptor(p, place.segno);
         let point = self.supervisor.length();
-        let looked = look(&self.cells, &desc, &place, point);
-        let event = Event2::Core(Event::Seen(looked.element));
-        match looked.came {
-            Ok(value) => {
-                let r1 = desc.brackets().r1();
-                Ok(
-                    self.processes
-                        .feed(i, line, operand, place, value, r1, event),
-                )
-            }
-            Err(denial) => {
-                let ends = Result2::Denied(denial);
-                self.processes.end_line(i, Some(event), ends, &registers);
-                Ok(Stepped::LineDone)
-            }
-        }
+        let element = look(&self.cells, &desc, &place, point);
+        Ok(self.processes.seen(i, line, &element, &desc))
     }
 
     // A write that the reply to the process's last call asks for is made, in ring 0.
@@ -516,6 +501,7 @@ impl<'a> Bench<'a> {
                     .end_line(i, Some(event), Result2::Done, &registers);
                 Ok(Stepped::LineDone)
             }
+            Filled::Nowhere => unreachable!(),
         }
     }
 

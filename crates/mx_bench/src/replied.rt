@@ -10,7 +10,7 @@ ghost use Rattle.mx_sup.specs.Supervised.{state_of};
 ghost use Rattle.mx_bench.specs.Replies.{IsReplied, IsReplyTo};
 ghost use Rattle.mx_line.specs.Fills.{sized};
 
-use mx_line::{Fill, first_fill, section_in, snap_of};
+use mx_line::{Fill, behind_of, first_fill, section_in, snap_of};
 use mx_request::{Reply, Request};
 use mx_sdw::Ring;
 use mx_sup::Supervisor;
@@ -62,7 +62,7 @@ fn after_reply(
         return Replied::Wait;
     }
     let section = sized(supervisor, p, section_in(reply));
-    match first_fill(section, snap_of(request, ring, reply)) {
+    match first_fill(section, behind_of(snap_of(request, ring, reply))) {
         Some(fill) => Replied::Store(fill),
         None => Replied::End(Result2::of(reply)),
     }

@@ -6,3 +6,6 @@ pub mod PlaceLaws
 pub mod MadeLaws
 pub mod OperandLaws
 pub mod ProcessLaws
+pub mod StandingLaws
+pub mod ReplyLaws
+pub mod TakenLaws

@@ -37,7 +37,7 @@ use Rattle.mx_sdw.specs.declared.denials.Denial.{Denial}
 use Rattle.mx_sdw.specs.declared.denials.Denial.TheVariants.{NotPointer, IndirectLimit}
 use Rattle.mx_line.specs.Making.{looks}
 use Rattle.mx_line.specs.Fills.{IsNoRequest}
-use Rattle.mx_line.specs.Operands.{operand_of, walk_at, IsPlaced, asked_by, asked_at, AsksFor, IsLed, steps_in}
+use Rattle.mx_line.specs.Operands.{operand_of, walk_at, IsPlaced, asked_by, asked_at, AsksFor, IsLed}
 use Rattle.mx_line.specs.declared.operands.Asked.TheVariants.{Target, First}
 use Rattle.mx_line.specs.declared.operands.Place.{Place}
 use Rattle.mx_line.specs.declared.operands.Progress.{Progress}
@@ -182,16 +182,6 @@ pub word_asks : (g : Control) (l : Line) (o : Operand) (progress : Progress) (pl
 word_asks g l o progress place own led seen placed =
     walk_next g l o led.walk seen own (walked g l o progress led.walk seen own led.at placed) ∙ ap (wants g l) led.wants
 
--- which is denied
-pub word_denied : (g : Control) (l : Line) (o : Operand) (progress : Progress) (place : Place) (denial : Denial) → operand_of l ≡ Some o
-    → IsLed g.registers o progress place → (j : Judged) → j.element.outcome ≡ outcome.Denied denial
-    → (seen : List Judged) → IsPlaced g l seen progress → next g l (Attempt (seen ++ j ∷ [])) ≡ Ends (result.Denied denial) g
-word_denied g l o progress place denial own led j came seen placed =
-    walk_after g l o led.walk seen j (want.Word place.segno place.word place.ring) own
-    (walked g l o progress led.walk seen own led.at placed) led.wants
-    ∙ ap (λ (c : Outcome). after_word g led.walk place.segno place.word place.ring c
-    (λ value. along g l (read_on led.walk (parts_of value) j.desc.brackets.r1) [])) came
-
 -- or has its link snapped
 pub link_asks : (g : Control) (l : Line) (o : Operand) (progress : Progress) (place : Place) → operand_of l ≡ Some o
     → AsksFor g.registers o progress (First (way.Link place)) → (seen : List Judged) → IsPlaced g l seen progress
@@ -217,18 +207,6 @@ link_asks g l o progress place own asks seen placed = by_walk (walk_at g.registe
         → next g l (Attempt seen) ≡ Calls place.ring (Link place.segno place.word)
     by_walk None e a = memory_next g l o seen own ∙ none progress placed a
     by_walk (Some walk) e a = absurd (no_link (wanted walk) a)
-
--- a word read is a step less
-pub fewer_steps : (g : Registers) (o : Operand) (progress : Progress) (walk : chains.Operand) → walk_at g o progress ≡ Some walk
-    → 9 - length walk.chain ≤ steps_in progress
-fewer_steps g o Before walk e = omega arith
-fewer_steps g o (Walking there) walk e =
-    let same : there ≡ walk = cc in
-    let chain : length there.chain ≡ length walk.chain = ap (λ (w : chains.Operand). length w.chain) same in
-    omega (arith, chain)
-fewer_steps g o (AtLink place) walk e = absurd (cc)
-fewer_steps g o Waiting walk e = absurd (cc)
-fewer_steps g o (Filling fill) walk e = absurd (cc)
 
 -- the registers and gates after a line's own reference
 with_a : (g : Registers) (word : ℕ) → ArePackable g → ArePackable (record g { a = word })

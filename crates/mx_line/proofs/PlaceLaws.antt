@@ -28,11 +28,13 @@ use Rattle.mx_state.specs.Table.{descriptor}
 use Rattle.mx_state.specs.Told.{IsSection, HasLinkWord, lot_in, lot_by}
 use Rattle.mx_state.specs.declared.states.ProcessState.{ProcessState}
 use Rattle.mx_line.proofs.FillLaws.{Bounds}
-use Rattle.mx_line.specs.Fills.{AsksToFill, HasPlace, HasSnapWord, IsShort, after_fill, behind, first_fill, sized, snap_writes, write_of}
+use Rattle.mx_line.specs.Fills.{AsksToFill, HasPlace, HasSnapWord, IsShort, after_fill, after_words, behind_of, first_fill, sized, snap_writes, write_of}
+use Rattle.mx_line.specs.declared.fills.Behind.{Behind}
+use Rattle.mx_line.specs.declared.fills.Behind.TheVariants as behinds
 use Rattle.mx_line.specs.declared.fills.Fill.{Fill}
 use Rattle.mx_line.specs.declared.fills.Fill.TheVariants.{Words, Pointer}
 use Rattle.mx_line.specs.declared.fills.Filled.{Filled}
-use Rattle.mx_line.specs.declared.fills.Filled.TheVariants.{More, Anew, Done}
+use Rattle.mx_line.specs.declared.fills.Filled.TheVariants.{More, Anew, Done, Nowhere}
 use Rattle.mx_line.specs.declared.fills.Snap.{Snap}
 use Rattle.mx_transcript.specs.Courses.{Judged}
 
@@ -69,7 +71,7 @@ grantable s p (Words words) place short =
       words = words.words;
       is = d.2;
       within = short.0;
-      bounds = λ j e. ap (λ (d : Descriptor). d.bound) (e ∙ d.2);
+      bounds = λ j e first. ap (λ (d : Descriptor). d.bound) (e ∙ d.2);
     }
 grantable s p (Pointer snap) place short =
     let d = section_desc_law s p snap.segno place.words place.section in
@@ -131,12 +133,13 @@ word_stays s s' p segno word e has = record {
 place_stays : (s s' : Plain) (p : ℕ) (it : Fill) → process_at s'.processes p ≡ process_at s.processes p → HasPlace s p it → HasPlace s' p it
 place_stays s s' p (Words words) e place = (
   section_stays (process_at s'.processes p) (process_at s.processes p) words.section words.words e place.0,
-  snap_stays words.snap place.1,
+  snap_stays words.behind place.1,
 )
   where
-    snap_stays : (snap : Option Snap) → HasSnapWord s p snap → HasSnapWord s' p snap
-    snap_stays None has = tt
-    snap_stays (Some snap) has = word_stays s s' p snap.segno snap.word e has
+    snap_stays : (after : Behind) → HasSnapWord s p after → HasSnapWord s' p after
+    snap_stays behinds.Done has = tt
+    snap_stays behinds.Nowhere has = has
+    snap_stays (behinds.Pointer snap) has = word_stays s s' p snap.segno snap.word e has
 place_stays s s' p (Pointer snap) e place = word_stays s s' p snap.segno snap.word e place
 
 pub others_place : (s : Plain) (p q ring : ℕ) (request : Request) (it : Fill) → q ≢ p → HasPlace s p it
@@ -201,12 +204,12 @@ first_place s p ring request given it e asks = by_parts (section_in given) refl 
     no_fill : {A : Type 0} → Some it ≡ None → A
     no_fill e = absurd cc
 
-    of_snap : (snap : Option Snap) → snap_writes snap ≡ snapped request ring given → HasSnapWord after p snap
+    of_snap : (snap : Option Snap) → snap_writes snap ≡ snapped request ring given → HasSnapWord after p (behind_of snap)
     of_snap None writes = tt
     of_snap (Some snap) writes = snap_place s p ring request given snap e writes
 
     by_parts : (section : Option ℕ) → section_in given ≡ section → (snap : Option Snap) → snap_writes snap ≡ snapped request ring given
-        → Some it ≡ first_fill (sized after p section) snap → HasPlace after p it × IsShort it
+        → Some it ≡ first_fill (sized after p section) (behind_of snap) → HasPlace after p it × IsShort it
     by_parts None none None writes is = no_fill is
     by_parts None none (Some snap) writes is =
         subst (λ (f : Fill). HasPlace after p f × IsShort f) (sym (one it (Pointer snap) is)) (of_snap (Some snap) writes, tt)
@@ -216,7 +219,7 @@ first_place s p ring request given it e asks = by_parts (section_in given) refl 
         let bound : (descriptor after p n).bound ≡ has.words = ap (λ (d : Descriptor). d.bound) d.2 in
         let range = segment_range (descriptor after p n) d.0 d.1 has.words d.2 (asks.admissible n told) in
         subst (λ (f : Fill). HasPlace after p f × IsShort f)
-        (sym (one it (Words (record { section = n; words = (descriptor after p n).bound; next = 0; snap = snap })) is)) (
+        (sym (one it (Words (record { section = n; words = (descriptor after p n).bound; next = 0; behind = behind_of snap })) is)) (
           (subst (IsSection (lot_in after p n)) (sym bound) has.section, of_snap snap writes),
           (range.0, range.1),
         )
@@ -226,16 +229,18 @@ abbrev pub HasPlaceAfter : Plain → ℕ → Filled → Type 0
 HasPlaceAfter s p (More it) = HasPlace s p it
 HasPlaceAfter s p Anew = Unit {0}
 HasPlaceAfter s p Done = Unit {0}
+HasPlaceAfter s p Nowhere = ⊥
 
 pub place_after : (s : Plain) (p : ℕ) (it : Fill) → HasPlace s p it → HasPlaceAfter s p (after_fill it)
 place_after s p (Words words) place = by_test (nat_lt (words.next + 1) words.words)
   where
-    by_snap : (snap : Option Snap) → HasSnapWord s p snap → HasPlaceAfter s p (behind snap)
-    by_snap None has = tt
-    by_snap (Some snap) has = has
+    by_behind : (after : Behind) → HasSnapWord s p after → HasPlaceAfter s p (after_words after)
+    by_behind behinds.Done has = tt
+    by_behind behinds.Nowhere has = has
+    by_behind (behinds.Pointer snap) has = has
 
     by_test : (test : Bool)
-        → HasPlaceAfter s p (if test then More (Words (record words { next = words.next + 1 })) else behind words.snap)
+        → HasPlaceAfter s p (if test then More (Words (record words { next = words.next + 1 })) else after_words words.behind)
     by_test true = (place.0, place.1)
-    by_test false = by_snap words.snap place.1
+    by_test false = by_behind words.behind place.1
 place_after s p (Pointer snap) place = tt

@@ -12,20 +12,24 @@ use Rattle.mx_transcript.specs.Openings.{opening_control}
 use Rattle.mx_transcript.specs.Recorded.{Recorded, IsStill as IsStillRecorded}
 use Rattle.mx_transcript.specs.Scripts.{first_line}
 use Rattle.mx_transcript.specs.declared.transcripts.Event2.{Event2}
+use Rattle.mx_transcript.specs.declared.transcripts.Event2.TheVariants.{Core}
 use Rattle.mx_transcript.specs.declared.transcripts.Result2.{Result2}
 use Rattle.mx_script.specs.Sessions.{Outline}
 use Rattle.mx_script.specs.declared.lines.Line.{Line}
 use Rattle.mx_script.specs.declared.lines.Operand.{Operand}
+use Rattle.mx_core.specs.declared.elements.Element.{Element}
+use Rattle.mx_core.specs.declared.elements.Event.TheVariants.{Seen}
+use Rattle.mx_sdw.specs.Descriptors.{Descriptor}
 use Rattle.mx_sdw.specs.declared.denials.Denial.{Denial}
 use Rattle.mx_line.proofs.SeatLaws.{set_here}
-use Rattle.mx_line.specs.Operands.{walk_at, IsGoodProgress, AsksFor, IsGoodAsked, IsLed}
-use Rattle.mx_line.specs.Processes.{IsFresh, AreFreshUpTo, IsStill, HasRoom, IsCountable, IsGoodAt, IsLedAt, IsFed, Feeds, Goes, HasAsked, HasFed, HasEnded, HasGoneOn, HasProgress, ReadsOperand, StoresNothing, HasFill, HasRegisters, HasControl, HasGateRoom, HasLines, HasNumber, HasLastDenial, fill_of}
+use Rattle.mx_line.specs.AtWork.{IsMet}
+use Rattle.mx_line.specs.Operands.{IsGoodProgress, AsksFor, IsGoodAsked}
+use Rattle.mx_line.specs.Processes.{IsFresh, AreFreshUpTo, IsStill, HasRoom, IsCountable, IsGoodAt, IsMetAt, IsSeen, Takes, Goes, HasAsked, HasMet, HasEnded, HasGoneOn, HasProgress, ReadsOperand, StoresNothing, HasFill, HasRegisters, HasControl, HasGateRoom, HasLines, HasNumber, HasLastDenial, fill_of}
 use Rattle.mx_line.specs.declared.steps.Stepped.{Stepped}
 use Rattle.mx_line.specs.declared.fills.Fill.{Fill}
 use Rattle.mx_line.specs.declared.operands.Asked.{Asked}
-use Rattle.mx_effring.specs.Chains as chains
-use Rattle.mx_line.specs.declared.operands.Onward.{Onward}
-use Rattle.mx_line.specs.declared.operands.Place.{Place}
+use Rattle.mx_line.specs.declared.at_work.LineAtWork.{LineAtWork}
+use Rattle.mx_line.specs.declared.at_work.LineAtWork.TheVariants as at
 use Rattle.mx_line.specs.declared.operands.Progress.{Progress}
 use Rattle.mx_line.specs.declared.operands.Progress.TheVariants.{Before, Waiting, Filling}
 use Rattle.mx_line.specs.declared.processes.Process.{Process}
@@ -102,16 +106,21 @@ pub ended_keeping : (processes new : List Process) (i : ℕ) (events : List Even
 ended_keeping processes new i events ends change registers e is = subst (λ (c : Change). HasEnded processes i events ends c new) e is
 
 -- it was fed, where this was taken from it
-pub fed_so : (before after : Process) (middle : Control) (l : Line) (o : Operand) (walk : chains.Operand) (value r1 : ℕ) (event : Event2)
-    (onward : Onward) (stepped : Stepped) → walk_at before.control.registers o before.progress ≡ Some walk → middle ≡ before.control
-    → Feeds middle l walk value r1 onward → Goes before event onward after stepped → IsFed before l o value r1 event after stepped
-fed_so before after middle l o walk value r1 event onward stepped walks same feeds goes = record {
-  walk = walk;
-  walks = walks;
-  onward = onward;
-  feeds = subst (λ (g : Control). Feeds g l walk value r1 onward) same feeds;
+pub seen_so : (before after : Process) (middle : Control) (progress : Progress) (l : Line) (e : Element) (d : Descriptor) (work : LineAtWork)
+    (stepped : Stepped) → middle ≡ before.control → progress ≡ before.progress → Takes middle l progress e d work
+    → Goes before (Core (Seen e)) work after stepped → IsSeen before l e d after stepped
+seen_so before after middle progress l e d work stepped same come takes goes = record {
+  work = work;
+  takes = subst (λ (g : Control). Takes g l before.progress e d work) same
+      (subst (λ (r : Progress). Takes middle l r e d work) come takes);
   goes = goes;
 }
+
+pub met_so : (before : Process) (middle : Control) (progress : Progress) (l : Line) (e : Element) (d : Descriptor) → middle ≡ before.control
+    → progress ≡ before.progress → IsMet before.control l (at.At before.progress) e d → IsMet middle l (at.At progress) e d
+met_so before middle progress l e d same come met =
+    subst (λ (g : Control). IsMet g l (at.At progress) e d) (sym same)
+    (subst (λ (r : Progress). IsMet before.control l (at.At r) e d) (sym come) met)
 
 pub steps_alike : (first first' : ℕ) (recorded recorded' : Recorded) (event : Event2) (ends : Result2) → first ≡ first' → recorded ≡ recorded'
     → recorded.steps ++ (first + length recorded.steps, recorded.events ++ event ∷ [], ends) ∷ []
@@ -186,7 +195,7 @@ pub number_of_one : (processes : List Process) (i n : ℕ) (q : Process) → i <
     → n ≡ (slice_index_or processes i q).first + length (slice_index_or processes i q).recording.steps → HasNumber processes i n
 number_of_one processes i n q h e = record { process = slice_index_or processes i q; at = get_at processes i q h; number = e }
 
--- what is good, asked and led of the one that is read
+-- what is good, asked and met of the one that is read
 pub good_of : (processes : List Process) (i : ℕ) (q : Process) → i < length processes → IsGoodAt processes i
     → IsPackableControl (slice_index_or processes i q).control
     × IsGoodProgress (slice_index_or processes i q).control.registers (slice_index_or processes i q).progress
@@ -196,10 +205,11 @@ good_of processes i q h good =
       subst (λ (p : Process). IsGoodProgress p.control.registers p.progress) same good.progress,
     )
 
-pub led_of : (processes : List Process) (i : ℕ) (q : Process) (o : Operand) (place : Place) → i < length processes → IsLedAt processes i o place
-    → IsLed (slice_index_or processes i q).control.registers o (slice_index_or processes i q).progress place
-led_of processes i q o place h led =
-    subst (λ (p : Process). IsLed p.control.registers o p.progress place) (same_at processes i q led.process h led.at) led.led
+pub met_of : (processes : List Process) (i : ℕ) (q : Process) (l : Line) (e : Element) (d : Descriptor) → i < length processes
+    → IsMetAt processes i l e d
+    → IsMet (slice_index_or processes i q).control l (at.At (slice_index_or processes i q).progress) e d
+met_of processes i q l e d h met =
+    subst (λ (p : Process). IsMet p.control l (at.At p.progress) e d) (same_at processes i q met.process h met.at) met.met
 
 pub has_asked : (processes : List Process) (i : ℕ) (q : Process) (o : Operand) (asked : Asked) → i < length processes
     → AsksFor (slice_index_or processes i q).control.registers o (slice_index_or processes i q).progress asked
@@ -211,14 +221,14 @@ has_asked processes i q o asked h asks good = record {
   good = good;
 }
 
-pub has_fed : (processes : List Process) (i : ℕ) (q p : Process) (l : Line) (o : Operand) (value r1 : ℕ) (event : Event2) (stepped : Stepped)
-    → i < length processes → IsFed (slice_index_or processes i q) l o value r1 event p stepped
-    → HasFed processes i l o value r1 event (slice_set processes i p) stepped
-has_fed processes i q p l o value r1 event stepped h fed = record {
+pub has_met : (processes : List Process) (i : ℕ) (q p : Process) (l : Line) (e : Element) (d : Descriptor) (stepped : Stepped)
+    → i < length processes → IsSeen (slice_index_or processes i q) l e d p stepped
+    → HasMet processes i l e d (slice_set processes i p) stepped
+has_met processes i q p l e d stepped h seen = record {
   before = slice_index_or processes i q;
   at = get_at processes i q h;
   after = p;
-  fed = fed;
+  seen = seen;
   set = refl;
 }
 

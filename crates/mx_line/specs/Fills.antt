@@ -1,17 +1,16 @@
 -- Helpers: the writes in ring 0 that a reply asks for, as a process at work keeps them: what is stored next, what
 -- follows it, and what of the line's rule this stands for.
-use Rattle.std.specs.Prelude.{◌≡◌, ℕ, ◌+◌, ◌-◌, ◌<◌, ◌≤◌, nat_lt, List, [], ◌∷◌, ◌++◌, length, Option, Some, None, if◌then◌else◌}
+use Rattle.std.specs.Prelude.{◌≡◌, ℕ, ◌+◌, ◌-◌, ◌<◌, ◌≤◌, ◌==◌, nat_lt, List, [], ◌∷◌, ◌++◌, length, Option, Some, None, if◌then◌else◌}
 use Rattle.mx_upcall.specs.Control.{Control}
 use Rattle.mx_transcript.specs.Asking.{answered, attempts, result_of}
 use Rattle.mx_transcript.specs.Courses.{Judged}
 use Rattle.mx_transcript.specs.Filling.{fill, section_words, snapped, links_of, due}
-use Rattle.mx_transcript.specs.Next.{Reference, Ends}
+use Rattle.mx_transcript.specs.Next.{Reference, Ends, Nowhere}
 use Rattle.mx_transcript.specs.declared.transcripts.Result2.TheVariants as result
 use Rattle.mx_ptr.specs.Pointers.{link_word}
 use Rattle.mx_request.specs.Sections.{section_in}
 use Rattle.mx_request.specs.declared.replies.Reply.{Reply}
 use Rattle.mx_request.specs.declared.requests.Request.{Request}
-use Rattle.mx_request.specs.declared.requests.Request.TheVariants.{Logout}
 use Rattle.mx_script.specs.declared.lines.Line.{Line}
 use Rattle.mx_script.specs.declared.lines.Line.TheVariants as line
 use Rattle.mx_sdw.specs.Admissible.{IsAdmissible}
@@ -19,10 +18,12 @@ use Rattle.mx_state.specs.Plain.{Plain}
 use Rattle.mx_state.specs.Table.{descriptor}
 use Rattle.mx_state.specs.Told.{IsSection, HasLinkWord, lot_in}
 use Rattle.mx_state.specs.declared.journal.Entry as journaled
+use Rattle.mx_line.specs.declared.fills.Behind.{Behind}
+use Rattle.mx_line.specs.declared.fills.Behind.TheVariants as behinds
 use Rattle.mx_line.specs.declared.fills.Fill.{Fill}
 use Rattle.mx_line.specs.declared.fills.Fill.TheVariants.{Words, Pointer}
 use Rattle.mx_line.specs.declared.fills.Filled.{Filled}
-use Rattle.mx_line.specs.declared.fills.Filled.TheVariants.{More, Anew, Done}
+use Rattle.mx_line.specs.declared.fills.Filled.TheVariants as filled
 use Rattle.mx_line.specs.declared.fills.LinkWords.{LinkWords}
 use Rattle.mx_line.specs.declared.fills.Snap.{Snap}
 
@@ -40,24 +41,37 @@ abbrev pub write_of : Fill → Reference
 write_of (Words words) = fill words.section words.next (link_word words.next)
 write_of (Pointer snap) = fill snap.segno snap.word snap.value
 
--- behind the link words of a section the pointer is stored, where there is one
-abbrev pub behind : Option Snap → Filled
-behind None = Done
-behind (Some snap) = More (Pointer snap)
+-- what follows the link words of a section
+abbrev pub after_words : Behind → Filled
+after_words (behinds.Pointer snap) = filled.More (Pointer snap)
+after_words behinds.Done = filled.Done
+after_words behinds.Nowhere = filled.Nowhere
 
 -- what follows a write
 abbrev pub after_fill : Fill → Filled
 after_fill (Words words) =
-    if nat_lt (words.next + 1) words.words then More (Words (record words { next = words.next + 1 }))
-    else behind words.snap
-after_fill (Pointer snap) = Anew
+    if nat_lt (words.next + 1) words.words then filled.More (Words (record words { next = words.next + 1 }))
+    else after_words words.behind
+after_fill (Pointer snap) = filled.Anew
 
--- the first write that a reply asks for, by the section that it tells of, with the number of its words, and the pointer
-abbrev pub first_fill : Option (ℕ × ℕ) → Option Snap → Option Fill
-first_fill (Some section) snap =
-    Some (Words (record { section = section.0; words = section.1; next = 0; snap = snap }))
-first_fill None (Some snap) = Some (Pointer snap)
-first_fill None None = None
+-- where nothing is stored behind them the line ends
+abbrev pub behind_of : Option Snap → Behind
+behind_of None = behinds.Done
+behind_of (Some snap) = behinds.Pointer snap
+
+-- a section has as many words as the bound of the descriptor on which its first was stored
+abbrev pub counted : Fill → ℕ → Fill
+counted (Words words) bound =
+    if words.next == 0 then Words (record words { words = bound }) else Words words
+counted (Pointer snap) bound = Pointer snap
+
+-- the first write that a reply asks for, by the section that it tells of, with the number of its words, and by what follows
+abbrev pub first_fill : Option (ℕ × ℕ) → Behind → Option Fill
+first_fill (Some section) after =
+    Some (Words (record { section = section.0; words = section.1; next = 0; behind = after }))
+first_fill None (behinds.Pointer snap) = Some (Pointer snap)
+first_fill None behinds.Done = None
+first_fill None behinds.Nowhere = None
 
 -- a section with the bound of its descriptor
 abbrev pub sized : Plain → ℕ → Option ℕ → Option (ℕ × ℕ)
@@ -68,7 +82,7 @@ sized s p (Some section) = Some (section, (descriptor s p section).bound)
 pub record AsksToFill (s : Plain) (p ring : ℕ) (request : Request) (given : Reply) (first : Option Fill) : Type 0 where
   pub snap : Option Snap
   pub writes : snap_writes snap ≡ snapped request ring given
-  pub is : first ≡ first_fill (sized s p (section_in given)) snap
+  pub is : first ≡ first_fill (sized s p (section_in given)) (behind_of snap)
   pub admissible : (section : ℕ) → section_in given ≡ Some section → IsAdmissible (descriptor s p section)
 
 -- After the reply to a call a line ends, but begins anew where its link was snapped.
@@ -77,14 +91,15 @@ pub record IsAnsweredBy (g : Control) (l : Line) (ring : ℕ) (request : Request
   pub anew : (write : Reference) → snapped request ring reply ≡ write ∷ []
       → IsNoRequest l × (answered g l request reply ≡ attempts g l [])
 
--- once all is stored a line whose link was snapped begins anew, and another ends, which is no `logout`
-abbrev pub Follows : Control → Line → journaled.Entry → Option Snap → Type 0
-Follows g l entry None =
-    (snapped entry.request entry.ring entry.reply ≡ []) × (l ≡ line.Ask Logout → ⊥)
-    × (answered g l entry.request entry.reply ≡ Ends result.Done g)
-Follows g l entry (Some snap) =
+-- once all is stored a line whose link was snapped begins anew, and another ends, or goes nowhere
+abbrev pub Follows : Control → Line → journaled.Entry → Behind → Type 0
+Follows g l entry (behinds.Pointer snap) =
     (snapped entry.request entry.ring entry.reply ≡ fill snap.segno snap.word snap.value ∷ [])
     × IsNoRequest l × (answered g l entry.request entry.reply ≡ attempts g l [])
+Follows g l entry behinds.Done =
+    (snapped entry.request entry.ring entry.reply ≡ []) × (answered g l entry.request entry.reply ≡ Ends result.Done g)
+Follows g l entry behinds.Nowhere =
+    (snapped entry.request entry.ring entry.reply ≡ []) × (answered g l entry.request entry.reply ≡ Nowhere)
 
 -- so many link words of a section were stored, in order
 pub record AreStored (entry : journaled.Entry) (filled : List Judged) (words : LinkWords) : Type 0 where
@@ -100,8 +115,8 @@ AreAll entry filled = (later : List Judged)
 
 -- after these writes since the entry this is the next
 abbrev pub IsFilling : Control → Line → journaled.Entry → List Judged → Fill → Type 0
-IsFilling g l entry filled (Words words) = AreStored entry filled words × Follows g l entry words.snap
-IsFilling g l entry filled (Pointer snap) = AreAll entry filled × Follows g l entry (Some snap)
+IsFilling g l entry filled (Words words) = AreStored entry filled words × Follows g l entry words.behind
+IsFilling g l entry filled (Pointer snap) = AreAll entry filled × Follows g l entry (behinds.Pointer snap)
 
 -- after all of them the line begins anew
 pub record IsAnew (g : Control) (l : Line) (entry : journaled.Entry) (filled : List Judged) : Type 0 where
@@ -110,12 +125,13 @@ pub record IsAnew (g : Control) (l : Line) (entry : journaled.Entry) (filled : L
   pub anew : answered g l entry.request entry.reply ≡ attempts g l []
 
 -- the words that are to be written are those of linkage sections
-abbrev pub HasSnapWord : Plain → ℕ → Option Snap → Type 0
-HasSnapWord s p None = Unit {0}
-HasSnapWord s p (Some snap) = HasLinkWord s p snap.segno snap.word
+abbrev pub HasSnapWord : Plain → ℕ → Behind → Type 0
+HasSnapWord s p (behinds.Pointer snap) = HasLinkWord s p snap.segno snap.word
+HasSnapWord s p behinds.Done = Unit {0}
+HasSnapWord s p behinds.Nowhere = ⊥
 
 abbrev pub HasPlace : Plain → ℕ → Fill → Type 0
-HasPlace s p (Words words) = IsSection (lot_in s p words.section) words.words × HasSnapWord s p words.snap
+HasPlace s p (Words words) = IsSection (lot_in s p words.section) words.words × HasSnapWord s p words.behind
 HasPlace s p (Pointer snap) = HasLinkWord s p snap.segno snap.word
 
 -- a section has at most 1,024 words
@@ -126,5 +142,5 @@ IsShort (Pointer snap) = Unit {0}
 -- how many events a line can still have that stores this next, before its last step: link words, the pointer, and an
 -- attempt's
 abbrev pub steps_to_fill : Fill → ℕ
-steps_to_fill (Words words) = words.words - words.next + 12
+steps_to_fill (Words words) = if words.next == 0 then 1036 else words.words - words.next + 12
 steps_to_fill (Pointer snap) = 11

@@ -1,11 +1,11 @@
 -- Helpers: a reference that was made at a target, on a descriptor and at a point.
-use Rattle.std.specs.Prelude.{◌≡◌, ℕ, List, length, None, Result, Ok, Err}
+use Rattle.std.specs.Prelude.{◌≡◌, ℕ, List, length, None}
 use Rattle.mx_call.specs.Registers.{Registers}
 use Rattle.mx_core.specs.declared.elements.Element.{Element}
 use Rattle.mx_core.specs.declared.elements.Kind.{Kind}
 use Rattle.mx_core.specs.declared.elements.Kind.TheVariants.{Ind}
 use Rattle.mx_core.specs.declared.elements.Outcome.{Outcome}
-use Rattle.mx_core.specs.declared.elements.Outcome.TheVariants.{Read, Entered, Denied}
+use Rattle.mx_core.specs.declared.elements.Outcome.TheVariants.{Entered, Denied}
 use Rattle.mx_transcript.specs.Courses.{Judged}
 use Rattle.mx_transcript.specs.Elements.{IsJudged}
 use Rattle.mx_transcript.specs.Next.{Reference, Ends}
@@ -23,7 +23,6 @@ use Rattle.mx_upcall.specs.declared.controls.Change.{Change}
 use Rattle.mx_line.specs.Access.{IsAccess}
 use Rattle.mx_line.specs.declared.memory.Contents.{Contents}
 use Rattle.mx_line.specs.declared.operands.Place.{Place}
-use Rattle.mx_line.specs.declared.references.Looked.{Looked}
 use Rattle.mx_line.specs.declared.references.Made.{Made}
 
 -- a line makes a reference at its target that stores nothing
@@ -78,22 +77,12 @@ indirect place point outcome = record {
 abbrev pub looks : Place → Reference
 looks place = record { op = op.Indirect; segno = place.segno; word = place.word; ring = place.ring; stores = None }
 
--- the word that was read, or the denial
-pub record HasRead (value : ℕ) (came : Outcome) : Type 0 where
-  pub writer : ℕ
-  pub stamp : ℕ
-  pub is : came ≡ Read value writer stamp
-
-abbrev pub HasCome : Result ℕ Denial → Outcome → Type 0
-HasCome (Ok value) came = HasRead value came
-HasCome (Err denial) came = came ≡ Denied denial
-
-pub record IsLooked (place : Place) (d : Descriptor) (p point : ℕ) (cells : List Contents) (l : Looked) : Type 0 where
-  pub judged : IsJudged (looks place) d l.element
-  pub segno : l.element.segno ≡ place.segno
-  pub point_is : l.element.point ≡ point
-  pub access : length cells ≡ 65536 → IsAccess cells cells p (record { element = l.element; desc = d })
-  pub came : HasCome l.came l.element.outcome
+-- an indirect word was read, or denied
+pub record IsLooked (place : Place) (d : Descriptor) (p point : ℕ) (cells : List Contents) (e : Element) : Type 0 where
+  pub judged : IsJudged (looks place) d e
+  pub segno : e.segno ≡ place.segno
+  pub point_is : e.point ≡ point
+  pub access : length cells ≡ 65536 → IsAccess cells cells p (record { element = e; desc = d })
 
 abbrev pub beside : Made → Descriptor → Judged
 beside m d = record { element = m.element; desc = d }

@@ -2,33 +2,34 @@
 use Rattle.std.specs.Prelude.{◌≡◌, ℕ, suc, ◌+◌, ◌-◌, ◌<◌, ◌^◌, Bool, IsTrue, IsFalse, List, [], ◌∷◌, ◌++◌, Option, Some, None, length, slice_get, slice_set}
 use Rattle.mx_call.specs.Registers.{Registers}
 use Rattle.mx_upcall.specs.Changes.{Fits, changed}
-use Rattle.mx_upcall.specs.Control.{Control, with_registers}
+use Rattle.mx_upcall.specs.Control.{Control}
 use Rattle.mx_upcall.specs.Soundness.{IsPackableControl}
 use Rattle.mx_upcall.specs.declared.controls.Change.{Change}
 use Rattle.mx_upcall.specs.declared.controls.GateStep.{GateStep}
-use Rattle.mx_core.specs.declared.elements.Outcome.TheVariants.{Read}
-use Rattle.mx_effring.specs.Chains as chains
-use Rattle.mx_transcript.specs.Courses.{Judged}
+use Rattle.mx_core.specs.declared.elements.Element.{Element}
+use Rattle.mx_core.specs.declared.elements.Event.TheVariants.{Seen}
 use Rattle.mx_transcript.specs.Denials.{last_denial}
 use Rattle.mx_transcript.specs.Openings.{opening_control}
 use Rattle.mx_transcript.specs.Scripts.{first_line}
-use Rattle.mx_transcript.specs.Standing.{IsWalked}
+use Rattle.mx_transcript.specs.Settings.{Setting}
 use Rattle.mx_transcript.specs.Transcripts.{Step}
 use Rattle.mx_transcript.specs.declared.transcripts.Event2.{Event2}
+use Rattle.mx_transcript.specs.declared.transcripts.Event2.TheVariants.{Core}
 use Rattle.mx_transcript.specs.declared.transcripts.Result2.{Result2}
 use Rattle.mx_script.specs.Sessions.{Outline}
 use Rattle.mx_script.specs.declared.lines.Line.{Line}
 use Rattle.mx_script.specs.declared.lines.Operand.{Operand}
+use Rattle.mx_sdw.specs.Descriptors.{Descriptor}
 use Rattle.mx_sdw.specs.declared.denials.Denial.{Denial}
-use Rattle.mx_line.specs.Operands.{walk_at, IsGoodProgress, AsksFor, IsGoodAsked, IsLed, IsOnward, IsGoodOnward, IsCloser}
+use Rattle.mx_line.specs.AtWork.{IsGoodWork, IsMet, IsNearer, IsTaken}
+use Rattle.mx_line.specs.Operands.{IsGoodProgress, AsksFor, IsGoodAsked}
 use Rattle.mx_line.specs.Seats.{Seat}
+use Rattle.mx_line.specs.declared.at_work.LineAtWork.{LineAtWork}
+use Rattle.mx_line.specs.declared.at_work.LineAtWork.TheVariants as works
 use Rattle.mx_line.specs.declared.steps.Stepped.{Stepped}
 use Rattle.mx_line.specs.declared.steps.Stepped.TheVariants as went
 use Rattle.mx_line.specs.declared.fills.Fill.{Fill}
 use Rattle.mx_line.specs.declared.operands.Asked.{Asked}
-use Rattle.mx_line.specs.declared.operands.Onward.{Onward}
-use Rattle.mx_line.specs.declared.operands.Onward.TheVariants.{More, End}
-use Rattle.mx_line.specs.declared.operands.Place.{Place}
 use Rattle.mx_line.specs.declared.operands.Progress.{Progress}
 use Rattle.mx_line.specs.declared.operands.Progress.TheVariants.{Before, Walking, AtLink, Waiting, Filling}
 use Rattle.mx_line.specs.declared.processes.Process.{Process}
@@ -198,42 +199,40 @@ pub record HasAsked (processes : List Process) (i : ℕ) (o : Operand) (asked : 
   pub asks : AsksFor process.control.registers o process.progress asked
   pub good : IsGoodAsked process.control.registers asked
 
-pub record IsLedAt (processes : List Process) (i : ℕ) (o : Operand) (place : Place) : Type 0 where
-  pub process : Process
-  pub at : slice_get processes i ≡ Some process
-  pub led : IsLed process.control.registers o process.progress place
+-- what an element makes of the line at work
+pub record Takes (g : Control) (l : Line) (progress : Progress) (e : Element) (d : Descriptor) (work : LineAtWork) : Type 0 where
+  pub taken : (setting : Setting) → setting.descriptor e ≡ d → IsTaken g l setting (Core (Seen e)) (works.At progress) work
+  pub good : IsGoodWork g work
+  pub nearer : IsNearer (works.At progress) work
 
--- what an indirect word makes of the line at work, by the walk that asked for it
-pub record Feeds (g : Control) (l : Line) (walk : chains.Operand) (value r1 : ℕ) (onward : Onward) : Type 0 where
-  pub leads : (seen : List Judged) (j : Judged) (writer stamp : ℕ) → IsWalked g l seen walk
-      → j.element.outcome ≡ Read value writer stamp → j.desc.brackets.r1 ≡ r1 → IsOnward g l (seen ++ j ∷ []) onward
-  pub good : IsGoodOnward g.registers onward
-  pub closer : IsCloser (9 - length walk.chain) onward
-
--- one process, fed
-abbrev pub Goes : Process → Event2 → Onward → Process → Stepped → Type 0
-Goes before event (More progress) after stepped = (stepped ≡ went.More) × (after.first ≡ before.first)
+-- one process, by where its line stands then
+abbrev pub Goes : Process → Event2 → LineAtWork → Process → Stepped → Type 0
+Goes before event (works.At progress) after stepped = (stepped ≡ went.More) × (after.first ≡ before.first)
     × (after.control ≡ before.control) × (after.recording.steps ≡ before.recording.steps)
     × (after.recording.events ≡ before.recording.events ++ event ∷ []) × (after.progress ≡ progress)
-Goes before event (End ends registers) after stepped = (stepped ≡ went.LineDone) × (after.first ≡ before.first)
-    × (after.control ≡ with_registers before.control registers)
+Goes before event (works.Ended end) after stepped = (stepped ≡ went.LineDone) × (after.first ≡ before.first)
+    × (after.control ≡ changed before.control end.after)
     × (after.recording.steps ≡ before.recording.steps
-    ++ (before.first + length before.recording.steps, before.recording.events ++ event ∷ [], ends) ∷ [])
+    ++ (before.first + length before.recording.steps, before.recording.events ++ event ∷ [], end.ends) ∷ [])
     × (after.recording.events ≡ []) × (after.progress ≡ Before)
+Goes before event works.Nowhere after stepped = ⊥
 
-pub record IsFed (before : Process) (l : Line) (o : Operand) (value r1 : ℕ) (event : Event2) (after : Process)
-    (stepped : Stepped) : Type 0 where
-  pub walk : chains.Operand
-  pub walks : walk_at before.control.registers o before.progress ≡ Some walk
-  pub onward : Onward
-  pub feeds : Feeds before.control l walk value r1 onward
-  pub goes : Goes before event onward after stepped
+pub record IsSeen (before : Process) (l : Line) (e : Element) (d : Descriptor) (after : Process) (stepped : Stepped) : Type 0 where
+  pub work : LineAtWork
+  pub takes : Takes before.control l before.progress e d work
+  pub goes : Goes before (Core (Seen e)) work after stepped
 
--- process i, fed
-pub record HasFed (old : List Process) (i : ℕ) (l : Line) (o : Operand) (value r1 : ℕ) (event : Event2) (new : List Process)
+-- process i has met this element
+pub record HasMet (old : List Process) (i : ℕ) (l : Line) (e : Element) (d : Descriptor) (new : List Process)
     (stepped : Stepped) : Type 0 where
   pub before : Process
   pub at : slice_get old i ≡ Some before
   pub after : Process
-  pub fed : IsFed before l o value r1 event after stepped
+  pub seen : IsSeen before l e d after stepped
   pub set : new ≡ slice_set old i after
+
+-- it is the reference for which the line of process i asks
+pub record IsMetAt (processes : List Process) (i : ℕ) (l : Line) (e : Element) (d : Descriptor) : Type 0 where
+  pub process : Process
+  pub at : slice_get processes i ≡ Some process
+  pub met : IsMet process.control l (works.At process.progress) e d

@@ -1,13 +1,14 @@
 //! The writes in ring 0 that a reply asks for: the link words of a new linkage section, and the pointer in the word of a
 //! snapped link.
 
-ghost use Rattle.std.specs.Prelude.{◌≡◌, false};
+ghost use Rattle.std.specs.Prelude.{◌≡◌, ◌<◌, false};
 ghost use Rattle.mx_transcript.specs.Filling.{snapped, stored_into};
 ghost use Rattle.mx_transcript.specs.Next.{storing};
 ghost use Rattle.mx_ptr.specs.Pointers.{IsPackable};
 ghost use Rattle.mx_request.specs.Sections.{section_in};
 ghost use Rattle.mx_state.specs.Told.{IsLinkedWithin};
-ghost use Rattle.mx_line.specs.Fills.{IsShort, after_fill, behind, first_fill, snap_writes, write_of};
+ghost use Rattle.mx_line.specs.Fills.{IsShort, after_fill, after_words, behind_of, counted, first_fill, snap_writes, write_of};
+ghost use Rattle.mx_line.specs.declared.fills.Fill.TheVariants.{Words};
 
 use mx_ptr::{Pointer, link_word};
 use mx_request::{Reply, Request};
@@ -21,14 +22,25 @@ pub struct Snap {
     pub value: Word,
 }
 
-/// A new linkage section, how many link words it has, the next of them to be stored, and the pointer that is to be stored
-/// behind them.
+/// What follows the link words of a section.
+#[derive(Clone, Copy)]
+pub enum Behind {
+    /// The pointer of a snapped link is stored.
+    Pointer(Snap),
+    /// The line ends.
+    Done,
+    /// Nothing: no such line is told of a section so.
+    Nowhere,
+}
+
+/// A new linkage section, how many link words it has, the next of them to be stored, and what follows them. How many it has
+/// is known once the first was stored; until then it is 1.
 #[derive(Clone, Copy)]
 pub struct LinkWords {
     pub section: u16,
     pub words: u16,
     pub next: u16,
-    pub snap: Option<Snap>,
+    pub behind: Behind,
 }
 
 /// What is stored next.
@@ -49,6 +61,8 @@ pub enum Filled {
     Anew,
     /// The line's end.
     Done,
+    /// Nothing.
+    Nowhere,
 }
 
 impl Fill {
@@ -69,15 +83,38 @@ impl Fill {
         ensures { result ≡ after_fill self.now }
     {
         match self {
-            Fill::Words(words) if words.next + 1 < words.words => {
-                Filled::More(Fill::Words(LinkWords {
-                    next: words.next + 1,
-                    ..*words
-                }))
-            }
-            Fill::Words(words) => behind(words.snap),
+            Fill::Words(words) => after_word(words),
             Fill::Pointer(_) => Filled::Anew,
         }
+    }
+
+    /// What follows this write, which was made in a section with this bound.
+    pub(crate) fn made(&self, bound: u16) -> Filled
+        requires { IsShort self.now }
+        ensures { result ≡ after_fill (counted self.now bound) }
+    {
+        match self {
+            Fill::Words(words) if words.next == 0 => after_word(&LinkWords {
+                words: bound,
+                ..*words
+            }),
+            Fill::Words(_) | Fill::Pointer(_) => self.after(),
+        }
+    }
+}
+
+// What follows a link word.
+fn after_word(words: &LinkWords) -> Filled
+    requires { words.now.next < 1024 }
+    ensures { result ≡ after_fill (Words words.now) }
+{
+    if words.next + 1 < words.words {
+        Filled::More(Fill::Words(LinkWords {
+            next: words.next + 1,
+            ..*words
+        }))
+    } else {
+        after_words(words.behind)
     }
 }
 
@@ -95,28 +132,39 @@ fn in_ring_0(segno: u16, word: u16) -> Pointer
     }
 }
 
-fn behind(snap: Option<Snap>) -> Filled
-    ensures { result ≡ behind snap }
+fn after_words(behind: Behind) -> Filled
+    ensures { result ≡ after_words behind }
 {
-    match snap {
-        Some(snap) => Filled::More(Fill::Pointer(snap)),
-        None => Filled::Done,
+    match behind {
+        Behind::Pointer(snap) => Filled::More(Fill::Pointer(snap)),
+        Behind::Done => Filled::Done,
+        Behind::Nowhere => Filled::Nowhere,
     }
 }
 
-/// The first write of all, for a new section with so many words and a pointer.
-pub fn first_fill(section: Option<(u16, u16)>, snap: Option<Snap>) -> Option<Fill>
-    ensures { result ≡ first_fill section snap }
+/// What follows the link words of a section where the line ends unless a pointer is to be stored.
+pub fn behind_of(snap: Option<Snap>) -> Behind
+    ensures { result ≡ behind_of snap }
 {
-    match (section, snap) {
-        (Some((section, words)), snap) => Some(Fill::Words(LinkWords {
+    match snap {
+        Some(snap) => Behind::Pointer(snap),
+        None => Behind::Done,
+    }
+}
+
+/// The first write of all, for a new section with so many words and what follows them.
+pub fn first_fill(section: Option<(u16, u16)>, behind: Behind) -> Option<Fill>
+    ensures { result ≡ first_fill section behind }
+{
+    match (section, behind) {
+        (Some((section, words)), behind) => Some(Fill::Words(LinkWords {
             section,
             words,
             next: 0,
-            snap,
+            behind,
         })),
-        (None, Some(snap)) => Some(Fill::Pointer(snap)),
-        (None, None) => None,
+        (None, Behind::Pointer(snap)) => Some(Fill::Pointer(snap)),
+        (None, Behind::Done | Behind::Nowhere) => None,
     }
 }
 

@@ -1,23 +1,26 @@
 //! Processes: their registers and return gates, and what was recorded of them.
 
-ghost use Rattle.std.specs.Prelude.{◌≡◌, ◌<◌, ◌+◌, ◌^◌, true, [], ◌∷◌, ◌++◌, IfOk, IsTrue, IsFalse, IsSome, OnOk, Some, length};
+ghost use Rattle.std.specs.Prelude.{◌≡◌, ◌<◌, ◌+◌, ◌^◌, true, [], ◌∷◌, ◌++◌, IfOk, IsTrue, IsFalse, OnOk, Some, length};
 ghost use Rattle.mx_upcall.specs.Changes.{Fits, keeping, changed};
 ghost use Rattle.mx_upcall.specs.Soundness.{IsPackableControl};
+ghost use Rattle.mx_sdw.specs.Admissible.{IsAdmissible};
 ghost use Rattle.mx_script.specs.Sessions.{IsSession, is_address};
-ghost use Rattle.mx_line.specs.Operands.{AsksFor, IsGoodAsked, IsGoodProgress, IsGoodWalk, IsLed, walk_at, IsSayable};
-ghost use Rattle.mx_line.specs.Processes.{AreFresh, IsStill, HasRoom, IsCountable, IsGoodAt, HasGateRoom, HasEnded, HasGoneOn, HasFed, IsFed, HasProgress, ReadsOperand, StoresNothing, HasRegisters, HasControl, HasLines, HasNumber, HasLastDenial, HasAsked, HasFill, IsLedAt, fill_of, events_in};
+ghost use Rattle.mx_line.specs.AtWork.{IsMet};
+ghost use Rattle.mx_line.specs.Operands.{AsksFor, IsGoodAsked, IsGoodProgress, IsSayable};
+ghost use Rattle.mx_line.specs.Processes.{AreFresh, IsStill, HasRoom, IsCountable, IsGoodAt, HasGateRoom, HasEnded, HasGoneOn, HasMet, IsSeen, IsMetAt, HasProgress, ReadsOperand, StoresNothing, HasRegisters, HasControl, HasLines, HasNumber, HasLastDenial, HasAsked, HasFill, fill_of, events_in};
+ghost use Rattle.mx_line.specs.declared.at_work.LineAtWork.TheVariants.{At};
 ghost use Rattle.mx_line.specs.declared.operands.Progress.TheVariants.{Before, Filling, Waiting};
 ghost use Rattle.mx_line.specs.declared.fills.Fill.{Fill as PlainFill};
 
+use crate::at_work::LineAtWork;
 use crate::fills::Fill;
-use crate::operands::{Asked, Onward, Place, Progress, asks, feed, start};
+use crate::operands::{Asked, Progress, asks};
 use crate::steps::Stepped;
 use mx_call::Regs;
-use mx_effring::Walk;
 use mx_request::most_gates;
 use mx_script::{Line, Operand, Session};
-use mx_sdw::{Denial, Ring, Word};
-use mx_transcript::{Event2, Recording, Result2, Transcript, first_line};
+use mx_sdw::{Denial, Desc};
+use mx_transcript::{Element, Event, Event2, Recording, Result2, Transcript, first_line};
 use mx_upcall::{Change, Control};
 use std::alloc::{AllocError, Global};
 use std::marker::Model;
@@ -173,37 +176,19 @@ impl Processes {
         asks_at(&self.items, i, operand)
     }
 
-    /// The indirect word for which the operand of a process asks was read, from a segment with the first bracket `r1`: the
-    /// line at work has this event, and goes on or ends.
-    pub fn feed(
-        &mut self,
-        i: usize,
-        line: &Line,
-        operand: &Operand,
-        place: Place,
-        value: Word,
-        r1: Ring,
-        event: Event2,
-    ) -> Stepped
+    /// The reference for which the line at work of a process asks was made, on this descriptor: the line has this element,
+    /// and goes on or ends.
+    pub fn seen(&mut self, i: usize, line: &Line, element: &Element, desc: &Desc) -> Stepped
         requires within { i < length self.old }
         requires room { HasRoom self.old i }
         requires number { IsCountable self.old i }
         requires good { IsGoodAt self.old i }
         requires line { IsSayable line.now }
-        requires address { is_address operand.now ≡ true }
-        requires led { IsLedAt self.old i operand.now place }
-        ensures { HasFed self.old i line.now operand.now value r1 event self.new result }
+        requires desc { IsAdmissible desc.now }
+        requires met { IsMetAt self.old i line.now element.now desc.now }
+        ensures { HasMet self.old i line.now element.now desc.now self.new result }
     {
-        feed_at(
-            self.items.as_mut_slice(),
-            i,
-            line,
-            operand,
-            place,
-            value,
-            r1,
-            event,
-        )
+        seen_by(self.items.as_mut_slice(), i, line, element, desc)
     }
 
     /// The processes themselves.
@@ -317,26 +302,23 @@ fn asks_at(processes: &[Process], i: usize, operand: &Operand) -> Asked
     processes[i].asks(operand)
 }
 
-fn feed_at(
+fn seen_by(
     processes: &mut [Process],
     i: usize,
     line: &Line,
-    operand: &Operand,
-    place: Place,
-    value: Word,
-    r1: Ring,
-    event: Event2,
+    element: &Element,
+    desc: &Desc,
 ) -> Stepped
     requires within { i < length processes.old }
     requires room { HasRoom processes.old i }
     requires number { IsCountable processes.old i }
     requires good { IsGoodAt processes.old i }
     requires line { IsSayable line.now }
-    requires address { is_address operand.now ≡ true }
-    requires led { IsLedAt processes.old i operand.now place }
-    ensures { HasFed processes.old i line.now operand.now value r1 event processes.new result }
+    requires desc { IsAdmissible desc.now }
+    requires met { IsMetAt processes.old i line.now element.now desc.now }
+    ensures { HasMet processes.old i line.now element.now desc.now processes.new result }
 {
-    processes[i].feed(line, operand, place, value, r1, event)
+    processes[i].seen(line, element, desc)
 }
 
 fn reserve(processes: &mut [Process], i: usize) -> Result<(), AllocError>
@@ -441,57 +423,41 @@ impl Process {
         self.progress = progress;
     }
 
-    // The indirect word for which its operand asks was read.
-    fn feed(
-        &mut self,
-        line: &Line,
-        operand: &Operand,
-        place: Place,
-        value: Word,
-        r1: Ring,
-        event: Event2,
-    ) -> Stepped
+    // The reference for which its line asks was made.
+    fn seen(&mut self, line: &Line, element: &Element, desc: &Desc) -> Stepped
         requires event { IsTrue self.old.recording.event_room }
         requires room { IsTrue self.old.recording.line_room }
         requires number { self.old.first + length self.old.recording.steps < 2 ^ 32 }
         requires packable { IsPackableControl self.old.control }
         requires progress { IsGoodProgress self.old.control.registers self.old.progress }
         requires line { IsSayable line.now }
-        requires address { is_address operand.now ≡ true }
-        requires led { IsLed self.old.control.registers operand.now self.old.progress place }
-        ensures { IsFed self.old line.now operand.now value r1 event self.new result }
+        requires desc { IsAdmissible desc.now }
+        requires met { IsMet self.old.control line.now (At self.old.progress) element.now desc.now }
+        ensures { IsSeen self.old line.now element.now desc.now self.new result }
     {
-        let walk = self.take_walk(operand);
-        match feed(line, &self.control, walk, place, value, r1) {
-            Onward::More(progress) => {
-                self.recording.push(event);
-                self.progress = progress;
+        let event = Event2::Core(Event::Seen(*element));
+        let progress = self.take_progress();
+        match LineAtWork::At(progress).seen(line, &self.control, element, desc) {
+            LineAtWork::At(progress) => {
+                self.go_on(event, progress);
                 Stepped::More
             }
-            Onward::End { ends, after } => {
-                self.end_line(Some(event), ends, &Change::keeping(&after));
+            LineAtWork::Ended(end) => {
+                self.end_line(Some(event), end.ends, &end.after);
                 Stepped::LineDone
             }
+            LineAtWork::Nowhere => unreachable!(),
         }
     }
 
-    // The walk that its operand is at, taken out.
-    fn take_walk(&mut self, operand: &Operand) -> Walk
-        requires packable { IsPackableControl self.old.control }
-        requires progress { IsGoodProgress self.old.control.registers self.old.progress }
-        requires address { is_address operand.now ≡ true }
-        requires led { IsSome (walk_at self.old.control.registers operand.now self.old.progress) }
-        ensures walk { walk_at self.old.control.registers operand.now self.old.progress ≡ Some result }
-        ensures good { IsGoodWalk self.old.control.registers result }
+    // How far its line has come, taken out.
+    fn take_progress(&mut self) -> Progress
+        ensures progress { result ≡ self.old.progress }
         ensures first { self.new.first ≡ self.old.first }
         ensures control { self.new.control ≡ self.old.control }
         ensures recording { self.new.recording ≡ self.old.recording }
     {
-        match mem::replace(&mut self.progress, Progress::Before) {
-            Progress::Before => start(&self.control.registers, operand),
-            Progress::Walking(walk) => walk,
-            Progress::AtLink(_) | Progress::Waiting | Progress::Filling(_) => unreachable!(),
-        }
+        mem::replace(&mut self.progress, Progress::Before)
     }
 }
 

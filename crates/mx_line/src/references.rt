@@ -29,15 +29,8 @@ pub struct Made {
     pub after: Change,
 }
 
-/// An indirect word that was read: its element, and the word, or why it was denied.
-#[derive(Clone, Copy)]
-pub struct Looked {
-    pub element: Element,
-    pub came: Result<Word, Denial>,
-}
-
 /// Reads the indirect word at a place, on this descriptor and at this point.
-pub fn look(cells: &Memory, desc: &Desc, place: &Place, point: u32) -> Looked
+pub fn look(cells: &Memory, desc: &Desc, place: &Place, point: u32) -> Element
     requires { IsAdmissible desc.now }
     ensures { (p : ℕ) → IsLooked place.now desc.now p point cells.now result }
 {
@@ -49,15 +42,9 @@ pub fn look(cells: &Memory, desc: &Desc, place: &Place, point: u32) -> Looked
                 writer: held.writer,
                 stamp: held.stamp,
             };
-            Looked {
-                element: indirect(place, point, outcome),
-                came: Ok(held.value),
-            }
+            indirect(place, point, outcome)
         }
-        Err(denial) => Looked {
-            element: indirect(place, point, Outcome::Denied(denial)),
-            came: Err(denial),
-        },
+        Err(denial) => indirect(place, point, Outcome::Denied(denial)),
     }
 }
 

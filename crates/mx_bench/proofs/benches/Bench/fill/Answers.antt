@@ -3,7 +3,7 @@ use Rattle.mx_ptr.specs.Pointers.{PointerParts}
 use Rattle.mx_state.specs.Table.{descriptor}
 use Rattle.mx_sup.specs.Supervised.{state_of}
 use Rattle.mx_bench.proofs.BenchLaws.{still_kept}
-use Rattle.mx_bench.proofs.SeenLaws.{anew_after, more_after, fill_made, fill_done, fill_end_done, seen_short, seen_principal, seen_countable, seen_still_within, still_seen, on_err}
+use Rattle.mx_bench.proofs.SeenLaws.{anew_after, fill_leads, more_after, fill_made, fill_done, fill_end_done, seen_short, seen_principal, seen_countable, seen_still_within, still_seen, on_err}
 use Rattle.mx_bench.proofs.benches.Bench.fill.Goals as goal
 
 pub invariant_of-self : goal.invariant_of-self
@@ -108,3 +108,9 @@ returns-in-Done-clause-gone c =
     (c.descriptor-desc.ensures.value ∙ ap (λ (t : PointerParts). descriptor (state_of c.self.inside.supervisor) c.args.p t.segno) c.target.view_is)
     c.length-point.ensures.value c.self.invariant.wide (c.store-made.ensures.wide ∙ c.self.invariant.wide) c.store-made.ensures.sta)
     (sym c.in-Done.ensures) c.in_ok-reserve.ensures.still c.end_line.ensures).1
+
+pub unreachable-requires : goal.unreachable-requires
+unreachable-requires c =
+    let place : c.from-i.result - 1 ≡ c.args.p - 1 = ap (λ n. n - 1) c.from-i.ensures in
+    fill_leads _ _ _ _ _ _ c.args.p _ _ c.args.fill.now _ c.self.invariant c.self.view_is place c.registers-registers.ensures.at c.requires.fill
+    c.in-Nowhere.ensures

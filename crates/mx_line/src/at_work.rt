@@ -1,0 +1,575 @@
+//! The line at work: where a process stands within its line, and what an event that answers makes of it.
+
+ghost use Rattle.std.specs.Prelude.{◌≡◌, ◌-◌, ◌≤◌, ℕ, true, false, List, [], ◌∷◌, ◌++◌, Some, length};
+ghost use Rattle.mx_core.specs.declared.elements.Element.{Element as PlainElement};
+ghost use Rattle.mx_core.specs.declared.elements.Event.TheVariants.{Seen, Missing};
+ghost use Rattle.mx_core.specs.declared.elements.Outcome.TheVariants.{Read as WasRead, Written as WasWritten, Entered as HasEntered};
+ghost use Rattle.mx_effring.specs.Walks.{wanted};
+ghost use Rattle.mx_effring.specs.declared.walks.Want.TheVariants.{Word as WantsWord};
+ghost use Rattle.mx_ptr.specs.Pointers.{PointerParts, pointer_word};
+ghost use Rattle.mx_request.specs.declared.requests.Request.{Request as PlainRequest};
+ghost use Rattle.mx_request.specs.declared.requests.Request.TheVariants.{Block, Link};
+ghost use Rattle.mx_script.specs.declared.lines.Line.{Line as PlainLine};
+ghost use Rattle.mx_script.specs.declared.lines.Line.TheVariants as lines;
+ghost use Rattle.mx_sdw.specs.Admissible.{IsAdmissible};
+ghost use Rattle.mx_sdw.specs.Descriptors.{Descriptor};
+ghost use Rattle.mx_state.specs.Told.{IsLinkedWithin};
+ghost use Rattle.mx_state.specs.declared.journal.Entry.{Entry as PlainEntry};
+ghost use Rattle.mx_transcript.specs.Asking.{next};
+ghost use Rattle.mx_transcript.specs.Attempts.{wants};
+ghost use Rattle.mx_transcript.specs.Courses.{Answer, Attempt, Course, Judged};
+ghost use Rattle.mx_transcript.specs.Elements.{IsJudged};
+ghost use Rattle.mx_transcript.specs.Lines.{IsEnd};
+ghost use Rattle.mx_transcript.specs.Next.{Asks, Calls, Reference};
+ghost use Rattle.mx_transcript.specs.Settings.{Setting, entry_at};
+ghost use Rattle.mx_transcript.specs.Standing.{IsWalked};
+ghost use Rattle.mx_transcript.specs.Targets.{after_target, at_target};
+ghost use Rattle.mx_transcript.specs.declared.transcripts.Event2.TheVariants.{Core, Entry as EntryOf};
+ghost use Rattle.mx_upcall.specs.Changes.{changed};
+ghost use Rattle.mx_upcall.specs.Control.{Control as Parts};
+ghost use Rattle.mx_upcall.specs.Soundness.{IsPackableControl};
+ghost use Rattle.mx_line.specs.AtWork.{HasSeen, IsCome, IsGoodWork, IsKnown, IsMemoryLine, IsMet, IsMover, IsNearer, IsOver, IsReader, IsSaid, IsStorable, IsTaken, IsUnlinked, IsWithin, IsWriter, OneCourseLaw, StandsAt, after_writing, begun, beside, end_of, ended, filling_or, meant, moved_on, standing};
+ghost use Rattle.mx_line.specs.Fills.{IsShort, after_fill, counted, first_fill, steps_to_fill};
+ghost use Rattle.mx_line.specs.Making.{looks};
+ghost use Rattle.mx_line.specs.Operands.{IsGoodProgress, IsGoodWalk, IsSayable, IsTarget};
+ghost use Rattle.mx_line.specs.declared.at_work.LineAtWork.TheVariants.{At, Ended, Nowhere};
+ghost use Rattle.mx_line.specs.declared.operands.Progress.TheVariants.{Waiting};
+
+use crate::asking::{Called, End, Next, begins, storing, walk_of, wants};
+use crate::fills::{Behind, Fill, Filled, Snap, first_fill};
+use crate::operands::{Onward, Place, Progress, feed};
+use mx_call::Regs;
+use mx_effring::{Walk, Want};
+use mx_ptr::Pointer;
+use mx_request::{Reply, Request};
+use mx_script::Line;
+use mx_sdw::{Desc, Word};
+use mx_transcript::{Element, Outcome, Result2};
+use mx_upcall::{Change, Control};
+
+/// Where a process stands within its line.
+#[derive(Drop)]
+pub enum LineAtWork {
+    /// It goes on from here.
+    At(Progress),
+    /// It asks for its end.
+    Ended(End),
+    /// It has done what no line does, and asks for nothing.
+    Nowhere,
+}
+
+impl LineAtWork {
+    /// Where a line begins.
+    pub fn begin() -> LineAtWork
+        ensures stands { (g : Parts) (l : PlainLine) → StandsAt g l (Attempt []) result }
+        ensures good { (g : Parts) → IsGoodWork g result }
+    {
+        LineAtWork::At(Progress::Before)
+    }
+
+    /// What the line asks for now.
+    pub fn next(&self, line: &Line, control: &Control) -> Next
+        requires line { IsSayable line.now }
+        requires packable { IsPackableControl control.now }
+        requires good { IsGoodWork control.now self.now }
+        ensures is { (course : Course) → StandsAt control.now line.now course self.now
+            → next control.now line.now course ≡ meant control.now line.now result }
+        ensures storable { IsStorable result }
+    {
+        match self {
+            LineAtWork::At(progress) => next_at(line, control, progress),
+            LineAtWork::Ended(end) => Next::Ends(*end),
+            LineAtWork::Nowhere => Next::Nowhere,
+        }
+    }
+
+    /// The reference or the write for which the line asks was made, on this descriptor.
+    pub fn seen(self, line: &Line, control: &Control, element: &Element, desc: &Desc) -> LineAtWork
+        requires line { IsSayable line.now }
+        requires packable { IsPackableControl control.now }
+        requires good { IsGoodWork control.now self }
+        requires desc { IsAdmissible desc.now }
+        ensures taken { (setting : Setting) → setting.descriptor element.now ≡ desc.now
+            → IsTaken control.now line.now setting (Core (Seen element.now)) self result }
+        ensures good { IsGoodWork control.now result }
+        ensures nearer { IsNearer self result }
+        ensures known { IsMet control.now line.now self element.now desc.now → IsKnown result }
+    {
+        match self {
+            LineAtWork::At(progress) => seen_at(progress, line, control, element, desc),
+            LineAtWork::Ended(_) | LineAtWork::Nowhere => LineAtWork::Nowhere,
+        }
+    }
+
+    /// The reference for which the line asks missed: it begins anew.
+    pub fn missed(self) -> LineAtWork
+        ensures taken { (g : Parts) (l : PlainLine) (setting : Setting) (segno by : ℕ)
+            → IsTaken g l setting (Core (Missing segno by)) self result }
+        ensures good { (g : Parts) → IsGoodWork g result }
+    {
+        LineAtWork::begin()
+    }
+
+    /// The call for which the line asks was entered, and has this reply.
+    pub fn answered(self, line: &Line, control: &Control, reply: &Reply) -> LineAtWork
+        requires line { IsSayable line.now }
+        requires packable { IsPackableControl control.now }
+        requires linked { IsLinkedWithin reply.now }
+        ensures taken { (setting : Setting) (number : ℕ) (entry : PlainEntry) → entry_at setting.journal number ≡ Some entry
+            → entry.reply ≡ reply.now → IsTaken control.now line.now setting (EntryOf number) self result }
+        ensures good { IsGoodWork control.now result }
+    {
+        match self {
+            LineAtWork::At(progress) => answered_at(progress, line, control, reply),
+            LineAtWork::Ended(_) | LineAtWork::Nowhere => LineAtWork::Nowhere,
+        }
+    }
+
+    /// The call for which a line asks found the journal full: the line ends so.
+    pub fn full(control: &Control) -> End
+        ensures end { (setting : Setting) (ring : ℕ) (request : PlainRequest) → setting.full ≡ true
+            → IsEnd setting control.now (Calls ring request) result.ends (changed control.now result.after) }
+        ensures good { IsPackableControl control.now → IsGoodWork control.now (Ended result) }
+    {
+        end(Result2::HistoryFull, control)
+    }
+}
+
+/// An event that answers what a line asks for leaves exactly one course.
+pub fn one_course_law()
+    ensures { OneCourseLaw }
+{}
+
+// What a line asks for that goes on from here.
+fn next_at(line: &Line, control: &Control, progress: &Progress) -> Next
+    requires line { IsSayable line.now }
+    requires packable { IsPackableControl control.now }
+    requires good { IsGoodProgress control.now.registers progress.now }
+    ensures is { (course : Course) → IsCome control.now line.now course progress.now
+        → next control.now line.now course ≡ meant control.now line.now result }
+    ensures storable { IsStorable result }
+{
+    match progress {
+        Progress::Before => begins(line, control),
+        Progress::Walking(walk) => wants(line, control, walk),
+        Progress::AtLink(place) => Next::Calls {
+            ring: place.ring,
+            called: Called::Link {
+                segno: place.segno,
+                word: place.word,
+            },
+        },
+        Progress::Waiting => Next::Calls {
+            ring: control.registers.ring,
+            called: Called::Resume,
+        },
+        Progress::Filling(fill) => {
+            let (target, value) = fill.write();
+            Next::Fills(storing(value, &target))
+        }
+    }
+}
+
+// A reference or a write was made for a line that goes on from here.
+fn seen_at(
+    progress: Progress,
+    line: &Line,
+    control: &Control,
+    element: &Element,
+    desc: &Desc,
+) -> LineAtWork
+    requires line { IsSayable line.now }
+    requires packable { IsPackableControl control.now }
+    requires good { IsGoodProgress control.now.registers progress }
+    requires desc { IsAdmissible desc.now }
+    ensures taken { (setting : Setting) → setting.descriptor element.now ≡ desc.now
+        → IsTaken control.now line.now setting (Core (Seen element.now)) (At progress) result }
+    ensures good { IsGoodWork control.now result }
+    ensures nearer { IsNearer (At progress) result }
+    ensures known { IsMet control.now line.now (At progress) element.now desc.now → IsKnown result }
+{
+    match progress {
+        Progress::Before => match walk_of(line, &control.registers) {
+            Some(walk) => led_by(walk, line, control, element, desc),
+            None => LineAtWork::Nowhere,
+        },
+        Progress::Walking(walk) => led_by(walk, line, control, element, desc),
+        Progress::Filling(fill) => stored(&fill, control, element, desc),
+        Progress::AtLink(_) => LineAtWork::Nowhere,
+        Progress::Waiting => LineAtWork::Nowhere,
+    }
+}
+
+// The reference for which a walk asks was made.
+fn led_by(walk: Walk, line: &Line, control: &Control, element: &Element, desc: &Desc) -> LineAtWork
+    requires line { IsSayable line.now }
+    requires packable { IsPackableControl control.now }
+    requires good { IsGoodWalk control.now.registers walk }
+    requires desc { IsAdmissible desc.now }
+    ensures leads { (seen : List Judged) (asked : Reference) → IsWalked control.now line.now seen walk
+        → wants control.now line.now (wanted walk) ≡ Asks asked → IsJudged asked desc.now element.now
+        → HasSeen control.now line.now (seen ++ beside element.now desc.now ∷ []) result }
+    ensures good { IsGoodWork control.now result }
+    ensures nearer { IsWithin (9 - length walk.chain) result }
+    ensures known { (asked : Reference) → wants control.now line.now (wanted walk) ≡ Asks asked
+        → IsJudged asked desc.now element.now → IsKnown result }
+{
+    match walk.want() {
+        Want::Word { segno, word, ring } => {
+            word_read(
+                walk,
+                Place { segno, word, ring },
+                line,
+                control,
+                element,
+                desc,
+            )
+        }
+        Want::Done(target) => did(line, control, &target, element, desc),
+    }
+}
+
+// The indirect word for which a walk asks was read.
+fn word_read(
+    walk: Walk,
+    place: Place,
+    line: &Line,
+    control: &Control,
+    element: &Element,
+    desc: &Desc,
+) -> LineAtWork
+    requires line { IsSayable line.now }
+    requires packable { IsPackableControl control.now }
+    requires good { IsGoodWalk control.now.registers walk }
+    requires wants { wanted walk ≡ WantsWord place.segno place.word place.ring }
+    ensures leads { (seen : List Judged) → IsWalked control.now line.now seen walk
+        → HasSeen control.now line.now (seen ++ beside element.now desc.now ∷ []) result }
+    ensures good { IsGoodWork control.now result }
+    ensures nearer { IsWithin (9 - length walk.chain) result }
+    ensures known { IsJudged (looks place) desc.now element.now → IsKnown result }
+{
+    match element.outcome {
+        Outcome::Read { value, .. } => {
+            standing(feed(line, control, walk, place, value, desc.brackets().r1()))
+        }
+        Outcome::Denied(denial) => ended(Result2::Denied(denial), control),
+        Outcome::Written { .. } => LineAtWork::Nowhere,
+        Outcome::Entered { .. } => LineAtWork::Nowhere,
+    }
+}
+
+fn standing(onward: Onward) -> LineAtWork
+    ensures is { result ≡ standing onward }
+    ensures known { IsKnown result }
+{
+    match onward {
+        Onward::More(progress) => LineAtWork::At(progress),
+        Onward::End { ends, after } => LineAtWork::Ended(End {
+            ends,
+            after: Change::keeping(&after),
+        }),
+    }
+}
+
+// The line made its own reference, at its target.
+fn did(
+    line: &Line,
+    control: &Control,
+    target: &Pointer,
+    element: &Element,
+    desc: &Desc,
+) -> LineAtWork
+    requires packable { IsPackableControl control.now }
+    requires target { IsTarget control.now.registers target.now }
+    requires desc { IsAdmissible desc.now }
+    ensures leads { (asked : Reference) → at_target control.now line.now target.now ≡ Asks asked → IsJudged asked desc.now element.now
+        → IsSaid control.now (after_target control.now line.now target.now desc.now element.now.outcome) result }
+    ensures good { IsGoodWork control.now result }
+    ensures over { IsOver result }
+    ensures known { (asked : Reference) → at_target control.now line.now target.now ≡ Asks asked
+        → IsJudged asked desc.now element.now → IsKnown result }
+{
+    match element.outcome {
+        Outcome::Denied(denial) => ended(Result2::Denied(denial), control),
+        Outcome::Read { value, .. } => read(line, control, value),
+        Outcome::Written { .. } => written(line, control),
+        Outcome::Entered { .. } => entered(line, control, target, desc),
+    }
+}
+
+// It read this word.
+fn read(line: &Line, control: &Control, value: Word) -> LineAtWork
+    requires { IsPackableControl control.now }
+    ensures said { (target : PointerParts) (d : Descriptor) (writer stamp : ℕ)
+        → IsSaid control.now (after_target control.now line.now target d (WasRead value writer stamp)) result }
+    ensures good { IsGoodWork control.now result }
+    ensures over { IsOver result }
+    ensures known { IsReader line.now → IsKnown result }
+{
+    match line {
+        Line::Lda { .. } => LineAtWork::Ended(End {
+            ends: Result2::A(value),
+            after: Change::keeping(&Regs {
+                a: value,
+                ..control.registers
+            }),
+        }),
+        Line::Fetch => ended(Result2::Done, control),
+        Line::Ask(_)
+        | Line::Set { .. }
+        | Line::Epp { .. }
+        | Line::Sta { .. }
+        | Line::Spri { .. }
+        | Line::Call { .. }
+        | Line::Return { .. } => LineAtWork::Nowhere,
+    }
+}
+
+// It stored its word.
+fn written(line: &Line, control: &Control) -> LineAtWork
+    requires { IsPackableControl control.now }
+    ensures said { (target : PointerParts) (d : Descriptor) (value : ℕ)
+        → IsSaid control.now (after_target control.now line.now target d (WasWritten value)) result }
+    ensures good { IsGoodWork control.now result }
+    ensures over { IsOver result }
+    ensures known { IsWriter line.now → IsKnown result }
+{
+    match line {
+        Line::Sta { .. } | Line::Spri { .. } => ended(Result2::Done, control),
+        Line::Ask(_)
+        | Line::Set { .. }
+        | Line::Epp { .. }
+        | Line::Lda { .. }
+        | Line::Fetch
+        | Line::Call { .. }
+        | Line::Return { .. } => LineAtWork::Nowhere,
+    }
+}
+
+// It was granted a call or a return.
+fn entered(line: &Line, control: &Control, target: &Pointer, desc: &Desc) -> LineAtWork
+    requires packable { IsPackableControl control.now }
+    requires target { IsTarget control.now.registers target.now }
+    requires desc { IsAdmissible desc.now }
+    ensures said { (ring : ℕ) (asked : Reference) (e : PlainElement) → at_target control.now line.now target.now ≡ Asks asked
+        → IsJudged asked desc.now e → e.outcome ≡ HasEntered ring
+        → IsSaid control.now (after_target control.now line.now target.now desc.now (HasEntered ring)) result }
+    ensures good { IsGoodWork control.now result }
+    ensures over { IsOver result }
+    ensures known { (ring : ℕ) (asked : Reference) (e : PlainElement) → at_target control.now line.now target.now ≡ Asks asked
+        → IsJudged asked desc.now e → e.outcome ≡ HasEntered ring → IsMover line.now → IsKnown result }
+{
+    match line {
+        Line::Call { .. } => match control.call(target, desc) {
+            Ok(after) => moved(&after),
+            Err(_) => LineAtWork::Nowhere,
+        },
+        Line::Return { .. } => match control.ret(target, desc) {
+            Ok(after) => moved(&after),
+            Err(_) => LineAtWork::Nowhere,
+        },
+        Line::Ask(_)
+        | Line::Set { .. }
+        | Line::Epp { .. }
+        | Line::Lda { .. }
+        | Line::Sta { .. }
+        | Line::Spri { .. }
+        | Line::Fetch => LineAtWork::Nowhere,
+    }
+}
+
+// The process goes on so.
+fn moved(after: &Change) -> LineAtWork
+    ensures { result ≡ moved_on after.now }
+{
+    LineAtWork::Ended(End {
+        ends: Result2::Moved {
+            ring: after.registers.ring,
+            procedure: after.registers.procedure,
+        },
+        after: *after,
+    })
+}
+
+// A write that a reply asks for was made.
+fn stored(fill: &Fill, control: &Control, element: &Element, desc: &Desc) -> LineAtWork
+    requires packable { IsPackableControl control.now }
+    requires short { IsShort fill.now }
+    requires desc { IsAdmissible desc.now }
+    ensures made { (value : ℕ) → element.now.outcome ≡ WasWritten value
+        → result ≡ after_writing control.now (after_fill (counted fill.now desc.now.bound)) }
+    ensures good { IsGoodWork control.now result }
+    ensures nearer { IsWithin (steps_to_fill fill.now) result }
+{
+    match element.outcome {
+        Outcome::Written { .. } => match fill.made(desc.bound()) {
+            Filled::More(next) => LineAtWork::At(Progress::Filling(next)),
+            Filled::Anew => LineAtWork::At(Progress::Before),
+            Filled::Done => ended(Result2::Done, control),
+            Filled::Nowhere => LineAtWork::Nowhere,
+        },
+        Outcome::Read { .. } | Outcome::Entered { .. } | Outcome::Denied(_) => LineAtWork::Nowhere,
+    }
+}
+
+// A call was entered for a line that goes on from here.
+fn answered_at(progress: Progress, line: &Line, control: &Control, reply: &Reply) -> LineAtWork
+    requires line { IsSayable line.now }
+    requires packable { IsPackableControl control.now }
+    requires linked { IsLinkedWithin reply.now }
+    ensures taken { (setting : Setting) (number : ℕ) (entry : PlainEntry) → entry_at setting.journal number ≡ Some entry
+        → entry.reply ≡ reply.now → IsTaken control.now line.now setting (EntryOf number) (At progress) result }
+    ensures good { IsGoodWork control.now result }
+{
+    match progress {
+        Progress::Before => asked(line, control, reply),
+        Progress::AtLink(place) => linked(control, place, reply),
+        Progress::Waiting => replied(control, &Request::Resume, reply),
+        Progress::Walking(_) => LineAtWork::Nowhere,
+        Progress::Filling(_) => LineAtWork::Nowhere,
+    }
+}
+
+// A line that is a request called for it.
+fn asked(line: &Line, control: &Control, reply: &Reply) -> LineAtWork
+    requires line { IsSayable line.now }
+    requires packable { IsPackableControl control.now }
+    ensures stands { (request : PlainRequest) (entry : PlainEntry) → line.now ≡ lines.Ask request → entry.request ≡ request
+        → entry.reply ≡ reply.now → StandsAt control.now line.now (Answer entry []) result }
+    ensures good { IsGoodWork control.now result }
+{
+    match line {
+        Line::Ask(boxed) => replied(control, boxed.request(), reply),
+        Line::Set { .. }
+        | Line::Epp { .. }
+        | Line::Lda { .. }
+        | Line::Sta { .. }
+        | Line::Spri { .. }
+        | Line::Fetch
+        | Line::Call { .. }
+        | Line::Return { .. } => LineAtWork::Nowhere,
+    }
+}
+
+// The reply to a request that a line made, or to the `resume` after it.
+fn replied(control: &Control, request: &Request, reply: &Reply) -> LineAtWork
+    requires packable { IsPackableControl control.now }
+    ensures stands { (own : PlainRequest) (entry : PlainEntry) → IsUnlinked request.now → (request.now ≡ Block → own ≡ Block)
+        → entry.request ≡ request.now → entry.reply ≡ reply.now
+        → StandsAt control.now (lines.Ask own) (Answer entry []) result }
+    ensures good { IsGoodWork control.now result }
+{
+    match reply {
+        Reply::Waiting => waits(request),
+        Reply::Linked { linkage, .. } => fills(*linkage, Behind::Nowhere, LineAtWork::Nowhere),
+        Reply::Segno(known) => { fills(known.linkage, Behind::Done, ended(Result2::Done, control)) }
+        Reply::Refused(_)
+        | Reply::Done
+        | Reply::Status(_)
+        | Reply::Names(_)
+        | Reply::Sent
+        | Reply::Message { .. }
+        | Reply::Nobody => ended(Result2::of(reply), control),
+    }
+}
+
+// Only who blocks is told to wait.
+fn waits(request: &Request) -> LineAtWork
+    ensures yes { request.now ≡ Block → result ≡ At Waiting }
+    ensures no { (request.now ≡ Block → ⊥) → result ≡ Nowhere }
+{
+    if matches!(request, Request::Block) {
+        LineAtWork::At(Progress::Waiting)
+    } else {
+        LineAtWork::Nowhere
+    }
+}
+
+// The reply to the call by which a line has a link snapped.
+fn linked(control: &Control, place: Place, reply: &Reply) -> LineAtWork
+    requires packable { IsPackableControl control.now }
+    requires linked { IsLinkedWithin reply.now }
+    ensures stands { (l : PlainLine) (entry : PlainEntry) → IsMemoryLine l → entry.ring ≡ place.ring
+        → entry.request ≡ Link place.segno place.word → entry.reply ≡ reply.now
+        → StandsAt control.now l (Answer entry []) result }
+    ensures good { IsGoodWork control.now result }
+{
+    match reply {
+        Reply::Linked {
+            segno,
+            word,
+            linkage,
+            ..
+        } => {
+            let snap = snap(place, *segno, *word);
+            fills(*linkage, Behind::Pointer(snap), LineAtWork::Nowhere)
+        }
+        Reply::Segno(known) => fills(known.linkage, Behind::Nowhere, LineAtWork::Nowhere),
+        Reply::Refused(_) => ended(Result2::Refused, control),
+        Reply::Done
+        | Reply::Status(_)
+        | Reply::Names(_)
+        | Reply::Sent
+        | Reply::Message { .. }
+        | Reply::Nobody
+        | Reply::Waiting => LineAtWork::Nowhere,
+    }
+}
+
+// The pointer that is to be stored in the word of a link that leads there.
+fn snap(place: Place, segno: u16, word: u16) -> Snap
+    requires segno { segno ≤ 4095 }
+    requires word { word ≤ 16383 }
+    ensures { result ≡ record {
+      segno = place.segno;
+      word = place.word;
+      value = pointer_word (record { ring = place.ring; segno = segno; word = word; further = false });
+    } }
+{
+    let target = Pointer {
+        ring: place.ring,
+        segno,
+        word,
+        further: false,
+    };
+    Snap {
+        segno: place.segno,
+        word: place.word,
+        value: target.pack(),
+    }
+}
+
+// The writes that a reply asks for come first.
+fn fills(section: Option<u16>, behind: Behind, after: LineAtWork) -> LineAtWork
+    ensures { result ≡ filling_or after (first_fill (begun section) behind) }
+{
+    match first_fill(begun(section), behind) {
+        Some(fill) => LineAtWork::At(Progress::Filling(fill)),
+        None => after,
+    }
+}
+
+// A section of which no word was stored yet.
+fn begun(section: Option<u16>) -> Option<(u16, u16)>
+    ensures { result ≡ begun section }
+{
+    match section {
+        Some(section) => Some((section, 1)),
+        None => None,
+    }
+}
+
+fn ended(ends: Result2, control: &Control) -> LineAtWork
+    ensures { result ≡ ended ends control.now }
+{
+    LineAtWork::Ended(end(ends, control))
+}
+
+fn end(ends: Result2, control: &Control) -> End
+    ensures { result ≡ end_of ends control.now }
+{
+    End {
+        ends,
+        after: Change::keeping(&control.registers),
+    }
+}
