@@ -1,0 +1,4 @@
+pub mod NumberLaws
+pub mod FindLaws
+pub mod PageLaws
+pub mod FoldLaws

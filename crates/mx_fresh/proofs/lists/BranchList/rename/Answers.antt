@@ -1,0 +1,23 @@
+use Rattle.std.proofs.Common.{◌≡◌, ◌==◌, Some, None, position, refl, sym, ap, ◌∙◌, List}
+use Rattle.mx_hier.specs.declared.branches.Branch.{Branch}
+use Rattle.mx_hier.specs.Listed.{with_name}
+use Rattle.mx_fresh.proofs.NumberLaws.{set_numbered, set_listed, unlisted}
+use Rattle.mx_fresh.proofs.lists.BranchList.rename.Goals as goal
+
+at : (c : goal.After-put_name) → position (λ (branch : Branch). branch.uid == c.args.uid) c.self.inside.list.items ≡ Some c.in-Some.place
+at c = ap (position (λ (branch : Branch). branch.uid == c.args.uid)) (sym c.as_slice.ensures.value) ∙ sym c.place_of.ensures ∙ c.in-Some.is
+
+pub invariant_of-self : goal.invariant_of-self
+invariant_of-self c =
+    set_numbered (with_name c.args.name.now) (λ branch. refl) c.self.inside.list.items c.self.inside.next c.args.uid c.args.self.now c.self.view_is
+    c.self.invariant c.in-Some.place (at c) c.put_name.new.branches.items c.put_name.ensures
+
+pub returns-in-Some : goal.returns-in-Some
+returns-in-Some c =
+    set_listed (with_name c.args.name.now) (λ branch. refl) c.self.inside.list.items c.self.inside.next c.args.uid c.args.self.now c.self.view_is
+    c.self.invariant c.in-Some.place (at c) c.put_name.new.branches.items c.put_name.ensures
+
+pub returns-in_default : goal.returns-in_default
+returns-in_default c =
+    unlisted (with_name c.args.name.now) (λ branch. refl) c.self.inside.list.items c.self.inside.next c.args.uid c.args.self.now c.self.view_is
+    (ap (position (λ (branch : Branch). branch.uid == c.args.uid)) (sym c.as_slice.ensures.value) ∙ sym c.place_of.ensures ∙ c.in_default.is)

@@ -1,0 +1,98 @@
+//! The pages of memory, as a list that says of each whether it is free.
+
+ghost use Rattle.std.specs.Prelude.{◌≡◌, ◌≤◌, false, if◌then◌else◌, IfOk, IfSome};
+ghost use Rattle.mx_pages.specs.Runs.{is_free, is_in_run, free_from, run_at, run_given, with_run, pages_for};
+
+use std::alloc::{AllocError, Global};
+
+/// How many pages there are.
+const PAGES: u32 = 1_024;
+
+/// Each page from this one on is free, and no other.
+pub(crate) fn free_from(alloc: Global, first: u32) -> Result<Vec<bool>, AllocError>
+    ensures { IfOk result (λ free. record { free = free.items } ≡ free_from first) }
+{
+    let mut free = Vec::new(alloc);
+    for page in 0..PAGES {
+        free.push(first <= page)?;
+    }
+    Ok(free)
+}
+
+/// Whether a page is free.
+fn is_free(free: &[bool], page: u32) -> bool
+    ensures { result ≡ is_free (record { free = free.now }) page }
+{
+    match free.get(page as usize) {
+        Some(is_free) => *is_free,
+        None => false,
+    }
+}
+
+/// Whether the n pages from this one on are free.
+fn run_at(free: &[bool], n: u32, first: u32) -> bool
+    requires few { n ≤ 1024 }
+    requires low { first ≤ 1024 }
+    ensures { result ≡ run_at (record { free = free.now }) n first }
+{
+    for page in first..first + n {
+        if !is_free(free, page) {
+            return false;
+        }
+    }
+    true
+}
+
+/// The first page of the run of n pages that is given out next.
+pub(crate) fn run_given(free: &[bool], n: u32) -> Option<u32>
+    requires few { n ≤ 1024 }
+    ensures value { result ≡ run_given (record { free = free.now }) n }
+    ensures below { IfSome result (λ first. first ≤ 1023) }
+{
+    for first in 0..PAGES {
+        if run_at(free, n, first) {
+            return Some(first);
+        }
+    }
+    None
+}
+
+/// The pages after the run of n pages from `first` on was given out.
+pub(crate) fn without_run(
+    alloc: Global,
+    free: &[bool],
+    first: u32,
+    n: u32,
+) -> Result<Vec<bool>, AllocError>
+    requires few { n ≤ 1024 }
+    requires low { first ≤ 1024 }
+    ensures { IfOk result (λ after. record { free = after.items } ≡ with_run false (record { free = free.now }) first n) }
+{
+    let mut after = Vec::new(alloc);
+    for page in 0..PAGES {
+        after.push(is_left(free, first, n, page))?;
+    }
+    Ok(after)
+}
+
+/// Whether a page is free once the run was given out.
+fn is_left(free: &[bool], first: u32, n: u32, page: u32) -> bool
+    requires few { n ≤ 1024 }
+    requires low { first ≤ 1024 }
+    ensures { result ≡ (if is_in_run n first page then false else is_free (record { free = free.now }) page) }
+{
+    if first <= page && page < first + n {
+        false
+    } else {
+        is_free(free, page)
+    }
+}
+
+/// How many pages so many words need.
+pub(crate) fn pages_for(words: u32) -> u32
+    requires { words ≤ 65535 }
+    ensures value { result ≡ pages_for words }
+    ensures few { result ≤ 1024 }
+{
+    (words + 63) / 64
+}
