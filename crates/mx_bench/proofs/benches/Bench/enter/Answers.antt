@@ -69,7 +69,7 @@ returns-in-Err-Memory-clause-err c = still_seen _ c.self.inside.supervisor _ c.s
 
 pub after_entry-requires-clause-linked : goal.after_entry-requires-clause-linked
 after_entry-requires-clause-linked c =
-    entered_linked _ c.enter.new.self c.args.p c.args.ring c.args.request.now c.in-Ok.number c.in-Ok.ensures.entered
+    entered_linked _ c.enter_call.new.supervisor c.args.p c.args.ring c.args.request.now c.in-Ok.number c.in-Ok.ensures.entered
 
 pub go_on-requires-clause-within : goal.go_on-requires-clause-within
 go_on-requires-clause-within c =

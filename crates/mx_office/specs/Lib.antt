@@ -1,0 +1,4 @@
+pub mod Announcing
+pub mod Clearing
+pub mod Revoking
+pub mod Settling
