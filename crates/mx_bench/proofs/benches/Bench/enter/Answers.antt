@@ -41,8 +41,8 @@ end_line-requires-in-Err-HistoryFull-clause-number c =
     let place : c.from-i.result - 1 ≡ c.args.p - 1 = ap (λ n. n - 1) c.from-i.ensures in
     seen_countable _ _ _ _ _ _ _ c.args.p _ _ _ c.self.invariant c.self.view_is place c.requires.at c.in_ok-reserve.ensures.still
 
-pub enter-requires-clause-process : goal.enter-requires-clause-process
-enter-requires-clause-process c =
+pub enter_call-requires-clause-process : goal.enter_call-requires-clause-process
+enter_call-requires-clause-process c =
     let place : c.from-i.result - 1 ≡ c.args.p - 1 = ap (λ n. n - 1) c.from-i.ensures in
     seen_principal _ _ _ _ _ _ c.args.p _ _ _ c.self.invariant c.self.view_is place c.requires.at
 
