@@ -29,7 +29,7 @@ same_change : (a b : Change) → Some a ≡ Some b → a ≡ b
 same_change a b e = cc
 
 -- a pair that is none of the list
-abbrev IsUnlisted : List Change → ℕ → ℕ → Type 0
+abbrev pub IsUnlisted : List Change → ℕ → ℕ → Type 0
 IsUnlisted changes p n = (i : ℕ) (c : Change) → slice_get changes i ≡ Some c → c.process ≡ p → c.segno ≡ n → ⊥
 
 put_other : (t : ℕ → ℕ → Descriptor) (c : Change) (p n : ℕ) → (c.process ≡ p → c.segno ≡ n → ⊥)
@@ -44,7 +44,7 @@ put_at : (t : ℕ → ℕ → Descriptor) (c : Change)
 put_at t c = ap (λ (g : ℕ → Descriptor). g c.segno) (put_here t c.process (put (t c.process) c.segno c.desc))
     ∙ put_here (t c.process) c.segno c.desc
 
-unlisted_stays : (changes : List Change) (t : ℕ → ℕ → Descriptor) (p n : ℕ) → IsUnlisted changes p n
+pub unlisted_stays : (changes : List Change) (t : ℕ → ℕ → Descriptor) (p n : ℕ) → IsUnlisted changes p n
     → with_changes changes t p n ≡ t p n
 unlisted_stays [] t p n none = refl
 unlisted_stays (c ∷ cs) t p n none =
@@ -72,7 +72,7 @@ listed_or_not (c ∷ cs) p n = elim (cases_eq c.process p) [
             (ap (λ (x : Change). x.segno) (same_change c d at) ∙ f)
         here (suc i) d at e f = none i d at e f
 
-listed_is : (changes : List Change) (t : ℕ → ℕ → Descriptor) (i : ℕ) (c : Change) → ArePairsOnce changes
+pub listed_is : (changes : List Change) (t : ℕ → ℕ → Descriptor) (i : ℕ) (c : Change) → ArePairsOnce changes
     → slice_get changes i ≡ Some c → with_changes changes t c.process c.segno ≡ c.desc
 listed_is [] t i c once at = cc
 listed_is (d ∷ ds) t zero c once at = subst

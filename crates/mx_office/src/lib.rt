@@ -8,10 +8,12 @@
 
 mod announcing;
 mod clearing;
+mod naming;
 mod revoking;
 mod settling;
 
 pub use announcing::announce;
 pub use clearing::clear_pages;
+pub use naming::Sitting;
 pub use revoking::revoke;
 pub use settling::settle_own;

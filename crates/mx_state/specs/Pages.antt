@@ -49,5 +49,5 @@ ArePagesHeldOnce s = (page : ℕ) → page < page_count → free_count s page + 
 
 -- no descriptor that a table may hold covers a free page
 abbrev pub AreFreePagesBare : Plain → Type 0
-AreFreePagesBare s = (p n page : ℕ) → IsAdmissible (descriptor s p n) → is_free s.hierarchy.pages page ≡ true
-    → IsTrue (covers (descriptor s p n) page) → ⊥
+AreFreePagesBare s = (p n page : ℕ) → IsAdmissible (descriptor s p n) → page < page_count
+    → is_free s.hierarchy.pages page ≡ true → IsTrue (covers (descriptor s p n) page) → ⊥

@@ -6,6 +6,7 @@ ghost use Rattle.mx_transcript.specs.Settings.{entry_at};
 ghost use Rattle.mx_script.specs.Sessions.{limit_of};
 ghost use Rattle.mx_sdw.specs.Admissible.{IsAdmissible};
 ghost use Rattle.mx_state.specs.Messages.{is_ready};
+ghost use Rattle.mx_state.specs.Pages.{AreFreePagesBare};
 ghost use Rattle.mx_state.specs.Table.{descriptor};
 ghost use Rattle.mx_sup.specs.Supervised.{Supervised, IsHistory, state_of};
 ghost use Rattle.mx_sup.specs.Entering.{IsOpened, HasCome, HasEntered};
@@ -132,13 +133,23 @@ impl<'a> Supervisor<'a> {
     pub fn length(&self) -> u32
         ensures value { result ≡ length self.now.journal }
         ensures history { IsHistory self.now }
+        ensures processes { length (state_of self.now).processes ≡ length self.now.session.principals }
     {
         self.journal.len() as u32
     }
 
+    /// No descriptor covers a free page of memory: so a page that was freed may be cleared, and one that is given out is
+    /// nobody's.
+    pub fn free_pages_are_bare(&self)
+        ensures { AreFreePagesBare (state_of self.now) }
+    {
+        mx_state::free_pages_are_bare(&self.state);
+    }
+
     /// How many calls can be entered.
     pub fn limit(&self) -> u32
-        ensures { result ≡ limit_of self.now.session }
+        ensures value { result ≡ limit_of self.now.session }
+        ensures most { result ≤ 262143 }
     {
         self.session.limit()
     }
