@@ -16,7 +16,7 @@ ghost use Rattle.mx_line.specs.declared.steps.Stepped.TheVariants.{More, Ended, 
 ghost use Rattle.mx_line.specs.declared.operands.Asked.TheVariants.{Target, First};
 ghost use Rattle.mx_line.specs.declared.operands.Way.TheVariants as ways;
 
-use crate::replied::{Replied, after_entry};
+use crate::replied::{Replied, after_entry, enter_call};
 use mx_call::Regs;
 use mx_line::{
     Asked, Fill, Filled, Memory, Place, Process, Processes, Progress, Stepped, Way, here, loaded,
@@ -419,7 +419,7 @@ impl<'a> Bench<'a> {
         let i = usize::from(p) - 1;
         let registers = self.processes.registers(i);
         self.processes.reserve(i)?;
-        match self.supervisor.enter(alloc, p, ring, request) {
+        match enter_call(&mut self.supervisor, alloc, p, ring, request) {
             Ok(number) => {
                 match after_entry(&self.supervisor, p, ring, request, number) {
                     Replied::Wait => {

@@ -1,20 +1,24 @@
 //! What the reply to a call makes of its line.
 
-ghost use Rattle.std.specs.Prelude.{◌≡◌, ◌≤◌, IfSome, IsFalse, IsTrue, length};
+ghost use Rattle.std.specs.Prelude.{◌≡◌, ◌≤◌, ◌↔◌, Err, IfOk, IfSome, IsFalse, IsTrue, OnErr, length};
 ghost use Rattle.mx_request.specs.declared.replies.Reply.{Reply as PlainReply};
 ghost use Rattle.mx_request.specs.declared.replies.Reply.TheVariants as replies;
 ghost use Rattle.mx_sdw.specs.Admissible.{IsAdmissible};
 ghost use Rattle.mx_state.specs.Table.{descriptor};
 ghost use Rattle.mx_state.specs.Told.{IsLinkedWithin};
+ghost use Rattle.mx_script.specs.Sessions.{limit_of};
+ghost use Rattle.mx_sup.specs.Entering.{HasEntered};
 ghost use Rattle.mx_sup.specs.Supervised.{state_of};
+ghost use Rattle.mx_sup.specs.declared.supervisors.EnterError.TheVariants.{HistoryFull};
 ghost use Rattle.mx_bench.specs.Replies.{IsReplied, IsReplyTo};
 ghost use Rattle.mx_line.specs.Fills.{sized};
 
 use mx_line::{Fill, behind_of, first_fill, section_in, snap_of};
 use mx_request::{Reply, Request};
 use mx_sdw::Ring;
-use mx_sup::Supervisor;
+use mx_sup::{EnterError, Supervisor};
 use mx_transcript::Result2;
+use std::alloc::Global;
 
 /// What a line does after a reply.
 #[derive(Clone, Copy)]
@@ -25,6 +29,26 @@ pub(crate) enum Replied {
     Store(Fill),
     /// It ends.
     End(Result2),
+}
+
+/// Process `p` makes a call, whose entry gets this number. Under one lock nobody needs to be told what it changed.
+pub(crate) fn enter_call(
+    supervisor: &mut Supervisor,
+    alloc: Global,
+    p: u8,
+    ring: Ring,
+    request: &Request,
+) -> Result<u32, EnterError>
+    requires some { 1 ≤ p }
+    requires process { p ≤ length supervisor.old.session.principals }
+    ensures entered { IfOk result (λ number. HasEntered supervisor.old p ring request.now number supervisor.new) }
+    ensures full { (result ≡ Err HistoryFull) ↔ (length supervisor.old.journal ≡ limit_of supervisor.old.session) }
+    ensures err { OnErr result (supervisor.new ≡ supervisor.old) }
+{
+    match supervisor.enter(alloc, p, ring, request) {
+        Ok(came) => Ok(came.number),
+        Err(error) => Err(error),
+    }
 }
 
 /// What a line does after the reply to the entry of this number, a request that process `p` made in this ring.

@@ -41,9 +41,11 @@ impl<E, B: Naming> Model for Pass<E, B> {
 }
 
 impl<E, B: Naming> Pass<E, B> {
-    /// The process.
+    /// The process: one of the run's table.
     pub fn process(&self) -> u8
-        ensures { result ≡ self.now.view.process }
+        ensures value { result ≡ self.now.view.process }
+        ensures low { 1 ≤ result }
+        ensures high { result ≤ B.layout.processes }
     {
         self.seat.process
     }

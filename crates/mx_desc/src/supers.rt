@@ -1,6 +1,6 @@
 //! The supervisor at the shared words: it enters changes of access, and settles them.
 
-ghost use Rattle.std.specs.Prelude.{◌≡◌, ◌≤◌, ℕ, true, IsTrue, length};
+ghost use Rattle.std.specs.Prelude.{◌≡◌, ◌≤◌, ◌+◌, ℕ, true, IsTrue, length};
 ghost use Rattle.mx_core.specs.Words.{number_of};
 ghost use Rattle.mx_core.specs.declared.words.DescriptorWord.TheVariants.{Fault};
 ghost use Rattle.mx_desc.specs.Slots.{IsPair, is_fault};
@@ -56,9 +56,13 @@ impl<E, B: Naming> Super<E, B> {
         self.seat.layout
     }
 
-    /// How many entries there are.
+    /// How many entries there are: those before the opening, and those of the history.
     pub fn length(&self) -> u32
-        ensures { result ≡ self.now.length }
+        ensures value { result ≡ self.now.length }
+        ensures begun { self.now.start ≡ B.start }
+        ensures counted { B.start + length self.now.history ≡ self.now.length }
+        ensures answered { self.now.answered ≤ self.now.length }
+        ensures limit { self.now.length ≤ 262143 }
     {
         self.seat.length
     }

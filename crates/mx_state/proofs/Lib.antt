@@ -24,3 +24,4 @@ pub mod VersionLaws
 pub mod MessageLaws
 pub mod AimLaws
 pub mod WaitingLaws
+pub mod BareLaws

@@ -1,5 +1,7 @@
 -- Who holds a page of memory: stacks, segments and linkage sections. None is held twice, and no free one is held.
-use Rattle.std.specs.Prelude.{ℕ, ◌+◌, ◌*◌, ◌≤◌, ◌<◌, ◌==◌, nat_lt, Bool, false, List, length, sum_by, count_by, if◌then◌else◌}
+use Rattle.std.specs.Prelude.{◌≡◌, ℕ, ◌+◌, ◌*◌, ◌≤◌, ◌<◌, ◌==◌, nat_lt, Bool, true, false, IsTrue, List, length, sum_by, count_by, if◌then◌else◌}
+use Rattle.mx_core.specs.Pages.{covers}
+use Rattle.mx_sdw.specs.Admissible.{IsAdmissible}
 use Rattle.mx_pages.specs.Runs.{page_count, pages_for, is_free, is_in_run}
 use Rattle.mx_hier.specs.declared.branches.Branch.{Branch}
 use Rattle.mx_hier.specs.declared.branches.Node.{Node}
@@ -8,6 +10,7 @@ use Rattle.mx_kst.specs.declared.lots.Lot.{Lot}
 use Rattle.mx_kst.specs.declared.lots.Lot.TheVariants.{Free, Stack, Branch as KnownBranch, Linkage}
 use Rattle.mx_state.specs.declared.states.ProcessState.{ProcessState}
 use Rattle.mx_state.specs.Plain.{Plain}
+use Rattle.mx_state.specs.Table.{descriptor}
 
 -- the stack of ring r of process p is page 8 * (p - 1) + r: the stacks are the first pages, eight for each process
 abbrev pub stacks_at : List ProcessState → ℕ → ℕ
@@ -43,3 +46,8 @@ free_count s page = if is_free s.hierarchy.pages page then 1 else 0
 -- each page is free, or held once, or neither, as that of a segment that was deleted
 abbrev pub ArePagesHeldOnce : Plain → Type 0
 ArePagesHeldOnce s = (page : ℕ) → page < page_count → free_count s page + holders s page ≤ 1
+
+-- no descriptor that a table may hold covers a free page
+abbrev pub AreFreePagesBare : Plain → Type 0
+AreFreePagesBare s = (p n page : ℕ) → IsAdmissible (descriptor s p n) → page < page_count
+    → is_free s.hierarchy.pages page ≡ true → IsTrue (covers (descriptor s p n) page) → ⊥

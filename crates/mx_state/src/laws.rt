@@ -3,7 +3,7 @@
 ghost use Rattle.mx_state.specs.AimAlone.{OtherClassLaw, AimAloneLaw, AimToldLaw};
 ghost use Rattle.mx_state.specs.Coming.{SectionComesLaw, SectionWordsLaw};
 ghost use Rattle.mx_state.specs.Laws.{RefusalLaw, PathLaw, OwnLastLaw, UnknownLaw, SetInitialLaw, DeleteInitialLaw, VersionLaw};
-ghost use Rattle.mx_state.specs.Pages.{ArePagesHeldOnce};
+ghost use Rattle.mx_state.specs.Pages.{AreFreePagesBare, ArePagesHeldOnce};
 ghost use Rattle.mx_state.specs.Told.{NewSectionLaw, PathTellsLaw, SectionDescLaw, ResolvedLaw, OnlyLinkLaw, LinkRepliesLaw, OthersLaw, SectionsStayLaw};
 ghost use Rattle.mx_state.specs.Waiting.{DoesLaw, OneRunsLaw, WaitsForLaw};
 
@@ -87,6 +87,15 @@ pub fn not_all_wait_for_one_another()
 /// different pages, and no free page is held.
 pub fn pages_are_held_once(state: &State)
     ensures { ArePagesHeldOnce state.now }
+{
+    // The state is read for what its model says of it.
+    let _version = state.version;
+}
+
+/// In every state that the program reaches no descriptor covers a free page of memory: so a page that is freed may be
+/// cleared, and one that is given out is nobody's.
+pub fn free_pages_are_bare(state: &State)
+    ensures { AreFreePagesBare state.now }
 {
     // The state is read for what its model says of it.
     let _version = state.version;

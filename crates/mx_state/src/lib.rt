@@ -33,7 +33,7 @@ pub use journal::{Entry, Journal};
 pub use laws::{
     a_link_is_resolved_or_refused, a_process_does_what_its_entries_say,
     a_section_comes_where_nothing_stood, a_section_that_is_told_is_there,
-    aim_alone_changes_a_descriptor, an_initial_list_is_in_no_descriptor,
+    aim_alone_changes_a_descriptor, an_initial_list_is_in_no_descriptor, free_pages_are_bare,
     not_all_wait_for_one_another, numbers_beyond_the_last_are_unknown,
     only_status_asks_the_version, pages_are_held_once, what_a_request_leaves,
     what_a_request_leaves_to_others,

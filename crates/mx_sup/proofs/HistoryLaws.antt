@@ -2,7 +2,6 @@
 use Rattle.std.proofs.Common.{◌≡◌, ◌⊎◌, inl, inr, ℕ, zero, suc, ◌<◌, ◌≤◌, ◌+◌, ◌-◌, List, [], ◌∷◌, ◌++◌, map, take, length, Some, refl, sym, ◌∙◌, ap, subst, arith, length-append}
 use Rattle.std.proofs.lemmas.List.{map-append, take-append-le, length-map}
 use Rattle.std.specs.List.{slice_get}
-use Rattle.std.specs.Option.{option_map}
 use Rattle.mx_transcript.specs.Legal.{call_of, setup_entries}
 use Rattle.mx_transcript.specs.Settings.{entry_at}
 use Rattle.mx_request.specs.declared.replies.Reply.{Reply}
@@ -13,7 +12,13 @@ use Rattle.mx_state.specs.History.{replay, IsRight, IsRightEntry}
 use Rattle.mx_state.specs.Plain.{Plain, answer}
 use Rattle.mx_state.specs.Requests.{plain}
 use Rattle.mx_state.specs.declared.journal.Entry as journaled
-use Rattle.mx_sup.specs.Supervised.{IsKept}
+use Rattle.mx_state.specs.Changes.{AreChanges, IsBounded}
+use Rattle.mx_state.specs.Given.{AreFreed, AreGiven}
+use Rattle.mx_request.specs.Versions.{last_number}
+use Rattle.std.specs.Prelude.{All}
+use Rattle.mx_sup.specs.Entering.{HasCome}
+use Rattle.mx_sup.specs.Supervised.{IsKept, Supervised, state_of, supervised}
+use Rattle.mx_sup.specs.declared.supervisors.Entered.{Entered}
 
 pub replay_more : (s : Plain) (journal : List journaled.Entry) (entry : journaled.Entry)
     → replay s (journal ++ entry ∷ []) ≡ (plain (replay s journal) entry.process entry.ring entry.request).state
@@ -75,10 +80,10 @@ kept_more x s s' journal journal' entry k below some most told same more =
         })
 
 -- the entry of a number
-pub reply_at : (journal : List journaled.Entry) (number : ℕ) (entry : journaled.Entry) → 1 ≤ number → slice_get journal (number - 1) ≡ Some entry
-    → option_map (λ (e : journaled.Entry). e.reply) (entry_at journal number) ≡ Some entry.reply
-reply_at journal zero entry some e = absurd (omega (arith, some))
-reply_at journal (suc place) entry some e = ap (option_map (λ (e : journaled.Entry). e.reply)) (subst (λ n. slice_get journal n ≡ Some entry) (less place) e)
+pub entry_found : (journal : List journaled.Entry) (number : ℕ) (entry : journaled.Entry) → 1 ≤ number → slice_get journal (number - 1) ≡ Some entry
+    → entry_at journal number ≡ Some entry
+entry_found journal zero entry some e = absurd (omega (arith, some))
+entry_found journal (suc place) entry some e = subst (λ n. slice_get journal n ≡ Some entry) (less place) e
   where
     less : (n : ℕ) → suc n - 1 ≡ n
     less n = omega arith
@@ -90,3 +95,17 @@ pub kept_entry : (x : Outline) (s s' : Plain) (journal middle journal' : List jo
 kept_entry x s s' journal middle journal' p ring request copied reply k below some most told processes same still more =
     kept_more x s s' journal journal' (record { process = p; ring = ring; request = request; reply = reply }) k below some most told processes
     (more ∙ rw (still, same) refl)
+
+-- what came of an entry is told of the states after the journals
+pub came_kept : (x : Outline) (s s' : Plain) (journal journal' : List journaled.Entry) (old : Supervised) (came : Entered)
+    → IsKept x s journal → IsKept x s' journal' → supervised x journal ≡ old → AreChanges s s' came.changes
+    → All (IsBounded (last_number s.version)) came.changes → AreGiven s s' came.given → AreFreed s s' came.freed
+    → HasCome old (supervised x journal') came
+came_kept x s s' journal journal' old came k k' is changes bounded given freed =
+    let before : s ≡ state_of old = k.state ∙ ap state_of is in
+    let after : s' ≡ state_of (supervised x journal') = k'.state in record {
+      changes = subst (λ (z : Plain × Plain). AreChanges z.0 z.1 came.changes) (λ i. (before i, after i)) changes;
+      bounded = subst (λ (z : Plain). All (IsBounded (last_number z.version)) came.changes) before bounded;
+      given = subst (λ (z : Plain × Plain). AreGiven z.0 z.1 came.given) (λ i. (before i, after i)) given;
+      freed = subst (λ (z : Plain × Plain). AreFreed z.0 z.1 came.freed) (λ i. (before i, after i)) freed;
+    }

@@ -1,5 +1,5 @@
 -- Who is told to wait: whoever blocks or resumes and is not ready, and nobody else.
-use Rattle.std.proofs.Common.{◌≡◌, ◌⊎◌, inl, inr, ℕ, ◌==◌, ◌||◌, not, Bool, true, false, List, [], ◌∷◌, ◌++◌, length, Option, Some, None, Result, Ok, Err, refl, ap, sym, ◌∙◌}
+use Rattle.std.proofs.Common.{◌≡◌, ◌⊎◌, inl, inr, ℕ, ◌==◌, ◌||◌, not, Bool, true, false, List, [], ◌∷◌, ◌++◌, length, Option, Some, None, Result, Ok, Err, refl, ap, ◌∙◌}
 use Rattle.mx_hier.specs.Branches.{Hierarchy}
 use Rattle.mx_hier.specs.Callers.{Caller}
 use Rattle.mx_hier.specs.declared.refusals.Refusal.{Refusal}
@@ -15,10 +15,7 @@ use Rattle.mx_transcript.specs.Asking.{next, answered, first_due}
 use Rattle.mx_transcript.specs.Courses.{Answer as Answering}
 use Rattle.mx_transcript.specs.Filling.{section_words, snapped}
 use Rattle.mx_transcript.specs.Next.{Reference}
-use Rattle.mx_request.specs.Classes.{class_of}
 use Rattle.mx_request.specs.Sections.{section_in}
-use Rattle.mx_request.specs.declared.classes.RequestClass.{RequestClass}
-use Rattle.mx_request.specs.declared.classes.RequestClass.TheVariants.{OfPath, OfProcess, OfSupervisor}
 use Rattle.mx_request.specs.declared.replies.Reply.{Reply}
 use Rattle.mx_request.specs.declared.replies.Reply.TheVariants as reply
 use Rattle.mx_request.specs.declared.requests.Request.{Request}

@@ -1,13 +1,17 @@
 -- What a supervisor does: it opens with the setup, and enters one call after another.
-use Rattle.std.specs.Prelude.{◌≡◌, ℕ, ◌+◌, ◌<◌, List, [], ◌∷◌, ◌++◌, length}
+use Rattle.std.specs.Prelude.{◌≡◌, ℕ, ◌+◌, ◌<◌, List, [], ◌∷◌, ◌++◌, All, length}
 use Rattle.mx_transcript.specs.Legal.{setup_entries}
 use Rattle.mx_transcript.specs.Transcripts.{Step}
 use Rattle.mx_request.specs.declared.replies.Reply.{Reply}
 use Rattle.mx_request.specs.declared.requests.Request.{Request}
+use Rattle.mx_request.specs.Versions.{last_number}
 use Rattle.mx_script.specs.Sessions.{Outline, limit_of}
+use Rattle.mx_state.specs.Changes.{AreChanges, IsBounded}
+use Rattle.mx_state.specs.Given.{AreFreed, AreGiven}
 use Rattle.mx_state.specs.History.{IsRightEntry}
 use Rattle.mx_state.specs.Told.{IsLinkedWithin}
 use Rattle.mx_sup.specs.Supervised.{Supervised, supervised, state_of, IsHistory}
+use Rattle.mx_sup.specs.declared.supervisors.Entered.{Entered}
 use Rattle.mx_ties.specs.Ran.{IsSetUp}
 
 -- it has entered the setup of its session and nothing else, and this is the initializer's part
@@ -27,3 +31,10 @@ pub record HasEntered (old : Supervised) (p ring : ℕ) (request : Request) (ent
   pub linked : IsLinkedWithin reply
   pub entry : new ≡ supervised old.session
       (old.journal ++ record { process = p; ring = ring; request = request; reply = reply } ∷ [])
+
+-- exactly the descriptors that an entry changed are told, and exactly the pages that it gave out and freed
+pub record HasCome (old new : Supervised) (came : Entered) : Type 0 where
+  pub changes : AreChanges (state_of old) (state_of new) came.changes
+  pub bounded : All (IsBounded (last_number (state_of old).version)) came.changes
+  pub given : AreGiven (state_of old) (state_of new) came.given
+  pub freed : AreFreed (state_of old) (state_of new) came.freed

@@ -48,8 +48,8 @@ fn enter(
     ensures capacity { vec_capacity journal.new ≡ vec_capacity journal.old }
 {
     let ring = Ring::new(0).unwrap();
-    let entry = answered(alloc, state, 0, ring, request)?;
-    journal.push_reserved(entry);
+    let came = answered(alloc, state, 0, ring, request)?;
+    journal.push_reserved(came.entry);
     Ok(())
 }
 

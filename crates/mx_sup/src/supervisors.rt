@@ -6,9 +6,10 @@ ghost use Rattle.mx_transcript.specs.Settings.{entry_at};
 ghost use Rattle.mx_script.specs.Sessions.{limit_of};
 ghost use Rattle.mx_sdw.specs.Admissible.{IsAdmissible};
 ghost use Rattle.mx_state.specs.Messages.{is_ready};
+ghost use Rattle.mx_state.specs.Pages.{AreFreePagesBare};
 ghost use Rattle.mx_state.specs.Table.{descriptor};
 ghost use Rattle.mx_sup.specs.Supervised.{Supervised, IsHistory, state_of};
-ghost use Rattle.mx_sup.specs.Entering.{IsOpened, HasEntered};
+ghost use Rattle.mx_sup.specs.Entering.{IsOpened, HasCome, HasEntered};
 ghost use Rattle.mx_sup.specs.declared.supervisors.EnterError.TheVariants.{Memory};
 
 use crate::answering::answered;
@@ -17,7 +18,7 @@ use mx_list::Sequence;
 use mx_request::{Reply, Request};
 use mx_script::Session;
 use mx_sdw::{Desc, Ring};
-use mx_state::{Entry, Journal, State};
+use mx_state::{Changes, Entry, Journal, PageRun, State};
 use mx_transcript::Transcript;
 use std::alloc::{AllocError, Global};
 use std::marker::Model;
@@ -40,6 +41,19 @@ impl From<AllocError> for EnterError {
     fn from(_error: AllocError) -> EnterError {
         EnterError::Memory
     }
+}
+
+/// What came of a call that was entered.
+#[derive(Drop)]
+pub struct Entered {
+    /// The number of its entry, counted from 1.
+    pub number: u32,
+    /// Exactly the descriptors that it changed, in order of process and segment number.
+    pub changes: Changes,
+    /// Exactly the pages that it gave out.
+    pub given: Option<PageRun>,
+    /// Exactly the pages that it freed.
+    pub freed: Option<PageRun>,
 }
 
 /// What answers the calls of a session's processes, one after another. Its journal is one history of the plain supervisor
@@ -84,18 +98,19 @@ impl<'a> Supervisor<'a> {
         Ok((supervisor, part))
     }
 
-    /// Process `p` makes this request in this ring: the entry's number, counted from 1. `HistoryFull` comes exactly where
-    /// the journal is at its limit; on an error nothing changes.
+    /// Process `p` makes this request in this ring: the entry's number, counted from 1, and what came of it. `HistoryFull`
+    /// comes exactly where the journal is at its limit; on an error nothing changes.
     pub fn enter(
         &mut self,
         alloc: Global,
         p: u8,
         ring: Ring,
         request: &Request,
-    ) -> Result<u32, EnterError>
+    ) -> Result<Entered, EnterError>
         requires some { 1 ≤ p }
         requires process { p ≤ length self.old.session.principals }
-        ensures entered { IfOk result (λ number. HasEntered self.old p ring request.now number self.new) }
+        ensures entered { IfOk result (λ came. HasEntered self.old p ring request.now came.number self.new) }
+        ensures came { IfOk result (HasCome self.old self.new) }
         ensures full { (result ≡ Err EnterError.HistoryFull) ↔ (length self.old.journal ≡ limit_of self.old.session) }
         ensures err { OnErr result (self.new ≡ self.old) }
     {
@@ -104,24 +119,51 @@ impl<'a> Supervisor<'a> {
             return Err(EnterError::HistoryFull);
         }
         self.journal.reserve(1)?;
-        let entry = answered(alloc, &mut self.state, p, ring, request)?;
-        self.journal.push_reserved(entry);
-        Ok(self.journal.len() as u32)
+        let came = answered(alloc, &mut self.state, p, ring, request)?;
+        self.journal.push_reserved(came.entry);
+        Ok(Entered {
+            number: self.journal.len() as u32,
+            changes: came.changes,
+            given: came.given,
+            freed: came.freed,
+        })
     }
 
     /// How many calls were entered.
     pub fn length(&self) -> u32
         ensures value { result ≡ length self.now.journal }
         ensures history { IsHistory self.now }
+        ensures processes { length (state_of self.now).processes ≡ length self.now.session.principals }
     {
         self.journal.len() as u32
     }
 
+    /// No descriptor covers a free page of memory: so a page that was freed may be cleared, and one that is given out is
+    /// nobody's.
+    pub fn free_pages_are_bare(&self)
+        ensures { AreFreePagesBare (state_of self.now) }
+    {
+        mx_state::free_pages_are_bare(&self.state);
+    }
+
     /// How many calls can be entered.
     pub fn limit(&self) -> u32
-        ensures { result ≡ limit_of self.now.session }
+        ensures value { result ≡ limit_of self.now.session }
+        ensures most { result ≤ 262143 }
     {
         self.session.limit()
+    }
+
+    /// The entry of this number.
+    pub fn entry(&self, number: u32) -> &Entry
+        requires some { 1 ≤ number }
+        requires most { number ≤ length self.now.journal }
+        ensures { entry_at self.now.journal number ≡ Some result.now }
+    {
+        match entry_in(&self.journal, number as usize - 1) {
+            Some(entry) => entry,
+            None => unreachable!(),
+        }
     }
 
     /// The reply to the call of this number.
@@ -130,14 +172,11 @@ impl<'a> Supervisor<'a> {
         requires most { number ≤ length self.now.journal }
         ensures { option_map (λ entry. entry.reply) (entry_at self.now.journal number) ≡ Some result.now }
     {
-        match entry_in(&self.journal, number as usize - 1) {
-            Some(entry) => &entry.reply,
-            None => unreachable!(),
-        }
+        &self.entry(number).reply
     }
 
-    /// Whether `block` by process `p` would be answered now with a message or `nobody`, and not with `waiting`. Takes no
-    /// memory.
+    /// Whether `block` by process `p` would be answered now with a message or `nobody`, and not with `waiting`: so a
+    /// process that waits goes on, as `resume` would be answered the same. Takes no memory.
     pub fn ready(&self, p: u8) -> bool
         requires some { 1 ≤ p }
         requires process { p ≤ length self.now.session.principals }

@@ -6,5 +6,5 @@ use Rattle.mx_sup.proofs.setups.enter.Goals as goal
 pub returns-clause-entered : goal.returns-clause-entered
 returns-clause-entered c =
     let inner : c.unwrap-ring.result ≡ 0 = search rules in
-    entered_one _ _ _ _ _ _ _ _ inner refl c.requires.ask c.in_ok-entry.ensures.answer c.in_ok-entry.ensures.processes
-    (c.push_reserved.ensures.items ∙ ap (λ (e : journaled.Entry). c.args.journal.now.items ++ e ∷ []) c.in_ok-entry.ensures.entry)
+    entered_one _ _ _ _ _ _ _ _ inner refl c.requires.ask c.in_ok-came.ensures.answer c.in_ok-came.ensures.processes
+    (c.push_reserved.ensures.items ∙ ap (λ (e : journaled.Entry). c.args.journal.now.items ++ e ∷ []) c.in_ok-came.ensures.entry)

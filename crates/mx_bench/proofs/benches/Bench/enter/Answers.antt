@@ -41,8 +41,8 @@ end_line-requires-in-Err-HistoryFull-clause-number c =
     let place : c.from-i.result - 1 ≡ c.args.p - 1 = ap (λ n. n - 1) c.from-i.ensures in
     seen_countable _ _ _ _ _ _ _ c.args.p _ _ _ c.self.invariant c.self.view_is place c.requires.at c.in_ok-reserve.ensures.still
 
-pub enter-requires-clause-process : goal.enter-requires-clause-process
-enter-requires-clause-process c =
+pub enter_call-requires-clause-process : goal.enter_call-requires-clause-process
+enter_call-requires-clause-process c =
     let place : c.from-i.result - 1 ≡ c.args.p - 1 = ap (λ n. n - 1) c.from-i.ensures in
     seen_principal _ _ _ _ _ _ c.args.p _ _ _ c.self.invariant c.self.view_is place c.requires.at
 
@@ -69,7 +69,7 @@ returns-in-Err-Memory-clause-err c = still_seen _ c.self.inside.supervisor _ c.s
 
 pub after_entry-requires-clause-linked : goal.after_entry-requires-clause-linked
 after_entry-requires-clause-linked c =
-    entered_linked _ c.enter.new.self c.args.p c.args.ring c.args.request.now c.in-Ok.number c.in-Ok.ensures.entered
+    entered_linked _ c.enter_call.new.supervisor c.args.p c.args.ring c.args.request.now c.in-Ok.number c.in-Ok.ensures.entered
 
 pub go_on-requires-clause-within : goal.go_on-requires-clause-within
 go_on-requires-clause-within c =

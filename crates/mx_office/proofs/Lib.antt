@@ -1,0 +1,4 @@
+pub mod Answering
+pub mod Settles
+pub mod Comings
+pub mod Announces

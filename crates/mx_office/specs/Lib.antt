@@ -1,0 +1,6 @@
+pub mod Announcing
+pub mod Clearing
+pub mod Locked
+pub mod Serving
+pub mod Revoking
+pub mod Settling
