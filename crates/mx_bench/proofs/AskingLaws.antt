@@ -1,38 +1,24 @@
 -- What the lines of a process ask for, on the bench.
-use Rattle.std.proofs.Common.{◌≡◌, ◌⊎◌, inl, inr, ℕ, suc, ◌<◌, ◌≤◌, ◌-◌, max, nat_le, Bool, true, false, IsTrue, IsFalse, List, [], ◌∷◌, ◌++◌, length, Option, Some, None, refl, sym, ◌∙◌, ap, subst, arith}
-use Rattle.std.proofs.lemmas.Bool.Decides.{nat_tests}
+use Rattle.std.proofs.Common.{◌≡◌, ◌⊎◌, inl, inr, ℕ, suc, ◌<◌, ◌≤◌, ◌-◌, Bool, true, false, IsTrue, IsFalse, List, [], ◌∷◌, length, Option, Some, None, refl, sym, ◌∙◌, ap, subst, arith}
 use Rattle.std.proofs.lemmas.Option.{slice_get_within}
 use Rattle.std.specs.List.{slice_get}
-use Rattle.mx_call.specs.Loading.{loaded}
-use Rattle.mx_call.specs.Registers.{Registers, ArePackable, going_on, way_back}
-use Rattle.mx_upcall.specs.Control.{Control, with_registers}
+use Rattle.mx_call.specs.Registers.{Registers, ArePackable}
+use Rattle.mx_upcall.specs.Control.{Control}
 use Rattle.mx_upcall.specs.Soundness.{IsPackableControl}
-use Rattle.mx_effring.specs.Chains.{read_on}
-use Rattle.mx_effring.specs.Walks.{wanted}
-use Rattle.mx_effring.specs.declared.walks.Want.{Want}
-use Rattle.mx_effring.specs.declared.walks.Want.TheVariants.{Done}
-use Rattle.mx_hier.specs.declared.refusals.Refusal.{Refusal}
-use Rattle.mx_transcript.specs.Asking.{next, answered, attempts, first_due, result_of}
-use Rattle.mx_transcript.specs.Attempts.{wants, after_seen, along, attempt}
+use Rattle.mx_transcript.specs.Asking.{next, answered}
 use Rattle.mx_transcript.specs.Courses.{Course, Attempt, Answer, Judged}
 use Rattle.mx_transcript.specs.Denials.{last_denial}
 use Rattle.mx_transcript.proofs.AwaitLaws.{IsLinked, replied_so}
 use Rattle.mx_transcript.specs.Filling.{snapped}
-use Rattle.mx_transcript.specs.Next.{Reference, Asks, Calls, Ends, storing}
-use Rattle.mx_transcript.specs.Operands.{walk_from}
-use Rattle.mx_transcript.specs.Targets.{at_target, spri_at}
+use Rattle.mx_transcript.specs.Next.{Reference, Calls}
 use Rattle.mx_transcript.specs.Transcripts.{Step}
-use Rattle.mx_transcript.specs.declared.transcripts.Result2.TheVariants as result
-use Rattle.mx_ptr.specs.Pointers.{PointerParts, parts_of}
-use Rattle.mx_request.proofs.StepLaws.{both}
 use Rattle.mx_request.specs.declared.replies.Reply.{Reply}
 use Rattle.mx_request.specs.declared.replies.Reply.TheVariants as replies
 use Rattle.mx_request.specs.declared.requests.Request.{Request}
 use Rattle.mx_request.specs.declared.requests.Request.TheVariants.{Block, Link, Resume, Logout}
-use Rattle.mx_script.specs.Sessions.{Outline, limit_of, is_register, is_address, is_script_line}
+use Rattle.mx_script.specs.Sessions.{Outline, limit_of, is_script_line}
 use Rattle.mx_script.specs.declared.lines.Line.{Line}
 use Rattle.mx_script.specs.declared.lines.Line.TheVariants as line
-use Rattle.mx_script.specs.declared.lines.Operand.{Operand}
 use Rattle.mx_sdw.specs.declared.denials.Denial.{Denial}
 use Rattle.mx_state.proofs.ToldLaws.{link_replies_law}
 use Rattle.std.specs.Prelude.{MatchOption}
@@ -44,33 +30,30 @@ use Rattle.mx_state.specs.Requests.{plain}
 use Rattle.mx_state.specs.declared.journal.Entry as journaled
 use Rattle.mx_sup.proofs.ReplyLaws.{linked_only, only_block_waits, ready_resumes}
 use Rattle.mx_sup.specs.Supervised.{Supervised, state_of}
-use Rattle.mx_bench.proofs.BenchLaws.{seat_is}
 use Rattle.mx_bench.proofs.BoundLaws.{at_script_line, good_at}
 use Rattle.mx_bench.proofs.NextLaws.{seat_of}
 use Rattle.mx_bench.proofs.OpeningLaws.{seat_of as process_of}
-use Rattle.mx_line.proofs.OperandLaws.{no_request, target_asks, target_goes, link_asks}
+use Rattle.mx_line.proofs.ReplyLaws.{memory_answers}
 use Rattle.mx_line.proofs.SeatLaws.{set_here}
 use Rattle.mx_line.proofs.StandingLaws.{waits_next}
-use Rattle.mx_bench.specs.Asking.{HasSeat, HasSeatWith, IsAsking, IsTold, IsToFill, IsUnfilled, IsUntold, IsReadyBelow, IsUnreadyBelow, IsAiming, IsEnding, IsToldToWait, IsCalling, IsStoring}
-use Rattle.mx_line.specs.Fills.{IsAnsweredBy}
-use Rattle.mx_line.specs.Making.{IsStore}
-use Rattle.mx_bench.proofs.WorldLaws.{IsAt, IsFree, not_told, told_blocks}
+use Rattle.mx_bench.specs.Asking.{HasSeat, HasSeatWith, IsAsking, IsTold, IsToFill, IsUnfilled, IsUntold, IsReadyBelow, IsUnreadyBelow, IsToldToWait, IsCalling}
+use Rattle.mx_line.specs.Fills.{IsAnsweredBy, IsNoRequest}
+use Rattle.mx_bench.proofs.WorldLaws.{IsAt, at_line, not_told, told_blocks}
 use Rattle.mx_bench.specs.Stepping.{IsLastDenial, IsAtLine, IsWaiting, state_in}
 use Rattle.mx_bench.specs.Benches.{world_in, IsKept}
-use Rattle.mx_line.specs.Operands.{operand_of, AsksFor, IsPlaced, IsTarget, IsRegisterWord, IsGoodProgress, IsSayable}
-use Rattle.mx_line.specs.Processes.{seat_in, IsGoodAt, IsStill, HasProgress, ReadsOperand, StoresNothing, HasAsked, HasFill, HasLastDenial, HasRegisters, fill_of}
-use Rattle.mx_line.specs.AtWork.{IsAnswered}
-use Rattle.mx_bench.specs.Running.{IsCome, IsRunning, left_of}
+use Rattle.mx_line.specs.Operands.{IsMemoryLine, IsPlaced, IsGoodProgress, IsSayable}
+use Rattle.mx_line.specs.Processes.{seat_in, IsGoodAt, IsStill, HasProgress, HasAsked, HasFill, HasLastDenial, HasRegisters, fill_of}
+use Rattle.mx_line.specs.AtWork.{IsAnswered, IsCome, IsFree}
+use Rattle.mx_bench.specs.Running.{IsRunning, left_of}
 use Rattle.mx_line.specs.Seats.{Seat}
 use Rattle.mx_bench.specs.Worlds.{World}
 use Rattle.mx_line.specs.declared.fills.Fill.{Fill}
 use Rattle.mx_line.specs.declared.memory.Contents.{Contents}
-use Rattle.mx_line.specs.declared.operands.Asked.{Asked}
-use Rattle.mx_line.specs.declared.operands.Asked.TheVariants.{Target, First}
-use Rattle.mx_line.specs.declared.operands.Place.{Place}
+use Rattle.mx_line.specs.declared.asking.Called.TheVariants as called
+use Rattle.mx_line.specs.declared.asking.Next as asking
+use Rattle.mx_line.specs.declared.asking.Next.TheVariants as asks
 use Rattle.mx_line.specs.declared.operands.Progress.{Progress}
 use Rattle.mx_line.specs.declared.operands.Progress.TheVariants.{Before, Walking, AtLink, Waiting, Filling}
-use Rattle.mx_line.specs.declared.operands.Way.TheVariants as way
 use Rattle.mx_line.specs.declared.processes.Process.{Process}
 
 one_process : (a b : Process) → Some a ≡ Some b → a ≡ b
@@ -92,15 +75,38 @@ seat_within x s whole cells processes w p i view place seat =
     let q = process_of processes i seat.0 (ap (slice_get _) place ∙ ap (λ (v : World). slice_get v.seats (p - 1)) view ∙ seat.1) in
     slice_get_within processes i q.0 q.1
 
+-- two looks at the seat of a process see one
+pub same_seats : (w : World) (p : ℕ) (a b : Seat) → slice_get w.seats (p - 1) ≡ Some a → slice_get w.seats (p - 1) ≡ Some b → a ≡ b
+same_seats w p a b e f = one_seat a b (sym e ∙ f)
+
+-- a process at a line, by its place
+at_place : (w : World) (p : ℕ) (l : Line) → (a : IsAtLine w p l) → IsAt w (p - 1) a.seat a.number l a.left
+at_place w p l a =
+    let next : suc (p - 1) ≡ p = let one = a.some in omega arith in
+    record { seated = a.seated; at = ap (λ n. left_of w.session n a.seat) next ∙ a.at }
+
 -- what is read of a process of the bench
-pub seen_asking : (x : Outline) (s : Supervised) (whole : List (List Step)) (cells : List Contents) (processes : List Process) (w : World) (p i : ℕ)
-    (o : Operand) (asked : Asked) → world_in x s whole cells processes ≡ w → i ≡ p - 1 → HasAsked processes i o asked → IsAsking w p o asked
-seen_asking x s whole cells processes w p i o asked view place h = record {
-  seat = seat_in h.process;
-  seated = ap (λ (v : World). slice_get v.seats (p - 1)) (sym view) ∙ ap (slice_get _) (sym place) ∙ seat_of processes i h.process h.at;
-  asks = h.asks;
-  good = h.good;
-}
+pub seen_asking : (x : Outline) (s : Supervised) (whole : List (List Step)) (room : ℕ) (cells : List Contents) (processes : List Process) (w : World) (p i : ℕ)
+    (l : Line) (asks : asking.Next) → IsKept x s whole room cells processes → world_in x s whole cells processes ≡ w → i ≡ p - 1 → IsAtLine w p l
+    → IsUnfilled w p → IsNoRequest l → HasAsked processes i l asks → IsAsking w p l asks
+seen_asking x s whole room cells processes w p i l asks k view place a idle other h =
+    let seated : slice_get w.seats (p - 1) ≡ Some (seat_in h.process)
+    = ap (λ (v : World). slice_get v.seats (p - 1)) (sym view) ∙ ap (slice_get _) (sym place) ∙ seat_of processes i h.process h.at in
+    let r : IsRunning w = subst IsRunning view k.running in
+    let there = at_place w p l a in
+    let same : a.seat ≡ seat_in h.process = same_seats w p a.seat (seat_in h.process) a.seated seated in
+    let now = at_line w.session r.setup (suc (p - 1)) a.seat (left_of w.session (suc (p - 1)) a.seat) a.number l a.left (r.views (suc (p - 1)))
+    there.at (r.each (p - 1) a.seat there.seated) in
+    record {
+      other = other;
+      seat = seat_in h.process;
+      seated = seated;
+      is = h.says.is;
+      storable = h.says.storable;
+      good = h.says.good;
+      plain = h.says.plain now.course (subst (λ (seat : Seat). IsCome seat.control l now.course seat.progress) same now.come) other
+          (λ it at. idle (seat_in h.process) it seated at);
+    }
 
 pub seen_registers : (x : Outline) (s : Supervised) (whole : List (List Step)) (room : ℕ) (cells : List Contents) (processes : List Process) (w : World) (p i : ℕ)
     (g : Registers) → IsKept x s whole room cells processes → world_in x s whole cells processes ≡ w → i ≡ p - 1 → HasRegisters processes i g
@@ -131,19 +137,6 @@ good_still processes middle i good still =
       progress = subst (λ (g : Control). IsGoodProgress g.registers still.after.progress) (sym is)
           (subst (λ (r : Progress). IsGoodProgress good.process.control.registers r) (sym came) good.progress);
     }
-
-at_most_seven : (n : ℕ) → nat_le n 7 ≡ true → n ≤ 7
-at_most_seven n e = grind (arith, nat_tests)
-
-pub epp_number : (l : Line) (n : ℕ) (o : Operand) → l ≡ line.Epp n o → IsSayable l → n ≤ 7
-epp_number l n o e s = at_most_seven n (both (is_register n) (is_address o) (ap (is_script_line s.0) (sym e) ∙ s.1)).0
-
-pub spri_number : (l : Line) (n : ℕ) (o : Operand) → l ≡ line.Spri n o → IsSayable l → n ≤ 7
-spri_number l n o e s = at_most_seven n (both (is_register n) (is_address o) (ap (is_script_line s.0) (sym e) ∙ s.1)).0
-
--- two looks at the seat of a process see one
-pub same_seats : (w : World) (p : ℕ) (a b : Seat) → slice_get w.seats (p - 1) ≡ Some a → slice_get w.seats (p - 1) ≡ Some b → a ≡ b
-same_seats w p a b e f = one_seat a b (sym e ∙ f)
 
 -- whether a process was told to wait
 pub seen_told : (x : Outline) (s : Supervised) (whole : List (List Step)) (cells : List Contents) (processes : List Process) (w : World) (p i : ℕ)
@@ -191,12 +184,6 @@ seen_fill x s whole cells processes w p i found view place h = by_found found h.
         none_there it h.process.progress e
         (ap (λ (seat : Seat). seat.progress) (sym (same_seats w p seat (seat_in h.process) seated there)) ∙ at)
     by_found (Some it) e = record { seat = seat_in h.process; seated = there; is = fill_is h.process.progress it e }
-
-pub seen_stores_nothing : (x : Outline) (s : Supervised) (whole : List (List Step)) (cells : List Contents) (processes : List Process) (w : World) (p i : ℕ)
-    → world_in x s whole cells processes ≡ w → i ≡ p - 1 → IsUnfilled w p → StoresNothing processes i
-seen_stores_nothing x s whole cells processes w p i view place idle = λ q it at filling.
-    idle (seat_in q) it
-    (ap (λ (v : World). slice_get v.seats (p - 1)) (sym view) ∙ ap (slice_get _) (sym place) ∙ seat_of processes i q at) filling
 
 -- a line at work that is a request, and neither waits nor stores, is in its first attempt
 no_answer : (g : Control) (l : Line) (request : Request) (entry : journaled.Entry) (filled : List Judged) (progress : Progress) → l ≡ line.Ask request
@@ -353,12 +340,6 @@ ready_below x s whole room cells processes w p k view ready below =
     let is = state_is x s whole room cells processes w k view in
     subst (λ q. is_ready q p ≡ true) is.0 (ready (omega (arith, below, is.1, is.2)))
 
--- a process at a line, by its place
-at_place : (w : World) (p : ℕ) (l : Line) → (a : IsAtLine w p l) → IsAt w (p - 1) a.seat a.number l a.left
-at_place w p l a =
-    let next : suc (p - 1) ≡ p = let one = a.some in omega arith in
-    record { seated = a.seated; at = ap (λ n. left_of w.session n a.seat) next ∙ a.at }
-
 -- who was told to wait is at its `block`
 pub told_at_block : (x : Outline) (s : Supervised) (whole : List (List Step)) (room : ℕ) (cells : List Contents) (processes : List Process) (w : World) (p : ℕ)
     (l : Line) → IsKept x s whole room cells processes → world_in x s whole cells processes ≡ w → IsAtLine w p l → IsTold w p
@@ -367,161 +348,22 @@ told_at_block x s whole room cells processes w p l k view a t =
     told_blocks w (p - 1) a.seat a.number l a.left (subst IsRunning view k.running) (at_place w p l a)
     (ap (λ (seat : Seat). seat.progress) (same_seats w p a.seat t.seat a.seated t.seated) ∙ t.told)
 
--- an operand is read by a process that was not told to wait
-pub seen_reads : (x : Outline) (s : Supervised) (whole : List (List Step)) (room : ℕ) (cells : List Contents) (processes : List Process) (w : World) (p i : ℕ)
-    (l : Line) (o : Operand) → IsKept x s whole room cells processes → world_in x s whole cells processes ≡ w → i ≡ p - 1 → IsAtLine w p l
-    → operand_of l ≡ Some o → ReadsOperand processes i
-seen_reads x s whole room cells processes w p i l o k view place a own = λ q at told.
-    let there : slice_get w.seats (p - 1) ≡ Some (seat_in q)
-    = ap (λ (v : World). slice_get v.seats (p - 1)) (sym view) ∙ ap (slice_get _) (sym place) ∙ seat_of processes i q at in
-    not_told w (p - 1) a.seat a.number l a.left (subst IsRunning view k.running) (at_place w p l a) (no_request l o own)
-    (ap (λ (seat : Seat). seat.progress) (same_seats w p a.seat (seat_in q) a.seated there) ∙ told)
-
--- `set`
-with_a : (g : Registers) (word : ℕ) → ArePackable g → ArePackable (record g { a = word })
-with_a g word p = record { ring = p.ring; procedure = p.procedure; pr = p.pr }
-
-pub set_ending : (w : World) (p : ℕ) (l : Line) (word : ℕ) (g after : Registers) → l ≡ line.Set word → HasSeatWith w p g
-    → after ≡ record g { a = word } → IsEnding w p l result.Done after
-set_ending w p l word g after e s a = record {
-  other = λ request is. no_set (sym e ∙ is);
-  seat = s.seat;
-  seated = s.seated;
-  asks = λ seen placed.
-      ap (λ (l : Line). next s.seat.control l (Attempt seen)) e
-      ∙ ap (λ (r : Registers). Ends result.Done (with_registers s.seat.control r)) (sym (a ∙ ap (λ (g : Registers). record g { a = word }) s.registers));
-  packable = subst ArePackable (sym a) (with_a g word s.packable);
-} where
-  no_set : {request : Request} → line.Set word ≡ line.Ask request → ⊥
-  no_set h = cc
-
-pub asked_target : (w : World) (p : ℕ) (o : Operand) (target : PointerParts) (g : Registers) → IsAsking w p o (Target target) → HasSeatWith w p g
-    → IsTarget g target
-asked_target w p o target g c s =
-    subst (λ (r : Registers). IsTarget r target)
-    (ap (λ (seat : Seat). seat.control.registers) (same_seats w p c.seat s.seat c.seated s.seated) ∙ sym s.registers) c.good
-
--- `epp` where its operand leads to its target at once
-pub epp_ending : (w : World) (p : ℕ) (l : Line) (n : ℕ) (o : Operand) (target : PointerParts) (g after : Registers) → l ≡ line.Epp n o
-    → IsAsking w p o (Target target) → HasSeatWith w p g → after ≡ loaded g n target → ArePackable after
-    → IsEnding w p l (result.Pr n target) after
-epp_ending w p l n o target g after e c s a packable = record {
-  other = no_request l o (ap operand_of e);
-  seat = c.seat;
-  seated = c.seated;
-  asks = λ seen placed.
-      target_asks c.seat.control l o c.seat.progress target (ap operand_of e) c.asks seen placed
-      ∙ ap (λ (l : Line). at_target c.seat.control l target) e
-      ∙ ap (λ (r : Registers). Ends (result.Pr n target) (with_registers c.seat.control (loaded r n target)))
-      (ap (λ (seat : Seat). seat.control.registers) (same_seats w p c.seat s.seat c.seated s.seated) ∙ sym s.registers)
-      ∙ ap (λ (r : Registers). Ends (result.Pr n target) (with_registers c.seat.control r)) (sym a);
-  packable = packable;
-}
-
--- a line at the target of its operand, and one that fetches where the process runs
-pub operand_aims : (w : World) (p : ℕ) (l : Line) (o : Operand) (target : PointerParts) → operand_of l ≡ Some o
-    → IsAsking w p o (Target target) → IsAiming w p l target
-operand_aims w p l o target own c = record {
-  seat = c.seat;
-  seated = c.seated;
-  good = c.good;
-  asks = λ seen placed. target_asks c.seat.control l o c.seat.progress target own c.asks seen placed;
-  goes = λ j seen placed. target_goes c.seat.control l o c.seat.progress target own c.asks j seen placed;
-}
-
-fetches_here : (g : Registers) → wanted (walk_from g false (way_back g)) ≡ Done (going_on g.procedure g.ring)
-fetches_here g = ap (λ n. Done (going_on g.procedure n)) (one_ring g.ring)
-  where
-    one_ring : (n : ℕ) → max n (max n 0) ≡ n
-    one_ring n = omega arith
-
-pub fetch_aims : (w : World) (p : ℕ) (l : Line) (g : Registers) (target : PointerParts) → l ≡ line.Fetch → HasSeatWith w p g
-    → target ≡ going_on g.procedure g.ring → IsAiming w p l target
-fetch_aims w p l g target e s is =
-    let at : target ≡ going_on s.seat.control.registers.procedure s.seat.control.registers.ring
-    = is ∙ ap (λ (r : Registers). going_on r.procedure r.ring) s.registers in
-    subst (IsAiming w p l) (sym at) (subst (λ (x : Line). IsAiming w p x (going_on s.seat.control.registers.procedure s.seat.control.registers.ring)) (sym e) (record {
-      seat = s.seat;
-      seated = s.seated;
-      good = there s.seat.control.registers (subst ArePackable s.registers s.packable);
-      asks = λ seen placed.
-          ap (λ (l : List Judged). attempt s.seat.control line.Fetch l) (placed.1 refl)
-          ∙ ap (wants s.seat.control line.Fetch) (fetches_here s.seat.control.registers);
-      goes = λ j seen placed.
-          ap (λ (l : List Judged). attempt s.seat.control line.Fetch (l ++ j ∷ [])) (placed.1 refl)
-          ∙ ap (λ (w : Want). after_seen s.seat.control line.Fetch (walk_from s.seat.control.registers false (way_back s.seat.control.registers)) j w
-          (λ value. along s.seat.control line.Fetch (read_on (walk_from s.seat.control.registers false (way_back s.seat.control.registers)) (parts_of value) j.desc.brackets.r1) []))
-          (fetches_here s.seat.control.registers);
-    }))
-  where
-    there : (r : Registers) → ArePackable r → IsTarget r (going_on r.procedure r.ring)
-    there r a = record {
-      packable = record { ring = a.ring; segno = a.procedure.segno; word = a.procedure.word };
-      high = omega arith;
-      plain = refl;
-    }
-
--- `sta` and `spri`
-pub sta_storing : (w : World) (p : ℕ) (l : Line) (o : Operand) (target : PointerParts) (g : Registers) (value : ℕ) → l ≡ line.Sta o
-    → HasSeatWith w p g → value ≡ g.a → IsStoring w p l target value
-sta_storing w p l o target g value e s v = record {
-  seat = s.seat;
-  seated = s.seated;
-  asks =
-      ap (λ (l : Line). at_target s.seat.control l target) e
-      ∙ ap (λ (n : ℕ). Asks (storing n target)) (sym (v ∙ ap (λ (g : Registers). g.a) s.registers));
-  stores = subst IsStore (sym e) tt;
-}
-
-pub spri_storing : (w : World) (p : ℕ) (l : Line) (n : ℕ) (o : Operand) (target : PointerParts) (g : Registers) (value : ℕ) → l ≡ line.Spri n o
-    → HasSeatWith w p g → IsRegisterWord g n value → IsStoring w p l target value
-spri_storing w p l n o target g value e s v = record {
-  seat = s.seat;
-  seated = s.seated;
-  asks =
-      ap (λ (l : Line). at_target s.seat.control l target) e
-      ∙ ap (spri_at target) (ap (λ (g : Registers). slice_get g.pr n) (sym s.registers) ∙ v.at)
-      ∙ ap (λ (n : ℕ). Asks (storing n target)) (sym v.is);
-  stores = subst IsStore (sym e) tt;
-}
-
--- where a link on the way of an operand is refused the line ends, and where it was snapped it begins anew
-link_refused : (g : Control) (l : Line) (o : Operand) (request : Request) (why : Refusal) → operand_of l ≡ Some o
-    → answered g l request (replies.Refused why) ≡ Ends (result_of (replies.Refused why)) g
-link_refused g (line.Ask asked) o request why e = absurd (cc)
-link_refused g (line.Set word) o request why e = absurd (cc)
-link_refused g (line.Epp n operand) o request why e = refl
-link_refused g (line.Lda operand) o request why e = refl
-link_refused g (line.Sta operand) o request why e = refl
-link_refused g (line.Spri n operand) o request why e = refl
-link_refused g line.Fetch o request why e = absurd (cc)
-link_refused g (line.Call operand) o request why e = refl
-link_refused g (line.Return operand) o request why e = refl
-
-link_resolved : (g : Control) (l : Line) (o : Operand) (request : Request) (to at : ℕ) (fresh : Bool) (linkage : Option ℕ) → operand_of l ≡ Some o
-    → answered g l request (replies.Linked to at fresh linkage) ≡ attempts g l []
-link_resolved g (line.Ask asked) o request to at fresh linkage e = absurd (cc)
-link_resolved g (line.Set word) o request to at fresh linkage e = absurd (cc)
-link_resolved g (line.Epp n operand) o request to at fresh linkage e = refl
-link_resolved g (line.Lda operand) o request to at fresh linkage e = refl
-link_resolved g (line.Sta operand) o request to at fresh linkage e = refl
-link_resolved g (line.Spri n operand) o request to at fresh linkage e = refl
-link_resolved g line.Fetch o request to at fresh linkage e = absurd (cc)
-link_resolved g (line.Call operand) o request to at fresh linkage e = refl
-link_resolved g (line.Return operand) o request to at fresh linkage e = refl
-
-link_answered : (s : Plain) (p ring segno word : ℕ) (reply : Reply) (g : Control) (l : Line) (o : Operand) → 1 ≤ p → operand_of l ≡ Some o
+-- where a link is refused its line ends, and where it was snapped it begins anew
+link_answered : (s : Plain) (p ring segno word : ℕ) (reply : Reply) (g : Control) (l : Line) → 1 ≤ p → IsMemoryLine l
     → IsRightEntry s (record { process = p; ring = ring; request = Link segno word; reply = reply })
     → IsAnsweredBy g l ring (Link segno word) reply
-link_answered s p ring segno word reply g l o some own right =
+link_answered s p ring segno word reply g l some memory right =
     elim (link_replies_law s p ring segno word some right.maker.0) [
       | inl r ↦ subst (IsAnsweredBy g l ring (Link segno word)) (sym r.1 ∙ right.reply) (record {
-        ends = λ nothing. link_refused g l o (Link segno word) r.0 own;
+        ends = λ nothing. memory_answers g l (Link segno word) (replies.Refused r.0) memory;
         anew = λ write e. absurd (no_write write e);
       })
       | inr r ↦ subst (IsAnsweredBy g l ring (Link segno word)) (sym r.4 ∙ right.reply) (record {
         ends = λ nothing. absurd (some_write _ nothing);
-        anew = λ write e. (no_request l o own, link_resolved g l o (Link segno word) r.0 r.1 r.2 r.3 own);
+        anew = λ write e. (
+          λ request is. subst IsMemoryLine is memory,
+          memory_answers g l (Link segno word) (replies.Linked r.0 r.1 r.2 r.3) memory,
+        );
       })
     ]
   where
@@ -531,41 +373,19 @@ link_answered s p ring segno word reply g l o some own right =
     some_write : (write : Reference) → write ∷ [] ≡ [] → ⊥
     some_write write e = cc
 
-pub link_calling : (w : World) (p : ℕ) (l : Line) (o : Operand) (place : Place) → IsAtLine w p l → operand_of l ≡ Some o → IsAsking w p o (First (way.Link place))
-    → IsCalling w p l place.ring (Link place.segno place.word)
-link_calling w p l o place a own c = record {
-  awake = λ waits. awake waits.seat waits.seated waits.told;
+pub link_calling : (x : Outline) (s : Supervised) (whole : List (List Step)) (room : ℕ) (cells : List Contents) (processes : List Process) (w : World) (p : ℕ)
+    (l : Line) (ring segno word : ℕ) → IsKept x s whole room cells processes → world_in x s whole cells processes ≡ w → IsAtLine w p l
+    → IsAsking w p l (asks.Calls ring (called.Link segno word)) → IsCalling w p l ring (Link segno word)
+link_calling x s whole room cells processes w p l ring segno word k view a c = record {
+  awake = λ waits.
+      not_told w (p - 1) a.seat a.number l a.left (subst IsRunning view k.running) (at_place w p l a) c.other
+      (ap (λ (seat : Seat). seat.progress) (same_seats w p a.seat waits.seat a.seated waits.seated) ∙ waits.told);
   seat = c.seat;
   seated = c.seated;
-  asks = asks;
-  answers = λ reply below is.
-      inl (link_answered (state_in w) p place.ring place.segno place.word reply c.seat.control l o a.some own is);
-  logs_out = λ out. absurd (no_request l o own Logout out);
+  asks = c.is;
+  answers = λ reply below is. inl (link_answered (state_in w) p ring segno word reply c.seat.control l a.some c.plain is);
+  logs_out = λ out. absurd (c.other Logout out);
 }
-  where
-    awake : (seat : Seat) → slice_get w.seats (p - 1) ≡ Some seat → seat.progress ≡ Waiting → ⊥
-    awake seat e told =
-        asks_nothing c.seat.progress (ap (λ (seat : Seat). seat.progress) (same_seats w p c.seat seat c.seated e) ∙ told) c.asks
-      where
-        asks_nothing : (progress : Progress) → progress ≡ Waiting → AsksFor c.seat.control.registers o progress (First (way.Link place)) → ⊥
-        asks_nothing progress told asked =
-            absurd (subst (λ (r : Progress). AsksFor c.seat.control.registers o r (First (way.Link place))) told asked)
-
-    asks : (course : Course) → IsCome c.seat.control l course c.seat.progress
-        → next c.seat.control l course ≡ Calls place.ring (Link place.segno place.word)
-    asks (Attempt seen) come = link_asks c.seat.control l o c.seat.progress place own c.asks seen come
-    asks (Answer entry filled) come = by_progress c.seat.progress c.asks come
-      where
-        by_progress : (progress : Progress) → AsksFor c.seat.control.registers o progress (First (way.Link place))
-            → IsAnswered c.seat.control l entry filled progress
-            → next c.seat.control l (Answer entry filled) ≡ Calls place.ring (Link place.segno place.word)
-        by_progress Before asked is =
-            ap (λ (d : Option Reference). first_due d (answered c.seat.control l entry.request entry.reply)) is.none ∙ is.anew
-            ∙ link_asks c.seat.control l o Before place own asked [] (refl, λ none. refl)
-        by_progress (Walking walk) asked is = absurd is
-        by_progress (AtLink other) asked is = absurd is
-        by_progress Waiting asked is = absurd asked
-        by_progress (Filling it) asked is = absurd asked
 
 -- the last line that it has done
 pub seen_last : (x : Outline) (s : Supervised) (whole : List (List Step)) (cells : List Contents) (processes : List Process) (w : World) (p i : ℕ)

@@ -2,11 +2,10 @@
 use Rattle.std.proofs.Common.{◌≡◌, ℕ, zero, suc, ◌≤◌, ◌+◌, ◌-◌, ◌==◌, Bool, true, false, List, [], ◌∷◌, ◌++◌, map, drop, length, Some, refl, sym, ◌∙◌, ap, subst, arith}
 use Rattle.std.proofs.lemmas.Bool.{eqb-true}
 use Rattle.std.specs.List.{slice_get, slice_set}
-use Rattle.mx_upcall.specs.Changes.{Fits, changed}
+use Rattle.mx_upcall.specs.Changes.{changed}
 use Rattle.mx_upcall.specs.Control.{Control}
 use Rattle.mx_upcall.specs.Soundness.{IsPackableControl}
 use Rattle.mx_upcall.specs.declared.controls.Change.{Change}
-use Rattle.mx_upcall.specs.declared.controls.GateStep.{GateStep}
 use Rattle.mx_transcript.specs.Scripts.{first_line, numbered}
 use Rattle.mx_transcript.specs.Transcripts.{Step}
 use Rattle.mx_transcript.specs.declared.transcripts.Event2.{Event2}
@@ -19,7 +18,7 @@ use Rattle.mx_line.proofs.SeatLaws.{set_here, set_there, set_length}
 use Rattle.mx_bench.proofs.WorldLaws.{after_line, moved, stepped, IsAt}
 use Rattle.mx_bench.specs.Benches.{world_in, first_of, IsKept}
 use Rattle.mx_line.specs.Operands.{IsGoodProgress}
-use Rattle.mx_line.specs.Processes.{seat_in, IsGood, AreGood, IsStill, HasControl, HasGateRoom, HasEnded, HasGoneOn}
+use Rattle.mx_line.specs.Processes.{seat_in, IsGood, AreGood, IsStill, HasEnded, HasGoneOn}
 use Rattle.mx_bench.specs.Running.{left_of, IsRunning}
 use Rattle.mx_bench.specs.Standing.{AreStanding}
 use Rattle.mx_bench.specs.Stepping.{IsSeat, IsAtLine, IsWaiting, IsOnward, HasMoved, HasStepped}
@@ -123,18 +122,6 @@ still_kept x s whole room cells processes processes' i still k = record {
       packable = subst IsPackableControl (sym still.control) is.packable;
       progress = good_progress still.before still.after still.control still.progress is.progress;
     }
-
--- what is read of a process once room was made, is so before
-pub control_before : (processes middle : List Process) (i : ℕ) (g : Control) → IsStill processes i middle → HasControl middle i g → HasControl processes i g
-control_before processes middle i g s h =
-    let is : h.process ≡ s.after = one_at middle i h.process s.after h.at (ap (λ (l : List Process). slice_get l i) s.set ∙ set_here processes i s.before s.after s.at) in
-    record { process = s.before; at = s.at; control = h.control ∙ ap (λ (p : Process). p.control) is ∙ s.control }
-
--- a gate that fits the gates of a process has room there
-pub gate_room : (processes : List Process) (i : ℕ) (g : Control) (step : GateStep) → HasControl processes i g → Fits g.gates step
-    → HasGateRoom processes i step
-gate_room processes i g step h fits =
-    record { process = h.process; at = h.at; fits = subst (λ (c : Control). Fits c.gates step) h.control fits }
 
 -- a process has done a line
 pub record IsLineDone (processes : List Process) (i : ℕ) (events : List Event2) (ends : Result2) (change : Change) (processes' : List Process) : Type 0 where

@@ -6,16 +6,16 @@ use Rattle.std.specs.Option.{option_map}
 use Rattle.mx_call.specs.Registers.{Registers}
 use Rattle.mx_upcall.proofs.ChangeLaws.{kept_all}
 use Rattle.mx_upcall.specs.Changes.{keeping, changed}
-use Rattle.mx_upcall.specs.Control.{Control, with_registers}
+use Rattle.mx_upcall.specs.Control.{Control}
 use Rattle.mx_upcall.specs.Soundness.{IsPackableControl}
 use Rattle.mx_upcall.specs.declared.controls.Change.{Change}
 use Rattle.mx_core.specs.declared.elements.Element.{Element}
 use Rattle.mx_core.specs.declared.elements.Event.TheVariants.{Seen}
 use Rattle.mx_transcript.specs.Access.{descriptor_of}
 use Rattle.mx_transcript.specs.Asking.{next, answered, result_of}
-use Rattle.mx_transcript.specs.Courses.{Answer, Attempt, Judged}
+use Rattle.mx_transcript.specs.Courses.{Course, Answer, Attempt, Judged}
 use Rattle.mx_transcript.specs.Elements.{IsJudged}
-use Rattle.mx_transcript.specs.Next.{Reference, Asks, Ends}
+use Rattle.mx_transcript.specs.Next.{Next, Reference, Asks, Fills, Calls, Ends, Nowhere}
 use Rattle.mx_transcript.specs.Settings.{entry_at}
 use Rattle.mx_transcript.specs.Transcripts.{Step}
 use Rattle.mx_transcript.specs.declared.transcripts.Event2.TheVariants.{Core, Entry}
@@ -43,25 +43,28 @@ use Rattle.mx_bench.proofs.BenchLaws.{line_done, line_moved, done_kept, done_ste
 use Rattle.mx_line.proofs.FillLaws.{Bounds, IsAfter, IsCloserBy, IsShortAfter, after_write, asks_nothing, closer_after, first_filling, logout_done, nothing_asked, short_after}
 use Rattle.mx_bench.proofs.NextLaws.{seat_of}
 use Rattle.mx_line.proofs.PlaceLaws.{HasPlaceAfter, IsGrantable, IsGranted, first_place, grantable, granted, place_after}
-use Rattle.mx_bench.proofs.WorldLaws.{Asking, Calling, IsAt, IsFree, after_line, at_line, moved, stepped, storing_now, end_law, entered_law, fill_end_law, fill_law, full_law, call_law, refer_law, look_law, not_told, look_awake, look_free}
+use Rattle.mx_line.proofs.StandingLaws.{filling_asks}
+use Rattle.mx_bench.proofs.WorldLaws.{Calling, IsAt, after_line, at_line, moved, stepped, storing_now, end_law, entered_law, fill_end_law, fill_law, full_law, call_law, refer_law, look_law, not_told, look_awake, look_free}
 use Rattle.mx_bench.proofs.StandingLaws.{line_standing, event_standing, still_there, entered_there, waits_after, out_after}
 use Rattle.mx_line.specs.Access.{IsAccess}
 use Rattle.mx_transcript.proofs.AwaitLaws.{awaits_no_end}
 use Rattle.mx_line.specs.Fills.{IsNoRequest, IsAnsweredBy, AsksToFill, HasPlace, IsShort, after_fill, write_of}
-use Rattle.mx_bench.specs.Asking.{IsEnding, IsCalling, IsToldToWait, IsUnfilled}
+use Rattle.mx_bench.specs.Asking.{IsEnding, IsCalling, IsToldToWait}
 use Rattle.mx_bench.specs.Benches.{world_in, IsKept}
 use Rattle.mx_bench.specs.Replies.{IsReplied, IsReplyTo}
 use Rattle.mx_line.specs.Operands.{IsPlaced, IsGoodProgress, steps_in}
 use Rattle.mx_line.specs.Processes.{seat_in, IsStill, HasEnded, HasGoneOn}
-use Rattle.mx_line.specs.AtWork.{IsAnswered}
+use Rattle.mx_line.specs.AtWork.{IsAnswered, IsCome, IsFree, IsGoodEnd}
+use Rattle.mx_line.specs.declared.asking.End.{End as PlainEnd}
 use Rattle.mx_bench.specs.Running.{IsRunning, left_of}
 use Rattle.mx_bench.specs.Standing.{AreStanding}
 use Rattle.mx_bench.specs.Stepping.{IsAtLine, IsWaiting, HasMoved, HasStepped, state_in}
 use Rattle.mx_line.specs.Seats.{Seat}
+use Rattle.mx_bench.specs.Worlds.{World}
 use Rattle.mx_line.specs.declared.fills.Fill.{Fill}
 use Rattle.mx_line.specs.declared.fills.Fill.TheVariants.{Words, Pointer}
 use Rattle.mx_line.specs.declared.fills.Filled.{Filled}
-use Rattle.mx_line.specs.declared.fills.Filled.TheVariants.{More, Anew, Done, Nowhere}
+use Rattle.mx_line.specs.declared.fills.Filled.TheVariants as filled_to
 use Rattle.mx_line.specs.declared.memory.Contents.{Contents}
 use Rattle.mx_line.specs.declared.operands.Progress.{Progress}
 use Rattle.mx_line.specs.declared.operands.Progress.TheVariants.{Before, Waiting, Filling}
@@ -107,36 +110,47 @@ not_ended g lines.Fetch request e = cc
 not_ended g (lines.Call o) request e = cc
 not_ended g (lines.Return o) request e = cc
 
--- no write is due of a process that is to store nothing
-pub free_here : (x : Outline) (s : Supervised) (whole : List (List Step)) (cells : List Contents) (processes : List Process) (p i : ℕ) (line : Line)
-    (left : List (ℕ × Line)) (before : Process) → i ≡ p - 1 → IsUnfilled (world_in x s whole cells processes) p
-    → IsAt (world_in x s whole cells processes) i (seat_in before) (before.first + length before.recording.steps) line left
-    → IsFree before.progress
-free_here x s whole cells processes p i line left before place unfilled there = λ it e.
-    unfilled (seat_in before) it (ap (slice_get (map seat_in processes)) (sym place) ∙ there.seated) e
+-- a line that asks for this has nothing to store
+abbrev pub IsNoFill : Next → Type 0
+IsNoFill (Fills reference) = ⊥
+IsNoFill (Asks reference) = Unit {0}
+IsNoFill (Calls ring request) = Unit {0}
+IsNoFill (Ends ends after) = Unit {0}
+IsNoFill Nowhere = Unit {0}
+
+pub asks_free : (w : World) (i : ℕ) (seat : Seat) (number : ℕ) (line : Line) (left : List (ℕ × Line)) (asks : Next) → IsRunning w
+    → IsAt w i seat number line left → IsNoFill asks
+    → ((course : Course) → IsCome seat.control line course seat.progress → next seat.control line course ≡ asks) → IsFree seat.progress
+asks_free w i seat number line left asks r a none is it at =
+    let now = at_line w.session r.setup (suc i) seat (left_of w.session (suc i) seat) number line left (r.views (suc i)) a.at (r.each i seat a.seated) in
+    subst IsNoFill (sym (is now.course now.come)
+    ∙ filling_asks seat.control line now.course it (subst (IsCome seat.control line now.course) at now.come)) none
 
 -- a line that needs no further event
 pub end_goes : (x : Outline) (s : Supervised) (whole : List (List Step)) (room : ℕ) (cells : List Contents) (processes middle processes' : List Process)
-    (p i : ℕ) (line : Line) (ends : Result2) (registers : Registers)
+    (p i : ℕ) (line : Line) (end : PlainEnd)
     → IsKept x s whole room cells processes → i ≡ p - 1 → IsAtLine (world_in x s whole cells processes) p line
-    → IsUnfilled (world_in x s whole cells processes) p → IsEnding (world_in x s whole cells processes) p line ends registers
-    → IsStill processes i middle → HasEnded middle i [] ends (keeping registers) processes'
+    → IsEnding (world_in x s whole cells processes) p line end
+    → IsStill processes i middle → HasEnded middle i [] end.ends end.after processes'
     → Goes x s s whole room cells cells processes processes' p
-end_goes x s whole room cells processes middle processes' p i line ends registers k place a idle e still ended =
-    let d = line_done processes middle processes' i [] ends (keeping registers) still ended in
-    let now : Control = with_registers d.before.control registers in
-    let asks : Asking (seat_in d.before) line (Ends ends now)
-    = subst (λ (seat : Seat). Asking seat line (Ends ends (with_registers seat.control registers))) (seat_is x s whole cells processes p i e.seat d.before place e.seated d.at) e.asks in
+end_goes x s whole room cells processes middle processes' p i line end k place a e still ended =
+    let d = line_done processes middle processes' i [] end.ends end.after still ended in
+    let now : Control = changed d.before.control end.after in
+    let seat : e.seat ≡ seat_in d.before = seat_is x s whole cells processes p i e.seat d.before place e.seated d.at in
+    let asks : (course : Course) → IsCome d.before.control line course d.before.progress → next d.before.control line course ≡ Ends end.ends now
+    = subst (λ (seat : Seat). (course : Course) → IsCome seat.control line course seat.progress
+    → next seat.control line course ≡ Ends end.ends (changed seat.control end.after)) seat e.asks in
+    let good : IsGoodEnd d.before.control end = subst (λ (seat : Seat). IsGoodEnd seat.control end) seat e.good in
     let here = at_process x s whole cells processes p i line d.before k.good place a d.at in
-    let free = free_here x s whole cells processes p i line a.left d.before place idle here in
+    let free = asks_free (world_in x s whole cells processes) i (seat_in d.before) (d.before.first + length d.before.recording.steps) line a.left
+    (Ends end.ends now) k.running here tt asks in
     let w = end_law (world_in x s whole cells processes) i (seat_in d.before) (d.before.first + length d.before.recording.steps) line a.left
-    ends now k.running here e.other free asks in
+    end.ends now k.running here e.other free (λ seen placed. asks (Attempt seen) placed) in
     let st = line_standing (world_in x s whole cells processes) i (seat_in d.before) (d.before.first + length d.before.recording.steps) line a.left
-    s.journal cells [] ends now k.session here k.standing (still_there (world_in x s whole cells processes) i) (omega arith)
+    s.journal cells [] end.ends now k.session here k.standing (still_there (world_in x s whole cells processes) i) (omega arith)
     (λ out below. absurd (e.other Logout out)) in (
-      done_kept x s s whole room cells cells processes processes' i [] ends (keeping registers) k k.same k.wide d
-          (record { registers = e.packable; gates = (k.good i d.before d.at).packable.gates }) w st,
-      done_stepped x s s whole cells cells processes processes' p i [] ends (keeping registers) line [] k.good place a (none_more s.journal) (omega arith)
+      done_kept x s s whole room cells cells processes processes' i [] end.ends end.after k k.same k.wide d good.packable w st,
+      done_stepped x s s whole cells cells processes processes' p i [] end.ends end.after line [] k.good place a (none_more s.journal) (omega arith)
           (omega arith) (memory_awake x s whole cells processes p i line a.left d.before k.running place here e.other) d,
     )
 
@@ -425,25 +439,27 @@ pub record IsPresent (s : Supervised) (p segno point : ℕ) (j : Judged) : Type 
 pub refer_goes : (x : Outline) (s : Supervised) (whole : List (List Step)) (room : ℕ) (cells cells' : List Contents) (processes middle processes' : List Process)
     (p i segno point : ℕ) (line : Line) (q : Process) (asked : Reference) (j : Judged) (ends : Result2) (change : Change)
     → IsKept x s whole room cells processes → i ≡ p - 1 → IsAtLine (world_in x s whole cells processes) p line
-    → IsUnfilled (world_in x s whole cells processes) p
-    → slice_get processes i ≡ Some q → IsNoRequest line → Asking (seat_in q) line (Asks asked) → IsJudged asked j.desc j.element
+    → slice_get processes i ≡ Some q → IsNoRequest line
+    → ((course : Course) → IsCome q.control line course q.progress → next q.control line course ≡ Asks asked) → IsJudged asked j.desc j.element
     → IsPresent s p segno point j → length cells' ≡ 65536 → IsAccess cells cells' p j
     → ((seen : List Judged) → IsPlaced q.control line seen q.progress → next q.control line (Attempt (seen ++ j ∷ []))
     ≡ Ends ends (changed q.control change))
     → IsPackableControl (changed q.control change)
     → IsStill processes i middle → HasEnded middle i (Core (Seen j.element) ∷ []) ends change processes'
     → Goes x s s whole room cells cells' processes processes' p
-refer_goes x s whole room cells cells' processes middle processes' p i segno point line q asked j ends change k place a idle here other asks judged present_is wide access goes packable still ended =
+refer_goes x s whole room cells cells' processes middle processes' p i segno point line q asked j ends change k place a here other asks judged present_is wide access goes packable still ended =
     let d = line_done processes middle processes' i (Core (Seen j.element) ∷ []) ends change still ended in
     let same : q ≡ d.before = same_process processes i q d.before here d.at in
     let own : p ≡ suc i = let one = a.some in omega (arith, place, one) in
     let judged_on : j.desc ≡ descriptor_of x s.journal (suc i) j.element
     = present x s j.desc segno p i point j.element k.same own present_is.on present_is.at_end present_is.segno_is present_is.point_is in
     let there = at_process x s whole cells processes p i line d.before k.good place a d.at in
-    let free = free_here x s whole cells processes p i line a.left d.before place idle there in
+    let asks_so = subst (λ (r : Process). (course : Course) → IsCome r.control line course r.progress → next r.control line course ≡ Asks asked) same asks in
+    let free = asks_free (world_in x s whole cells processes) i (seat_in d.before) (d.before.first + length d.before.recording.steps) line a.left
+    (Asks asked) k.running there tt asks_so in
     let w = refer_law (world_in x s whole cells processes) i (seat_in d.before) (d.before.first + length d.before.recording.steps) line a.left asked j
     cells' ends (changed d.before.control change) k.running there other free
-    (subst (λ (r : Process). Asking (seat_in r) line (Asks asked)) same asks) judged judged_on (present_is.point_is ∙ present_is.at_end)
+    (λ seen placed. asks_so (Attempt seen) placed) judged judged_on (present_is.point_is ∙ present_is.at_end)
     (subst (λ n. IsAccess cells cells' n j) own access)
     (subst (λ (r : Process). (seen : List Judged) → IsPlaced r.control line seen r.progress
     → next r.control line (Attempt (seen ++ j ∷ [])) ≡ Ends ends (changed r.control change)) same goes) in
@@ -457,32 +473,34 @@ refer_goes x s whole room cells cells' processes middle processes' p i segno poi
     )
 
 -- after which the line goes on
-pub look_goes : (x : Outline) (s : Supervised) (whole : List (List Step)) (room : ℕ) (cells : List Contents) (processes middle processes' : List Process)
+pub look_goes : (x : Outline) (s : Supervised) (whole : List (List Step)) (room : ℕ) (cells cells' : List Contents) (processes middle processes' : List Process)
     (p i segno point : ℕ) (line : Line) (q : Process) (asked : Reference) (j : Judged) (progress : Progress)
     → IsKept x s whole room cells processes → i ≡ p - 1 → IsAtLine (world_in x s whole cells processes) p line
-    → IsUnfilled (world_in x s whole cells processes) p
-    → slice_get processes i ≡ Some q → IsNoRequest line → Asking (seat_in q) line (Asks asked) → IsJudged asked j.desc j.element
-    → IsPresent s p segno point j → IsAccess cells cells p j
+    → slice_get processes i ≡ Some q → IsNoRequest line
+    → ((course : Course) → IsCome q.control line course q.progress → next q.control line course ≡ Asks asked) → IsJudged asked j.desc j.element
+    → IsPresent s p segno point j → length cells' ≡ 65536 → IsAccess cells cells' p j
     → ((seen : List Judged) → IsPlaced q.control line seen q.progress → IsPlaced q.control line (seen ++ j ∷ []) progress)
     → IsGoodProgress q.control.registers progress → steps_in progress < steps_in q.progress
     → IsStill processes i middle → HasGoneOn middle i (Core (Seen j.element) ∷ []) progress processes'
-    → IsKept x s whole room cells processes' × HasMoved (world_in x s whole cells processes) p (world_in x s whole cells processes')
-look_goes x s whole room cells processes middle processes' p i segno point line q asked j progress k place a idle here other asks judged present_is access placed fits closer still gone =
+    → IsKept x s whole room cells' processes' × HasMoved (world_in x s whole cells processes) p (world_in x s whole cells' processes')
+look_goes x s whole room cells cells' processes middle processes' p i segno point line q asked j progress k place a here other asks judged present_is wide access placed fits closer still gone =
     let d = line_moved processes middle processes' i (Core (Seen j.element)) progress still gone in
     let same : q ≡ d.before = same_process processes i q d.before here d.at in
     let own : p ≡ suc i = let one = a.some in omega (arith, place, one) in
     let judged_on : j.desc ≡ descriptor_of x s.journal (suc i) j.element
     = present x s j.desc segno p i point j.element k.same own present_is.on present_is.at_end present_is.segno_is present_is.point_is in
     let there = at_process x s whole cells processes p i line d.before k.good place a d.at in
-    let free = free_here x s whole cells processes p i line a.left d.before place idle there in
+    let asks_so = subst (λ (r : Process). (course : Course) → IsCome r.control line course r.progress → next r.control line course ≡ Asks asked) same asks in
+    let free = asks_free (world_in x s whole cells processes) i (seat_in d.before) (d.before.first + length d.before.recording.steps) line a.left
+    (Asks asked) k.running there tt asks_so in
     let w = look_law (world_in x s whole cells processes) i (seat_in d.before) (d.before.first + length d.before.recording.steps) line a.left asked j
-    cells progress k.running there other free
-    (subst (λ (r : Process). Asking (seat_in r) line (Asks asked)) same asks) judged judged_on (present_is.point_is ∙ present_is.at_end)
-    (subst (λ n. IsAccess cells cells n j) own access)
+    cells' progress k.running there other free
+    (λ seen placed. asks_so (Attempt seen) placed) judged judged_on (present_is.point_is ∙ present_is.at_end)
+    (subst (λ n. IsAccess cells cells' n j) own access)
     (subst (λ (r : Process). (seen : List Judged) → IsPlaced r.control line seen r.progress
     → IsPlaced r.control line (seen ++ j ∷ []) progress) same placed) in
     let st = event_standing (world_in x s whole cells processes) i (seat_in d.before) (d.before.first + length d.before.recording.steps) line a.left
-    s.journal cells (Core (Seen j.element)) progress there k.standing (still_there (world_in x s whole cells processes) i) (omega arith)
+    s.journal cells' (Core (Seen j.element)) progress there k.standing (still_there (world_in x s whole cells processes) i) (omega arith)
     (λ told. absurd (look_awake (world_in x s whole cells processes) i (seat_in d.before) (d.before.first + length d.before.recording.steps) line a.left j
     progress k.running there other free
     (subst (λ (r : Process). (seen : List Judged) → IsPlaced r.control line seen r.progress
@@ -491,63 +509,63 @@ look_goes x s whole room cells processes middle processes' p i segno point line 
     progress k.running there other free
     (subst (λ (r : Process). (seen : List Judged) → IsPlaced r.control line seen r.progress
     → IsPlaced r.control line (seen ++ j ∷ []) progress) same placed) it at)) in (
-      moved_kept x s s whole room cells cells processes processes' i (Core (Seen j.element)) progress k k.same k.wide d
+      moved_kept x s s whole room cells cells' processes processes' i (Core (Seen j.element)) progress k k.same wide d
           (subst (λ (r : Process). IsGoodProgress r.control.registers progress) same fits) w st,
-      moved_stepped x s s whole cells cells processes processes' p i (Core (Seen j.element)) progress [] place (none_more s.journal)
+      moved_stepped x s s whole cells cells' processes processes' p i (Core (Seen j.element)) progress [] place (none_more s.journal)
           (memory_awake x s whole cells processes p i line a.left d.before k.running place there other) d
           (inl (refl, subst (λ (r : Process). steps_in progress < steps_in r.progress) same closer)),
     )
 
 -- how far the line has come after a write
 abbrev pub IsProgressAfter : Filled → Progress → Type 0
-IsProgressAfter (More it) progress = progress ≡ Filling it
-IsProgressAfter Anew progress = progress ≡ Before
-IsProgressAfter Done progress = ⊥
-IsProgressAfter Nowhere progress = ⊥
+IsProgressAfter (filled_to.More it) progress = progress ≡ Filling it
+IsProgressAfter filled_to.Anew progress = progress ≡ Before
+IsProgressAfter filled_to.Done progress = ⊥
+IsProgressAfter filled_to.Nowhere progress = ⊥
 
 answered_after : (g : Control) (line : Line) (entry : journaled.Entry) (filled : List Judged) (after : Filled) (progress : Progress)
     → IsProgressAfter after progress → IsAfter g line entry filled after → IsAnswered g line entry filled progress
-answered_after g line entry filled (More it) progress at is = subst (IsAnswered g line entry filled) (sym at) is
-answered_after g line entry filled Anew progress at is = subst (IsAnswered g line entry filled) (sym at) is
-answered_after g line entry filled Done progress at is = absurd at
-answered_after g line entry filled Nowhere progress at is = absurd at
+answered_after g line entry filled (filled_to.More it) progress at is = subst (IsAnswered g line entry filled) (sym at) is
+answered_after g line entry filled filled_to.Anew progress at is = subst (IsAnswered g line entry filled) (sym at) is
+answered_after g line entry filled filled_to.Done progress at is = absurd at
+answered_after g line entry filled filled_to.Nowhere progress at is = absurd at
 
 good_after : (g : Registers) (after : Filled) (progress : Progress) → IsProgressAfter after progress → IsShortAfter after → IsGoodProgress g progress
-good_after g (More it) progress at short = subst (IsGoodProgress g) (sym at) short
-good_after g Anew progress at short = subst (IsGoodProgress g) (sym at) tt
-good_after g Done progress at short = absurd at
-good_after g Nowhere progress at short = absurd at
+good_after g (filled_to.More it) progress at short = subst (IsGoodProgress g) (sym at) short
+good_after g filled_to.Anew progress at short = subst (IsGoodProgress g) (sym at) tt
+good_after g filled_to.Done progress at short = absurd at
+good_after g filled_to.Nowhere progress at short = absurd at
 
 closer_by : (steps : ℕ) (after : Filled) (progress : Progress) → IsProgressAfter after progress → IsCloserBy steps after → steps_in progress < steps
-closer_by steps (More it) progress at closer = subst (λ (r : Progress). steps_in r < steps) (sym at) closer
-closer_by steps Anew progress at closer = subst (λ (r : Progress). steps_in r < steps) (sym at) closer
-closer_by steps Done progress at closer = absurd at
-closer_by steps Nowhere progress at closer = absurd at
+closer_by steps (filled_to.More it) progress at closer = subst (λ (r : Progress). steps_in r < steps) (sym at) closer
+closer_by steps filled_to.Anew progress at closer = subst (λ (r : Progress). steps_in r < steps) (sym at) closer
+closer_by steps filled_to.Done progress at closer = absurd at
+closer_by steps filled_to.Nowhere progress at closer = absurd at
 
 places_after : (s : Plain) (p : ℕ) (after : Filled) (progress : Progress) → IsProgressAfter after progress → HasPlaceAfter s p after
     → (it : Fill) → progress ≡ Filling it → HasPlace s p it
-places_after s p (More next) progress at place it e = subst (HasPlace s p) (same next it (sym at ∙ e)) place
+places_after s p (filled_to.More next) progress at place it e = subst (HasPlace s p) (same next it (sym at ∙ e)) place
   where
     same : (a b : Fill) → Filling a ≡ Filling b → a ≡ b
     same a b e = cc
-places_after s p Anew progress at place it e = absurd (none it (sym at ∙ e))
+places_after s p filled_to.Anew progress at place it e = absurd (none it (sym at ∙ e))
   where
     none : (it : Fill) → Before ≡ Filling it → ⊥
     none it e = cc
-places_after s p Done progress at place it e = absurd at
-places_after s p Nowhere progress at place it e = absurd at
+places_after s p filled_to.Done progress at place it e = absurd at
+places_after s p filled_to.Nowhere progress at place it e = absurd at
 
 awake_after : (after : Filled) (progress : Progress) → IsProgressAfter after progress → progress ≡ Waiting → ⊥
-awake_after (More it) progress at e = none it (sym at ∙ e)
+awake_after (filled_to.More it) progress at e = none it (sym at ∙ e)
   where
     none : (it : Fill) → Filling it ≡ Waiting → ⊥
     none it e = cc
-awake_after Anew progress at e = none (sym at ∙ e)
+awake_after filled_to.Anew progress at e = none (sym at ∙ e)
   where
     none : Before ≡ Waiting → ⊥
     none e = cc
-awake_after Done progress at e = at
-awake_after Nowhere progress at e = at
+awake_after filled_to.Done progress at e = at
+awake_after filled_to.Nowhere progress at e = at
 
 -- what is known of a write of process p
 pub record IsFillMade (s : Supervised) (p point : ℕ) (cells cells' : List Contents) (it : Fill) (j : Judged) : Type 0 where
@@ -650,7 +668,7 @@ pub fill_end_goes : (x : Outline) (s : Supervised) (whole : List (List Step)) (r
     (p i point : ℕ) (line : Line) (q : Process) (registers : Registers) (it : Fill) (j : Judged)
     → IsKept x s whole room cells processes → i ≡ p - 1 → IsAtLine (world_in x s whole cells processes) p line
     → slice_get processes i ≡ Some q → registers ≡ q.control.registers → q.progress ≡ Filling it → IsFillMade s p point cells cells' it j
-    → after_fill it ≡ Done
+    → after_fill it ≡ filled_to.Done
     → IsStill processes i middle → HasEnded middle i (Core (Seen j.element) ∷ []) result.Done (keeping registers) processes'
     → Goes x s s whole room cells cells' processes processes' p
 fill_end_goes x s whole room cells cells' processes middle processes' p i point line q registers it j k place a here is at m done still ended =

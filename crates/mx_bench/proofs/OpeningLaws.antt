@@ -87,7 +87,7 @@ first_before x setup i [] e begun = no_line_law x setup (suc i) (length setup) e
 first_before x setup i (next ∷ left) e begun = record {
   course = Attempt [];
   benched = first_line_law x setup (suc i) next.0 next.1 left (length setup) (λ segno. limit_of x) e begun;
-  come = (refl, λ none. refl);
+  come = (refl, tt);
   stays = λ fill e out. begun_free fill e;
 }
 

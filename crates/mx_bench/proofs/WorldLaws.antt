@@ -45,8 +45,8 @@ use Rattle.mx_line.proofs.SeatLaws.{set_here, set_there, set_length, left_more}
 use Rattle.mx_line.specs.Access.{IsAccess, stored}
 use Rattle.mx_line.specs.Operands.{IsPlaced}
 use Rattle.mx_line.specs.Fills.{IsNoRequest, IsFilling, write_of}
-use Rattle.mx_line.specs.AtWork.{IsAnswered}
-use Rattle.mx_bench.specs.Running.{IsCome, IsAtWork, IsBefore, left_of, IsRunning}
+use Rattle.mx_line.specs.AtWork.{IsAnswered, IsCome, IsFree}
+use Rattle.mx_bench.specs.Running.{IsAtWork, IsBefore, left_of, IsRunning}
 use Rattle.mx_line.specs.Seats.{Seat}
 use Rattle.mx_bench.specs.Worlds.{World}
 use Rattle.mx_line.specs.Cells.{held, held_in, contents_at, always}
@@ -111,7 +111,7 @@ ended x setup p seat number line (other ∷ left) events course ends after v end
   course = Attempt [];
   benched = line_step_law x setup p seat.steps number other.0 line other.1 left seat.control after (seat.events ++ events) course ends v
       (λ segno. limit_of x) end r;
-  come = (refl, λ none. refl);
+  come = (refl, tt);
   stays = λ fill e out. begun_free fill e;
 }
 
@@ -120,10 +120,6 @@ pub at_line : (x : Outline) (setup : List journaled.Entry) (p : ℕ) (seat : Sea
     → lines ≡ (number, line) ∷ left → IsBefore x setup p seat lines v
     → IsAtWork x setup p seat number line left v
 at_line x setup p seat lines number line left v e is = subst (λ (l : List (ℕ × Line)). IsBefore x setup p seat l v) e is
-
--- no write is due
-abbrev pub IsFree : Progress → Type 0
-IsFree progress = (fill : Fill) → progress ≡ Filling fill → ⊥
 
 -- a line that is no request, and at which no write is due, is in an attempt, or begins one anew
 pub record IsAttempting (x : Outline) (setup : List journaled.Entry) (p : ℕ) (seat : Seat) (number : ℕ) (line : Line)
@@ -158,7 +154,7 @@ attempting x setup p seat number line left v other free now = by_course now.cour
           so_far = refl;
           alike = ap (λ (d : Option Reference). first_due d (answered seat.control line entry.request entry.reply)) is.none ∙ is.anew;
           benched = benched;
-          placed = subst (IsPlaced seat.control line []) (sym e) (refl, λ none. refl);
+          placed = subst (IsPlaced seat.control line []) (sym e) (refl, tt);
         }
 
 pub after_it : (x : Outline) (p : ℕ) (seat : Seat) (number : ℕ) (line : Line) (left : List (ℕ × Line)) (events : List Event2) (ends : Result2) (after : Control)

@@ -1,13 +1,10 @@
 -- Helpers: what a line of a process asks for, on the bench.
-use Rattle.std.specs.Prelude.{◌≡◌, ◌⊎◌, ℕ, ◌<◌, true, false, List, length, [], ◌∷◌, ◌++◌}
+use Rattle.std.specs.Prelude.{◌≡◌, ◌⊎◌, ℕ, ◌<◌, true, false, length}
 use Rattle.mx_call.specs.Registers.{Registers, ArePackable}
-use Rattle.mx_upcall.specs.Control.{with_registers}
+use Rattle.mx_upcall.specs.Changes.{changed}
 use Rattle.mx_transcript.specs.Asking.{next}
-use Rattle.mx_transcript.specs.Courses.{Course, Attempt, Judged}
-use Rattle.mx_transcript.specs.Next.{Asks, Calls, Ends, storing}
-use Rattle.mx_transcript.specs.Targets.{at_target, after_target}
-use Rattle.mx_transcript.specs.declared.transcripts.Result2.{Result2}
-use Rattle.mx_ptr.specs.Pointers.{PointerParts}
+use Rattle.mx_transcript.specs.Courses.{Course}
+use Rattle.mx_transcript.specs.Next.{Asks, Calls, Ends}
 use Rattle.mx_request.specs.declared.replies.Reply.{Reply}
 use Rattle.mx_request.specs.declared.replies.Reply.TheVariants as replies
 use Rattle.mx_request.specs.declared.requests.Request.{Request}
@@ -15,16 +12,16 @@ use Rattle.mx_request.specs.declared.requests.Request.TheVariants.{Block, Logout
 use Rattle.mx_script.specs.Sessions.{limit_of}
 use Rattle.mx_script.specs.declared.lines.Line.{Line}
 use Rattle.mx_script.specs.declared.lines.Line.TheVariants as line
-use Rattle.mx_script.specs.declared.lines.Operand.{Operand}
+use Rattle.mx_line.specs.AtWork.{IsCome, IsGoodEnd, IsGoodNext, IsPlain, IsStorable, IsStorableBy, meant, reference_in}
 use Rattle.mx_line.specs.Fills.{IsNoRequest, IsAnsweredBy}
-use Rattle.mx_line.specs.Making.{IsStore}
-use Rattle.mx_line.specs.Operands.{IsPlaced, AsksFor, IsGoodAsked, IsTarget}
+use Rattle.mx_line.specs.Operands.{IsMemoryLine}
 use Rattle.mx_bench.specs.Stepping.{IsSeat, IsWaiting, state_in}
-use Rattle.mx_bench.specs.Running.{IsCome}
 use Rattle.mx_line.specs.Seats.{Seat}
 use Rattle.mx_bench.specs.Worlds.{World}
+use Rattle.mx_line.specs.declared.asking.End.{End}
+use Rattle.mx_line.specs.declared.asking.Next as asking
+use Rattle.mx_line.specs.declared.asking.Reference as asking_for
 use Rattle.mx_line.specs.declared.fills.Fill.{Fill}
-use Rattle.mx_line.specs.declared.operands.Asked.{Asked}
 use Rattle.mx_line.specs.declared.operands.Progress.TheVariants.{Waiting, Filling}
 use Rattle.mx_state.specs.History.{IsRightEntry}
 use Rattle.mx_state.specs.Messages.{is_ready}
@@ -39,22 +36,23 @@ pub record HasSeatWith (w : World) (p : ℕ) (g : Registers) : Type 0 where
   pub registers : g ≡ seat.control.registers
   pub packable : ArePackable g
 
--- its operand asks for this
-pub record IsAsking (w : World) (p : ℕ) (o : Operand) (asked : Asked) : Type 0 where
+-- its line, which is no request, asks for this, whatever it has done
+pub record IsAsking (w : World) (p : ℕ) (l : Line) (asks : asking.Next) : Type 0 where
+  pub other : IsNoRequest l
   pub seat : Seat
   pub seated : IsSeat w p seat
-  pub asks : AsksFor seat.control.registers o seat.progress asked
-  pub good : IsGoodAsked seat.control.registers asked
+  pub is : (course : Course) → IsCome seat.control l course seat.progress → next seat.control l course ≡ meant seat.control l asks
+  pub storable : IsStorable asks
+  pub good : IsGoodNext seat.control asks
+  pub plain : IsPlain l asks
 
--- its line is at this target, whatever it has seen, and does its own there
-pub record IsAiming (w : World) (p : ℕ) (l : Line) (target : PointerParts) : Type 0 where
+-- its line, which refers to memory, asks for this reference
+pub record IsReferring (w : World) (p : ℕ) (l : Line) (asked : asking_for.Reference) : Type 0 where
+  pub memory : IsMemoryLine l
   pub seat : Seat
   pub seated : IsSeat w p seat
-  pub good : IsTarget seat.control.registers target
-  pub asks : (seen : List Judged) → IsPlaced seat.control l seen seat.progress
-      → next seat.control l (Attempt seen) ≡ at_target seat.control l target
-  pub goes : (j : Judged) (seen : List Judged) → IsPlaced seat.control l seen seat.progress
-      → next seat.control l (Attempt (seen ++ j ∷ [])) ≡ after_target seat.control l target j.desc j.element.outcome
+  pub asks : (course : Course) → IsCome seat.control l course seat.progress → next seat.control l course ≡ Asks (reference_in asked)
+  pub storable : IsStorableBy asked.op asked.stores
 
 -- it was told to wait
 pub record IsTold (w : World) (p : ℕ) : Type 0 where
@@ -82,14 +80,14 @@ pub record IsUnreadyBelow (w : World) (p : ℕ) : Type 0 where
   pub below : length w.journal < limit_of w.session
   pub unready : is_ready (state_in w) p ≡ false
 
--- its line, which is no request, asks for its end with these registers, whatever it has seen
-pub record IsEnding (w : World) (p : ℕ) (l : Line) (ends : Result2) (after : Registers) : Type 0 where
+-- its line, which is no request, asks for this end
+pub record IsEnding (w : World) (p : ℕ) (l : Line) (end : End) : Type 0 where
   pub other : IsNoRequest l
   pub seat : Seat
   pub seated : IsSeat w p seat
-  pub asks : (seen : List Judged) → IsPlaced seat.control l seen seat.progress
-      → next seat.control l (Attempt seen) ≡ Ends ends (with_registers seat.control after)
-  pub packable : ArePackable after
+  pub asks : (course : Course) → IsCome seat.control l course seat.progress
+      → next seat.control l course ≡ Ends end.ends (changed seat.control end.after)
+  pub good : IsGoodEnd seat.control end
 
 -- A line is a `block`, and its process is told to wait.
 pub record IsToldToWait (l : Line) (request : Request) (reply : Reply) : Type 0 where
@@ -110,10 +108,3 @@ pub record IsCalling (w : World) (p : ℕ) (l : Line) (ring : ℕ) (request : Re
       → IsAnsweredBy seat.control l ring request reply ⊎ IsToldToWait l request reply
   -- a request of its own is the line's
   pub logs_out : l ≡ line.Ask Logout → request ≡ Logout
-
--- its line stores this value at its target
-pub record IsStoring (w : World) (p : ℕ) (l : Line) (target : PointerParts) (value : ℕ) : Type 0 where
-  pub seat : Seat
-  pub seated : IsSeat w p seat
-  pub asks : at_target seat.control l target ≡ Asks (storing value target)
-  pub stores : IsStore l

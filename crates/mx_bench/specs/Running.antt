@@ -1,7 +1,6 @@
 -- What is true of a bench, whatever has been stepped: all that a legal run asks, so far.
 use Rattle.std.specs.Prelude.{◌≡◌, ℕ, suc, List, [], ◌∷◌, drop, length, Some, slice_get}
-use Rattle.mx_upcall.specs.Control.{Control}
-use Rattle.mx_transcript.specs.Courses.{Course, Attempt, Answer}
+use Rattle.mx_transcript.specs.Courses.{Course}
 use Rattle.mx_transcript.specs.Scripts.{lines_of}
 use Rattle.mx_script.specs.Sessions.{Outline}
 use Rattle.mx_request.specs.declared.requests.Request.TheVariants.{Logout}
@@ -13,19 +12,12 @@ use Rattle.mx_ties.specs.BenchGoing.{IsBenched}
 use Rattle.mx_ties.specs.Closed.{followed}
 use Rattle.mx_ties.specs.Ran.{HasRun, IsSetUp}
 use Rattle.mx_ties.specs.Views.{Marked, View}
-use Rattle.mx_line.specs.AtWork.{IsAnswered}
-use Rattle.mx_line.specs.Operands.{IsPlaced}
+use Rattle.mx_line.specs.AtWork.{IsCome}
 use Rattle.mx_line.specs.Seats.{Seat}
 use Rattle.mx_bench.specs.Worlds.{World}
 use Rattle.mx_line.specs.Cells.{held_in, always}
 use Rattle.mx_line.specs.declared.fills.Fill.{Fill}
-use Rattle.mx_line.specs.declared.operands.Progress.{Progress}
 use Rattle.mx_line.specs.declared.operands.Progress.TheVariants.{Filling}
-
--- A line has done this, and has come so far: its attempt has seen what its operand asked for, or it has made a call.
-abbrev pub IsCome : Control → Line → Course → Progress → Type 0
-IsCome g l (Attempt seen) progress = IsPlaced g l seen progress
-IsCome g l (Answer entry filled) progress = IsAnswered g l entry filled progress
 
 -- a line is at work: it has done this, and has come so far
 pub record IsAtWork (x : Outline) (setup : List journaled.Entry) (p : ℕ) (seat : Seat) (number : ℕ) (line : Line)

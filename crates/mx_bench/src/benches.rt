@@ -3,9 +3,9 @@
 ghost use Rattle.std.specs.Prelude.{◌≡◌, ◌⊎◌, true, ◌<◌, ◌≤◌, ◌↔◌, Ok, IfOk, IfSome, IsSome, IsNone, OnOk, OnErr, IsTrue, IsFalse, MatchOption, Some, ◌+◌, ◌++◌, map, slice_get, vec_len, vec_capacity, length};
 ghost use Rattle.mx_transcript.specs.Legal.{IsLegal, HasGatedFalls, HasSoundRegisters};
 ghost use Rattle.mx_bench.specs.Stepping.{IsLastDenial, IsOpening, IsAtLine, IsNumbered, IsWaiting, HasMoved, HasStepped, HasGone, HasEnded, HaveEnded, HasNone};
-ghost use Rattle.mx_bench.specs.Asking.{HasSeat, HasSeatWith, IsToFill, IsUnfilled, IsAsking, IsTold, IsUntold, IsReadyBelow, IsUnreadyBelow, IsAiming, IsEnding, IsCalling, IsStoring};
-ghost use Rattle.mx_line.specs.Making.{IsReferring};
-ghost use Rattle.mx_line.specs.Operands.{operand_of, IsSayable};
+ghost use Rattle.mx_bench.specs.Asking.{HasSeat, HasSeatWith, IsToFill, IsUnfilled, IsAsking, IsTold, IsUntold, IsReadyBelow, IsUnreadyBelow, IsEnding, IsCalling, IsReferring};
+ghost use Rattle.mx_line.specs.Fills.{IsNoRequest};
+ghost use Rattle.mx_line.specs.declared.asking.Next.TheVariants.{Calls};
 ghost use Rattle.std.specs.Option.{option_map};
 ghost use Rattle.mx_line.specs.Processes.{recorded_steps};
 ghost use Rattle.mx_bench.specs.Running.{IsRunning};
@@ -13,20 +13,17 @@ ghost use Rattle.mx_bench.specs.Standing.{AreStanding};
 ghost use Rattle.mx_bench.specs.Worlds.{transcripts_of};
 ghost use Rattle.mx_script.specs.declared.lines.Line.TheVariants as lines;
 ghost use Rattle.mx_line.specs.declared.steps.Stepped.TheVariants.{More, Ended, LineDone, Waits};
-ghost use Rattle.mx_line.specs.declared.operands.Asked.TheVariants.{Target, First};
-ghost use Rattle.mx_line.specs.declared.operands.Way.TheVariants as ways;
 
 use crate::replied::{Replied, after_entry, enter_call};
 use mx_call::Regs;
 use mx_line::{
-    Asked, Fill, Filled, Memory, Place, Process, Processes, Progress, Stepped, Way, here, loaded,
-    look, refer, register_word, store,
+    Called, End, Fill, Filled, Memory, Next, Process, Processes, Progress, Reference, Stepped,
+    refer,
 };
 use mx_list::Sequence;
-use mx_ptr::Pointer;
 use mx_request::Request;
-use mx_script::{Line, Operand, Script, Session};
-use mx_sdw::{Denial, Ring, Word};
+use mx_script::{Line, Script, Session};
+use mx_sdw::{Denial, Ring};
 use mx_state::Journal;
 use mx_sup::{EnterError, Supervisor};
 use mx_transcript::{Event, Event2, Result2, Transcript, Transcripts};
@@ -139,17 +136,63 @@ impl<'a> Bench<'a> {
         ensures gone { IfOk result (λ stepped. HasGone self.old p stepped self.new) }
         ensures err { OnErr result (self.new ≡ self.old) }
     {
-        match line {
-            Line::Ask(boxed) => self.ask(alloc, p, line, boxed.request()),
-            Line::Set { word } => self.set(p, line, *word),
-            Line::Epp { n, operand } => self.epp(alloc, p, line, *n, operand),
-            Line::Lda { operand } => self.refer_by(alloc, p, line, operand),
-            Line::Sta { operand } => self.sta(alloc, p, line, operand),
-            Line::Spri { n, operand } => self.spri(alloc, p, line, *n, operand),
-            Line::Fetch => self.fetch(p, line),
-            Line::Call { operand } => self.refer_by(alloc, p, line, operand),
-            Line::Return { operand } => self.refer_by(alloc, p, line, operand),
+        match request_of(line) {
+            Some(request) => self.ask(alloc, p, line, request),
+            None => self.go(alloc, p, line),
         }
+    }
+
+    // A line that is no request goes on.
+    fn go(&mut self, alloc: Global, p: u8, line: &Line) -> Result<Stepped, AllocError>
+        requires at { IsAtLine self.old p line.now }
+        requires idle { IsUnfilled self.old p }
+        requires other { IsNoRequest line.now }
+        ensures gone { IfOk result (λ stepped. HasGone self.old p stepped self.new) }
+        ensures err { OnErr result (self.new ≡ self.old) }
+    {
+        match self.asks(p, line) {
+            Next::Asks(asked) => self.refer(p, line, &asked),
+            Next::Fills(_) => unreachable!(),
+            Next::Calls { ring, called } => self.call(alloc, p, line, ring, called),
+            Next::Ends(end) => self.end(p, line, &end),
+            Next::Nowhere => unreachable!(),
+        }
+    }
+
+    // A line that is no request calls to have its link snapped.
+    fn call(
+        &mut self,
+        alloc: Global,
+        p: u8,
+        line: &Line,
+        ring: Ring,
+        called: Called,
+    ) -> Result<Stepped, AllocError>
+        requires at { IsAtLine self.old p line.now }
+        requires idle { IsUnfilled self.old p }
+        requires asks { IsAsking self.old p line.now (Calls ring called) }
+        ensures gone { IfOk result (λ stepped. HasGone self.old p stepped self.new) }
+        ensures err { OnErr result (self.new ≡ self.old) }
+    {
+        let _ = &self.session;
+        match called {
+            Called::Link { segno, word } => {
+                let request = Request::Link { segno, word };
+                self.enter(alloc, p, line, ring, &request)
+            }
+            Called::Own => unreachable!(),
+            Called::Resume => unreachable!(),
+        }
+    }
+
+    // What a line asks for that is no request.
+    fn asks(&self, p: u8, line: &Line) -> Next
+        requires at { IsAtLine self.now p line.now }
+        requires idle { IsUnfilled self.now p }
+        requires other { IsNoRequest line.now }
+        ensures { IsAsking self.now p line.now result }
+    {
+        self.processes.asks(usize::from(p) - 1, line)
     }
 
     // A request is a call in the current ring; who was told to wait resumes.
@@ -210,173 +253,6 @@ impl<'a> Bench<'a> {
         self.supervisor.length() >= self.supervisor.limit() || self.supervisor.ready(p)
     }
 
-    // `set`: A becomes the word.
-    fn set(&mut self, p: u8, line: &Line, word: Word) -> Result<Stepped, AllocError>
-        requires at { IsAtLine self.old p line.now }
-        requires idle { IsUnfilled self.old p }
-        requires line { line.now ≡ lines.Set word }
-        ensures gone { IfOk result (λ stepped. HasGone self.old p stepped self.new) }
-        ensures err { OnErr result (self.new ≡ self.old) }
-    {
-        let after = Regs {
-            a: word,
-            ..self.registers(p)
-        };
-        self.end(p, line, Result2::Done, &after)?;
-        Ok(Stepped::LineDone)
-    }
-
-    // `epp`: the pointer register becomes the effective pointer.
-    fn epp(
-        &mut self,
-        alloc: Global,
-        p: u8,
-        line: &Line,
-        n: u8,
-        operand: &Operand,
-    ) -> Result<Stepped, AllocError>
-        requires at { IsAtLine self.old p line.now }
-        requires idle { IsUnfilled self.old p }
-        requires line { line.now ≡ lines.Epp n operand.now }
-        ensures gone { IfOk result (λ stepped. HasGone self.old p stepped self.new) }
-        ensures err { OnErr result (self.new ≡ self.old) }
-    {
-        match self.asks(p, line, operand) {
-            Asked::Target(target) => {
-                let after = loaded(&self.registers(p), n, &target);
-                let ends = Result2::Pr { n, pointer: target };
-                self.end(p, line, ends, &after)?;
-                Ok(Stepped::LineDone)
-            }
-            Asked::First(way) => self.go(alloc, p, line, operand, way),
-        }
-    }
-
-    // `lda`, `call` and `return`: a reference at the target that stores nothing.
-    fn refer_by(
-        &mut self,
-        alloc: Global,
-        p: u8,
-        line: &Line,
-        operand: &Operand,
-    ) -> Result<Stepped, AllocError>
-        requires at { IsAtLine self.old p line.now }
-        requires idle { IsUnfilled self.old p }
-        requires operand { operand_of line.now ≡ Some operand.now }
-        requires refers { IsReferring line.now }
-        ensures gone { IfOk result (λ stepped. HasGone self.old p stepped self.new) }
-        ensures err { OnErr result (self.new ≡ self.old) }
-    {
-        match self.asks(p, line, operand) {
-            Asked::Target(target) => {
-                self.refer(p, line, &target)?;
-                Ok(Stepped::LineDone)
-            }
-            Asked::First(way) => self.go(alloc, p, line, operand, way),
-        }
-    }
-
-    // `sta`: A is stored at the target.
-    fn sta(
-        &mut self,
-        alloc: Global,
-        p: u8,
-        line: &Line,
-        operand: &Operand,
-    ) -> Result<Stepped, AllocError>
-        requires at { IsAtLine self.old p line.now }
-        requires idle { IsUnfilled self.old p }
-        requires line { line.now ≡ lines.Sta operand.now }
-        ensures gone { IfOk result (λ stepped. HasGone self.old p stepped self.new) }
-        ensures err { OnErr result (self.new ≡ self.old) }
-    {
-        match self.asks(p, line, operand) {
-            Asked::Target(target) => {
-                let value = self.registers(p).a;
-                self.store(p, line, &target, value)?;
-                Ok(Stepped::LineDone)
-            }
-            Asked::First(way) => self.go(alloc, p, line, operand, way),
-        }
-    }
-
-    // `spri`: the pointer register is stored at the target, without further indirection.
-    fn spri(
-        &mut self,
-        alloc: Global,
-        p: u8,
-        line: &Line,
-        n: u8,
-        operand: &Operand,
-    ) -> Result<Stepped, AllocError>
-        requires at { IsAtLine self.old p line.now }
-        requires idle { IsUnfilled self.old p }
-        requires line { line.now ≡ lines.Spri n operand.now }
-        ensures gone { IfOk result (λ stepped. HasGone self.old p stepped self.new) }
-        ensures err { OnErr result (self.new ≡ self.old) }
-    {
-        match self.asks(p, line, operand) {
-            Asked::Target(target) => {
-                let value = register_word(&self.registers(p), n);
-                self.store(p, line, &target, value)?;
-                Ok(Stepped::LineDone)
-            }
-            Asked::First(way) => self.go(alloc, p, line, operand, way),
-        }
-    }
-
-    // `fetch`: the word at the procedure pointer is read, in the current ring.
-    fn fetch(&mut self, p: u8, line: &Line) -> Result<Stepped, AllocError>
-        requires at { IsAtLine self.old p line.now }
-        requires idle { IsUnfilled self.old p }
-        requires line { line.now ≡ lines.Fetch }
-        ensures gone { IfOk result (λ stepped. HasGone self.old p stepped self.new) }
-        ensures err { OnErr result (self.new ≡ self.old) }
-    {
-        let target = here(&self.registers(p));
-        self.refer(p, line, &target)?;
-        Ok(Stepped::LineDone)
-    }
-
-    // What stands on the way of an operand: an indirect word is read, and a link is to be snapped first.
-    fn go(
-        &mut self,
-        alloc: Global,
-        p: u8,
-        line: &Line,
-        operand: &Operand,
-        way: Way,
-    ) -> Result<Stepped, AllocError>
-        requires at { IsAtLine self.old p line.now }
-        requires idle { IsUnfilled self.old p }
-        requires operand { operand_of line.now ≡ Some operand.now }
-        requires asked { IsAsking self.old p operand.now (First way) }
-        ensures gone { IfOk result (λ stepped. HasGone self.old p stepped self.new) }
-        ensures err { OnErr result (self.new ≡ self.old) }
-    {
-        match way {
-            Way::Word(place) => self.look(p, line, operand, place),
-            Way::Link(place) => {
-                let request = Request::Link {
-                    segno: place.segno,
-                    word: place.word,
-                };
-                self.enter(alloc, p, line, place.ring, &request)
-            }
-        }
-    }
-
-    // What the operand of the line asks for.
-    fn asks(&self, p: u8, line: &Line, operand: &Operand) -> Asked
-        requires at { IsAtLine self.now p line.now }
-        requires idle { IsUnfilled self.now p }
-        requires operand { operand_of line.now ≡ Some operand.now }
-        ensures asks { IsAsking self.now p operand.now result }
-        ensures line { IsSayable line.now }
-    {
-        self.processes.asks(usize::from(p) - 1, operand)
-    }
-
     // The registers of a process at the start of the line at work.
     fn registers(&self, p: u8) -> Regs
         requires some { 1 ≤ p }
@@ -386,18 +262,17 @@ impl<'a> Bench<'a> {
         self.processes.registers(usize::from(p) - 1)
     }
 
-    // A line that needs no event ends.
-    fn end(&mut self, p: u8, line: &Line, ends: Result2, after: &Regs) -> Result<(), AllocError>
+    // A line that asks for its end ends.
+    fn end(&mut self, p: u8, line: &Line, end: &End) -> Result<Stepped, AllocError>
         requires at { IsAtLine self.old p line.now }
-        requires idle { IsUnfilled self.old p }
-        requires ends { IsEnding self.old p line.now ends after.now }
-        ensures done { OnOk result (HasStepped self.old p self.new) }
+        requires ends { IsEnding self.old p line.now end.now }
+        ensures gone { IfOk result (λ stepped. HasGone self.old p stepped self.new) }
         ensures err { OnErr result (self.new ≡ self.old) }
     {
         let i = usize::from(p) - 1;
         self.processes.reserve(i)?;
-        self.processes.end_line(i, None, ends, after);
-        Ok(())
+        self.processes.end_with(i, None, end.ends, &end.after);
+        Ok(Stepped::LineDone)
     }
 
     // A call: where the journal is at its limit it is not entered, and the line says so. Who is told to wait, or has
@@ -448,26 +323,18 @@ impl<'a> Bench<'a> {
         }
     }
 
-    // An indirect word is read on the present access, and leads on.
-    fn look(
-        &mut self,
-        p: u8,
-        line: &Line,
-        operand: &Operand,
-        place: Place,
-    ) -> Result<Stepped, AllocError>
+    // The reference for which the line asks is made on the present access, and the line goes on by it.
+    fn refer(&mut self, p: u8, line: &Line, asked: &Reference) -> Result<Stepped, AllocError>
         requires at { IsAtLine self.old p line.now }
-        requires idle { IsUnfilled self.old p }
-        requires operand { operand_of line.now ≡ Some operand.now }
-        requires asked { IsAsking self.old p operand.now (First (ways.Word place)) }
+        requires asked { IsReferring self.old p line.now asked.now }
         ensures gone { IfOk result (λ stepped. HasGone self.old p stepped self.new) }
         ensures err { OnErr result (self.new ≡ self.old) }
     {
         let i = usize::from(p) - 1;
         self.processes.reserve(i)?;
-        let desc = self.supervisor.descriptor(p, place.segno);
+        let desc = self.supervisor.descriptor(p, asked.segno);
         let point = self.supervisor.length();
-        let element = look(&self.cells, &desc, &place, point);
+        let element = refer(&mut self.cells, &desc, asked, p, point);
         Ok(self.processes.seen(i, line, &element, &desc))
     }
 
@@ -481,12 +348,11 @@ impl<'a> Bench<'a> {
         let i = usize::from(p) - 1;
         let registers = self.processes.registers(i);
         self.processes.reserve(i)?;
-        let (target, value) = fill.write();
-        let desc = self.supervisor.descriptor(p, target.segno);
+        let asked = fill.asked();
+        let desc = self.supervisor.descriptor(p, asked.segno);
         let point = self.supervisor.length();
-        let control = self.processes.control(i);
-        let made = store(&mut self.cells, &desc, &target, value, control, p, point);
-        let event = Event2::Core(Event::Seen(made.element));
+        let element = refer(&mut self.cells, &desc, &asked, p, point);
+        let event = Event2::Core(Event::Seen(element));
         match fill.after() {
             Filled::More(next) => {
                 self.processes.go_on(i, event, Progress::Filling(next));
@@ -503,48 +369,6 @@ impl<'a> Bench<'a> {
             }
             Filled::Nowhere => unreachable!(),
         }
-    }
-
-    // A reference that stores nothing is made at the target on the present access.
-    fn refer(&mut self, p: u8, line: &Line, target: &Pointer) -> Result<(), AllocError>
-        requires at { IsAtLine self.old p line.now }
-        requires idle { IsUnfilled self.old p }
-        requires target { IsAiming self.old p line.now target.now }
-        requires refers { IsReferring line.now }
-        ensures done { OnOk result (HasStepped self.old p self.new) }
-        ensures err { OnErr result (self.new ≡ self.old) }
-    {
-        let i = usize::from(p) - 1;
-        self.processes.reserve(i)?;
-        let desc = self.supervisor.descriptor(p, target.segno);
-        let point = self.supervisor.length();
-        let control = self.processes.control(i);
-        let made = refer(&self.cells, &desc, line, target, control, point);
-        let event = Event2::Core(Event::Seen(made.element));
-        self.processes
-            .end_with(i, Some(event), made.ends, &made.after);
-        Ok(())
-    }
-
-    // A word is stored at the target on the present access.
-    fn store(&mut self, p: u8, line: &Line, target: &Pointer, value: Word) -> Result<(), AllocError>
-        requires at { IsAtLine self.old p line.now }
-        requires idle { IsUnfilled self.old p }
-        requires target { IsAiming self.old p line.now target.now }
-        requires stores { IsStoring self.old p line.now target.now value }
-        ensures done { OnOk result (HasStepped self.old p self.new) }
-        ensures err { OnErr result (self.new ≡ self.old) }
-    {
-        let i = usize::from(p) - 1;
-        self.processes.reserve(i)?;
-        let desc = self.supervisor.descriptor(p, target.segno);
-        let point = self.supervisor.length();
-        let control = self.processes.control(i);
-        let made = store(&mut self.cells, &desc, target, value, control, p, point);
-        let event = Event2::Core(Event::Seen(made.element));
-        self.processes
-            .end_with(i, Some(event), made.ends, &made.after);
-        Ok(())
     }
 
     /// Whether no process has a line left.
@@ -645,6 +469,23 @@ impl<'a> Bench<'a> {
         } = self;
         let whole = gather(whole, processes.into_items());
         (supervisor.into_journal(), Sequence::of(whole))
+    }
+}
+
+// The request that a line is.
+fn request_of(line: &Line) -> Option<&Request>
+    ensures { MatchOption result (IsNoRequest line.now) (λ request. line.now ≡ lines.Ask request.now) }
+{
+    match line {
+        Line::Ask(boxed) => Some(boxed.request()),
+        Line::Set { .. } => None,
+        Line::Epp { .. } => None,
+        Line::Lda { .. } => None,
+        Line::Sta { .. } => None,
+        Line::Spri { .. } => None,
+        Line::Fetch => None,
+        Line::Call { .. } => None,
+        Line::Return { .. } => None,
     }
 }
 

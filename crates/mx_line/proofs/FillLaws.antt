@@ -17,7 +17,6 @@ use Rattle.mx_request.specs.declared.replies.Reply.TheVariants as reply
 use Rattle.mx_request.specs.declared.requests.Request.{Request}
 use Rattle.mx_request.specs.declared.requests.Request.TheVariants as ask
 use Rattle.mx_script.specs.declared.lines.Line.{Line}
-use Rattle.mx_script.specs.declared.lines.Line.TheVariants as line
 use Rattle.mx_state.specs.Askers.{Asker, Initializer, Process, Nobody, asker, answered_process}
 use Rattle.mx_state.specs.Messages.{logout}
 use Rattle.mx_state.specs.Plain.{Plain}

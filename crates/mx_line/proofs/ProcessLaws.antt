@@ -16,22 +16,21 @@ use Rattle.mx_transcript.specs.declared.transcripts.Event2.TheVariants.{Core}
 use Rattle.mx_transcript.specs.declared.transcripts.Result2.{Result2}
 use Rattle.mx_script.specs.Sessions.{Outline}
 use Rattle.mx_script.specs.declared.lines.Line.{Line}
-use Rattle.mx_script.specs.declared.lines.Operand.{Operand}
 use Rattle.mx_core.specs.declared.elements.Element.{Element}
 use Rattle.mx_core.specs.declared.elements.Event.TheVariants.{Seen}
 use Rattle.mx_sdw.specs.Descriptors.{Descriptor}
 use Rattle.mx_sdw.specs.declared.denials.Denial.{Denial}
 use Rattle.mx_line.proofs.SeatLaws.{set_here}
 use Rattle.mx_line.specs.AtWork.{IsMet}
-use Rattle.mx_line.specs.Operands.{IsGoodProgress, AsksFor, IsGoodAsked}
-use Rattle.mx_line.specs.Processes.{IsFresh, AreFreshUpTo, IsStill, HasRoom, IsCountable, IsGoodAt, IsMetAt, IsSeen, Takes, Goes, HasAsked, HasMet, HasEnded, HasGoneOn, HasProgress, ReadsOperand, StoresNothing, HasFill, HasRegisters, HasControl, HasGateRoom, HasLines, HasNumber, HasLastDenial, fill_of}
+use Rattle.mx_line.specs.Operands.{IsGoodProgress}
+use Rattle.mx_line.specs.declared.asking.Next as asking
+use Rattle.mx_line.specs.Processes.{IsFresh, AreFreshUpTo, IsStill, HasRoom, IsCountable, IsGoodAt, IsMetAt, IsSeen, Takes, Goes, IsAsking, HasAsked, HasMet, HasEnded, HasGoneOn, HasProgress, HasFill, HasRegisters, HasControl, HasGateRoom, HasLines, HasNumber, HasLastDenial, fill_of}
 use Rattle.mx_line.specs.declared.steps.Stepped.{Stepped}
 use Rattle.mx_line.specs.declared.fills.Fill.{Fill}
-use Rattle.mx_line.specs.declared.operands.Asked.{Asked}
 use Rattle.mx_line.specs.declared.at_work.LineAtWork.{LineAtWork}
 use Rattle.mx_line.specs.declared.at_work.LineAtWork.TheVariants as at
 use Rattle.mx_line.specs.declared.operands.Progress.{Progress}
-use Rattle.mx_line.specs.declared.operands.Progress.TheVariants.{Before, Waiting, Filling}
+use Rattle.mx_line.specs.declared.operands.Progress.TheVariants.{Before, Waiting}
 use Rattle.mx_line.specs.declared.processes.Process.{Process}
 
 get_at : {A : Type 0} (xs : List A) (i : ℕ) (d : A) → i < length xs → slice_get xs i ≡ Some (slice_index_or xs i d)
@@ -161,14 +160,6 @@ pub last_of_one : (processes : List Process) (i : ℕ) (q : Process) (found : Op
     → found ≡ last_denial (slice_index_or processes i q).recording.steps → HasLastDenial processes i found
 last_of_one processes i q found h e = record { process = slice_index_or processes i q; at = get_at processes i q h; last = e }
 
-pub stores_nothing_of : (processes : List Process) (i : ℕ) (q : Process) (it : Fill) → i < length processes → StoresNothing processes i
-    → (slice_index_or processes i q).progress ≡ Filling it → ⊥
-stores_nothing_of processes i q it h nothing = nothing (slice_index_or processes i q) it (get_at processes i q h)
-
-pub reads_of : (processes : List Process) (i : ℕ) (q : Process) → i < length processes → ReadsOperand processes i
-    → (slice_index_or processes i q).progress ≡ Waiting → ⊥
-reads_of processes i q h reads = reads (slice_index_or processes i q) (get_at processes i q h)
-
 pub registers_of : (processes : List Process) (i : ℕ) (g : Registers) (q : Process) → i < length processes
     → g ≡ (slice_index_or processes i q).control.registers → HasRegisters processes i g
 registers_of processes i g q h e = record { process = slice_index_or processes i q; at = get_at processes i q h; registers = e }
@@ -211,15 +202,9 @@ pub met_of : (processes : List Process) (i : ℕ) (q : Process) (l : Line) (e : 
 met_of processes i q l e d h met =
     subst (λ (p : Process). IsMet p.control l (at.At p.progress) e d) (same_at processes i q met.process h met.at) met.met
 
-pub has_asked : (processes : List Process) (i : ℕ) (q : Process) (o : Operand) (asked : Asked) → i < length processes
-    → AsksFor (slice_index_or processes i q).control.registers o (slice_index_or processes i q).progress asked
-    → IsGoodAsked (slice_index_or processes i q).control.registers asked → HasAsked processes i o asked
-has_asked processes i q o asked h asks good = record {
-  process = slice_index_or processes i q;
-  at = get_at processes i q h;
-  asks = asks;
-  good = good;
-}
+pub has_asked : (processes : List Process) (i : ℕ) (q : Process) (l : Line) (asks : asking.Next) → i < length processes
+    → IsAsking (slice_index_or processes i q) l asks → HasAsked processes i l asks
+has_asked processes i q l asks h says = record { process = slice_index_or processes i q; at = get_at processes i q h; says = says }
 
 pub has_met : (processes : List Process) (i : ℕ) (q p : Process) (l : Line) (e : Element) (d : Descriptor) (stepped : Stepped)
     → i < length processes → IsSeen (slice_index_or processes i q) l e d p stepped

@@ -1,9 +1,7 @@
 -- Where a line stands after the reply that its link was snapped.
 use Rattle.std.proofs.Common.{◌≡◌, ℕ, Bool, false, List, [], ◌∷◌, ◌++◌, length, Option, Some, None, refl, sym, ◌∙◌, ap, subst, arith}
 use Rattle.std.specs.List.{slice_get}
-use Rattle.mx_hier.specs.declared.refusals.Refusal.{Refusal}
-use Rattle.mx_kst.specs.declared.segments.Known.{Known}
-use Rattle.mx_ptr.specs.Pointers.{PointerParts, pointer_word}
+use Rattle.mx_ptr.specs.Pointers.{pointer_word}
 use Rattle.mx_request.specs.Sections.{section_in}
 use Rattle.mx_request.specs.declared.replies.Reply.{Reply}
 use Rattle.mx_request.specs.declared.replies.Reply.TheVariants as reply
@@ -12,15 +10,16 @@ use Rattle.mx_request.specs.declared.requests.Request.TheVariants as ask
 use Rattle.mx_script.specs.declared.lines.Line.{Line}
 use Rattle.mx_script.specs.declared.lines.Line.TheVariants as line
 use Rattle.mx_state.specs.declared.journal.Entry as journaled
-use Rattle.mx_transcript.specs.Asking.{next, awaits, replied, linked, answered, first_due, result_of}
+use Rattle.mx_transcript.specs.Asking.{next, linked, answered, first_due}
 use Rattle.mx_transcript.specs.Courses.{Course, Answer, Judged}
-use Rattle.mx_transcript.specs.Filling.{fill, stored_into, section_words, snapped, links_of}
-use Rattle.mx_transcript.specs.Next.{Next, Reference, Ends, Nowhere}
+use Rattle.mx_transcript.specs.Filling.{fill, section_words, snapped, links_of}
+use Rattle.mx_transcript.specs.Next.{Reference, Ends}
 use Rattle.mx_transcript.specs.declared.transcripts.Result2.{Result2}
 use Rattle.mx_transcript.specs.declared.transcripts.Result2.TheVariants as result
 use Rattle.mx_upcall.proofs.ChangeLaws.{kept_all}
 use Rattle.mx_upcall.specs.Control.{Control}
-use Rattle.mx_line.specs.AtWork.{IsMemoryLine, IsUnlinked, StandsAt, begun, ended, filling_or}
+use Rattle.mx_line.specs.AtWork.{StandsAt, begun, ended, filling_or}
+use Rattle.mx_line.specs.Operands.{IsMemoryLine}
 use Rattle.mx_line.specs.Fills.{IsFilling, Follows, first_fill}
 use Rattle.mx_line.specs.declared.at_work.LineAtWork.{LineAtWork}
 use Rattle.mx_line.specs.declared.at_work.LineAtWork.TheVariants as at
@@ -28,7 +27,6 @@ use Rattle.mx_line.specs.declared.fills.Behind.{Behind}
 use Rattle.mx_line.specs.declared.fills.Behind.TheVariants as behinds
 use Rattle.mx_line.specs.declared.fills.Fill.TheVariants.{Words, Pointer}
 use Rattle.mx_line.specs.declared.fills.Snap.{Snap}
-use Rattle.mx_line.specs.declared.operands.Progress.TheVariants.{Waiting}
 
 -- no write is due where the reply tells of nothing
 nothing_due : (g : Control) (l : Line) (entry : journaled.Entry) → section_in entry.reply ≡ None
@@ -76,7 +74,7 @@ fills_stand g l entry None behinds.Nowhere after told follows left =
     subst (StandsAt g l (Answer entry [])) (sym left) (nothing_due g l entry told follows.0 ∙ follows.1)
 
 -- the reply to the call by which a line has a link snapped
-memory_answers : (g : Control) (l : Line) (request : Request) (given : Reply) → IsMemoryLine l
+pub memory_answers : (g : Control) (l : Line) (request : Request) (given : Reply) → IsMemoryLine l
     → answered g l request given ≡ linked g l given
 memory_answers g (line.Ask own) request given is = absurd is
 memory_answers g (line.Set word) request given is = absurd is

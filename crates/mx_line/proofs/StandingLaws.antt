@@ -1,5 +1,5 @@
 -- What a line asks for, by where it stands.
-use Rattle.std.proofs.Common.{◌≡◌, ℕ, List, [], ◌∷◌, ◌++◌, length, Option, Some, None, refl, sym, ◌∙◌, ap, append-nil}
+use Rattle.std.proofs.Common.{◌≡◌, ℕ, List, [], ◌++◌, length, Option, Some, None, refl, sym, ◌∙◌, ap, append-nil}
 use Rattle.std.specs.List.{slice_get}
 use Rattle.mx_effring.specs.Chains as chains
 use Rattle.mx_effring.specs.Walks.{wanted}
@@ -17,12 +17,13 @@ use Rattle.mx_transcript.specs.Asking.{next, attempts, answered, awaits, replied
 use Rattle.mx_transcript.specs.Attempts.{wants, attempt, attempting}
 use Rattle.mx_transcript.specs.Courses.{Course, Attempt, Answer, Judged}
 use Rattle.mx_transcript.specs.Filling.{links_of, section_words, snapped}
-use Rattle.mx_transcript.specs.Next.{Next, Reference, Asks, Fills, Calls, Ends, Nowhere}
+use Rattle.mx_transcript.specs.Next.{Next, Reference, Asks, Fills, Calls, Nowhere}
 use Rattle.mx_transcript.specs.Operands.{walk_of}
 use Rattle.mx_transcript.specs.Targets.{at_target, spri_at}
 use Rattle.mx_upcall.specs.Control.{Control}
 use Rattle.mx_line.proofs.FillLaws.{asks_fill}
-use Rattle.mx_line.specs.AtWork.{IsAnswered, IsCome, IsMemoryLine}
+use Rattle.mx_line.specs.AtWork.{IsAnswered, IsCome}
+use Rattle.mx_line.specs.Operands.{IsMemoryLine}
 use Rattle.mx_line.specs.Fills.{write_of}
 use Rattle.mx_line.specs.declared.fills.Fill.{Fill}
 use Rattle.mx_line.specs.declared.operands.Place.{Place}
@@ -197,3 +198,8 @@ pub filling_asks : (g : Control) (l : Line) (course : Course) (it : Fill) → Is
     → next g l course ≡ Fills (write_of it)
 filling_asks g l (Attempt seen) it come = absurd come.0
 filling_asks g l (Answer entry filled) it come = asks_fill g l entry filled it come
+
+-- where it walks it refers to memory
+pub walking_refers : (g : Control) (l : Line) (course : Course) (walk : chains.Operand) → IsCome g l course (Walking walk) → IsMemoryLine l
+walking_refers g l (Attempt seen) walk come = come.1
+walking_refers g l (Answer entry filled) walk come = absurd come

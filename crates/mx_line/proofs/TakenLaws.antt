@@ -1,5 +1,5 @@
 -- An event that answers leads to where the line stands after it.
-use Rattle.std.proofs.Common.{◌≡◌, inl, inr, ℕ, suc, ◌<◌, ◌≤◌, ◌-◌, ◌==◌, Bool, true, false, if◌then◌else◌, List, [], ◌∷◌, ◌++◌, length, Option, Some, None, Result, Ok, Err, refl, sym, ◌∙◌, ap, subst, arith}
+use Rattle.std.proofs.Common.{◌≡◌, inl, inr, ℕ, ◌<◌, ◌≤◌, ◌==◌, Bool, true, false, if◌then◌else◌, List, [], ◌∷◌, ◌++◌, length, Option, Some, None, Result, Ok, Err, refl, sym, ◌∙◌, ap, subst, arith}
 use Rattle.std.proofs.lemmas.Bool.{eqb-true}
 use Rattle.std.specs.List.{slice_get}
 use Rattle.mx_core.specs.declared.elements.Element.{Element}
@@ -15,7 +15,6 @@ use Rattle.mx_request.specs.declared.requests.Request.TheVariants.{Block, Link, 
 use Rattle.mx_script.specs.Sessions.{is_script_line}
 use Rattle.mx_script.specs.declared.lines.Line.{Line}
 use Rattle.mx_script.specs.declared.lines.Line.TheVariants as line
-use Rattle.mx_script.specs.declared.lines.Operand.{Operand}
 use Rattle.mx_sdw.proofs.JudgingLaws.{granted_is_allowed}
 use Rattle.mx_sdw.specs.Descriptors.{Descriptor}
 use Rattle.mx_sdw.specs.Judging.{judgement, ring_after}
@@ -26,26 +25,25 @@ use Rattle.mx_sdw.specs.declared.operations.Op.TheVariants as op
 use Rattle.mx_state.specs.declared.journal.Entry as journaled
 use Rattle.mx_transcript.proofs.WalkLaws.{walk_begun_law}
 use Rattle.mx_transcript.specs.Asking.{next, attempts}
-use Rattle.mx_transcript.specs.Attempts.{wants, attempt}
+use Rattle.mx_transcript.specs.Attempts.{wants}
 use Rattle.mx_transcript.specs.Courses.{Course, Attempt, Answer, Judged, seen_in}
 use Rattle.mx_transcript.specs.Elements.{IsJudged, Agrees, Gives}
-use Rattle.mx_transcript.specs.Events.{IsEvent, IsReference, IsFill, IsCall}
+use Rattle.mx_transcript.specs.Events.{IsEvent}
 use Rattle.mx_transcript.specs.Filling.{fill}
 use Rattle.mx_transcript.specs.Next.{Next, Reference, Asks, Fills, Calls, Ends, Nowhere, at_place, storing}
 use Rattle.mx_transcript.specs.Targets.{at_target, spri_at}
 use Rattle.mx_transcript.specs.Operands.{walk_of}
 use Rattle.mx_transcript.specs.Settings.{Setting, entry_at, judged}
 use Rattle.mx_transcript.specs.Standing.{IsWalked}
-use Rattle.mx_transcript.specs.declared.transcripts.Event2.{Event2}
 use Rattle.mx_transcript.specs.declared.transcripts.Event2.TheVariants.{Core, Entry}
 use Rattle.mx_transcript.specs.declared.transcripts.Result2.TheVariants as result
 use Rattle.mx_upcall.proofs.ChangeLaws.{kept_all}
 use Rattle.mx_upcall.specs.Control.{Control, calling, returning}
 use Rattle.mx_line.proofs.FillLaws.{Bounds, IsAfter, after_write}
 use Rattle.mx_line.proofs.StandingLaws.{walk_asks, no_walk_asks, wants_calls, memory_calls, begun_fills, refers, memory_attempts, before_asks, walking_asks, link_calls, link_refers, waiting_calls, waiting_blocks, filling_asks}
-use Rattle.mx_line.specs.AtWork.{IsMemoryLine, IsWalker, IsCome, StandsAt, IsTaken, IsWithin, IsOver, IsReader, IsWriter, IsMover, IsMet, HasSeen, IsUnlinked, OneCourseLaw, after_writing, beside, standing}
+use Rattle.mx_line.specs.AtWork.{IsCome, StandsAt, IsTaken, IsWithin, IsOver, IsReader, IsWriter, IsMover, IsMet, HasSeen, IsUnlinked, OneCourseLaw, after_writing, beside, standing}
 use Rattle.mx_line.specs.Fills.{IsFilling, after_fill, counted, write_of}
-use Rattle.mx_line.specs.Operands.{operand_of, IsOnward, IsSayable}
+use Rattle.mx_line.specs.Operands.{IsMemoryLine, IsOnward, IsSayable, IsWalker}
 use Rattle.mx_line.specs.declared.at_work.LineAtWork.{LineAtWork}
 use Rattle.mx_line.specs.declared.at_work.LineAtWork.TheVariants as at
 use Rattle.mx_line.specs.declared.fills.Fill.{Fill}
@@ -88,18 +86,6 @@ walker l (Walking walk) memory = memory
 walker l (AtLink place) memory = memory
 walker l Waiting memory = tt
 walker l (Filling it) memory = tt
-
--- as one with an operand does
-pub walks : (l : Line) (o : Operand) → operand_of l ≡ Some o → IsMemoryLine l
-walks (line.Ask request) o e = absurd cc
-walks (line.Set word) o e = absurd cc
-walks (line.Epp n operand) o e = tt
-walks (line.Lda operand) o e = tt
-walks (line.Sta operand) o e = tt
-walks (line.Spri n operand) o e = tt
-walks line.Fetch o e = tt
-walks (line.Call operand) o e = tt
-walks (line.Return operand) o e = tt
 
 -- an attempt that has seen this stands there
 seen_stands : (g : Control) (l : Line) (seen : List Judged) (after : LineAtWork) → IsMemoryLine l → HasSeen g l seen after

@@ -1,11 +1,10 @@
 -- Helpers: the line at work. Where a process stands within its line, by what the line has done; what the line asks for there;
 -- and what an event that answers makes of it.
-use Rattle.std.specs.Prelude.{◌≡◌, ◌≢◌, ℕ, ◌<◌, ◌==◌, if◌then◌else◌, List, [], ◌∷◌, ◌++◌, Option, Some, None, IsSome, IsOk}
+use Rattle.std.specs.Prelude.{◌≡◌, ℕ, ◌<◌, List, Option, Some, None, IsSome}
 use Rattle.mx_core.specs.declared.elements.Element.{Element}
 use Rattle.mx_sdw.specs.Descriptors.{Descriptor}
 use Rattle.mx_sdw.specs.declared.operations.Op.{Op}
 use Rattle.mx_sdw.specs.declared.operations.Op.TheVariants.{Write}
-use Rattle.mx_ptr.specs.Pointers.{PointerParts}
 use Rattle.mx_request.specs.declared.replies.Reply.TheVariants as reply
 use Rattle.mx_request.specs.declared.requests.Request.{Request}
 use Rattle.mx_request.specs.declared.requests.Request.TheVariants as ask
@@ -27,7 +26,7 @@ use Rattle.mx_upcall.specs.Control.{Control}
 use Rattle.mx_upcall.specs.Soundness.{IsPackableControl}
 use Rattle.mx_upcall.specs.declared.controls.Change.{Change}
 use Rattle.mx_line.specs.Fills.{IsFilling, IsAnew}
-use Rattle.mx_line.specs.Operands.{IsGoodProgress, HasWalked, steps_in}
+use Rattle.mx_line.specs.Operands.{IsGoodProgress, IsMemoryLine, IsPlaced, HasWalked, steps_in}
 use Rattle.mx_line.specs.declared.asking.Called.{Called}
 use Rattle.mx_line.specs.declared.asking.Called.TheVariants as called
 use Rattle.mx_line.specs.declared.asking.End.{End}
@@ -65,6 +64,16 @@ call_in l ring called.Own = own_call l ring
 call_in l ring called.Resume = Calls ring ask.Resume
 call_in l ring (called.Link segno word) = Calls ring (ask.Link segno word)
 
+-- what a line that is no request may ask for where no write is due: a reference, that its link be snapped, or its end
+abbrev pub IsPlain : Line → asking.Next → Type 0
+IsPlain l (asks.Asks r) = IsMemoryLine l
+IsPlain l (asks.Fills r) = ⊥
+IsPlain l (asks.Calls ring called.Own) = ⊥
+IsPlain l (asks.Calls ring called.Resume) = ⊥
+IsPlain l (asks.Calls ring (called.Link segno word)) = IsMemoryLine l
+IsPlain l (asks.Ends end) = Unit {0}
+IsPlain l asks.Nowhere = ⊥
+
 -- what is meant by what a line is said to ask for
 abbrev pub meant : Control → Line → asking.Next → Next
 meant g l (asks.Asks r) = Asks (reference_in r)
@@ -94,30 +103,14 @@ IsAnswered g l entry filled Before = IsAnew g l entry filled
 IsAnswered g l entry filled (Walking walk) = ⊥
 IsAnswered g l entry filled (AtLink place) = ⊥
 
--- a line that refers to memory
-abbrev pub IsMemoryLine : Line → Type 0
-IsMemoryLine (line.Ask request) = ⊥
-IsMemoryLine (line.Set word) = ⊥
-IsMemoryLine (line.Epp n o) = Unit {0}
-IsMemoryLine (line.Lda o) = Unit {0}
-IsMemoryLine (line.Sta o) = Unit {0}
-IsMemoryLine (line.Spri n o) = Unit {0}
-IsMemoryLine line.Fetch = Unit {0}
-IsMemoryLine (line.Call o) = Unit {0}
-IsMemoryLine (line.Return o) = Unit {0}
-
--- only such a line walks
-abbrev pub IsWalker : Line → Progress → Type 0
-IsWalker l Before = Unit {0}
-IsWalker l (Walking walk) = IsMemoryLine l
-IsWalker l (AtLink place) = IsMemoryLine l
-IsWalker l Waiting = Unit {0}
-IsWalker l (Filling fill) = Unit {0}
-
 -- A line has done this, and has come so far: its attempt has seen what its walk asked for, or it has made a call.
 abbrev pub IsCome : Control → Line → Course → Progress → Type 0
-IsCome g l (Attempt seen) progress = HasWalked g l seen progress × IsWalker l progress
+IsCome g l (Attempt seen) progress = IsPlaced g l seen progress
 IsCome g l (Answer entry filled) progress = IsAnswered g l entry filled progress
+
+-- no write is due
+abbrev pub IsFree : Progress → Type 0
+IsFree progress = (fill : Fill) → progress ≡ Filling fill → ⊥
 
 -- after all that it has done a line stands here: it has come so far, or it asks for its end, or for nothing
 abbrev pub StandsAt : Control → Line → Course → LineAtWork → Type 0
@@ -151,6 +144,13 @@ abbrev pub IsOver : LineAtWork → Type 0
 IsOver (at.At progress) = ⊥
 IsOver (at.Ended end) = Unit {0}
 IsOver at.Nowhere = Unit {0}
+
+abbrev pub IsGoodNext : Control → asking.Next → Type 0
+IsGoodNext g (asks.Ends end) = IsGoodEnd g end
+IsGoodNext g (asks.Asks r) = Unit {0}
+IsGoodNext g (asks.Fills r) = Unit {0}
+IsGoodNext g (asks.Calls ring called) = Unit {0}
+IsGoodNext g asks.Nowhere = Unit {0}
 
 -- it asks for something
 abbrev pub IsKnown : LineAtWork → Type 0

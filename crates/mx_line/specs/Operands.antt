@@ -1,56 +1,27 @@
 -- Helpers: how far the line at work has come, and what its operand asks for.
-use Rattle.std.specs.Prelude.{◌≡◌, ℕ, ◌-◌, ◌<◌, ◌≤◌, true, false, List, [], Option, Some, None, length, slice_get}
+use Rattle.std.specs.Prelude.{◌≡◌, ℕ, ◌-◌, ◌<◌, ◌≤◌, true, false, List, [], Some, length, slice_get}
 use Rattle.mx_call.specs.Registers.{Registers, ArePackable}
 use Rattle.mx_upcall.specs.Control.{Control, with_registers}
 use Rattle.mx_effring.specs.Chains as chains
 use Rattle.mx_effring.specs.Chains.{IsBounded}
-use Rattle.mx_effring.specs.Walks.{wanted}
-use Rattle.mx_effring.specs.declared.walks.Want.{Want}
-use Rattle.mx_effring.specs.declared.walks.Want.TheVariants as want
 use Rattle.mx_transcript.specs.Attempts.{attempt}
 use Rattle.mx_transcript.specs.Courses.{Judged}
 use Rattle.mx_transcript.specs.Next.{Calls, Ends}
-use Rattle.mx_transcript.specs.Operands.{operand_walk}
 use Rattle.mx_transcript.specs.Standing.{IsWalked}
 use Rattle.mx_ptr.specs.Pointers.{PointerParts, IsPackable, pointer_word}
 use Rattle.mx_request.specs.declared.requests.Request.TheVariants.{Link}
 use Rattle.mx_script.specs.declared.lines.Line.{Line}
 use Rattle.mx_script.specs.declared.lines.Line.TheVariants as line
-use Rattle.mx_script.specs.declared.lines.Operand.{Operand}
 use Rattle.mx_script.specs.Sessions.{is_script_line}
 use Rattle.mx_line.specs.Fills.{IsShort, steps_to_fill}
-use Rattle.mx_line.specs.declared.operands.Asked.{Asked}
-use Rattle.mx_line.specs.declared.operands.Asked.TheVariants.{Target, First}
 use Rattle.mx_line.specs.declared.operands.Onward.{Onward}
 use Rattle.mx_line.specs.declared.operands.Onward.TheVariants.{More, End}
-use Rattle.mx_line.specs.declared.operands.Place.{Place}
 use Rattle.mx_line.specs.declared.operands.Progress.{Progress}
 use Rattle.mx_line.specs.declared.operands.Progress.TheVariants.{Before, Walking, AtLink, Waiting, Filling}
-use Rattle.mx_line.specs.declared.operands.Way.TheVariants as way
 
 -- a line that a script may hold, in a session of some version
 abbrev pub IsSayable : Line → Type 0
 IsSayable line = (version : ℕ) × (is_script_line version line ≡ true)
-
--- the operand of a memory line
-abbrev pub operand_of : Line → Option Operand
-operand_of (line.Ask request) = None
-operand_of (line.Set word) = None
-operand_of (line.Epp n o) = Some o
-operand_of (line.Lda o) = Some o
-operand_of (line.Sta o) = Some o
-operand_of (line.Spri n o) = Some o
-operand_of line.Fetch = None
-operand_of (line.Call o) = Some o
-operand_of (line.Return o) = Some o
-
--- the walk that it is at
-abbrev pub walk_at : Registers → Operand → Progress → Option chains.Operand
-walk_at g o Before = operand_walk g o
-walk_at g o (Walking walk) = Some walk
-walk_at g o (AtLink place) = None
-walk_at g o Waiting = None
-walk_at g o (Filling fill) = None
 
 -- after all this was seen, the operand has come so far
 abbrev pub HasWalked : Control → Line → List Judged → Progress → Type 0
@@ -60,9 +31,29 @@ HasWalked g l seen (AtLink place) = attempt g l seen ≡ Calls place.ring (Link 
 HasWalked g l seen Waiting = ⊥
 HasWalked g l seen (Filling fill) = ⊥
 
--- and a line without an operand has seen nothing
+-- a line that refers to memory
+abbrev pub IsMemoryLine : Line → Type 0
+IsMemoryLine (line.Ask request) = ⊥
+IsMemoryLine (line.Set word) = ⊥
+IsMemoryLine (line.Epp n o) = Unit {0}
+IsMemoryLine (line.Lda o) = Unit {0}
+IsMemoryLine (line.Sta o) = Unit {0}
+IsMemoryLine (line.Spri n o) = Unit {0}
+IsMemoryLine line.Fetch = Unit {0}
+IsMemoryLine (line.Call o) = Unit {0}
+IsMemoryLine (line.Return o) = Unit {0}
+
+-- only such a line walks
+abbrev pub IsWalker : Line → Progress → Type 0
+IsWalker l Before = Unit {0}
+IsWalker l (Walking walk) = IsMemoryLine l
+IsWalker l (AtLink place) = IsMemoryLine l
+IsWalker l Waiting = Unit {0}
+IsWalker l (Filling fill) = Unit {0}
+
+-- and such a line alone walks
 abbrev pub IsPlaced : Control → Line → List Judged → Progress → Type 0
-IsPlaced g l seen progress = HasWalked g l seen progress × (operand_of l ≡ None → seen ≡ [])
+IsPlaced g l seen progress = HasWalked g l seen progress × IsWalker l progress
 
 -- a walk began in the current ring, at a pointer that has a word
 pub record HasBegun (g : Registers) (walk : chains.Operand) : Type 0 where
@@ -85,36 +76,6 @@ pub record IsTarget (g : Registers) (target : PointerParts) : Type 0 where
   pub packable : IsPackable target
   pub high : g.ring ≤ target.ring
   pub plain : target.further ≡ false
-
--- what a walk asks for
-abbrev pub place : ℕ → ℕ → ℕ → Place
-place segno word ring = record { segno = segno; word = word; ring = ring }
-
-abbrev pub asked_by : Want → Asked
-asked_by (want.Word segno word ring) = First (way.Word (place segno word ring))
-asked_by (want.Done target) = Target target
-
-abbrev pub asked_at : Option chains.Operand → Progress → Asked → Type 0
-asked_at (Some walk) progress asked = asked ≡ asked_by (wanted walk)
-asked_at None (AtLink place) asked = asked ≡ First (way.Link place)
-asked_at None Before asked = ⊥
-asked_at None (Walking walk) asked = ⊥
-asked_at None Waiting asked = ⊥
-asked_at None (Filling fill) asked = ⊥
-
--- what the operand asks for
-abbrev pub AsksFor : Registers → Operand → Progress → Asked → Type 0
-AsksFor g o progress asked = asked_at (walk_at g o progress) progress asked
-
-abbrev pub IsGoodAsked : Registers → Asked → Type 0
-IsGoodAsked g (Target target) = IsTarget g target
-IsGoodAsked g (First w) = Unit {0}
-
--- the operand asks for the indirect word at this place
-pub record IsLed (g : Registers) (o : Operand) (progress : Progress) (p : Place) : Type 0 where
-  pub walk : chains.Operand
-  pub at : walk_at g o progress ≡ Some walk
-  pub wants : wanted walk ≡ want.Word p.segno p.word p.ring
 
 -- after all this was seen the line goes on, or has ended
 abbrev pub IsOnward : Control → Line → List Judged → Onward → Type 0

@@ -1,5 +1,5 @@
 -- Helpers: the processes of a bench, and what is recorded of one as it goes on.
-use Rattle.std.specs.Prelude.{◌≡◌, ℕ, suc, ◌+◌, ◌-◌, ◌<◌, ◌^◌, Bool, IsTrue, IsFalse, List, [], ◌∷◌, ◌++◌, Option, Some, None, length, slice_get, slice_set}
+use Rattle.std.specs.Prelude.{◌≡◌, ℕ, suc, ◌+◌, ◌<◌, ◌^◌, Bool, IsTrue, IsFalse, List, [], ◌∷◌, ◌++◌, Option, Some, None, length, slice_get, slice_set}
 use Rattle.mx_call.specs.Registers.{Registers}
 use Rattle.mx_upcall.specs.Changes.{Fits, changed}
 use Rattle.mx_upcall.specs.Control.{Control}
@@ -18,18 +18,20 @@ use Rattle.mx_transcript.specs.declared.transcripts.Event2.TheVariants.{Core}
 use Rattle.mx_transcript.specs.declared.transcripts.Result2.{Result2}
 use Rattle.mx_script.specs.Sessions.{Outline}
 use Rattle.mx_script.specs.declared.lines.Line.{Line}
-use Rattle.mx_script.specs.declared.lines.Operand.{Operand}
 use Rattle.mx_sdw.specs.Descriptors.{Descriptor}
 use Rattle.mx_sdw.specs.declared.denials.Denial.{Denial}
-use Rattle.mx_line.specs.AtWork.{IsGoodWork, IsMet, IsNearer, IsTaken}
-use Rattle.mx_line.specs.Operands.{IsGoodProgress, AsksFor, IsGoodAsked}
+use Rattle.mx_line.specs.AtWork.{IsCome, IsFree, IsGoodNext, IsGoodWork, IsMet, IsNearer, IsPlain, IsStorable, IsTaken, meant}
+use Rattle.mx_line.specs.Fills.{IsNoRequest}
+use Rattle.mx_line.specs.Operands.{IsGoodProgress}
+use Rattle.mx_line.specs.declared.asking.Next as asking
+use Rattle.mx_transcript.specs.Asking.{next}
+use Rattle.mx_transcript.specs.Courses.{Course}
 use Rattle.mx_line.specs.Seats.{Seat}
 use Rattle.mx_line.specs.declared.at_work.LineAtWork.{LineAtWork}
 use Rattle.mx_line.specs.declared.at_work.LineAtWork.TheVariants as works
 use Rattle.mx_line.specs.declared.steps.Stepped.{Stepped}
 use Rattle.mx_line.specs.declared.steps.Stepped.TheVariants as went
 use Rattle.mx_line.specs.declared.fills.Fill.{Fill}
-use Rattle.mx_line.specs.declared.operands.Asked.{Asked}
 use Rattle.mx_line.specs.declared.operands.Progress.{Progress}
 use Rattle.mx_line.specs.declared.operands.Progress.TheVariants.{Before, Walking, AtLink, Waiting, Filling}
 use Rattle.mx_line.specs.declared.processes.Process.{Process}
@@ -101,10 +103,6 @@ pub record HasProgress (processes : List Process) (i : ℕ) (waits : Bool) : Typ
   pub yes : IsTrue waits → process.progress ≡ Waiting
   pub no : IsFalse waits → process.progress ≡ Waiting → ⊥
 
--- process i was not told to wait
-abbrev pub ReadsOperand : List Process → ℕ → Type 0
-ReadsOperand processes i = (process : Process) → slice_get processes i ≡ Some process → process.progress ≡ Waiting → ⊥
-
 -- what a process is to store next
 abbrev pub fill_of : Progress → Option Fill
 fill_of (Filling fill) = Some fill
@@ -117,11 +115,6 @@ pub record HasFill (processes : List Process) (i : ℕ) (found : Option Fill) : 
   pub process : Process
   pub at : slice_get processes i ≡ Some process
   pub fill : found ≡ fill_of process.progress
-
--- process i is to store nothing
-abbrev pub StoresNothing : List Process → ℕ → Type 0
-StoresNothing processes i = (process : Process) (fill : Fill) → slice_get processes i ≡ Some process
-    → process.progress ≡ Filling fill → ⊥
 
 -- what is read of process i
 pub record HasRegisters (processes : List Process) (i : ℕ) (g : Registers) : Type 0 where
@@ -193,11 +186,17 @@ pub record IsGoodAt (processes : List Process) (i : ℕ) : Type 0 where
   pub packable : IsPackableControl process.control
   pub progress : IsGoodProgress process.control.registers process.progress
 
-pub record HasAsked (processes : List Process) (i : ℕ) (o : Operand) (asked : Asked) : Type 0 where
+-- what its line asks for
+pub record IsAsking (p : Process) (l : Line) (asks : asking.Next) : Type 0 where
+  pub is : (course : Course) → IsCome p.control l course p.progress → next p.control l course ≡ meant p.control l asks
+  pub storable : IsStorable asks
+  pub good : IsGoodNext p.control asks
+  pub plain : (course : Course) → IsCome p.control l course p.progress → IsNoRequest l → IsFree p.progress → IsPlain l asks
+
+pub record HasAsked (processes : List Process) (i : ℕ) (l : Line) (asks : asking.Next) : Type 0 where
   pub process : Process
   pub at : slice_get processes i ≡ Some process
-  pub asks : AsksFor process.control.registers o process.progress asked
-  pub good : IsGoodAsked process.control.registers asked
+  pub says : IsAsking process l asks
 
 -- what an element makes of the line at work
 pub record Takes (g : Control) (l : Line) (progress : Progress) (e : Element) (d : Descriptor) (work : LineAtWork) : Type 0 where

@@ -1,6 +1,6 @@
 //! What a line asks for next.
 
-ghost use Rattle.std.specs.Prelude.{◌≡◌, [], false, IfSome};
+ghost use Rattle.std.specs.Prelude.{◌≡◌, [], false, IfSome, IsNone};
 ghost use Rattle.mx_call.specs.Registers.{ArePackable, way_back};
 ghost use Rattle.mx_effring.specs.Walks.{wanted};
 ghost use Rattle.mx_transcript.specs.Asking.{attempts};
@@ -10,8 +10,9 @@ ghost use Rattle.mx_transcript.specs.Next.{at_place, storing};
 ghost use Rattle.mx_transcript.specs.Operands.{walk_from, walk_of};
 ghost use Rattle.mx_transcript.specs.Targets.{at_target};
 ghost use Rattle.mx_upcall.specs.Soundness.{IsPackableControl};
-ghost use Rattle.mx_line.specs.AtWork.{IsStorable, IsStorableBy, meant, reference_in};
-ghost use Rattle.mx_line.specs.Operands.{IsGoodWalk, IsSayable, IsTarget};
+ghost use Rattle.mx_line.specs.AtWork.{IsGoodNext, IsPlain, IsStorable, IsStorableBy, meant, reference_in};
+ghost use Rattle.mx_line.specs.Fills.{IsNoRequest};
+ghost use Rattle.mx_line.specs.Operands.{IsGoodWalk, IsMemoryLine, IsSayable, IsTarget};
 
 use crate::operands::{loaded, register_word, start};
 use mx_call::Regs;
@@ -71,6 +72,8 @@ pub(crate) fn begins(line: &Line, control: &Control) -> Next
     requires packable { IsPackableControl control.now }
     ensures is { attempts control.now line.now [] ≡ meant control.now line.now result }
     ensures storable { IsStorable result }
+    ensures good { IsGoodNext control.now result }
+    ensures plain { IsNoRequest line.now → IsPlain line.now result }
 {
     match line {
         Line::Ask(_) => Next::Calls {
@@ -103,6 +106,8 @@ pub(crate) fn walk_of(line: &Line, registers: &Regs) -> Option<Walk>
     requires packable { ArePackable registers.now }
     ensures walk { result ≡ walk_of registers.now line.now }
     ensures good { IfSome result (IsGoodWalk registers.now) }
+    ensures some { IfSome result (λ walk. IsMemoryLine line.now) }
+    ensures none { IsNone result → IsMemoryLine line.now → ⊥ }
 {
     match line {
         Line::Ask(_) | Line::Set { .. } => None,
@@ -123,6 +128,8 @@ pub(crate) fn wants(line: &Line, control: &Control, walk: &Walk) -> Next
     requires good { IsGoodWalk control.now.registers walk.now }
     ensures is { wants control.now line.now (wanted walk.now) ≡ meant control.now line.now result }
     ensures storable { IsStorable result }
+    ensures good { IsGoodNext control.now result }
+    ensures plain { IsMemoryLine line.now → IsPlain line.now result }
 {
     match walk.want() {
         Want::Word { segno, word, ring } => Next::Asks(Reference {
@@ -143,6 +150,8 @@ fn at_target(line: &Line, control: &Control, target: &Pointer) -> Next
     requires target { IsTarget control.now.registers target.now }
     ensures is { at_target control.now line.now target.now ≡ meant control.now line.now result }
     ensures storable { IsStorable result }
+    ensures good { IsGoodNext control.now result }
+    ensures plain { IsMemoryLine line.now → IsPlain line.now result }
 {
     match line {
         Line::Epp { n, .. } => Next::Ends(End {

@@ -28,14 +28,14 @@ ghost use Rattle.mx_transcript.specs.declared.transcripts.Event2.TheVariants.{Co
 ghost use Rattle.mx_upcall.specs.Changes.{changed};
 ghost use Rattle.mx_upcall.specs.Control.{Control as Parts};
 ghost use Rattle.mx_upcall.specs.Soundness.{IsPackableControl};
-ghost use Rattle.mx_line.specs.AtWork.{HasSeen, IsCome, IsGoodWork, IsKnown, IsMemoryLine, IsMet, IsMover, IsNearer, IsOver, IsReader, IsSaid, IsStorable, IsTaken, IsUnlinked, IsWithin, IsWriter, OneCourseLaw, StandsAt, after_writing, begun, beside, end_of, ended, filling_or, meant, moved_on, standing};
-ghost use Rattle.mx_line.specs.Fills.{IsShort, after_fill, counted, first_fill, steps_to_fill};
+ghost use Rattle.mx_line.specs.AtWork.{HasSeen, IsCome, IsFree, IsGoodNext, IsGoodWork, IsKnown, IsMet, IsMover, IsNearer, IsOver, IsPlain, IsReader, IsSaid, IsStorable, IsTaken, IsUnlinked, IsWithin, IsWriter, OneCourseLaw, StandsAt, after_writing, begun, beside, end_of, ended, filling_or, meant, moved_on, standing};
+ghost use Rattle.mx_line.specs.Fills.{IsNoRequest, IsShort, after_fill, counted, first_fill, steps_to_fill};
 ghost use Rattle.mx_line.specs.Making.{looks};
-ghost use Rattle.mx_line.specs.Operands.{IsGoodProgress, IsGoodWalk, IsSayable, IsTarget};
+ghost use Rattle.mx_line.specs.Operands.{IsGoodProgress, IsGoodWalk, IsMemoryLine, IsSayable, IsTarget};
 ghost use Rattle.mx_line.specs.declared.at_work.LineAtWork.TheVariants.{At, Ended, Nowhere};
 ghost use Rattle.mx_line.specs.declared.operands.Progress.TheVariants.{Waiting};
 
-use crate::asking::{Called, End, Next, begins, storing, walk_of, wants};
+use crate::asking::{Called, End, Next, begins, walk_of, wants};
 use crate::fills::{Behind, Fill, Filled, Snap, first_fill};
 use crate::operands::{Onward, Place, Progress, feed};
 use mx_call::Regs;
@@ -140,14 +140,17 @@ pub fn one_course_law()
     ensures { OneCourseLaw }
 {}
 
-// What a line asks for that goes on from here.
-fn next_at(line: &Line, control: &Control, progress: &Progress) -> Next
+/// What a line asks for that goes on from here.
+pub(crate) fn next_at(line: &Line, control: &Control, progress: &Progress) -> Next
     requires line { IsSayable line.now }
     requires packable { IsPackableControl control.now }
     requires good { IsGoodProgress control.now.registers progress.now }
     ensures is { (course : Course) → IsCome control.now line.now course progress.now
         → next control.now line.now course ≡ meant control.now line.now result }
     ensures storable { IsStorable result }
+    ensures good { IsGoodNext control.now result }
+    ensures plain { (course : Course) → IsCome control.now line.now course progress.now → IsNoRequest line.now
+        → IsFree progress.now → IsPlain line.now result }
 {
     match progress {
         Progress::Before => begins(line, control),
@@ -163,10 +166,7 @@ fn next_at(line: &Line, control: &Control, progress: &Progress) -> Next
             ring: control.registers.ring,
             called: Called::Resume,
         },
-        Progress::Filling(fill) => {
-            let (target, value) = fill.write();
-            Next::Fills(storing(value, &target))
-        }
+        Progress::Filling(fill) => Next::Fills(fill.asked()),
     }
 }
 

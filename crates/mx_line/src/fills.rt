@@ -7,9 +7,11 @@ ghost use Rattle.mx_transcript.specs.Next.{storing};
 ghost use Rattle.mx_ptr.specs.Pointers.{IsPackable};
 ghost use Rattle.mx_request.specs.Sections.{section_in};
 ghost use Rattle.mx_state.specs.Told.{IsLinkedWithin};
+ghost use Rattle.mx_line.specs.AtWork.{IsStorableBy, reference_in};
 ghost use Rattle.mx_line.specs.Fills.{IsShort, after_fill, after_words, behind_of, counted, first_fill, snap_writes, write_of};
 ghost use Rattle.mx_line.specs.declared.fills.Fill.TheVariants.{Words};
 
+use crate::asking::{Reference, storing};
 use mx_ptr::{Pointer, link_word};
 use mx_request::{Reply, Request};
 use mx_sdw::{Ring, Word};
@@ -66,8 +68,18 @@ pub enum Filled {
 }
 
 impl Fill {
-    /// Where something is stored, in ring 0, and what.
-    pub fn write(&self) -> (Pointer, Word)
+    /// The write, in ring 0.
+    pub fn asked(&self) -> Reference
+        requires { IsShort self.now }
+        ensures is { reference_in result ≡ write_of self.now }
+        ensures storable { IsStorableBy result.op result.stores }
+    {
+        let (target, value) = self.write();
+        storing(value, &target)
+    }
+
+    // Where something is stored, and what.
+    fn write(&self) -> (Pointer, Word)
         requires { IsShort self.now }
         ensures { storing result.1 result.0 ≡ write_of self.now }
     {

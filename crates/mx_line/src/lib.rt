@@ -23,7 +23,7 @@ pub use fills::{
     Behind, Fill, Filled, LinkWords, Snap, behind_of, first_fill, section_in, snap_of,
 };
 pub use memory::{Contents, Memory};
-pub use operands::{Asked, Place, Progress, Way, here, loaded, register_word};
+pub use operands::{Place, Progress};
 pub use processes::{Process, Processes};
-pub use references::{Made, look, refer, store};
+pub use references::refer;
 pub use steps::Stepped;

@@ -1,8 +1,8 @@
-//! How far the line at work has come; what its operand asks for, and what an indirect word makes of it.
+//! How far the line at work has come, and what an indirect word makes of its walk.
 
 ghost use Rattle.std.specs.Prelude.{◌≡◌, ◌≤◌, ◌-◌, ℕ, true, List, [], ◌∷◌, ◌++◌, Some, length};
 ghost use Rattle.mx_call.specs.Loading.{loaded};
-ghost use Rattle.mx_call.specs.Registers.{ArePackable, going_on};
+ghost use Rattle.mx_call.specs.Registers.{ArePackable};
 ghost use Rattle.mx_core.specs.declared.elements.Outcome.TheVariants.{Read as WasRead};
 ghost use Rattle.mx_effring.specs.Walks.{wanted};
 ghost use Rattle.mx_effring.specs.declared.walks.Want.TheVariants.{Word as WantsWord};
@@ -12,10 +12,8 @@ ghost use Rattle.mx_transcript.specs.Standing.{IsWalked};
 ghost use Rattle.mx_transcript.specs.declared.transcripts.Result2.TheVariants as results;
 ghost use Rattle.mx_ptr.specs.Pointers.{IsPackable};
 ghost use Rattle.mx_script.specs.Sessions.{is_address};
-ghost use Rattle.mx_line.specs.Operands.{HasBegun, IsGoodWalk, IsGoodProgress, IsTarget, asked_by, AsksFor, IsGoodAsked, IsOnward, IsGoodOnward, IsCloser, IsRegisterWord, IsSayable};
-ghost use Rattle.mx_line.specs.declared.fills.Fill.{Fill as PlainFill};
+ghost use Rattle.mx_line.specs.Operands.{HasBegun, IsGoodWalk, IsTarget, IsOnward, IsGoodOnward, IsCloser, IsRegisterWord, IsSayable};
 ghost use Rattle.mx_line.specs.declared.operands.Onward.TheVariants.{End};
-ghost use Rattle.mx_line.specs.declared.operands.Progress.TheVariants.{Waiting, Filling};
 
 use crate::fills::Fill;
 use mx_call::Regs;
@@ -49,27 +47,9 @@ pub enum Progress {
     Filling(Fill),
 }
 
-/// What an operand asks for.
-#[derive(Clone, Copy)]
-pub enum Asked {
-    /// Nothing more: it leads to this effective pointer.
-    Target(Pointer),
-    /// First what stands on its way.
-    First(Way),
-}
-
-/// What stands on the way of an operand.
-#[derive(Clone, Copy)]
-pub enum Way {
-    /// An indirect word, to be read.
-    Word(Place),
-    /// A link, to be snapped.
-    Link(Place),
-}
-
 /// What an indirect word comes to: the line goes on from here, or has ended.
 #[derive(Drop)]
-pub enum Onward {
+pub(crate) enum Onward {
     More(Progress),
     End { ends: Result2, after: Regs },
 }
@@ -112,35 +92,6 @@ fn beyond(word: u16, pointer: &Pointer) -> Pointer
     Pointer {
         word: word as u16,
         ..*pointer
-    }
-}
-
-/// What the operand asks for, where it has come so far.
-pub(crate) fn asks(registers: &Regs, operand: &Operand, progress: &Progress) -> Asked
-    requires address { is_address operand.now ≡ true }
-    requires packable { ArePackable registers.now }
-    requires good { IsGoodProgress registers.now progress.now }
-    requires reads { progress.now ≡ Waiting → ⊥ }
-    requires unfilled { (fill : PlainFill) → progress.now ≡ Filling fill → ⊥ }
-    ensures asks { AsksFor registers.now operand.now progress.now result }
-    ensures good { IsGoodAsked registers.now result }
-{
-    match progress {
-        Progress::Before => asked_by(registers, &start(registers, operand)),
-        Progress::Walking(walk) => asked_by(registers, walk),
-        Progress::AtLink(place) => Asked::First(Way::Link(*place)),
-        Progress::Waiting | Progress::Filling(_) => unreachable!(),
-    }
-}
-
-fn asked_by(registers: &Regs, walk: &Walk) -> Asked
-    requires { IsGoodWalk registers.now walk.now }
-    ensures asked { result ≡ asked_by (wanted walk.now) }
-    ensures good { IsGoodAsked registers.now result }
-{
-    match walk.want() {
-        Want::Word { segno, word, ring } => Asked::First(Way::Word(Place { segno, word, ring })),
-        Want::Done(target) => Asked::Target(target),
     }
 }
 
@@ -205,20 +156,8 @@ fn led(line: &Line, control: &Control, walk: Walk) -> Onward
     }
 }
 
-/// The place where the process runs, in its current ring.
-pub fn here(registers: &Regs) -> Pointer
-    ensures { result ≡ going_on registers.now.procedure registers.now.ring }
-{
-    Pointer {
-        ring: registers.ring,
-        segno: registers.procedure.segno,
-        word: registers.procedure.word,
-        further: false,
-    }
-}
-
 /// The registers after pointer register `n` was loaded with an effective pointer.
-pub fn loaded(registers: &Regs, n: u8, target: &Pointer) -> Regs
+pub(crate) fn loaded(registers: &Regs, n: u8, target: &Pointer) -> Regs
     requires number { n ≤ 7 }
     requires packable { ArePackable registers.now }
     requires target { IsTarget registers.now target.now }
@@ -231,7 +170,7 @@ pub fn loaded(registers: &Regs, n: u8, target: &Pointer) -> Regs
 }
 
 /// The word of pointer register `n`, without further indirection.
-pub fn register_word(registers: &Regs, n: u8) -> Word
+pub(crate) fn register_word(registers: &Regs, n: u8) -> Word
     requires number { n ≤ 7 }
     requires packable { ArePackable registers.now }
     ensures { IsRegisterWord registers.now n result }

@@ -4,21 +4,21 @@ ghost use Rattle.std.specs.Prelude.{◌≡◌, ◌<◌, ◌+◌, ◌^◌, true, 
 ghost use Rattle.mx_upcall.specs.Changes.{Fits, keeping, changed};
 ghost use Rattle.mx_upcall.specs.Soundness.{IsPackableControl};
 ghost use Rattle.mx_sdw.specs.Admissible.{IsAdmissible};
-ghost use Rattle.mx_script.specs.Sessions.{IsSession, is_address};
+ghost use Rattle.mx_script.specs.Sessions.{IsSession};
 ghost use Rattle.mx_line.specs.AtWork.{IsMet};
-ghost use Rattle.mx_line.specs.Operands.{AsksFor, IsGoodAsked, IsGoodProgress, IsSayable};
-ghost use Rattle.mx_line.specs.Processes.{AreFresh, IsStill, HasRoom, IsCountable, IsGoodAt, HasGateRoom, HasEnded, HasGoneOn, HasMet, IsSeen, IsMetAt, HasProgress, ReadsOperand, StoresNothing, HasRegisters, HasControl, HasLines, HasNumber, HasLastDenial, HasAsked, HasFill, fill_of, events_in};
+ghost use Rattle.mx_line.specs.Operands.{IsGoodProgress, IsSayable};
+ghost use Rattle.mx_line.specs.Processes.{AreFresh, IsStill, HasRoom, IsCountable, IsGoodAt, HasGateRoom, HasEnded, HasGoneOn, HasMet, IsSeen, IsMetAt, HasProgress, HasRegisters, HasControl, HasLines, HasNumber, HasLastDenial, HasAsked, IsAsking, HasFill, fill_of, events_in};
 ghost use Rattle.mx_line.specs.declared.at_work.LineAtWork.TheVariants.{At};
-ghost use Rattle.mx_line.specs.declared.operands.Progress.TheVariants.{Before, Filling, Waiting};
-ghost use Rattle.mx_line.specs.declared.fills.Fill.{Fill as PlainFill};
+ghost use Rattle.mx_line.specs.declared.operands.Progress.TheVariants.{Before, Waiting};
 
-use crate::at_work::LineAtWork;
+use crate::asking::Next;
+use crate::at_work::{LineAtWork, next_at};
 use crate::fills::Fill;
-use crate::operands::{Asked, Progress, asks};
+use crate::operands::Progress;
 use crate::steps::Stepped;
 use mx_call::Regs;
 use mx_request::most_gates;
-use mx_script::{Line, Operand, Session};
+use mx_script::{Line, Session};
 use mx_sdw::{Denial, Desc};
 use mx_transcript::{Element, Event, Event2, Recording, Result2, Transcript, first_line};
 use mx_upcall::{Change, Control};
@@ -164,16 +164,14 @@ impl Processes {
         is_waiting(&self.items, i)
     }
 
-    /// What the operand of the line at work of a process asks for.
-    pub fn asks(&self, i: usize, operand: &Operand) -> Asked
+    /// What the line at work of a process asks for.
+    pub fn asks(&self, i: usize, line: &Line) -> Next
         requires within { i < length self.now }
         requires good { IsGoodAt self.now i }
-        requires reads { ReadsOperand self.now i }
-        requires unfilled { StoresNothing self.now i }
-        requires address { is_address operand.now ≡ true }
-        ensures { HasAsked self.now i operand.now result }
+        requires line { IsSayable line.now }
+        ensures { HasAsked self.now i line.now result }
     {
-        asks_at(&self.items, i, operand)
+        asks_at(&self.items, i, line)
     }
 
     /// The reference for which the line at work of a process asks was made, on this descriptor: the line has this element,
@@ -291,15 +289,13 @@ fn fill_of(progress: &Progress) -> Option<Fill>
     }
 }
 
-fn asks_at(processes: &[Process], i: usize, operand: &Operand) -> Asked
+fn asks_at(processes: &[Process], i: usize, line: &Line) -> Next
     requires within { i < length processes.now }
     requires good { IsGoodAt processes.now i }
-    requires reads { ReadsOperand processes.now i }
-    requires unfilled { StoresNothing processes.now i }
-    requires address { is_address operand.now ≡ true }
-    ensures { HasAsked processes.now i operand.now result }
+    requires line { IsSayable line.now }
+    ensures { HasAsked processes.now i line.now result }
 {
-    processes[i].asks(operand)
+    processes[i].asks(line)
 }
 
 fn seen_by(
@@ -369,17 +365,14 @@ impl Process {
         self.control.registers
     }
 
-    // What its operand asks for.
-    fn asks(&self, operand: &Operand) -> Asked
+    // What its line asks for.
+    fn asks(&self, line: &Line) -> Next
         requires packable { IsPackableControl self.now.control }
         requires progress { IsGoodProgress self.now.control.registers self.now.progress }
-        requires reads { self.now.progress ≡ Waiting → ⊥ }
-        requires unfilled { (fill : PlainFill) → self.now.progress ≡ Filling fill → ⊥ }
-        requires address { is_address operand.now ≡ true }
-        ensures asks { AsksFor self.now.control.registers operand.now self.now.progress result }
-        ensures good { IsGoodAsked self.now.control.registers result }
+        requires line { IsSayable line.now }
+        ensures { IsAsking self.now line.now result }
     {
-        asks(&self.control.registers, operand, &self.progress)
+        next_at(line, &self.control, &self.progress)
     }
 
     // The number of its next line.
