@@ -1,8 +1,12 @@
 -- Where all passes came back, the run is closed.
 use Rattle.std.proofs.Common.{◌≡◌, ℕ, zero, suc, ◌+◌, ◌<◌, ◌≤◌, Bool, List, [], ◌∷◌, ◌++◌, map, take, length, refl, ap, sym, ◌∙◌, subst, Some, arith}
+use Rattle.std.specs.Prelude.{IsTrue}
 use Rattle.std.specs.List.{slice_get}
 use Rattle.std.specs.Option.{option_map}
 use Rattle.std.proofs.lemmas.Option.{slice_get-map, slice_get_within}
+use Rattle.mx_core.proofs.Access.{true_false}
+use Rattle.mx_core.proofs.Uses.{same_use}
+use Rattle.mx_core.specs.Pages.{covers, use_at}
 use Rattle.mx_core.specs.Deeds.{deed_of, front}
 use Rattle.mx_core.specs.RightWords.{IsWord}
 use Rattle.mx_core.specs.Traces.{IsGoodTrace}
@@ -23,11 +27,13 @@ use Rattle.mx_state.specs.declared.journal.Entry as journaled
 use Rattle.mx_ties.specs.Closed.{IsClosed, IsRetired, entry_in, maker, followed, traces}
 use Rattle.mx_ties.specs.Counting.{AreProcesses, total}
 use Rattle.mx_ties.specs.Fronts.{front_after}
+use Rattle.mx_ties.specs.Uses.{renamed}
 use Rattle.mx_ties.specs.Views.{Marked, View, deed_kept}
 use Rattle.mx_ties.proofs.JournalLists.{by_cases, followed_length}
 use Rattle.mx_transcript.specs.Legal.{Call, call_of, setup_call, setup_entries}
-use Rattle.mx_closing.proofs.Deeds.{deeds_same}
-use Rattle.mx_closing.proofs.Histories.{marked_append, marked_length, none_given, front_is}
+use Rattle.mx_closing.proofs.Deeds.{deeds_same, in_use, uses_apart}
+use Rattle.mx_closing.proofs.Histories.{marked_append, marked_length, front_is}
+use Rattle.mx_closing.proofs.Renaming.{reads_from}
 use Rattle.mx_closing.proofs.PassLists.{IsFound, found, has_pass, no_pass, all_amounts, referred, missed}
 use Rattle.mx_closing.specs.Closing.{AreBack, ClosingLaw}
 use Rattle.mx_closing.specs.Keeping.{KeepsJournal}
@@ -192,13 +198,27 @@ module _ (x : Outline) (setup : List journaled.Entry) (v : SuperView journaled.E
             );
       }
 
-  -- what each did, as the seats have it and as the views show it
+  -- the use of each page from the first reference to it on
+  abbrev since_of : ℕ → ℕ
+  since_of page = use_at v.start given page v.length
+
+  used : (p : ℕ) → 1 ≤ p → p ≤ length x.principals → (floor : ℕ) → floor ≤ v.length → (q n page : ℕ) → v.start ≤ q
+      → q ≤ floor → IsTrue (covers ((office_of v).table q p n) page) → use_at v.start given page q ≡ since_of page
+  used p some most floor within q n page low high covered =
+      same_use v.start given page q v.length (omega (arith, within, high)) (λ before begun after under h.
+      true_false (subst IsTrue
+      (keeps.one_use q (suc before) p n page low (omega (arith, after)) (omega (arith, under)) some most covered)
+      h))
+
+  -- what each did, as the views show it and as the seats have it
   abbrev IsSameTrace : ℕ → Type 0
-  IsSameTrace p = map (deed_of v.start given) (ending.trace p) ≡ traces (views_in passes) p
+  IsSameTrace p =
+      map (renamed (in_use since_of)) (traces (views_in passes) p) ≡ map (deed_of v.start given) (ending.trace p)
 
   idle_same : (p : ℕ) → ending.trace p ≡ [] → views_in passes p ≡ idle_view → IsSameTrace p
   idle_same p idle is =
-      ap (map (deed_of v.start given)) idle ∙ ap (λ (w : View). map deed_kept w.trace) (sym is)
+      ap (λ (w : View). map (renamed (in_use since_of)) (map deed_kept w.trace)) is
+      ∙ ap (map (deed_of v.start given)) (sym idle)
 
   trace_same : (p : ℕ) → IsSameTrace p
   trace_same = by_cases (length x.principals) IsSameTrace
@@ -206,23 +226,30 @@ module _ (x : Outline) (setup : List journaled.Entry) (v : SuperView journaled.E
       (λ p some most.
       let is = passed p some most in
       let u : PassView journaled.Entry = is.pass.view in
-      ap (λ (o : ℕ). map (deed_of v.start given) (ending.trace o)) (sym is.own)
-      ∙ ap (map (deed_of v.start given)) (ending.shown is.there.place u is.there.at)
-      ∙ sym (deeds_same v.start u.floor given (none_given v.start v.history keeps.entries)
-      (λ q n. (office_of v).table q p n) u.trace (good p u is.there is.own).elements)
-      ∙ ap (λ (w : View). map deed_kept w.trace) (sym is.seen))
+      let within = floor_within u is.there in
+      let all = journal_length in
+      ap (λ (w : View). map (renamed (in_use since_of)) (map deed_kept w.trace)) is.seen
+      ∙ deeds_same v.start u.floor given since_of (λ q n. (office_of v).table q p n)
+      (used p some most u.floor (omega (arith, within, all))) u.trace (good p u is.there is.own).elements
+      ∙ ap (map (deed_of v.start given)) (sym (ending.shown is.there.place u is.there.at))
+      ∙ ap (λ (o : ℕ). map (deed_of v.start given) (ending.trace o)) is.own)
       (λ p beyond.
       let same = keeps.processes in
       let all = came.all.count in
-      idle_same p (ending.more p (omega (arith, beyond, same))) (no_pass passes p (omega (arith, beyond, same, all))))
+      idle_same p (ending.more p (omega (arith, beyond, same)))
+      (no_pass passes p (omega (arith, beyond, same, all))))
 
   front_same : (u q : ℕ) → front v.start (entries_of v.history) u q ≡ front_after (length setup) history u q
   front_same u q =
-      front_is v.start v.history keeps.entries u q ∙ ap (λ (n : ℕ). front_after n history u q) keeps.begun
+      front_is v.start v.history keeps.makers u q ∙ ap (λ (n : ℕ). front_after n history u q) keeps.begun
+
+  abbrev deeds_done : Deeds
+  deeds_done p = map (deed_of v.start given) (ending.trace p)
 
   reads : AreRightReads (traces (views_in passes)) (known_by (front_after (length setup) history))
-  reads = subst (λ (both : Deeds × Fronts). AreRightReads both.0 (known_by both.1))
-      (λ i. (λ p. trace_same p i, λ u q. front_same u q i)) ending.reads
+  reads = reads_from (in_use since_of) (uses_apart since_of) (traces (views_in passes)) deeds_done
+      (front_after (length setup) history) trace_same
+      (subst (λ (known : Fronts). AreRightReads deeds_done (known_by known)) (λ i u q. front_same u q i) ending.reads)
 
   closed : IsClosed x setup history (views_in passes)
   closed = record {

@@ -1,9 +1,11 @@
 -- What a good trace did is what the law of a finished run takes it to have done.
-use Rattle.std.proofs.Common.{◌≡◌, ℕ, suc, Bool, true, false, List, [], ◌∷◌, map, refl, ap, sym, ◌∙◌, Option, Some, None}
+use Rattle.std.proofs.Common.{◌≡◌, ℕ, suc, ◌+◌, ◌*◌, ◌<◌, ◌≤◌, Bool, true, false, List, [], ◌∷◌, map, refl, ap, ◌∙◌, subst, Option, Some, None, arith}
+use Rattle.std.specs.Prelude.{◌/◌, nat_le, nat_lt, IsTrue}
+use Rattle.std.proofs.lemmas.Bool.{and_from, le-leb, lt-ltb}
 use Rattle.std.specs.List.{slice_get}
 use Rattle.mx_core.specs.Deeds.{deed_by, deed_of}
 use Rattle.mx_core.specs.Judging.{kind_of, loads, Agrees, IsGranted}
-use Rattle.mx_core.specs.Pages.{page_of, cell_at}
+use Rattle.mx_core.specs.Pages.{page_of, cell_at, covers, use_at, cell_use}
 use Rattle.mx_core.specs.Traces.{IsRightElement}
 use Rattle.mx_core.specs.declared.elements.Element.{Element}
 use Rattle.mx_core.specs.declared.elements.Kept.{Kept as Recorded}
@@ -12,16 +14,17 @@ use Rattle.mx_core.specs.declared.elements.Kind.{Kind}
 use Rattle.mx_core.specs.declared.elements.Outcome.{Outcome}
 use Rattle.mx_core.specs.declared.elements.Outcome.TheVariants as outcome
 use Rattle.mx_core.specs.declared.words.Asked.{Asked}
-use Rattle.mx_reads.specs.Deeds.{CellUse, Deed, Refers, Misses}
+use Rattle.mx_reads.specs.Deeds.{CellUse, Deed, Stores, Loads, Refers, Misses}
 use Rattle.mx_sdw.specs.Descriptors.{Descriptor}
-use Rattle.mx_sdw.specs.Judging.{judgement}
+use Rattle.mx_sdw.proofs.JudgingLaws.{granted_is_allowed}
+use Rattle.mx_sdw.specs.Judging.{judgement, cell_of}
 use Rattle.mx_sdw.specs.Operations.{writes}
 use Rattle.mx_sdw.specs.declared.denials.Denial.{Denial}
 use Rattle.mx_sdw.specs.declared.operations.Op.{Op}
 use Rattle.mx_sdw.specs.declared.operations.Op.TheVariants as op
+use Rattle.mx_ties.specs.Uses.{renamed}
 use Rattle.mx_ties.specs.Views.{deed_kept}
 use Rattle.mx_transcript.specs.References.{use_of, granted_cell, cell_by, reference}
-use Rattle.mx_closing.proofs.Histories.{one_use}
 use Rattle.mx_closing.specs.Views.{kept_in}
 
 granted : (d : Descriptor) (a : Asked) → IsGranted d a
@@ -70,23 +73,66 @@ come d o ring word point (outcome.Written value) a =
 come d o ring word point (outcome.Entered to) a = entered (cell_by d (kind_of o) ring word) to point
 come d o ring word point (outcome.Denied denial) a = denied (cell_by d (kind_of o) ring word) denial point
 
-module _ (start floor : ℕ) (given : ℕ → ℕ → Bool) (none : (q page : ℕ) → given q page ≡ false)
-    (h : ℕ → ℕ → Descriptor) where
+-- what is granted lies in a page that the descriptor covers
+covers_word : (d : Descriptor) (word : ℕ) → word < d.bound → IsTrue (covers d (page_of (cell_at d word)))
+covers_word d word under = and_from (nat_le d.page page) (nat_lt (64 * page) (64 * d.page + d.bound))
+    (le-leb d.page page (omega arith)) (lt-ltb (64 * page) (64 * d.page + d.bound) (omega arith))
+  where
+    page : ℕ
+    page = (64 * d.page + word) / 64
+
+lies_there : (d : Descriptor) (o : Op) (ring word : ℕ) → IsGranted d (record { op = o; ring = ring; word = word })
+    → IsTrue (covers d (page_of (cell_at d word)))
+lies_there d o ring word granted = covers_word d word (granted_is_allowed d o ring word (cell_of d word) granted).bound
+
+-- where each page has one use, a cell in that use
+abbrev pub in_use : (ℕ → ℕ) → CellUse → CellUse
+in_use since_of c = record { cell = c.cell; since = c.since + since_of (page_of c.cell) }
+
+pub uses_apart : (since_of : ℕ → ℕ) (a b : CellUse) → in_use since_of a ≡ in_use since_of b → a ≡ b
+uses_apart since_of a b e =
+    let cell : a.cell ≡ b.cell = ap (λ (c : CellUse). c.cell) e in
+    let since = ap (λ (c : CellUse). c.since) e in
+    let page = ap (λ (c : ℕ). since_of (page_of c)) cell in
+    let same : a.since ≡ b.since = omega (arith, since, page) in
+    λ i. record { cell = cell i; since = same i }
+
+module _ (start floor : ℕ) (given : ℕ → ℕ → Bool) (since_of : ℕ → ℕ) (h : ℕ → ℕ → Descriptor)
+    (one : (q n page : ℕ) → start ≤ q → q ≤ floor → IsTrue (covers (h q n) page)
+    → use_at start given page q ≡ since_of page) where
+  moved : (d : Descriptor) (o : Op) (ring word point : ℕ) (outcome : Outcome)
+      → Agrees d (record { op = o; ring = ring; word = word }) outcome
+      → (IsTrue (covers d (page_of (cell_at d word)))
+      → use_at start given (page_of (cell_at d word)) point ≡ since_of (page_of (cell_at d word)))
+      → renamed (in_use since_of) (deed_by (use_of (cell_at d word)) point outcome)
+      ≡ deed_by (cell_use start given (cell_at d word) point) point outcome
+  moved d o ring word point (outcome.Read value writer stamp) a same =
+      let e = same (lies_there d o ring word a.0) in
+      ap (λ (since : ℕ). Loads (record { cell = cell_at d word; since = since }) value writer stamp point)
+      (omega (arith, e))
+  moved d o ring word point (outcome.Written value) a same =
+      let e = same (lies_there d o ring word a.0) in
+      ap (λ (since : ℕ). Stores (record { cell = cell_at d word; since = since }) value point) (omega (arith, e))
+  moved d o ring word point (outcome.Entered to) a same = refl
+  moved d o ring word point (outcome.Denied denial) a same = refl
+
   deed_same : (e : Element) (o : Op) (d : Descriptor) → IsRightElement start floor h e o d
-      → deed_kept (kept_in (Judged e o d)) ≡ deed_of start given (Judged e o d)
+      → renamed (in_use since_of) (deed_kept (kept_in (Judged e o d))) ≡ deed_of start given (Judged e o d)
   deed_same e o d right =
-      ap (λ (k : Kind). reference (cell_by d k e.ring e.word) e.outcome e.point) right.kind
-      ∙ come d o e.ring e.word e.point e.outcome right.right
-      ∙ ap (λ (since : ℕ). deed_by (record { cell = cell_at d e.word; since = since }) e.point e.outcome)
-      (sym (one_use start given none (page_of (cell_at d e.word)) e.point))
+      ap (λ (k : Kind). renamed (in_use since_of) (reference (cell_by d k e.ring e.word) e.outcome e.point)) right.kind
+      ∙ ap (renamed (in_use since_of)) (come d o e.ring e.word e.point e.outcome right.right)
+      ∙ moved d o e.ring e.word e.point e.outcome right.right
+      (λ covered. one e.point e.segno (page_of (cell_at d e.word)) right.low right.high
+      (subst (λ (c : Descriptor). IsTrue (covers c (page_of (cell_at d e.word)))) right.stands covered))
 
   pub deeds_same : (trace : List Recorded)
       → ((i : ℕ) (e : Element) (o : Op) (d : Descriptor) → slice_get trace i ≡ Some (Judged e o d)
       → IsRightElement start floor h e o d)
-      → map deed_kept (map kept_in trace) ≡ map (deed_of start given) trace
+      → map (renamed (in_use since_of)) (map deed_kept (map kept_in trace)) ≡ map (deed_of start given) trace
   deeds_same [] right = refl
   deeds_same (Judged e o d ∷ trace) right =
-      ap (λ (first : Deed). first ∷ map deed_kept (map kept_in trace)) (deed_same e o d (right 0 e o d refl))
+      ap (λ (first : Deed). first ∷ map (renamed (in_use since_of)) (map deed_kept (map kept_in trace)))
+      (deed_same e o d (right 0 e o d refl))
       ∙ ap (λ (rest : List Deed). deed_of start given (Judged e o d) ∷ rest)
       (deeds_same trace (λ i f p c at. right (suc i) f p c at))
   deeds_same (Missed segno by ∷ trace) right =

@@ -1,22 +1,18 @@
 -- Laws of histories: as marked entries, the fronts that their marks give, and uses where no page is given out.
 use Rattle.std.proofs.Common.{◌≡◌, ◌≢◌, inl, inr, ℕ, zero, suc, ◌+◌, ◌<◌, ◌≤◌, Bool, true, false, List, [], ◌∷◌, ◌++◌, length, refl, ap, sym, ◌∙◌, subst, arith, rules, append_assoc, length-append}
-use Rattle.std.specs.Prelude.{◌==◌, ◌&&◌, nat_le, max, IsTrue}
+use Rattle.std.specs.Prelude.{◌==◌, ◌&&◌, nat_le, max}
 use Rattle.std.proofs.lemmas.Bool.{cases_eq, cases_lt}
 use Rattle.std.proofs.lemmas.List.{append-nil}
-use Rattle.mx_core.proofs.Access.{true_false}
 use Rattle.mx_core.proofs.Puts.{put_here, put_else}
-use Rattle.mx_core.proofs.Uses.{same_use}
 use Rattle.mx_core.specs.Deeds.{front}
-use Rattle.mx_core.specs.Pages.{gives, use_at}
 use Rattle.mx_core.specs.Put.{pick, put}
 use Rattle.mx_core.specs.World.{Entry}
-use Rattle.mx_core.specs.declared.changes.Run.{Run}
-use Rattle.mx_rule.specs.Shown.{entries_of, given_of}
+use Rattle.mx_rule.specs.Shown.{entries_of}
 use Rattle.mx_rule.specs.declared.views.EntryView.{EntryView}
 use Rattle.mx_state.specs.declared.journal.Entry as journaled
 use Rattle.mx_ties.specs.Fronts.{front_after, mark_when}
 use Rattle.mx_ties.specs.Views.{Marked}
-use Rattle.mx_closing.specs.Keeping.{AreInPlace}
+use Rattle.mx_closing.specs.Keeping.{AreMakers}
 use Rattle.mx_closing.specs.Views.{marked_in}
 
 pub marked_append : (later front : List (EntryView journaled.Entry))
@@ -33,37 +29,18 @@ marked_length (e ∷ history) =
     length-append (marked_in history) (record { entry = e.entry; mark = e.mark } ∷ [])
     ∙ (let n = marked_length history in omega (arith, n))
 
--- no page was given out
-pub none_given : (start : ℕ) (history : List (EntryView journaled.Entry)) → AreInPlace start history
-    → (q page : ℕ) → given_of history q page ≡ false
-none_given start [] are q page = refl
-none_given start (e ∷ history) are q page = elim (cases_eq q (e.before + 1)) [
-  | inl is ↦
-      ap (λ (k : ℕ). given_of (e ∷ history) k page) is
-      ∙ ap (λ (g : ℕ → Bool). g page) (put_here (given_of history) (e.before + 1) (gives e.given))
-      ∙ ap (λ (runs : List Run). gives runs page) are.0.given
-  | inr not ↦
-      ap (λ (g : ℕ → Bool). g page) (put_else (given_of history) (e.before + 1) (gives e.given) q not)
-      ∙ none_given start history are.1 q page
-]
-
-pub one_use : (start : ℕ) (given : ℕ → ℕ → Bool) → ((q page : ℕ) → given q page ≡ false) → (page q : ℕ)
-    → use_at start given page q ≡ 0
-one_use start given none page q = sym (same_use start given page 0 q (omega arith)
-    (λ before a b c h. true_false (subst IsTrue (none (suc before) page) h)))
-
 -- the entries past a history have no process and no mark
 abbrev blank : Entry
 blank = record { process = 0; mark = 0 }
 
-past : (start : ℕ) (history : List (EntryView journaled.Entry)) → AreInPlace start history → (q : ℕ)
+past : (start : ℕ) (history : List (EntryView journaled.Entry)) → AreMakers start history → (q : ℕ)
     → start + length history < q → entries_of history q ≡ blank
 past start [] are q beyond = refl
 past start (e ∷ history) are q beyond =
-    let place = are.0.place in
+    let place = are.1 in
     put_else (entries_of history) (e.before + 1) (record { process = e.process; mark = e.mark }) q
     (λ is. absurd (omega (arith, place, is, beyond)))
-    ∙ past start history are.1 q (omega (arith, beyond))
+    ∙ past start history are.2 q (omega (arith, beyond))
 
 -- whether the entry of this number counts at a point
 off : (own : Bool) (n q mark : ℕ) → q < n → mark_when own (nat_le n q) mark ≡ 0
@@ -166,7 +143,7 @@ after_more number (first ∷ history) m u q =
     omega (arith, more, e)
 
 -- what is known by the marks of the supervisor's seat, and by those of the journal
-pub front_is : (start : ℕ) (history : List (EntryView journaled.Entry)) → AreInPlace start history → (u q : ℕ)
+pub front_is : (start : ℕ) (history : List (EntryView journaled.Entry)) → AreMakers start history → (u q : ℕ)
     → front start (entries_of history) u q ≡ front_after start (marked_in history) u q
 front_is start [] are u q = nothing q
   where
@@ -178,12 +155,12 @@ front_is start (e ∷ history) are u q =
     let n : ℕ = start + length history in
     let a : Entry = record { process = e.process; mark = e.mark } in
     let m : Marked = record { entry = e.entry; mark = e.mark } in
-    let place = are.0.place in
+    let place = are.1 in
     ap (λ (k : ℕ). front start (put (entries_of history) k a) u q) (next e.before n place)
-    ∙ front_put start n (entries_of history) a (omega arith) (past start history are.1 (suc n) (omega arith)) u q
-    ∙ ap (λ (k : ℕ). max k (mark_when (e.process == u) (nat_le (suc n) q) e.mark)) (front_is start history are.1 u q)
+    ∙ front_put start n (entries_of history) a (omega arith) (past start history are.2 (suc n) (omega arith)) u q
+    ∙ ap (λ (k : ℕ). max k (mark_when (e.process == u) (nat_le (suc n) q) e.mark)) (front_is start history are.2 u q)
     ∙ ap (λ (p : ℕ). max (front_after start (marked_in history) u q)
-    (mark_when (p == u) (nat_le (suc n) q) e.mark)) are.0.process
+    (mark_when (p == u) (nat_le (suc n) q) e.mark)) are.0
     ∙ ap (λ (k : ℕ). max (front_after start (marked_in history) u q)
     (mark_when (e.entry.process == u) (nat_le (suc (start + k)) q) e.mark)) (sym (marked_length history))
     ∙ sym (after_more start (marked_in history) m u q)

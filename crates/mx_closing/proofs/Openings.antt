@@ -1,5 +1,5 @@
 -- The seat of the opening keeps the journal of the setup.
-use Rattle.std.proofs.Common.{◌≡◌, inl, inr, ℕ, ◌+◌, ◌<◌, ◌≤◌, List, length, ap, sym, ◌∙◌, subst, arith}
+use Rattle.std.proofs.Common.{◌≡◌, inl, inr, ℕ, ◌+◌, ◌<◌, ◌≤◌, List, length, refl, ap, sym, ◌∙◌, subst, arith}
 use Rattle.std.proofs.lemmas.Bool.{cases_lt}
 use Rattle.std.proofs.lemmas.List.{append-nil, take_all}
 use Rattle.mx_core.specs.declared.changes.Change.{Change}
@@ -60,11 +60,12 @@ opening_keeps x setup processes numbers start next base history many same begun 
   counted = omega arith;
   answered = omega arith;
   processes = same;
-  entries = tt;
+  makers = tt;
   tables = λ q p n low high some most.
       table p n some most
       ∙ ap (λ (point : ℕ). descriptor_at x setup point p n) (omega (arith, begun, low, high))
       ∙ ap (λ (journal : List journaled.Entry). descriptor_at x journal q p n) (sym (append-nil setup));
+  one_use = λ q later p n page low after high some most covered. refl;
 }
 
 -- with the list of its known descriptors the table is the plain supervisor's now

@@ -55,8 +55,9 @@ finished x setup v v' items passes same is all counted end keeps =
       counted = keeps.counted;
       answered = keeps.answered;
       processes = keeps.processes;
-      entries = keeps.entries;
+      makers = keeps.makers;
       tables = keeps.tables;
+      one_use = keeps.one_use;
     })
     (record {
       all = all;

@@ -1,5 +1,6 @@
 -- What the supervisor's seat keeps of a session: its journal after the setup, and the plain supervisor's tables.
-use Rattle.std.specs.Prelude.{◌≡◌, ℕ, ◌+◌, ◌≤◌, List, [], ◌∷◌, length}
+use Rattle.std.specs.Prelude.{◌≡◌, ℕ, ◌+◌, ◌<◌, ◌≤◌, false, IsTrue, List, [], ◌∷◌, length}
+use Rattle.mx_core.specs.Pages.{covers}
 use Rattle.mx_rule.specs.Shown.{office_of}
 use Rattle.mx_rule.specs.declared.views.EntryView.{EntryView}
 use Rattle.mx_rule.specs.declared.views.SuperView.{SuperView}
@@ -11,16 +12,11 @@ use Rattle.mx_transcript.specs.Access.{descriptor_at}
 use Rattle.mx_transcript.specs.Legal.{setup_entries}
 use Rattle.mx_closing.specs.Views.{marked_in}
 
--- the entry came after so many, is of the process that the journal says, and gave out no page: each cell has one use
-pub record IsInPlace (many : ℕ) (e : EntryView journaled.Entry) : Type 0 where
-  pub place : e.before ≡ many
-  pub process : e.process ≡ e.entry.process
-  pub given : e.given ≡ []
-
--- each entry of a history, the last one first, that begins after so many
-abbrev pub AreInPlace : ℕ → List (EntryView journaled.Entry) → Type 0
-AreInPlace start [] = Unit {0}
-AreInPlace start (e ∷ history) = IsInPlace (start + length history) e × AreInPlace start history
+-- each entry of a history, the last one first, is of the process that the journal says, and in its place after so many
+abbrev pub AreMakers : ℕ → List (EntryView journaled.Entry) → Type 0
+AreMakers start [] = Unit {0}
+AreMakers start (e ∷ history) =
+    (e.process ≡ e.entry.process) × (e.before ≡ start + length history) × AreMakers start history
 
 -- The setup and then the seat's history are a history of the plain supervisor for this session. The seat has the
 -- session's processes, and from the setup on its tables are the plain supervisor's at each point.
@@ -31,6 +27,10 @@ pub record KeepsJournal (x : Outline) (setup : List journaled.Entry) (v : SuperV
   pub counted : v.start + length v.history ≡ v.length
   pub answered : v.answered ≤ v.length
   pub processes : v.processes ≡ length x.principals
-  pub entries : AreInPlace v.start v.history
+  pub makers : AreMakers v.start v.history
   pub tables : (q p n : ℕ) → v.start ≤ q → q ≤ v.length → 1 ≤ p → p ≤ length x.principals
       → (office_of v).table q p n ≡ descriptor_at x (followed setup (marked_in v.history)) q p n
+  -- no later entry gives out a page in which a descriptor lies, so each cell that is referred to has one use
+  pub one_use : (q later p n page : ℕ) → v.start ≤ q → q < later → later ≤ v.length → 1 ≤ p
+      → p ≤ length x.principals → IsTrue (covers ((office_of v).table q p n) page)
+      → (office_of v).given later page ≡ false
