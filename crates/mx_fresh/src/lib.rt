@@ -25,9 +25,12 @@ mod mail;
 mod making;
 mod pages;
 mod processes;
+mod serving;
+mod supervisor;
 mod walks;
 
 pub use branches::{Branch, Directory, Form, Segment};
 pub use hierarchy::FreshHierarchy;
 pub use known::FreshKnown;
 pub use processes::FreshProcess;
+pub use supervisor::Fresh;
