@@ -2,3 +2,4 @@ pub mod NumberLaws
 pub mod FindLaws
 pub mod PageLaws
 pub mod FoldLaws
+pub mod RoomLaws

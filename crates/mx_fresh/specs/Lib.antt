@@ -1,3 +1,5 @@
 pub mod Forms
 pub mod Stops
 pub mod Numbered
+pub mod Sent
+pub mod Connections

@@ -1,0 +1,95 @@
+//! The plain supervisor from plain lists.
+
+ghost use Rattle.std.specs.Prelude.{◌≡◌, ◌≤◌, length, IfOk};
+ghost use Rattle.mx_state.specs.History.{opening};
+ghost use Rattle.mx_state.specs.Table.{stack_desc, standing_desc, descriptor};
+
+use crate::hierarchy::FreshHierarchy;
+use crate::mail::{Mailbox, all_running};
+use crate::processes::{FreshProcess, fresh_processes, process_at};
+use mx_kst::Lot;
+use mx_request::Entrant;
+use mx_sdw::{Brackets, Desc, Ring};
+use std::alloc::{AllocError, Global};
+use std::marker::Model;
+
+/// The state of the plain supervisor as lists: the version of the session, the hierarchy, the processes, and of each
+/// whether it runs, waits or has ended, with the messages that wait for it.
+#[derive(Drop)]
+pub struct Fresh {
+    pub(crate) version: u8,
+    pub(crate) hierarchy: FreshHierarchy,
+    pub(crate) processes: Vec<FreshProcess>,
+    pub(crate) mail: Vec<Mailbox>,
+}
+
+impl Model for Fresh {
+    ghost use Rattle.mx_state.specs.Plain.{Plain};
+
+    ghost Value = { Plain };
+
+    ghost view = { λ a. record {
+      version = a.version;
+      hierarchy = a.hierarchy;
+      processes = a.processes.items;
+      mail = a.mail.items;
+    } };
+}
+
+impl Fresh {
+    /// The state before any entry, for 1 to 15 processes with their principals and authorizations, in a session of this
+    /// version.
+    pub fn new(alloc: Global, entrants: &[Entrant], version: u8) -> Result<Fresh, AllocError>
+        requires most { length entrants.now ≤ 15 }
+        ensures { IfOk result (λ fresh. fresh ≡ opening version entrants.now) }
+    {
+        // Each process has eight stacks, of one page each.
+        let hierarchy = FreshHierarchy::new(alloc, 8 * entrants.len() as u32)?;
+        let processes = fresh_processes(alloc, entrants, version)?;
+        let mail = all_running(alloc, entrants.len())?;
+        Ok(Fresh {
+            version,
+            hierarchy,
+            processes,
+            mail,
+        })
+    }
+
+    /// The descriptor that process `p` has of a segment number: unknown where there is no such process, or the number
+    /// stands for nothing; gone where its segment was deleted. Takes no memory.
+    pub fn descriptor(&self, p: u8, segno: u16) -> Desc
+        ensures { result ≡ descriptor self.now p segno }
+    {
+        match process_at(self.processes.as_slice(), p) {
+            Some(process) => standing_desc(&self.hierarchy, p, process, process.known.stands_for(segno)),
+            None => Desc::unknown(),
+        }
+    }
+}
+
+fn standing_desc(hierarchy: &FreshHierarchy, p: u8, process: &FreshProcess, lot: Lot) -> Desc
+    ensures { result ≡ standing_desc hierarchy.now p process.now lot }
+{
+    match lot {
+        Lot::Free => Desc::unknown(),
+        Lot::Stack(ring) => stack_desc(p, ring),
+        Lot::Branch { uid } => hierarchy.desc_of(uid, &process.principal, process.authorization),
+        Lot::Linkage {
+            of: _,
+            page,
+            brackets,
+            words,
+        } => Desc::segment(brackets, true, false, true, 0, page, words),
+    }
+}
+
+/// The descriptor of the stack of a ring of process `p`: one page, to read and write in that ring.
+fn stack_desc(p: u8, ring: Ring) -> Desc
+    ensures { result ≡ stack_desc p ring }
+{
+    let Some(brackets) = Brackets::new(ring, ring, ring) else {
+        unreachable!()
+    };
+    let page = 8 * u16::from(p.saturating_sub(1)) + u16::from(ring.number());
+    Desc::segment(brackets, true, false, true, 0, page, 64)
+}
