@@ -1,11 +1,12 @@
-//! The line at work of a process: what its operand asks for, the references that it makes, and what is recorded of it.
+//! The line at work: one machine that says what a line asks for next, and what an event that answers makes of it.
 //!
-//! A [`Process`] has its registers, its place in its script, what was recorded of its lines, and how far the line at work has
-//! come. The contracts tie each piece of that to the rule of a line: what an operand asks for and what an indirect word makes
-//! of it ([`Progress`], [`Asked`]), a reference that is judged on a descriptor and made on the cells of
-//! a [`Memory`] ([`look`], [`refer`], [`store`]), and the writes that a reply asks for ([`Fill`]). Nothing here knows who
-//! makes the entries, or in which order processes step. Stands on `mx_script` (sessions), `mx_call` (registers), `mx_effring`
-//! (the walk of an operand), `mx_transcript` (the rule of a line, transcripts) and `mx_ties` (what is known of cells).
+//! The value of a [`LineAtWork`] is where a process stands within its line; it takes no memory. Its contracts tie it to the
+//! rule of a line by one relation (`StandsAt`): what it asks for is the definition `next`, and an event that answers leads to
+//! the course that the definition says. Over it a [`Process`] has its registers, what was recorded of its lines, and how far
+//! the line at work has come ([`Progress`]); [`refer`] makes a reference, judged on a descriptor, on the cells of a
+//! [`Memory`]. Nothing here knows who makes the entries, or in which order processes step. Stands on `mx_script` (sessions),
+//! `mx_upcall` (registers and return gates), `mx_effring` (the walk of an operand), `mx_transcript` (the rule of a line,
+//! transcripts) and `mx_ties` (what is known of cells).
 #![tactic(auto)]
 
 mod asking;
