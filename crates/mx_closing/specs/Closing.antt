@@ -14,16 +14,16 @@ use Rattle.mx_closing.specs.Views.{marked_in, views_in}
 -- the passes are those of so many processes, from process 1 on in order
 pub record AreOfAll (processes : ℕ) (passes : List (PassValue journaled.Entry)) : Type 0 where
   pub count : length passes ≡ processes
-  pub owners : (place : ℕ) (o : PassValue journaled.Entry) → slice_get passes place ≡ Some o
-      → o.view.process ≡ suc place
+  pub owners : (place : ℕ) (pass : PassValue journaled.Entry) → slice_get passes place ≡ Some pass
+      → pass.view.process ≡ suc place
 
 -- the passes of all processes came back, each as it stands here, and their shares of the ledger count as many entries
 -- together as there are
 pub record AreBack (v : SuperView journaled.Entry) (passes : List (PassValue journaled.Entry)) : Type 0 where
   pub all : AreOfAll v.processes passes
-  pub back : (place : ℕ) (o : PassValue journaled.Entry) → slice_get passes place ≡ Some o
-      → Contains v.retired o.view
-  pub amounts : sum_by (λ o. o.amount) passes ≡ length v.history
+  pub back : (place : ℕ) (pass : PassValue journaled.Entry) → slice_get passes place ≡ Some pass
+      → Contains v.retired pass.view
+  pub amounts : sum_by (λ pass. pass.amount) passes ≡ length v.history
 
 abbrev pub ClosingLaw : Type 0
 ClosingLaw = (x : Outline) (setup : List journaled.Entry) (v : SuperView journaled.Entry)
@@ -34,4 +34,4 @@ ClosingLaw = (x : Outline) (setup : List journaled.Entry) (v : SuperView journal
 -- Helper: the views of passes that come back one after another, before them those of earlier ones, the last one first.
 abbrev pub returned : {E : Type 0} → List (PassValue E) → List (PassView E) → List (PassView E)
 returned [] views = views
-returned (o ∷ passes) views = returned passes (o.view ∷ views)
+returned (pass ∷ passes) views = returned passes (pass.view ∷ views)

@@ -15,8 +15,8 @@ use Rattle.mx_closing.specs.Views.{marked_in}
 -- each entry of a history, the last one first, is of the process that the journal says, and in its place after so many
 abbrev pub AreMakers : ℕ → List (EntryView journaled.Entry) → Type 0
 AreMakers start [] = Unit {0}
-AreMakers start (e ∷ history) =
-    (e.process ≡ e.entry.process) × (e.before ≡ start + length history) × AreMakers start history
+AreMakers start (entry ∷ history) =
+    (entry.process ≡ entry.entry.process) × (entry.before ≡ start + length history) × AreMakers start history
 
 -- The setup and then the seat's history are a history of the plain supervisor for this session. The seat has the
 -- session's processes, and from the setup on its tables are the plain supervisor's at each point.

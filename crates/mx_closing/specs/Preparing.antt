@@ -11,13 +11,13 @@ use Rattle.mx_closing.specs.declared.preparing.Prepared.{Prepared}
 
 -- The setup was entered and nothing else, and this is the initializer's part. The supervisor's seat is of these words,
 -- which open after the setup with the descriptors that are listed, and keeps the journal, whichever seats it deals.
-pub record IsPrepared (x : Outline) (o : Prepared) : Type 0 where
-  pub opened : IsOpened x o.supervisor o.part
-  pub slots : o.words.shared.table_id.slots ≡ 0
-  pub layout : o.words.shared.key.layout ≡ layout_of x
-  pub place : o.seat.seat.table_id ≡ o.words.shared.table_id
-  pub laid : o.seat.layout ≡ layout_of x
-  pub opening : IsOpening (length o.supervisor.journal) (super_of o.seat.seat.me.0)
-  pub listed : o.base ≡ (super_of o.seat.seat.me.0).base
-  pub placed : ArePlaced (layout_of x) o.base
-  pub keeps : (next : ℕ) → KeepsJournal x o.supervisor.journal (record (super_of o.seat.seat.me.0) { next = next })
+pub record IsPrepared (x : Outline) (prepared : Prepared) : Type 0 where
+  pub opened : IsOpened x prepared.supervisor prepared.part
+  pub slots : prepared.words.shared.table_id.slots ≡ 0
+  pub layout : prepared.words.shared.key.layout ≡ layout_of x
+  pub place : prepared.seat.seat.table_id ≡ prepared.words.shared.table_id
+  pub laid : prepared.seat.layout ≡ layout_of x
+  pub opening : IsOpening (length prepared.supervisor.journal) (super_of prepared.seat.seat.me.0)
+  pub listed : prepared.base ≡ (super_of prepared.seat.seat.me.0).base
+  pub placed : ArePlaced (layout_of x) prepared.base
+  pub keeps : (next : ℕ) → KeepsJournal x prepared.supervisor.journal (record (super_of prepared.seat.seat.me.0) { next = next })

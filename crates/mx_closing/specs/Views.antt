@@ -15,14 +15,14 @@ kept_in (recorded.Missed segno by) = Missed segno by
 -- The entries of a history with their marks. Seats keep the last one first; here they come in the journal's order.
 abbrev pub marked_in : List (EntryView journaled.Entry) → List Marked
 marked_in [] = []
-marked_in (e ∷ history) = marked_in history ++ record { entry = e.entry; mark = e.mark } ∷ []
+marked_in (entry ∷ history) = marked_in history ++ record { entry = entry.entry; mark = entry.mark } ∷ []
 
 abbrev pub view_in : PassValue journaled.Entry → View
-view_in o = record {
-  trace = map kept_in o.view.trace;
-  history = marked_in o.view.history;
-  floor = o.view.floor;
-  amount = o.amount;
+view_in pass = record {
+  trace = map kept_in pass.view.trace;
+  history = marked_in pass.view.history;
+  floor = pass.view.floor;
+  amount = pass.amount;
 }
 
 -- of one who has no pass
@@ -31,7 +31,7 @@ idle_view = record { trace = []; history = []; floor = 0; amount = 0 }
 
 abbrev pub view_or_idle : Option (PassValue journaled.Entry) → View
 view_or_idle None = idle_view
-view_or_idle (Some o) = view_in o
+view_or_idle (Some pass) = view_in pass
 
 -- of each process, where the passes are those of the processes from 1 on
 abbrev pub views_in : List (PassValue journaled.Entry) → ℕ → View
