@@ -3,3 +3,4 @@ pub mod FindLaws
 pub mod PageLaws
 pub mod FoldLaws
 pub mod RoomLaws
+pub mod AnswerLaws

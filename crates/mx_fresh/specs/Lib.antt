@@ -3,3 +3,4 @@ pub mod Stops
 pub mod Numbered
 pub mod Sent
 pub mod Connections
+pub mod Meant

@@ -25,6 +25,7 @@ mod mail;
 mod making;
 mod pages;
 mod processes;
+mod replies;
 mod serving;
 mod supervisor;
 mod walks;

@@ -1,9 +1,10 @@
 //! The processes: what each has of its own, and who asks.
 
-ghost use Rattle.std.specs.Prelude.{◌≡◌, map, IfOk};
+ghost use Rattle.std.specs.Prelude.{◌≡◌, ◌≤◌, ◌<◌, [], Some, length, slice_get, map, IfOk};
 ghost use Rattle.std.specs.Option.{option_map};
 ghost use Rattle.mx_hier.specs.Who.{caller as caller_of};
-ghost use Rattle.mx_state.specs.Askers.{initializer, caller};
+ghost use Rattle.mx_state.specs.Askers.{initializer, initializer as the_initializer, asker, caller};
+ghost use Rattle.mx_state.specs.Calling.{IsCallerOf};
 ghost use Rattle.mx_state.specs.History.{fresh};
 ghost use Rattle.mx_state.specs.Plain.{process_at};
 
@@ -101,4 +102,37 @@ pub(crate) fn own_caller(process: &FreshProcess, ring: Ring) -> Who<'_>
         ring,
         base: &process.working_directory,
     }
+}
+
+/// Who asks: the initializer in the root as process 0, or process `p` in its working directory.
+pub(crate) fn caller<'a>(
+    initializer: &'a Principal,
+    root: &'a Path,
+    processes: &'a [FreshProcess],
+    p: u8,
+    ring: Ring,
+) -> Who<'a>
+    requires initializer { initializer.now ≡ the_initializer }
+    requires root { root.now ≡ [] }
+    requires asker { p ≤ length processes.now }
+    ensures { IsCallerOf (asker processes.now p) ring (caller_of result) }
+{
+    if p == 0 {
+        Who {
+            principal: initializer,
+            authorization: Class::lowest(),
+            ring,
+            base: root,
+        }
+    } else {
+        own_caller(process_in(processes, usize::from(p) - 1), ring)
+    }
+}
+
+/// The process in this place.
+pub(crate) fn process_in(processes: &[FreshProcess], place: usize) -> &FreshProcess
+    requires { place < length processes.now }
+    ensures { slice_get processes.now place ≡ Some result.now }
+{
+    &processes[place]
 }

@@ -1,14 +1,21 @@
 //! The plain supervisor from plain lists.
 
-ghost use Rattle.std.specs.Prelude.{◌≡◌, ◌≤◌, length, IfOk};
+ghost use Rattle.std.specs.Prelude.{◌≡◌, ◌≤◌, length, IfOk, OnErr};
+ghost use Rattle.mx_state.specs.Askers.{on_path};
 ghost use Rattle.mx_state.specs.History.{opening};
+ghost use Rattle.mx_state.specs.Plain.{answer};
+ghost use Rattle.mx_state.specs.Requests.{changed};
 ghost use Rattle.mx_state.specs.Table.{stack_desc, standing_desc, descriptor};
+ghost use Rattle.mx_fresh.specs.Meant.{meant_by};
 
 use crate::hierarchy::FreshHierarchy;
 use crate::mail::{Mailbox, all_running};
-use crate::processes::{FreshProcess, fresh_processes, process_at};
+use crate::processes::{FreshProcess, caller, fresh_processes, make_initializer, process_at};
+use crate::replies::done;
+use crate::serving::change;
 use mx_kst::Lot;
-use mx_request::Entrant;
+use mx_name::Path;
+use mx_request::{Entrant, Reply, Request};
 use mx_sdw::{Brackets, Desc, Ring};
 use std::alloc::{AllocError, Global};
 use std::marker::Model;
@@ -53,6 +60,27 @@ impl Fresh {
             processes,
             mail,
         })
+    }
+
+    /// Answers a request that changes the hierarchy, of the initializer as process 0 or of process `p`, exactly as the
+    /// plain supervisor does. A refusal changes nothing, and nor does want of memory, the only error.
+    pub fn change(
+        &mut self,
+        alloc: Global,
+        p: u8,
+        ring: Ring,
+        request: &Request,
+    ) -> Result<Reply, AllocError>
+        requires asker { p ≤ length self.old.processes }
+        ensures answer { IfOk result (λ reply. on_path self.old p ring (λ who.
+            changed self.old (meant_by self.old.hierarchy who request.now)) ≡ answer reply self.new) }
+        ensures err { OnErr result (self.new ≡ self.old) }
+    {
+        let initializer = make_initializer();
+        let root = Path::root(alloc);
+        let who = caller(&initializer, &root, self.processes.as_slice(), p, ring);
+        let given = change(&mut self.hierarchy, alloc, &who, request);
+        done(given)
     }
 
     /// The descriptor that process `p` has of a segment number: unknown where there is no such process, or the number
