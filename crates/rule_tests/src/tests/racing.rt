@@ -14,29 +14,29 @@ ghost use Rattle.rule_tests.specs.Reusing.{AreGiven};
 
 use super::pages::opening;
 use super::passing::{opened_passes, take_last};
-use super::reusing::{Boxes, Plan, plan_of, reuse, take};
+use super::reusing::{Boxes, Plan, plan_of, reuse};
 use super::ring;
 use super::watching::Watch;
 use super::working::{Worker, begin};
 use mx_core::{Changes, Kept, Outcome};
-use mx_desc::{Naming, Note, Referred, Super, close, seats};
+use mx_desc::{Naming, Referred, Super, close, seats};
 use mx_rule::{Board, SuperSeat, Words, open};
 use mx_sdw::{Denial, Op, Ring, Word};
 use std::alloc::{AllocError, Global};
 use std::marker::Brand;
+use std::sync::Wait;
 use std::sync::ledger::Blank;
-use std::sync::{Mutex, Wait};
 use std::test::Fail;
-use std::thread::{Threads, join_mut};
+use std::thread::{Threads, join};
 
 // How often the segment is taken from all and given to all again: six changes each time.
 const TIMES: u32 = 1667;
 
-// How often a process refers while three changes are made.
-const RACES: u32 = 30;
+// How often a process refers while three changes are made, at most.
+const RACES: u32 = 60;
 
 // How many events there are of a process: these, one before and one after the three changes, and one at the end.
-const ROOM: usize = 106_689;
+const ROOM: usize = 206_709;
 
 // A process at work: which it is, and how often it referred.
 #[derive(Drop)]
@@ -70,24 +70,25 @@ fn reuse_often<R: Wait, B: Naming>(
     true
 }
 
-// And then there are no more changes.
+// And then there are no more changes: whether all were made.
 fn reuse_all<R: Wait, B: Naming>(
     rt: &R,
     shared: &Board<u32>,
-    chief: &mut Super<u32, B>,
+    chief: Super<u32, B>,
     boxes: &Boxes<B>,
     plan: &Plan,
-) -> bool
+) -> (bool, Super<u32, B>)
     requires place { shared.now.table_id ≡ B.table }
     requires layout { shared.now.key.layout ≡ B.layout }
     requires processes { B.layout.processes ≡ 3 }
     requires numbers { B.layout.numbers ≡ 1 }
-    requires rest { IsAtRest (office_of chief.old) }
-    requires given { AreGiven (office_of chief.old) plan.now.gone plan.now.here 1 }
+    requires rest { IsAtRest (office_of chief) }
+    requires given { AreGiven (office_of chief) plan.now.gone plan.now.here 1 }
 {
-    let went = reuse_often(rt, shared, chief, boxes, plan, TIMES);
+    let mut chief = chief;
+    let went = reuse_often(rt, shared, &mut chief, boxes, plan, TIMES);
     boxes.watch.end(rt);
-    went
+    (went, chief)
 }
 
 impl<B: Naming> Racer<B> {
@@ -117,38 +118,35 @@ impl<B: Naming> Racer<B> {
         }
     }
 
-    // Refers while changes are made.
+    // Refers while changes are made, until it misses.
     fn race(&mut self, shared: &Board<u32>, ring: Ring)
         requires place { shared.now.table_id ≡ B.table }
         requires layout { shared.now.key.layout ≡ B.layout }
     {
         for _ in 0..RACES {
-            self.refer(shared, ring);
+            if let Some(Referred::Missing { .. }) = self.refer(shared, ring) {
+                return;
+            }
         }
     }
 
     // It works until there are no more changes.
-    fn work<R: Wait>(
-        &mut self,
-        rt: &R,
-        shared: &Board<u32>,
-        watch: &Watch,
-        place: &Mutex<Option<Note<u32, B>>>,
-        ring: Ring,
-    )
+    fn work<R: Wait>(&mut self, rt: &R, shared: &Board<u32>, boxes: &Boxes<B>, ring: Ring)
         requires place { shared.now.table_id ≡ B.table }
         requires layout { shared.now.key.layout ≡ B.layout }
     {
+        let watch = &boxes.watch;
         let mut start = u32::MAX;
         for _ in rt.forever() {
             let call = watch.next(rt, start);
             start = call.start;
-            let note = take(rt, place);
+            let note = boxes.take(rt, self.process);
             self.worker.hear(shared, note);
             self.see(rt, shared, watch, ring);
             if call.over {
                 return;
             }
+            watch.made(rt);
             self.race(shared, ring);
             watch.settled(rt);
             self.see(rt, shared, watch, ring);
@@ -156,96 +154,107 @@ impl<B: Naming> Racer<B> {
     }
 }
 
+fn worked<R: Wait, B: Naming>(
+    rt: &R,
+    shared: &Board<u32>,
+    boxes: &Boxes<B>,
+    racer: Racer<B>,
+    ring: Ring,
+) -> Racer<B>
+    requires place { shared.now.table_id ≡ B.table }
+    requires layout { shared.now.key.layout ≡ B.layout }
+{
+    let mut racer = racer;
+    racer.work(rt, shared, boxes, ring);
+    racer
+}
+
 fn race_two<R: Threads + Wait + Sync, B: Naming + Send>(
     rt: &R,
     shared: &Board<u32>,
     boxes: &Boxes<B>,
-    second: &mut Racer<B>,
-    third: &mut Racer<B>,
+    second: Racer<B>,
+    third: Racer<B>,
     ring: Ring,
-)
+) -> (Racer<B>, Racer<B>)
     requires place { shared.now.table_id ≡ B.table }
     requires layout { shared.now.key.layout ≡ B.layout }
 {
-    join_mut(
+    join(
         rt,
-        &mut ||
-            requires sync { IsSync R.row }
+        move || -> Racer<B>
             requires place { shared.now.table_id ≡ B.table }
             requires layout { shared.now.key.layout ≡ B.layout }
-        { second.work(rt, shared, &boxes.watch, &boxes.second, ring) },
-        &mut ||
-            requires sync { IsSync R.row }
+        { worked(rt, shared, boxes, second, ring) },
+        move || -> Racer<B>
             requires place { shared.now.table_id ≡ B.table }
             requires layout { shared.now.key.layout ≡ B.layout }
-        { third.work(rt, shared, &boxes.watch, &boxes.third, ring) },
-    );
+        { worked(rt, shared, boxes, third, ring) },
+    )
 }
 
+// The three processes, each on a thread.
 fn race_three<R: Threads + Wait + Sync, B: Naming + Send>(
     rt: &R,
     shared: &Board<u32>,
     boxes: &Boxes<B>,
-    first: &mut Racer<B>,
-    second: &mut Racer<B>,
-    third: &mut Racer<B>,
+    first: Racer<B>,
+    second: Racer<B>,
+    third: Racer<B>,
     ring: Ring,
-)
+) -> (Racer<B>, (Racer<B>, Racer<B>))
     requires place { shared.now.table_id ≡ B.table }
     requires layout { shared.now.key.layout ≡ B.layout }
 {
-    join_mut(
+    join(
         rt,
-        &mut ||
-            requires sync { IsSync R.row }
+        move || -> Racer<B>
             requires place { shared.now.table_id ≡ B.table }
             requires layout { shared.now.key.layout ≡ B.layout }
-        { first.work(rt, shared, &boxes.watch, &boxes.first, ring) },
-        &mut ||
+        { worked(rt, shared, boxes, first, ring) },
+        move || -> (Racer<B>, Racer<B>)
             requires sync { IsSync R.row }
             requires place { shared.now.table_id ≡ B.table }
             requires layout { shared.now.key.layout ≡ B.layout }
         { race_two(rt, shared, boxes, second, third, ring) },
-    );
+    )
 }
 
-// The supervisor and the three, each on a thread: whether all changes were made.
+// The supervisor and the three, each on a thread: whether all changes were made, and all four.
 fn race<R: Threads + Wait + Sync, B: Naming + Send>(
     rt: &R,
     shared: &Board<u32>,
-    chief: &mut Super<u32, B>,
+    chief: Super<u32, B>,
     boxes: &Boxes<B>,
     plan: &Plan,
-    first: &mut Racer<B>,
-    second: &mut Racer<B>,
-    third: &mut Racer<B>,
+    first: Racer<B>,
+    second: Racer<B>,
+    third: Racer<B>,
     ring: Ring,
-) -> bool
+) -> ((bool, Super<u32, B>), (Racer<B>, (Racer<B>, Racer<B>)))
     requires place { shared.now.table_id ≡ B.table }
     requires layout { shared.now.key.layout ≡ B.layout }
     requires processes { B.layout.processes ≡ 3 }
     requires numbers { B.layout.numbers ≡ 1 }
-    requires rest { IsAtRest (office_of chief.old) }
-    requires given { AreGiven (office_of chief.old) plan.now.gone plan.now.here 1 }
+    requires rest { IsAtRest (office_of chief) }
+    requires given { AreGiven (office_of chief) plan.now.gone plan.now.here 1 }
 {
-    let (went, ()) = join_mut(
+    join(
         rt,
-        &mut || -> bool
-            requires sync { IsSync R.row }
+        move || -> (bool, Super<u32, B>)
             requires place { shared.now.table_id ≡ B.table }
             requires layout { shared.now.key.layout ≡ B.layout }
             requires processes { B.layout.processes ≡ 3 }
             requires numbers { B.layout.numbers ≡ 1 }
-            requires rest { IsAtRest (office_of chief.now) }
-            requires given { AreGiven (office_of chief.now) plan.now.gone plan.now.here 1 }
+            requires rest { IsAtRest (office_of chief) }
+            requires given { AreGiven (office_of chief) plan.now.gone plan.now.here 1 }
         { reuse_all(rt, shared, chief, boxes, plan) },
-        &mut ||
+        move || -> (Racer<B>, (Racer<B>, Racer<B>))
             requires sync { IsSync R.row }
             requires place { shared.now.table_id ≡ B.table }
             requires layout { shared.now.key.layout ≡ B.layout }
         { race_three(rt, shared, boxes, first, second, third, ring) },
-    );
-    went
+    )
 }
 
 // Whether a process may refer, after so many changes of its access.
@@ -383,7 +392,7 @@ fn run<R: Threads + Wait + Sync, B: Naming + Send>(
     requires given { AreGiven (office_of (super_of chief.seat.me.0)) plan.now.gone plan.now.here 1 }
 {
     let (_book, share) = blank.open::<B>();
-    let (mut chief, passes) = seats(alloc, &words.shared, chief, base, share)?;
+    let (chief, passes) = seats(alloc, &words.shared, chief, base, share)?;
     let mut passes = opened_passes(passes);
     let Some(third) = take_last(&mut passes) else {
         return Ok(None);
@@ -394,19 +403,19 @@ fn run<R: Threads + Wait + Sync, B: Naming + Send>(
     let Some(first) = take_last(&mut passes) else {
         return Ok(None);
     };
-    let mut first = ready(1, begin(first))?;
-    let mut second = ready(2, begin(second))?;
-    let mut third = ready(3, begin(third))?;
+    let first = ready(1, begin(first))?;
+    let second = ready(2, begin(second))?;
+    let third = ready(3, begin(third))?;
     let boxes = Boxes::new(Watch::new(true));
-    let went = race(
+    let ((went, chief), (first, (second, third))) = race(
         rt,
         &words.shared,
-        &mut chief,
+        chief,
         &boxes,
         plan,
-        &mut first,
-        &mut second,
-        &mut third,
+        first,
+        second,
+        third,
         ring,
     );
     let raced = came_of(went, &first, &second, &third);

@@ -176,15 +176,16 @@ pub(super) fn remember(
     ) else {
         return None;
     };
-    take(shared, pass, number, point, &desc, asked);
-    if number > point {
-        return None;
-    }
-    Some(Triple {
+    let on = Triple {
         segno: asked.segno,
         number,
         desc,
-    })
+    };
+    take(shared, pass, number, point, &on.desc, asked);
+    if number > point {
+        return None;
+    }
+    Some(on)
 }
 
 // A reference by the memory, which has this of the number: what comes of it, if it is granted and no transfer.

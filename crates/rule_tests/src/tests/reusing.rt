@@ -84,13 +84,21 @@ impl<B: Naming> Boxes<B> {
             watch,
         }
     }
+
+    // The note that was sent last to a process, where there is a new one.
+    pub(super) fn take<R: Wait>(&self, rt: &R, process: u8) -> Option<Note<u32, B>> {
+        match process {
+            1 => take(rt, &self.first),
+            2 => take(rt, &self.second),
+            _ => take(rt, &self.third),
+        }
+    }
 }
 
 fn put<R: Wait, B: Naming>(rt: &R, place: &Mutex<Option<Note<u32, B>>>, note: Note<u32, B>) {
     *place.lock(rt) = Some(note);
 }
 
-// The note that was sent last, where there is a new one.
 pub(super) fn take<R: Wait, B: Naming>(
     rt: &R,
     place: &Mutex<Option<Note<u32, B>>>,

@@ -3,12 +3,13 @@
 use mx_desc::Referred;
 use std::sync::{Condvar, Mutex, Wait};
 
-// The changes that the supervisor is at, one of each process's access: how many entries came before, whether all are
-// settled, and whether there are no more.
+// The changes that the supervisor is at, one of each process's access: how many entries came before, whether it makes
+// them now, whether all are settled, and whether there are no more.
 #[derive(Clone, Copy, Debug)]
 pub(super) struct Call {
     pub(super) start: u32,
-    pub(super) settled: bool,
+    going: bool,
+    settled: bool,
     pub(super) over: bool,
 }
 
@@ -36,12 +37,41 @@ pub(super) struct Watch {
     seen: Condvar,
 }
 
+// How often a process looks before it sleeps.
+const LOOKS: u32 = 2000;
+
+// How often the supervisor looks before it makes a change, so that processes refer by then.
+const PAUSES: u32 = 100;
+
 const NOTHING: Saw = Saw {
     missed: 0,
     known: 0,
 };
 
+impl Saw {
+    fn after(self, referred: &Referred) -> Saw {
+        match referred {
+            Referred::Seen(element) => Saw {
+                missed: self.missed,
+                known: element.point.saturating_add(1),
+            },
+            Referred::Missing { by } => Saw {
+                missed: *by,
+                known: self.known,
+            },
+        }
+    }
+}
+
 impl Told {
+    fn put(&mut self, process: u8, referred: &Referred) {
+        match process {
+            1 => self.first = self.first.after(referred),
+            2 => self.second = self.second.after(referred),
+            _ => self.third = self.third.after(referred),
+        }
+    }
+
     // Whether each process was judged as one that knows so many entries.
     fn is_known(&self, entries: u32) -> bool {
         self.first.known > entries && self.second.known > entries && self.third.known > entries
@@ -63,6 +93,7 @@ impl Watch {
             told: Mutex::new(Told {
                 call: Call {
                     start: u32::MAX,
+                    going: true,
                     settled: true,
                     over: false,
                 },
@@ -80,11 +111,12 @@ impl Watch {
         self.called.notify_all();
     }
 
-    // The supervisor is about to change the access of each process, after so many entries: it waits until each was
-    // judged as one that knows these.
+    // The supervisor makes a change of each process's access, after so many entries, once each was judged as one that
+    // knows these.
     pub(super) fn begin<R: Wait>(&self, rt: &R, start: u32) {
         let call = Call {
             start,
+            going: false,
             settled: false,
             over: false,
         };
@@ -93,12 +125,27 @@ impl Watch {
             let told = self.told.lock(rt);
             let _told = self.seen.wait_while(rt, told, |told| !told.is_known(start));
         }
+        self.call(
+            rt,
+            Call {
+                going: true,
+                ..call
+            },
+        );
+        for _ in 0..PAUSES {
+            self.is_going(rt);
+        }
+    }
+
+    fn is_going<R: Wait>(&self, rt: &R) -> bool {
+        self.told.lock(rt).call.going
     }
 
     // All is settled, and told to nobody yet: the supervisor waits until each process missed by its change.
     pub(super) fn settle<R: Wait>(&self, rt: &R, start: u32) {
         let call = Call {
             start,
+            going: true,
             settled: true,
             over: false,
         };
@@ -113,6 +160,7 @@ impl Watch {
     pub(super) fn end<R: Wait>(&self, rt: &R) {
         let call = Call {
             start: u32::MAX,
+            going: true,
             settled: true,
             over: true,
         };
@@ -130,6 +178,17 @@ impl Watch {
         told.call
     }
 
+    // It looks until they are made, so that it refers meanwhile; but it does not look for ever.
+    pub(super) fn made<R: Wait>(&self, rt: &R) {
+        for _ in 0..LOOKS {
+            if self.is_going(rt) {
+                return;
+            }
+        }
+        let told = self.told.lock(rt);
+        let _told = self.called.wait_while(rt, told, |told| !told.call.going);
+    }
+
     // It waits until they are settled.
     pub(super) fn settled<R: Wait>(&self, rt: &R) {
         let told = self.told.lock(rt);
@@ -138,18 +197,7 @@ impl Watch {
 
     // It tells what it saw.
     pub(super) fn see<R: Wait>(&self, rt: &R, process: u8, referred: &Referred) {
-        {
-            let mut told = self.told.lock(rt);
-            let saw = match process {
-                1 => &mut told.first,
-                2 => &mut told.second,
-                _ => &mut told.third,
-            };
-            match referred {
-                Referred::Seen(element) => saw.known = element.point.saturating_add(1),
-                Referred::Missing { by } => saw.missed = *by,
-            }
-        }
+        self.told.lock(rt).put(process, referred);
         self.seen.notify_one();
     }
 }

@@ -8,12 +8,12 @@ use Rattle.rule_tests.proofs.ReuseLaws.{opens_given}
 use Rattle.rule_tests.proofs.tests.racing.each_trace_is_a_history_while_all_pages_are_given_again.Goals as goal
 
 pub run-requires-clause-placed : goal.run-requires-clause-placed
-run-requires-clause-placed g c =
+run-requires-clause-placed g c loans =
     subst (λ (y : Layout). ArePlaced y c.in_ok-key.key.base) (sym (λ i. (c.in_ok-words.ensures.key i).layout))
     c.in_ok-key.ensures.may.each
 
 pub run-requires-clause-given : goal.run-requires-clause-given
-run-requires-clause-given g c =
+run-requires-clause-given g c loans =
     let key = c.in_ok-key.key in
     let plan = c.in_ok-plan.plan in
     subst (λ (v : SuperView ℕ). AreGiven (office_of v) plan.gone plan.here 1) (sym c.in_ok-words.ensures.view)
