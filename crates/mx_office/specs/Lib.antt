@@ -1,5 +1,6 @@
 pub mod Announcing
 pub mod Clearing
+pub mod Holding
 pub mod Locked
 pub mod Serving
 pub mod Revoking

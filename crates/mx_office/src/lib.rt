@@ -7,13 +7,18 @@
 #![tactic(auto)]
 
 mod announcing;
+mod answers;
 mod clearing;
+mod locked;
 mod naming;
 mod revoking;
+mod serving;
 mod settling;
 
 pub use announcing::announce;
+pub use answers::{Answer, EnterError, Served};
 pub use clearing::clear_pages;
+pub use locked::Locked;
 pub use naming::Sitting;
 pub use revoking::revoke;
 pub use settling::settle_own;

@@ -1,0 +1,87 @@
+//! What the office keeps under its lock.
+
+ghost use Rattle.std.specs.Prelude.{◌≡◌, ◌<◌, ℕ, false, Ok, Err, length};
+ghost use Rattle.mx_office.specs.Serving.{HasEntered, HasMetLimit};
+ghost use Rattle.mx_office.specs.declared.answers.EnterError.TheVariants.{HistoryFull, Memory};
+ghost use Rattle.mx_office.specs.declared.answers.Served.{Served as ServedValue};
+ghost use Rattle.mx_script.specs.Sessions.{limit_of};
+
+use crate::answers::{EnterError, Served};
+use crate::naming::Sitting;
+use crate::serving::serve;
+use mx_desc::{Pass, Super};
+use mx_request::Request;
+use mx_rule::Board;
+use mx_sdw::Ring;
+use mx_state::Entry;
+use mx_sup::Supervisor;
+use std::alloc::Global;
+use std::marker::Model;
+use std::sync::Wait;
+use std::sync::ledger::Book;
+
+/// The supervisor of a run: the plain one with its journal, the one at the shared words, the book of the processes' own
+/// entries, and whether the run is to end. Whenever the lock is free these say the same of the journal.
+#[derive(Drop)]
+pub struct Locked<'a, B: Sitting> {
+    supervisor: Supervisor<'a>,
+    chief: Super<Entry, B>,
+    book: Book<B>,
+    stopped: bool,
+}
+
+impl<'a, B: Sitting> Model for Locked<'a, B> {
+    ghost use Rattle.mx_office.specs.Holding.{LockedValue};
+    ghost use Rattle.mx_office.specs.Locked.{IsLocked};
+
+    ghost Value = { LockedValue };
+
+    ghost view = { λ a. record {
+      supervised = a.supervisor;
+      chief = a.chief;
+      total = a.book.total;
+      stopped = a.stopped;
+    } };
+
+    ghost invariant = { λ a. IsLocked B.session B.setup B.layout a.supervisor a.chief a.book.total };
+}
+
+impl<'a, B: Sitting> Locked<'a, B> {
+    /// A request of a process, from the limit to its being told of its entry, in one hold of the lock. Once the run is to
+    /// end every request is answered with `Memory`. Waits for the processes whose access the entry changed.
+    pub fn serve<R: Wait>(
+        &mut self,
+        rt: &R,
+        alloc: Global,
+        pass: &mut Pass<Entry, B>,
+        shared: &Board<Entry>,
+        ring: Ring,
+        request: &Request,
+    ) -> Result<Served, EnterError>
+        requires fits { shared.now.table_id ≡ B.table }
+        requires layout { shared.now.key.layout ≡ B.layout }
+        ensures entered { (served : ServedValue) → result ≡ Ok served
+            → HasEntered B.session B.setup ring request.now served pass.old pass.new }
+        ensures full { (length : ℕ) → result ≡ Err (HistoryFull length)
+            → HasMetLimit B.session length pass.old pass.new }
+        ensures below { (served : ServedValue) → result ≡ Ok served
+            → length self.old.supervised.journal < limit_of B.session }
+        ensures memory { result ≡ Err Memory → pass.new ≡ pass.old }
+        ensures stopped { self.new.stopped ≡ self.old.stopped }
+    {
+        if self.stopped {
+            return Err(EnterError::Memory);
+        }
+        serve(
+            rt,
+            alloc,
+            &mut self.supervisor,
+            &mut self.chief,
+            &mut self.book,
+            pass,
+            shared,
+            ring,
+            request,
+        )
+    }
+}
