@@ -8,11 +8,12 @@ use Rattle.mx_hier.specs.declared.refusals.HierError.{HierError}
 use Rattle.mx_hier.specs.declared.refusals.HierError.TheVariants as given
 use Rattle.mx_hier.specs.declared.refusals.Refusal.{Refusal}
 use Rattle.mx_request.specs.declared.replies.Reply.{Reply}
+use Rattle.mx_request.specs.declared.replies.Reply.TheVariants as reply
 use Rattle.mx_state.specs.Askers.{Asker, Initializer, Process, Nobody, asker, answered_caller, on_path}
 use Rattle.mx_state.specs.Calling.{IsCallerOf}
 use Rattle.mx_state.specs.Plain.{Plain, Answer, answer}
 use Rattle.mx_state.specs.Replies.{Says}
-use Rattle.mx_state.specs.Requests.{changed}
+use Rattle.mx_state.specs.Requests.{changed, told}
 
 -- whose request it is
 pub asked : (s : Plain) (p ring : ℕ) (who : Caller) (meant : Caller → Answer) → IsCallerOf (asker s.processes p) ring who → on_path s p ring meant ≡ meant who
@@ -60,3 +61,11 @@ pub not_found_then : {A : Type 0} (B : Type 0) (first : Result A Refusal) (rest 
     → Tells {A = A} first (Err error) → Answers {A = B} (onward first rest) old (Err error) old
 not_found_then B first rest old (given.Refused why) is = (ap (λ meant. onward meant rest) is, refl)
 not_found_then B first rest old given.Memory is = refl
+
+-- what is told of the hierarchy, or why nothing is
+module _ {A : Type 0} (s : Plain) (p ring : ℕ) (who : Caller) (as_reply : A → Reply) (meant : Caller → Result A Refusal) (is : IsCallerOf (asker s.processes p) ring who) where
+  pub told_so : (value : A) → meant who ≡ Ok value → on_path s p ring (λ who. told s as_reply (meant who)) ≡ answer (as_reply value) s
+  told_so value e = asked s p ring who (λ who. told s as_reply (meant who)) is ∙ ap (told s as_reply) e
+
+  pub told_why : (why : Refusal) → meant who ≡ Err why → on_path s p ring (λ who. told s as_reply (meant who)) ≡ answer (reply.Refused why) s
+  told_why why e = asked s p ring who (λ who. told s as_reply (meant who)) is ∙ ap (told s as_reply) e

@@ -1,11 +1,14 @@
 //! The plain supervisor again, from plain lists alone: a second program under the same definitions.
 //!
-//! [`FreshHierarchy`] is the hierarchy as the definitions speak of it: the root, the branches in the order of their
-//! making, whether each page is free, and the object maps. Every question goes through the lists from the front; there
-//! is no table, no map and no index. Each request has the exact answer and leaves the exact hierarchy that its
-//! definition gives; a refusal, and the want of memory, change nothing. Shares with the hierarchy's crate its
-//! definitions and its words, a refusal, a status and who asks, and nothing of what it does; stands on names, access
-//! lists, classes, object maps and descriptors.
+//! [`Fresh`] is the state as the definitions speak of it: the hierarchy as the root, the branches in the order of their
+//! making, whether each page is free, and the object maps; the processes with what each knows; and the messages that
+//! wait for each. Every question goes through the lists from the front; there is no table, no map and no index.
+//! [`Fresh::serve_path`] has the exact answer to each request on a path and leaves the exact state that the definition
+//! gives, and `descriptor` is the descriptor of the definition; a refusal, and the want of memory, change nothing. What
+//! a segment becomes known by, where a link leads, and the mail stand beside it, each equal to its definition; the
+//! requests of a process on its own state are not answered yet. Shares with the plain supervisor its definitions and its
+//! words, as a refusal, a status, a lot and who asks, and nothing of what it does; stands on names, access lists,
+//! classes, object maps, search rules and descriptors.
 #![tactic(auto)]
 
 mod access;

@@ -15,8 +15,8 @@ use mx_kst::Lot;
 use mx_link::{LinkError, Target};
 use mx_name::{EntryName, Path};
 use mx_object::ObjectMap;
-use mx_search::{Found, Rule};
 use mx_sdw::Ring;
+use mx_search::{Found, Rule};
 use std::alloc::{AllocError, Global};
 use std::marker::Model;
 
@@ -88,7 +88,14 @@ fn rule_finds(
             referencing_dir_finds(alloc, hierarchy, process, ring, object, name)
         }
         Rule::WorkingDir => {
-            found_at(alloc, hierarchy, process, ring, &process.working_directory, name)
+            found_at(
+                alloc,
+                hierarchy,
+                process,
+                ring,
+                &process.working_directory,
+                name,
+            )
         }
         Rule::Directory(path) => found_at(alloc, hierarchy, process, ring, path, name),
     }
@@ -230,7 +237,15 @@ pub(crate) fn link_target(
     ensures { IfOk result (λ to. to ≡ link_target hierarchy.now process.now ring link.now) }
 {
     let rules = process.rules.items();
-    let found = first_found(alloc, hierarchy, process, ring, link.object, rules, &link.segment)?;
+    let found = first_found(
+        alloc,
+        hierarchy,
+        process,
+        ring,
+        link.object,
+        rules,
+        &link.segment,
+    )?;
     match found {
         Some(found) => {
             let object = found_object(hierarchy, &process.known, &found);

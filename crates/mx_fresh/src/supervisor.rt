@@ -4,17 +4,21 @@ ghost use Rattle.std.specs.Prelude.{◌≡◌, ◌≤◌, length, IfOk, OnErr};
 ghost use Rattle.mx_state.specs.Askers.{on_path};
 ghost use Rattle.mx_state.specs.History.{opening};
 ghost use Rattle.mx_state.specs.Plain.{answer};
-ghost use Rattle.mx_state.specs.Requests.{changed};
+ghost use Rattle.mx_request.specs.Classes.{class_of};
+ghost use Rattle.mx_request.specs.declared.classes.RequestClass.TheVariants.{OfPath};
+ghost use Rattle.mx_request.specs.declared.requests.Request.TheVariants as ask;
+ghost use Rattle.mx_state.specs.Requests.{changed, plain};
 ghost use Rattle.mx_state.specs.Table.{stack_desc, standing_desc, descriptor};
 ghost use Rattle.mx_fresh.specs.Meant.{meant_by};
 
 use crate::hierarchy::FreshHierarchy;
 use crate::mail::{Mailbox, all_running};
 use crate::processes::{FreshProcess, caller, fresh_processes, make_initializer, process_at};
-use crate::replies::done;
+use crate::replies::{done, shown};
 use crate::serving::change;
+use mx_hier::HierError;
 use mx_kst::Lot;
-use mx_name::Path;
+use mx_name::{Path, Pathname};
 use mx_request::{Entrant, Reply, Request};
 use mx_sdw::{Brackets, Desc, Ring};
 use std::alloc::{AllocError, Global};
@@ -83,13 +87,88 @@ impl Fresh {
         done(given)
     }
 
+    fn status(&self, alloc: Global, p: u8, ring: Ring, path: &Pathname) -> Result<Reply, AllocError>
+        requires asker { p ≤ length self.now.processes }
+        ensures { IfOk result (λ given. plain self.now p ring (ask.Status path.now) ≡ answer given self.now) }
+    {
+        let initializer = make_initializer();
+        let root = Path::root(alloc);
+        let who = caller(&initializer, &root, self.processes.as_slice(), p, ring);
+        match self.hierarchy.status(alloc, &who, path) {
+            Ok(status) => Ok(Reply::Status(shown(self.version, status))),
+            Err(HierError::Refused(why)) => Ok(Reply::Refused(why)),
+            Err(HierError::Memory) => Err(AllocError),
+        }
+    }
+
+    fn list(&self, alloc: Global, p: u8, ring: Ring, path: &Pathname) -> Result<Reply, AllocError>
+        requires asker { p ≤ length self.now.processes }
+        ensures { IfOk result (λ given. plain self.now p ring (ask.List path.now) ≡ answer given self.now) }
+    {
+        let initializer = make_initializer();
+        let root = Path::root(alloc);
+        let who = caller(&initializer, &root, self.processes.as_slice(), p, ring);
+        match self.hierarchy.list(alloc, &who, path) {
+            Ok(names) => Ok(Reply::Names(names)),
+            Err(HierError::Refused(why)) => Ok(Reply::Refused(why)),
+            Err(HierError::Memory) => Err(AllocError),
+        }
+    }
+
+    /// Answers a request on a path, of the initializer as process 0 or of process `p`, exactly as the plain supervisor
+    /// does. A refusal changes nothing, and nor does want of memory, the only error.
+    pub fn serve_path(
+        &mut self,
+        alloc: Global,
+        p: u8,
+        ring: Ring,
+        request: &Request,
+    ) -> Result<Reply, AllocError>
+        requires asker { p ≤ length self.old.processes }
+        requires class { class_of request.now ≡ OfPath }
+        ensures answer { IfOk result (λ given. plain self.old p ring request.now ≡ answer given self.new) }
+        ensures err { OnErr result (self.new ≡ self.old) }
+    {
+        match request {
+            Request::CreateDir { .. } => self.change(alloc, p, ring, request),
+            Request::CreateSeg { .. } => self.change(alloc, p, ring, request),
+            Request::CreateObject { .. } => self.change(alloc, p, ring, request),
+            Request::CreateLink { .. } => self.change(alloc, p, ring, request),
+            Request::Rename { .. } => self.change(alloc, p, ring, request),
+            Request::Delete { .. } => self.change(alloc, p, ring, request),
+            Request::SetAcl { .. } => self.change(alloc, p, ring, request),
+            Request::DelAcl { .. } => self.change(alloc, p, ring, request),
+            Request::SetIacl { .. } => self.change(alloc, p, ring, request),
+            Request::DelIacl { .. } => self.change(alloc, p, ring, request),
+            Request::SetBrackets { .. } => self.change(alloc, p, ring, request),
+            Request::SetDirBrackets { .. } => self.change(alloc, p, ring, request),
+            Request::SetClass { .. } => self.change(alloc, p, ring, request),
+            Request::Status { path } => self.status(alloc, p, ring, path),
+            Request::List { path } => self.list(alloc, p, ring, path),
+            Request::ChangeWdir { .. } => unreachable!(),
+            Request::SetRules { .. } => unreachable!(),
+            Request::Initiate { .. } => unreachable!(),
+            Request::Terminate { .. } => unreachable!(),
+            Request::Wakeup { .. } => unreachable!(),
+            Request::Block => unreachable!(),
+            Request::Link { .. } => unreachable!(),
+            Request::Resume => unreachable!(),
+            Request::Logout => unreachable!(),
+        }
+    }
+
     /// The descriptor that process `p` has of a segment number: unknown where there is no such process, or the number
     /// stands for nothing; gone where its segment was deleted. Takes no memory.
     pub fn descriptor(&self, p: u8, segno: u16) -> Desc
         ensures { result ≡ descriptor self.now p segno }
     {
         match process_at(self.processes.as_slice(), p) {
-            Some(process) => standing_desc(&self.hierarchy, p, process, process.known.stands_for(segno)),
+            Some(process) => standing_desc(
+                &self.hierarchy,
+                p,
+                process,
+                process.known.stands_for(segno),
+            ),
             None => Desc::unknown(),
         }
     }

@@ -7,11 +7,15 @@ use Rattle.mx_fresh.proofs.serving.alter_along.Goals as goal
 pub returns-in-Ok : goal.returns-in-Ok
 returns-in-Ok c =
     let h = c.args.hierarchy.now in
-    record { answer = found_then (entry h (caller c.args.who.now) c.args.path.now c.args.follow) (λ uid. altered_at h (subject c.args.who.now) uid c.args.request.now)
-        c.in-Ok.uid h c.alter.new.hierarchy c.alter.result c.in-Ok.ensures.answer c.alter.ensures.answer }
+    record {
+      answer = found_then (entry h (caller c.args.who.now) c.args.path.now c.args.follow) (λ uid. altered_at h (subject c.args.who.now) uid c.args.request.now)
+          c.in-Ok.uid h c.alter.new.hierarchy c.alter.result c.in-Ok.ensures.answer c.alter.ensures.answer;
+    }
 
 pub returns-in-Err : goal.returns-in-Err
 returns-in-Err c =
     let h = c.args.hierarchy.now in
-    record { answer = not_found_then (Unit {0}) (entry h (caller c.args.who.now) c.args.path.now c.args.follow) (λ uid. altered_at h (subject c.args.who.now) uid c.args.request.now)
-        h c.in-Err.error c.in-Err.ensures.answer }
+    record {
+      answer = not_found_then (Unit {0}) (entry h (caller c.args.who.now) c.args.path.now c.args.follow) (λ uid. altered_at h (subject c.args.who.now) uid c.args.request.now)
+          h c.in-Err.error c.in-Err.ensures.answer;
+    }
