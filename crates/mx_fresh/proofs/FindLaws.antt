@@ -1,5 +1,5 @@
 -- What is looked up in a list of pairs is the second part of the pair that is found.
-use Rattle.std.proofs.Common.{◌≡◌, Bool, true, false, cond, List, [], ◌∷◌, Option, Some, None, find, option_map, refl}
+use Rattle.std.proofs.Common.{◌≡◌, Bool, true, false, cond, List, [], ◌∷◌, Some, find, option_map, refl}
 use Rattle.std.specs.Map.{lookup}
 
 pub lookup_found : {K X : Type 0} (test : K → Bool) (pairs : List (K × X)) → lookup test pairs ≡ option_map (λ pair. pair.1) (find (λ (pair : K × X). test pair.0) pairs)

@@ -1,5 +1,5 @@
 -- A list that was made page by page.
-use Rattle.std.proofs.Common.{ℕ, ◌≡◌, Bool, List, map, sym, ap}
+use Rattle.std.proofs.Common.{ℕ, ◌≡◌, Bool, map, ap}
 use Rattle.std.specs.List.{range_with_len}
 use Rattle.mx_pages.specs.Runs.{every_page}
 

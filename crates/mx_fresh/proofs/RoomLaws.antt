@@ -1,5 +1,5 @@
 -- Where a segment is not known and there are numbers for it, its number fits.
-use Rattle.std.proofs.Common.{ℕ, ◌≡◌, ◌+◌, ◌-◌, ◌≤◌, ◌&&◌, Bool, true, false, Option, None, is_none, is_some, cond, refl, length, nat_lt, ap, sym, ◌∙◌, arith}
+use Rattle.std.proofs.Common.{ℕ, ◌≡◌, ◌+◌, ◌≤◌, ◌&&◌, Bool, true, false, Option, None, is_none, is_some, cond, refl, length, nat_lt, ap, sym, ◌∙◌, arith}
 use Rattle.std.proofs.lemmas.Bool.{cases_lt, lt-ltb}
 use Rattle.std.proofs.Common.{inl, inr, true≢false}
 use Rattle.mx_hier.specs.Branches.{Hierarchy}

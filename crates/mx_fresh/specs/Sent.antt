@@ -1,5 +1,5 @@
 -- Helpers: what sending a message comes to.
-use Rattle.std.specs.Prelude.{◌≡◌, ℕ, List, Option, Result, Ok, Err}
+use Rattle.std.specs.Prelude.{◌≡◌, ℕ, List, Result, Ok, Err}
 use Rattle.mx_hier.specs.Rules.{first_of, unless}
 use Rattle.mx_hier.specs.declared.refusals.Refusal.{Refusal}
 use Rattle.mx_mail.specs.Processes.{PlainProcess, process_at}

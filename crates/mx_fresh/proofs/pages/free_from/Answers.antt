@@ -1,5 +1,4 @@
-use Rattle.std.proofs.Common.{◌≡◌, ◌++◌, ◌∷◌, [], List, Bool, nat_le, map, sym, ap, ◌∙◌, arith}
-use Rattle.std.specs.List.{range_with_len}
+use Rattle.std.proofs.Common.{◌++◌, ◌∷◌, [], List, Bool, nat_le, sym, ap, ◌∙◌, arith}
 use Rattle.std.proofs.lemmas.List.FromFn.{map-range_with_len_more}
 use Rattle.mx_fresh.proofs.PageLaws.{made_by_page}
 use Rattle.mx_fresh.proofs.pages.free_from.Goals as goal

@@ -2,7 +2,7 @@ use Rattle.std.proofs.Common.{refl, sym, ◌∙◌}
 use Rattle.std.specs.Option.{option_copied}
 use Rattle.mx_hier.specs.MakeSegment.{Wanted}
 use Rattle.mx_hier.specs.Who.{subject}
-use Rattle.mx_hier.proofs.MakingLaws.{segment_refused, segment_unfit, segment_unbracketed, segment_left, answers_as, tells_first_as}
+use Rattle.mx_hier.proofs.MakingLaws.{segment_refused, segment_unfit, segment_unbracketed, segment_left, answers_as}
 use Rattle.mx_fresh.proofs.hierarchy.FreshHierarchy.make_segment_at.Goals as goal
 
 pub returns-in-Some-clause-answer : goal.returns-in-Some-clause-answer

@@ -1,4 +1,4 @@
-use Rattle.std.proofs.Common.{◌+◌, refl}
+use Rattle.std.proofs.Common.{refl}
 use Rattle.mx_fresh.proofs.NumberLaws.{numbered_added}
 use Rattle.mx_fresh.proofs.lists.BranchList.add.Goals as goal
 

@@ -1,4 +1,4 @@
-use Rattle.std.proofs.Common.{◌≡◌, ◌==◌, Some, None, position, refl, sym, ap, ◌∙◌, List}
+use Rattle.std.proofs.Common.{◌≡◌, ◌==◌, Some, position, refl, sym, ap, ◌∙◌}
 use Rattle.mx_hier.specs.declared.branches.Branch.{Branch}
 use Rattle.mx_hier.specs.Listed.{with_name}
 use Rattle.mx_fresh.proofs.NumberLaws.{set_numbered, set_listed, unlisted}

@@ -1,4 +1,4 @@
-use Rattle.std.proofs.Common.{◌≡◌, ◌==◌, Some, None, position, refl, sym, ap, ◌∙◌, List}
+use Rattle.std.proofs.Common.{◌≡◌, ◌==◌, Some, position, refl, sym, ap, ◌∙◌}
 use Rattle.mx_hier.specs.declared.branches.Branch.{Branch}
 use Rattle.mx_hier.specs.Changing.{branch_with_directory}
 use Rattle.mx_hier.specs.SetDirectoryBrackets.{dir_bracketed}

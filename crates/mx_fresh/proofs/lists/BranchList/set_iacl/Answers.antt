@@ -1,5 +1,4 @@
-use Rattle.std.proofs.Common.{◌≡◌, ◌==◌, Some, None, Ok, Option, position, not, is_none, refl, sym, ap, ◌∙◌, List}
-use Rattle.std.specs.Option.{option_and_then}
+use Rattle.std.proofs.Common.{◌≡◌, ◌==◌, Some, None, Ok, Option, position, refl, sym, ap, ◌∙◌}
 use Rattle.std.proofs.lemmas.Result.{on_ok_weaker}
 use Rattle.mx_hier.specs.declared.branches.Branch.{Branch}
 use Rattle.mx_fresh.proofs.NumberLaws.{kept_numbered, set_listed, unlisted, of_branch, of_none}

@@ -1,4 +1,4 @@
-use Rattle.std.proofs.Common.{◌≡◌, IfOk, OnErr, subst, ap, ◌∙◌}
+use Rattle.std.proofs.Common.{◌≡◌, IfOk, subst, ap, ◌∙◌}
 use Rattle.std.proofs.lemmas.Result.{on_err_weaker}
 use Rattle.mx_hier.specs.Branches.{Hierarchy}
 use Rattle.mx_hier.specs.Who.{caller}

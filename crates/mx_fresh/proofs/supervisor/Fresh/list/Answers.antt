@@ -1,11 +1,10 @@
-use Rattle.std.proofs.Common.{◌≡◌, sym, ap, subst, ◌∙◌}
+use Rattle.std.proofs.Common.{◌≡◌, subst}
 use Rattle.mx_hier.specs.List.{list}
 use Rattle.mx_hier.specs.Who.{caller}
 use Rattle.mx_request.specs.declared.replies.Reply.TheVariants as reply
 use Rattle.mx_request.specs.declared.requests.Request.TheVariants as ask
 use Rattle.mx_state.specs.Plain.{Plain, answer}
 use Rattle.mx_state.specs.Requests.{plain}
-use Rattle.mx_state.specs.Shown.{shown}
 use Rattle.mx_fresh.proofs.AnswerLaws.{told_so, told_why}
 use Rattle.mx_fresh.proofs.supervisor.Fresh.list.Goals as goal
 
