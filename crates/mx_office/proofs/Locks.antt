@@ -286,14 +286,17 @@ module _ (x : Outline) (setup : List journaled.Entry) (y : Layout) (s s' : Super
           let covered = subst (λ (d : Descriptor). IsTrue (covers d page))
           (sym (each_new old new came.changes come.changes found.0 c found.1.1.0).0) found.1.1.1 in
           absurd (true_false (sym free ∙ covered_taken c.process c.segno page covered))
+
   given_free : (page : ℕ) → IsTrue (gives (runs_of came.given) page)
       → (page < page_count) × (is_free old.hierarchy.pages page ≡ true)
   given_free page has =
       let mine : is_page_of came.given page ≡ true =
       sym (runs_give came.given page) ∙ from_true (gives (runs_of came.given) page) has in
-      let low = run_within came.given page come.given.some mine in
-      (low, (both_true (is_free old.hierarchy.pages page) (not (is_free new.hierarchy.pages page))
-      (sym (come.given.each page low) ∙ mine)).0)
+      let low = run_within came.given page come.given.some mine in (
+        low,
+        (both_true (is_free old.hierarchy.pages page) (not (is_free new.hierarchy.pages page))
+            (sym (come.given.each page low) ∙ mine)).0,
+      )
 
   changed_range : (i : ℕ) (c : Change) → slice_get came.changes i ≡ Some c
       → (c.process ≤ length x.principals) × (c.segno < last_number x.version + 1)
@@ -308,7 +311,7 @@ module _ (x : Outline) (setup : List journaled.Entry) (y : Layout) (s s' : Super
     elim (cases_lt (last_number x.version) c.segno) [
       | inl beyond ↦ absurd (differs (unknown_at s l.session beyond) (unknown_at s' (session_is ∙ l.session) beyond))
       | inr within ↦ omega arith
-    ]
+    ],
   )
     where
       differs : descriptor old c.process c.segno ≡ unknown_desc → descriptor new c.process c.segno ≡ unknown_desc → ⊥
@@ -326,8 +329,7 @@ module _ (x : Outline) (setup : List journaled.Entry) (y : Layout) (s s' : Super
     high = (let a = l.laid.processes in omega arith);
     each = λ i c at.
         let b = all_at (IsBounded (last_number old.version)) came.changes i c come.bounded at in
-        let range = changed_range i c at in
-        (
+        let range = changed_range i c at in (
           b.first,
           (let a = l.laid.processes in let r = range.0 in omega arith),
           (let a = l.laid.numbers in let r = range.1 in omega arith),
