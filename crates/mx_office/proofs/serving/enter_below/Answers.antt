@@ -1,11 +1,10 @@
-use Rattle.std.proofs.Common.{◌≡◌, ℕ, ◌+◌, ◌<◌, ◌≤◌, List, length, refl, sym, ap, ◌∙◌, subst, arith, rules}
+use Rattle.std.proofs.Common.{◌≡◌, ℕ, ◌+◌, ◌≤◌, List, length, sym, ap, ◌∙◌, subst, arith}
 use Rattle.mx_core.specs.declared.changes.Run.{Run}
 use Rattle.mx_desc.specs.Passes.{PassValue}
 use Rattle.mx_rule.specs.Notes.{reported_view, reporting_view}
 use Rattle.mx_rule.specs.Shown.{office_of, reported_of}
 use Rattle.mx_rule.specs.declared.views.PassView.{PassView}
 use Rattle.mx_rule.specs.declared.views.SuperView.{SuperView}
-use Rattle.mx_script.specs.Sessions.{Outline}
 use Rattle.mx_state.specs.declared.journal.Entry as journaled
 use Rattle.mx_office.specs.Announcing.{Coming, IsAnnounced, MayAnnounce, announced_view, coming}
 use Rattle.mx_office.specs.Serving.{HasEntered, runs_of}
