@@ -1,25 +1,21 @@
 -- An entry that may be announced may be revoked, cleared after and settled, and its process is then told of it.
-use Rattle.std.proofs.Common.{◌≡◌, ◌≢◌, ◌⊎◌, inl, inr, ℕ, zero, suc, ◌+◌, ◌<◌, ◌≤◌, max, List, [], ◌∷◌, length, Some, slice_get, refl, sym, ap, ◌∙◌, subst, arith}
+use Rattle.std.proofs.Common.{◌≡◌, ◌⊎◌, inl, inr, ℕ, zero, suc, ◌+◌, ◌<◌, ◌≤◌, max, List, [], ◌∷◌, length, Some, slice_get, refl, sym, ap, ◌∙◌, subst, arith}
 use Rattle.std.proofs.lemmas.Bool.{cases_eq}
 use Rattle.mx_sdw.specs.Descriptors.{Descriptor}
 use Rattle.mx_core.specs.Append.{with_changes}
-use Rattle.mx_core.specs.Put.{pick, put}
+use Rattle.mx_core.specs.Put.{put}
 use Rattle.mx_core.proofs.Puts.{put_all, put_here, put_else}
 use Rattle.mx_core.specs.declared.changes.Change.{Change}
-use Rattle.mx_core.specs.declared.words.DescriptorWord.TheVariants.{Fault}
-use Rattle.mx_desc.specs.Slots.{IsPair}
-use Rattle.mx_rule.specs.Appending.{MayAppend}
 use Rattle.mx_rule.specs.Fronts.{IsFront}
 use Rattle.mx_rule.specs.Notes.{joined_view, noted_view}
-use Rattle.mx_rule.specs.Shown.{all_told, base_of, note_of, office_of, reported_of, tables_of, told_of}
+use Rattle.mx_rule.specs.Shown.{all_told, base_of, office_of, reported_of, told_of}
 use Rattle.mx_rule.specs.Telling.{AreOwnMarks}
 use Rattle.mx_rule.specs.declared.layout.Layout.{Layout}
 use Rattle.mx_rule.specs.declared.views.EntryView.{EntryView}
-use Rattle.mx_rule.specs.declared.views.NoteView.{NoteView}
 use Rattle.mx_rule.specs.declared.views.PassView.{PassView}
 use Rattle.mx_rule.specs.declared.views.SuperView.{SuperView}
-use Rattle.mx_office.specs.Announcing.{AreNews, Coming, IsAnnounced, MayAnnounce, announced_view, came_view, entry_of}
-use Rattle.mx_office.specs.Clearing.{AreBare, cleared_pages}
+use Rattle.mx_office.specs.Announcing.{Coming, IsAnnounced, MayAnnounce, announced_view, came_view}
+use Rattle.mx_office.specs.Clearing.{cleared_pages}
 use Rattle.mx_office.specs.Revoking.{AreListed, IsListed, MayStrikeAll, revoked_view}
 use Rattle.mx_office.specs.Settling.{AreStruckLast, ArePairsOnce, settled_told}
 use Rattle.mx_office.proofs.Answering.{struck_here}

@@ -1,5 +1,5 @@
 -- After the strikes, the connects and the acknowledgements the entry may be answered.
-use Rattle.std.proofs.Common.{◌≡◌, ◌≢◌, ℕ, zero, suc, ◌<◌, ◌≤◌, List, [], ◌∷◌, Some, slice_get, refl, sym, ap, ◌∙◌, subst}
+use Rattle.std.proofs.Common.{◌≡◌, ℕ, zero, suc, ◌<◌, List, [], ◌∷◌, Some, slice_get, refl, sym, ap, ◌∙◌, subst}
 use Rattle.std.specs.Prelude.{IsTrue}
 use Rattle.mx_sdw.specs.Descriptors.{Descriptor}
 use Rattle.mx_core.specs.Put.{put}
@@ -8,13 +8,13 @@ use Rattle.mx_core.specs.declared.changes.Change.{Change}
 use Rattle.mx_core.specs.declared.words.DescriptorWord.{DescriptorWord}
 use Rattle.mx_core.specs.declared.words.DescriptorWord.TheVariants.{Fault}
 use Rattle.mx_desc.specs.Supers.{IsWaiting}
-use Rattle.mx_rule.specs.Acknowledging.{MayAcknowledge, MayAnswer, MayConnect, answered_view, connecting_view}
-use Rattle.mx_rule.specs.Shown.{Office, base_of, numbers_of, office_of, words_of}
-use Rattle.mx_rule.specs.Striking.{Changes, MayStrike, struck_view}
+use Rattle.mx_rule.specs.Acknowledging.{MayAcknowledge, MayAnswer, answered_view, connecting_view}
+use Rattle.mx_rule.specs.Shown.{base_of, numbers_of, office_of, words_of}
+use Rattle.mx_rule.specs.Striking.{Changes, struck_view}
 use Rattle.mx_rule.specs.declared.views.NumberAt.{NumberAt}
 use Rattle.mx_rule.specs.declared.views.SuperView.{SuperView}
 use Rattle.mx_rule.specs.declared.views.WordAt.{WordAt}
-use Rattle.mx_office.specs.Revoking.{AreAcknowledged, AreListed, IsListed, MayAcknowledgeAll, MayConnectAll, MayStrikeAll, connected_views, kept_of_each, revoked_view, struck_views, struck_words}
+use Rattle.mx_office.specs.Revoking.{AreAcknowledged, AreListed, MayAcknowledgeAll, MayConnectAll, MayStrikeAll, connected_views, kept_of_each, revoked_view, struck_views, struck_words}
 
 same_change : (a b : Change) → Some a ≡ Some b → a ≡ b
 same_change a b e = cc

@@ -1,7 +1,7 @@
 -- What is told of an entry, as the shared words want it: the changes are exactly the pairs that differ, each once, and the
 -- table with them is the new one.
 use Rattle.std.proofs.Common.{◌≡◌, ◌≢◌, ◌⊎◌, inl, inr, ℕ, zero, suc, ◌+◌, ◌*◌, ◌<◌, ◌≤◌, Bool, true, false, not, List, [], ◌∷◌, ◌++◌, length, take, Option, Some, None, IfSome, slice_get, get_or, refl, sym, ap, ◌∙◌, subst, arith, nat_le, nat_lt}
-use Rattle.std.proofs.lemmas.Bool.{cases_eq, cases_lt}
+use Rattle.std.proofs.lemmas.Bool.{cases_lt}
 use Rattle.std.proofs.lemmas.Bool.Decides.{nat_tests}
 use Rattle.std.proofs.lemmas.Option.{get_or_from_slice_get, slice_get-get_or, slice_get_within}
 use Rattle.std.specs.List.{All, AllPairs, Contains}
@@ -10,12 +10,10 @@ use Rattle.mx_core.proofs.Descriptors.{same_descriptor}
 use Rattle.mx_core.specs.Append.{with_changes}
 use Rattle.mx_core.specs.Pages.{covered_anew, covers, gives}
 use Rattle.mx_core.specs.declared.changes.Change.{Change}
-use Rattle.mx_core.specs.declared.changes.Run.{Run}
 use Rattle.mx_pages.specs.Runs.{IsPageRun, is_in_run, page_count}
 use Rattle.mx_pages.specs.declared.pages.PageRun.{PageRun}
-use Rattle.mx_request.specs.Versions.{last_number}
 use Rattle.mx_sdw.specs.Admissible.{IsAdmissible}
-use Rattle.mx_sdw.specs.Descriptors.{Descriptor, unknown_desc}
+use Rattle.mx_sdw.specs.Descriptors.{Descriptor}
 use Rattle.mx_state.specs.Changes.{AreChanges, IsBefore, IsBounded, change}
 use Rattle.mx_state.specs.Given.{is_page_of}
 use Rattle.mx_state.specs.Plain.{Plain}

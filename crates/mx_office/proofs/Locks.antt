@@ -4,24 +4,22 @@ use Rattle.std.proofs.lemmas.Bool.{cases_eq, cases_lt}
 use Rattle.std.proofs.lemmas.Bool.Decides.{nat_tests}
 use Rattle.std.proofs.lemmas.List.{length-map, map-append}
 use Rattle.std.proofs.lemmas.Option.{slice_get_past}
-use Rattle.std.specs.List.{All}
-use Rattle.std.specs.Prelude.{IsTrue, ◌&&◌, ◌||◌, ◌==◌}
+use Rattle.std.specs.Prelude.{IsTrue, ◌&&◌, ◌||◌}
 use Rattle.mx_core.proofs.Puts.{put_all, put_else, put_here}
 use Rattle.mx_core.specs.Append.{with_changes}
 use Rattle.mx_core.specs.Pages.{covered_anew, covers, gives, page_of}
-use Rattle.mx_core.specs.Put.{pick, put}
 use Rattle.mx_core.specs.declared.changes.Change.{Change}
 use Rattle.mx_core.specs.declared.changes.Run.{Run}
-use Rattle.mx_pages.specs.Runs.{IsPageRun, is_free, is_in_run, page_count}
+use Rattle.mx_pages.specs.Runs.{IsPageRun, is_free, page_count}
 use Rattle.mx_pages.specs.declared.pages.PageRun.{PageRun}
 use Rattle.mx_request.specs.Versions.{last_number}
 use Rattle.mx_rule.specs.Appending.{MayAppend}
-use Rattle.mx_rule.specs.Notes.{noting_view, reported_view}
-use Rattle.mx_rule.specs.Shown.{clean_of, first_clean, given_of, office_of, ready_of, reported_of, tables_of}
+use Rattle.mx_rule.specs.Notes.{noting_view}
+use Rattle.mx_rule.specs.Shown.{clean_of, first_clean, office_of, ready_of, reported_of}
 use Rattle.mx_rule.specs.Telling.{AreRightWords}
 use Rattle.mx_rule.specs.declared.layout.Layout.{Layout}
 use Rattle.mx_rule.specs.declared.views.Cleaning.{Cleaning}
-use Rattle.mx_rule.specs.declared.views.Cleaning.TheVariants.{Cleared, Covered}
+use Rattle.mx_rule.specs.declared.views.Cleaning.TheVariants.{Covered}
 use Rattle.mx_rule.specs.declared.views.EntryView.{EntryView}
 use Rattle.mx_rule.specs.declared.views.PassView.{PassView}
 use Rattle.mx_rule.specs.declared.views.ReportView.{ReportView}
@@ -38,7 +36,7 @@ use Rattle.mx_state.specs.Given.{frees, is_page_of}
 use Rattle.mx_state.specs.Given as given
 use Rattle.mx_state.specs.History.{replay}
 use Rattle.mx_state.specs.Pages.{AreFreePagesBare}
-use Rattle.mx_state.specs.Plain.{Plain, process_at}
+use Rattle.mx_state.specs.Plain.{Plain}
 use Rattle.mx_state.specs.Table.{descriptor, process_desc}
 use Rattle.mx_state.specs.declared.journal.Entry as journaled
 use Rattle.mx_state.specs.declared.states.ProcessState.{ProcessState}
@@ -51,12 +49,11 @@ use Rattle.mx_transcript.specs.Access.{descriptor_at}
 use Rattle.mx_transcript.specs.Misses.{IsChanged}
 use Rattle.mx_office.specs.Revoking.{IsListed}
 use Rattle.mx_transcript.specs.Opened.{opening_of}
-use Rattle.mx_office.specs.Announcing.{Coming, MayAnnounce, announced_view, came_view, coming, entry_of}
+use Rattle.mx_office.specs.Announcing.{Coming, MayAnnounce, announced_view, came_view, coming}
 use Rattle.mx_office.specs.Clearing.{cleaned, cleaned_pages}
-use Rattle.mx_office.specs.Locked.{AreMakers, ArePages, IsLocked, marked_in, marked_of, state_at}
+use Rattle.mx_office.specs.Locked.{ArePages, IsLocked, marked_in, marked_of, state_at}
 use Rattle.mx_office.specs.Serving.{runs_of}
-use Rattle.mx_office.proofs.Announces.{listed_or_not}
-use Rattle.mx_office.proofs.Comings.{admissible_new, all_at, both_true, covered_by, each_new, from_true, listed_new, not_true, or_left, or_right, or_true, pairs_once, run_within, runs_give, table_new, to_true, unlisted_same}
+use Rattle.mx_office.proofs.Comings.{admissible_new, all_at, both_true, covered_by, each_new, from_true, listed_new, not_true, or_left, or_right, pairs_once, run_within, runs_give, table_new, to_true}
 
 -- what is reported, or noted, changes nothing of it
 pub locked_as : (x : Outline) (setup : List journaled.Entry) (y : Layout) (s : Supervised)
@@ -286,14 +283,17 @@ module _ (x : Outline) (setup : List journaled.Entry) (y : Layout) (s s' : Super
           let covered = subst (λ (d : Descriptor). IsTrue (covers d page))
           (sym (each_new old new came.changes come.changes found.0 c found.1.1.0).0) found.1.1.1 in
           absurd (true_false (sym free ∙ covered_taken c.process c.segno page covered))
+
   given_free : (page : ℕ) → IsTrue (gives (runs_of came.given) page)
       → (page < page_count) × (is_free old.hierarchy.pages page ≡ true)
   given_free page has =
       let mine : is_page_of came.given page ≡ true =
       sym (runs_give came.given page) ∙ from_true (gives (runs_of came.given) page) has in
-      let low = run_within came.given page come.given.some mine in
-      (low, (both_true (is_free old.hierarchy.pages page) (not (is_free new.hierarchy.pages page))
-      (sym (come.given.each page low) ∙ mine)).0)
+      let low = run_within came.given page come.given.some mine in (
+        low,
+        (both_true (is_free old.hierarchy.pages page) (not (is_free new.hierarchy.pages page))
+            (sym (come.given.each page low) ∙ mine)).0,
+      )
 
   changed_range : (i : ℕ) (c : Change) → slice_get came.changes i ≡ Some c
       → (c.process ≤ length x.principals) × (c.segno < last_number x.version + 1)
@@ -308,7 +308,7 @@ module _ (x : Outline) (setup : List journaled.Entry) (y : Layout) (s s' : Super
     elim (cases_lt (last_number x.version) c.segno) [
       | inl beyond ↦ absurd (differs (unknown_at s l.session beyond) (unknown_at s' (session_is ∙ l.session) beyond))
       | inr within ↦ omega arith
-    ]
+    ],
   )
     where
       differs : descriptor old c.process c.segno ≡ unknown_desc → descriptor new c.process c.segno ≡ unknown_desc → ⊥
@@ -326,8 +326,7 @@ module _ (x : Outline) (setup : List journaled.Entry) (y : Layout) (s s' : Super
     high = (let a = l.laid.processes in omega arith);
     each = λ i c at.
         let b = all_at (IsBounded (last_number old.version)) came.changes i c come.bounded at in
-        let range = changed_range i c at in
-        (
+        let range = changed_range i c at in (
           b.first,
           (let a = l.laid.processes in let r = range.0 in omega arith),
           (let a = l.laid.numbers in let r = range.1 in omega arith),

@@ -1,7 +1,5 @@
 -- What a process knows after a note, and after its own entry.
-use Rattle.std.proofs.Common.{◌≡◌, ◌≢◌, ℕ, zero, suc, ◌+◌, ◌<◌, ◌≤◌, max, List, [], ◌∷◌, ◌++◌, length, Option, Some, slice_get, refl, sym, ap, ◌∙◌, subst, arith, length-append}
-use Rattle.mx_core.specs.declared.changes.Change.{Change}
-use Rattle.mx_core.specs.declared.changes.Run.{Run}
+use Rattle.std.proofs.Common.{◌≡◌, ℕ, suc, ◌+◌, ◌≤◌, max, List, [], ◌∷◌, ◌++◌, length, Some, slice_get, refl, sym, ap, ◌∙◌, subst, arith, length-append}
 use Rattle.mx_desc.specs.Passes.{PassValue}
 use Rattle.mx_request.specs.declared.requests.Request.{Request}
 use Rattle.mx_rule.specs.Fronts.{IsFront}
@@ -12,10 +10,9 @@ use Rattle.mx_rule.specs.declared.views.NoteView.{NoteView}
 use Rattle.mx_rule.specs.declared.views.PassView.{PassView}
 use Rattle.mx_rule.specs.declared.views.SuperView.{SuperView}
 use Rattle.mx_script.specs.Sessions.{Outline}
-use Rattle.mx_state.specs.Table.{descriptor}
 use Rattle.mx_state.specs.declared.journal.Entry as journaled
-use Rattle.mx_sup.specs.Entering.{HasCome, HasEntered as HasBeenEntered}
-use Rattle.mx_sup.specs.Supervised.{Supervised, state_of, supervised}
+use Rattle.mx_sup.specs.Entering.{HasEntered as HasBeenEntered}
+use Rattle.mx_sup.specs.Supervised.{Supervised, supervised}
 use Rattle.mx_ties.specs.Views.{Marked}
 use Rattle.mx_transcript.specs.Settings.{entry_at}
 use Rattle.mx_office.specs.Locked.{marked_in, marked_of}

@@ -1,11 +1,11 @@
 -- What is settled of one process leaves the rest to be settled, and is known settled with the last entry.
-use Rattle.std.proofs.Common.{◌≡◌, ℕ, zero, suc, ◌≤◌, Bool, true, false, List, [], ◌∷◌, Some, slice_get, refl, sym, ap, ◌∙◌, subst, arith, eq-eqb}
+use Rattle.std.proofs.Common.{◌≡◌, ℕ, zero, suc, Bool, true, false, List, [], ◌∷◌, Some, slice_get, refl, ap, ◌∙◌, subst, arith, eq-eqb}
 use Rattle.std.specs.Prelude.{◌==◌}
 use Rattle.mx_core.specs.Put.{pick, put}
 use Rattle.mx_core.proofs.Puts.{put_all, put_here}
 use Rattle.mx_core.specs.declared.changes.Change.{Change}
 use Rattle.mx_core.specs.declared.words.DescriptorWord.TheVariants.{Valid}
-use Rattle.mx_rule.specs.Shown.{office_of, told_of, words_of}
+use Rattle.mx_rule.specs.Shown.{office_of, told_of}
 use Rattle.mx_rule.specs.declared.layout.Layout.{Layout}
 use Rattle.mx_rule.specs.declared.views.SuperView.{SuperView}
 use Rattle.mx_rule.specs.declared.views.Told.{Told}

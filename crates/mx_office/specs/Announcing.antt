@@ -1,6 +1,5 @@
 -- An entry is announced: from its coming until its process was told of it.
 use Rattle.std.specs.Prelude.{◌≡◌, ◌≢◌, ℕ, ◌+◌, ◌<◌, ◌≤◌, List, ◌∷◌, length, Option, Some, IfSome, slice_get}
-use Rattle.mx_core.specs.Append.{with_changes}
 use Rattle.mx_core.specs.declared.changes.Change.{Change}
 use Rattle.mx_core.specs.declared.changes.Run.{Run}
 use Rattle.mx_pages.specs.Runs.{IsPageRun}

@@ -1,6 +1,6 @@
 -- What the office keeps under its lock: whenever the lock is free, nothing is pending, and what the supervisor at the
 -- shared words knows is the journal since the opening.
-use Rattle.std.specs.Prelude.{◌≡◌, ℕ, suc, ◌+◌, ◌<◌, ◌≤◌, Bool, true, false, IsTrue, List, [], ◌∷◌, ◌++◌, length, take, Some, slice_get}
+use Rattle.std.specs.Prelude.{◌≡◌, ℕ, suc, ◌+◌, ◌<◌, ◌≤◌, true, false, IsTrue, List, [], ◌∷◌, ◌++◌, length, take, Some, slice_get}
 use Rattle.mx_core.specs.Pages.{page_of}
 use Rattle.mx_pages.specs.Runs.{is_free, page_count}
 use Rattle.mx_request.specs.Versions.{last_number}

@@ -15,7 +15,9 @@ pub enum Answer {
     /// It is a refusal.
     Refused,
     /// A segment became known, and with it this linkage section.
-    Known { linkage: Option<u16> },
+    Known {
+        linkage: Option<u16>,
+    },
     /// A link leads there; with the segment this linkage section became known.
     Linked {
         segno: u16,

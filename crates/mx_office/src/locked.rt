@@ -1,6 +1,6 @@
 //! What the office keeps under its lock.
 
-ghost use Rattle.std.specs.Prelude.{◌≡◌, ◌<◌, ℕ, false, Ok, Err, length};
+ghost use Rattle.std.specs.Prelude.{◌≡◌, ◌<◌, ℕ, false, true, Ok, Err, length};
 ghost use Rattle.mx_office.specs.Serving.{HasEntered, HasMetLimit};
 ghost use Rattle.mx_office.specs.declared.answers.EnterError.TheVariants.{HistoryFull, Memory};
 ghost use Rattle.mx_office.specs.declared.answers.Served.{Served as ServedValue};
@@ -66,7 +66,10 @@ impl<'a, B: Sitting> Locked<'a, B> {
             → HasMetLimit B.session length pass.old pass.new }
         ensures below { (served : ServedValue) → result ≡ Ok served
             → length self.old.supervised.journal < limit_of B.session }
+        ensures at_limit { self.old.stopped ≡ false → length self.old.supervised.journal ≡ limit_of B.session
+            → result ≡ Err (HistoryFull (limit_of B.session)) }
         ensures memory { result ≡ Err Memory → pass.new ≡ pass.old }
+        ensures over { self.old.stopped ≡ true → result ≡ Err Memory }
         ensures stopped { self.new.stopped ≡ self.old.stopped }
     {
         if self.stopped {

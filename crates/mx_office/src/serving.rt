@@ -157,6 +157,8 @@ pub(crate) fn serve<R: Wait, B: Sitting>(
         → HasEntered B.session B.setup ring request.now served pass.old pass.new }
     ensures full { (length : ℕ) → result ≡ Err (HistoryFull length) → HasMetLimit B.session length pass.old pass.new }
     ensures below { (served : ServedValue) → result ≡ Ok served → length supervisor.old.journal < limit_of B.session }
+    ensures at_limit { length supervisor.old.journal ≡ limit_of B.session → result
+        ≡ Err (HistoryFull (limit_of B.session)) }
     ensures memory { result ≡ Err Memory → pass.new ≡ pass.old }
 {
     let length = supervisor.length();

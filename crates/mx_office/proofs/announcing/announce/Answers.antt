@@ -1,11 +1,11 @@
-use Rattle.std.proofs.Common.{◌≡◌, ℕ, ◌+◌, ◌<◌, ◌≤◌, List, sym, ap, ◌∙◌, subst, arith, rules}
+use Rattle.std.proofs.Common.{◌≡◌, ℕ, ◌<◌, ◌≤◌, List, sym, ap, ◌∙◌, subst, rules}
 use Rattle.mx_core.specs.declared.changes.Change.{Change}
 use Rattle.mx_desc.specs.Passes.{PassValue}
 use Rattle.mx_rule.specs.Notes.{joined_view, noted_view}
 use Rattle.mx_rule.specs.Shown.{office_of}
 use Rattle.mx_rule.specs.declared.views.NoteView.{NoteView}
 use Rattle.mx_rule.specs.declared.views.SuperView.{SuperView}
-use Rattle.mx_office.specs.Announcing.{Coming, announced_view, came_view, coming}
+use Rattle.mx_office.specs.Announcing.{announced_view, came_view, coming}
 use Rattle.mx_office.specs.Clearing.{AreBare, cleared_pages}
 use Rattle.mx_office.specs.Revoking.{AreListed, MayStrikeAll, revoked_view}
 use Rattle.mx_office.specs.Settling.{AreStruckLast, settled_views}

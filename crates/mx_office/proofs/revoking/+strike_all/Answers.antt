@@ -1,4 +1,4 @@
-use Rattle.std.proofs.Common.{suc, ◌-◌, List, length, take, drop, refl, sym, subst, rules}
+use Rattle.std.proofs.Common.{◌-◌, List, length, take, drop, refl, sym, subst, rules}
 use Rattle.mx_core.specs.declared.changes.Change.{Change}
 use Rattle.mx_core.proofs.Lists.{split_up}
 use Rattle.mx_rule.specs.Shown.{office_of}

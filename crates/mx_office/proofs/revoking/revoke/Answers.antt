@@ -1,10 +1,9 @@
-use Rattle.std.proofs.Common.{◌≡◌, List, refl, sym, ap, ◌∙◌, subst}
+use Rattle.std.proofs.Common.{sym, ap, ◌∙◌, subst}
 use Rattle.mx_desc.specs.Supers.{IsWaiting}
 use Rattle.mx_rule.specs.Shown.{office_of}
 use Rattle.mx_rule.specs.declared.views.SuperView.{SuperView}
 use Rattle.mx_office.specs.Revoking.{MayAcknowledgeAll, MayConnectAll, connected_views}
 use Rattle.mx_office.proofs.Answering.{may_acknowledge, may_answer, may_connect, revoked}
-use Rattle.mx_rule.specs.Acknowledging.{answered_view}
 use Rattle.mx_office.proofs.revoking.revoke.Goals as goal
 
 pub connect_all-requires-clause-may : goal.connect_all-requires-clause-may

@@ -1,11 +1,10 @@
-use Rattle.std.proofs.Common.{◌≡◌, ℕ, ◌+◌, ◌<◌, ◌≤◌, List, length, refl, sym, ap, ◌∙◌, subst, arith, rules}
+use Rattle.std.proofs.Common.{◌≡◌, ℕ, ◌+◌, ◌≤◌, List, length, sym, ap, ◌∙◌, subst, arith}
 use Rattle.mx_core.specs.declared.changes.Run.{Run}
 use Rattle.mx_desc.specs.Passes.{PassValue}
 use Rattle.mx_rule.specs.Notes.{reported_view, reporting_view}
 use Rattle.mx_rule.specs.Shown.{office_of, reported_of}
 use Rattle.mx_rule.specs.declared.views.PassView.{PassView}
 use Rattle.mx_rule.specs.declared.views.SuperView.{SuperView}
-use Rattle.mx_script.specs.Sessions.{Outline}
 use Rattle.mx_state.specs.declared.journal.Entry as journaled
 use Rattle.mx_office.specs.Announcing.{Coming, IsAnnounced, MayAnnounce, announced_view, coming}
 use Rattle.mx_office.specs.Serving.{HasEntered, runs_of}
@@ -53,8 +52,16 @@ announce-requires-clause-may g c =
     c.report.ensures.reported) in
     subst (λ (z : SuperView journaled.Entry × (PassView journaled.Entry × (ℕ × List Run))).
     MayAnnounce (coming z.1.1.0 c.in_ok-made.made.came.changes z.1.1.1 c.in_ok-made.made.came.freed found) z.0 z.1.0)
-    (λ i. (sym heard i, (sym u_is i, ((process ∙ ap (λ (z : PassView journaled.Entry). z.process) (sym u_is)) i,
-    sym c.in_ok-made.ensures.given i)))) may
+    (λ i. (
+      sym heard i,
+      (
+        sym u_is i,
+        (
+          (process ∙ ap (λ (z : PassView journaled.Entry). z.process) (sym u_is)) i,
+          sym c.in_ok-made.ensures.given i,
+        ),
+      ),
+    )) may
 
 pub returns-clause-locked : goal.returns-clause-locked
 returns-clause-locked g c =
@@ -144,9 +151,13 @@ returns-clause-entered g c served same =
     c.entry-entry.ensures)
     c.free_pages_are_bare.ensures c.length-before.ensures.processes c.length-after.ensures.processes
     (let a = c.length-length.ensures.counted in let b = c.length-length.ensures.begun in omega arith)
-))
-    (mine_is ∙ (λ i. record { process = c.process-process.ensures.value i; ring = c.args.ring;
-    request = c.args.request.now; reply = (ap (λ (z : journaled.Entry). z.reply) (sym mine_is)) i }))
+    ))
+    (mine_is ∙ (λ i. record {
+      process = c.process-process.ensures.value i;
+      ring = c.args.ring;
+      request = c.args.request.now;
+      reply = (ap (λ (z : journaled.Entry). z.reply) (sym mine_is)) i;
+    }))
     c.of.ensures
     (λ n changed. changed_listed x g.B.Sitting.setup g.B.Naming.layout s s' w c.args.book.now.total l found c.in_ok-made.made.came
     c.in_ok-made.ensures.came
@@ -161,12 +172,11 @@ returns-clause-entered g c served same =
     c.entry-entry.ensures)
     c.free_pages_are_bare.ensures c.length-before.ensures.processes c.length-after.ensures.processes
     (let a = c.length-length.ensures.counted in let b = c.length-length.ensures.begun in omega arith)
-))
+    ))
     (subst (λ (j : List journaled.Entry). IsChanged x j u.process n came.number) (sym (journal_after x g.B.Sitting.setup g.B.Naming.layout s s' w c.args.book.now.total l found c.in_ok-made.made.came
     c.in_ok-made.ensures.came
     (grown_journal s s' c.process-process.result c.args.ring c.args.request.now c.in_ok-made.made.came.number made found
     c.entry-entry.ensures)
     c.free_pages_are_bare.ensures c.length-before.ensures.processes c.length-after.ensures.processes
     (let a = c.length-length.ensures.counted in let b = c.length-length.ensures.begun in omega arith)
-
     (length u.trace))) changed)))

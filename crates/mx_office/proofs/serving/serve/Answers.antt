@@ -1,9 +1,5 @@
-use Rattle.std.proofs.Common.{◌≡◌, ℕ, ◌+◌, ◌<◌, ◌≤◌, List, length, Result, Err, sym, ap, ◌∙◌, subst, arith, rules}
-use Rattle.mx_script.specs.Sessions.{Outline, limit_of}
-use Rattle.mx_office.specs.Serving.{HasMetLimit}
-use Rattle.mx_office.specs.declared.answers.EnterError.{EnterError}
-use Rattle.mx_office.specs.declared.answers.EnterError.TheVariants.{HistoryFull}
-use Rattle.mx_office.specs.declared.answers.Served.{Served}
+use Rattle.std.proofs.Common.{◌≡◌, ◌<◌, ◌≤◌, length, sym, ap, ◌∙◌, arith, rules}
+use Rattle.mx_script.specs.Sessions.{limit_of}
 use Rattle.mx_office.proofs.Locks.{journal_length}
 use Rattle.mx_office.proofs.Serves.{same_length}
 use Rattle.mx_office.proofs.serving.serve.Goals as goal

@@ -1,4 +1,4 @@
-use Rattle.std.proofs.Common.{◌≡◌, ap, ◌∙◌}
+use Rattle.std.proofs.Common.{ap, ◌∙◌}
 use Rattle.mx_desc.specs.Passes.{PassValue}
 use Rattle.mx_rule.specs.Notes.{joined_view}
 use Rattle.mx_state.specs.declared.journal.Entry as journaled
