@@ -9,3 +9,4 @@ pub mod ProcessLaws
 pub mod StandingLaws
 pub mod ReplyLaws
 pub mod TakenLaws
+pub mod DirectLaws

@@ -1,12 +1,16 @@
 -- Helpers: how far the line at work has come, and what its operand asks for.
-use Rattle.std.specs.Prelude.{◌≡◌, ℕ, ◌-◌, ◌<◌, ◌≤◌, true, false, List, [], Some, length, slice_get}
+use Rattle.std.specs.Prelude.{◌≡◌, ℕ, ◌-◌, ◌<◌, ◌≤◌, true, false, List, [], Option, Some, None, length, slice_get}
 use Rattle.mx_call.specs.Registers.{Registers, ArePackable}
 use Rattle.mx_upcall.specs.Control.{Control, with_registers}
 use Rattle.mx_effring.specs.Chains as chains
 use Rattle.mx_effring.specs.Chains.{IsBounded}
+use Rattle.mx_effring.specs.Walks.{wanted}
+use Rattle.mx_effring.specs.declared.walks.Want.{Want}
+use Rattle.mx_effring.specs.declared.walks.Want.TheVariants.{Word, Done}
 use Rattle.mx_transcript.specs.Attempts.{attempt}
 use Rattle.mx_transcript.specs.Courses.{Judged}
 use Rattle.mx_transcript.specs.Next.{Calls, Ends}
+use Rattle.mx_transcript.specs.Operands.{walk_of}
 use Rattle.mx_transcript.specs.Standing.{IsWalked}
 use Rattle.mx_ptr.specs.Pointers.{PointerParts, IsPackable, pointer_word}
 use Rattle.mx_request.specs.declared.requests.Request.TheVariants.{Link}
@@ -76,6 +80,19 @@ pub record IsTarget (g : Registers) (target : PointerParts) : Type 0 where
   pub packable : IsPackable target
   pub high : g.ring ≤ target.ring
   pub plain : target.further ≡ false
+
+-- the target of a walk that asks for no word
+abbrev pub done_at : Want → Option PointerParts
+done_at (Word segno word ring) = None
+done_at (Done target) = Some target
+
+abbrev pub first_target : Option chains.Operand → Option PointerParts
+first_target None = None
+first_target (Some walk) = done_at (wanted walk)
+
+-- the target of a line whose operand is not indirect: its walk asks for no word
+abbrev pub direct_target : Registers → Line → Option PointerParts
+direct_target g l = first_target (walk_of g l)
 
 -- after all this was seen the line goes on, or has ended
 abbrev pub IsOnward : Control → Line → List Judged → Onward → Type 0

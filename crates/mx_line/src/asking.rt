@@ -1,20 +1,21 @@
 //! What a line asks for next.
 
-ghost use Rattle.std.specs.Prelude.{◌≡◌, [], false, IfSome, IsNone};
+ghost use Rattle.std.specs.Prelude.{◌≡◌, [], IfSome, IsNone};
 ghost use Rattle.mx_call.specs.Registers.{ArePackable, way_back};
 ghost use Rattle.mx_effring.specs.Walks.{wanted};
 ghost use Rattle.mx_transcript.specs.Asking.{attempts};
 ghost use Rattle.mx_transcript.specs.Attempts.{wants};
 ghost use Rattle.mx_sdw.specs.declared.operations.Op.TheVariants.{Write};
 ghost use Rattle.mx_transcript.specs.Next.{at_place, storing};
-ghost use Rattle.mx_transcript.specs.Operands.{walk_from, walk_of};
+ghost use Rattle.mx_ptr.specs.Pointers.{IsPackable};
+ghost use Rattle.mx_transcript.specs.Operands.{walk_of};
 ghost use Rattle.mx_transcript.specs.Targets.{at_target};
 ghost use Rattle.mx_upcall.specs.Soundness.{IsPackableControl};
 ghost use Rattle.mx_line.specs.AtWork.{IsGoodNext, IsPlain, IsStorable, IsStorableBy, meant, reference_in};
 ghost use Rattle.mx_line.specs.Fills.{IsNoRequest};
-ghost use Rattle.mx_line.specs.Operands.{IsGoodWalk, IsMemoryLine, IsSayable, IsTarget};
+ghost use Rattle.mx_line.specs.Operands.{IsGoodWalk, IsMemoryLine, IsSayable, IsTarget, direct_target};
 
-use crate::operands::{loaded, register_word, start};
+use crate::operands::{direct, loaded, register_word, start, target_at};
 use mx_call::Regs;
 use mx_effring::{Walk, Want};
 use mx_ptr::Pointer;
@@ -67,6 +68,7 @@ pub enum Next {
 }
 
 /// What a line asks for at its beginning.
+#[inline(always)]
 pub(crate) fn begins(line: &Line, control: &Control) -> Next
     requires line { IsSayable line.now }
     requires packable { IsPackableControl control.now }
@@ -93,14 +95,53 @@ pub(crate) fn begins(line: &Line, control: &Control) -> Next
         | Line::Spri { .. }
         | Line::Fetch
         | Line::Call { .. }
-        | Line::Return { .. } => match walk_of(line, &control.registers) {
-            Some(walk) => wants(line, control, &walk),
-            None => Next::Nowhere,
+        | Line::Return { .. } => match direct_target(line, &control.registers) {
+            Some(target) => at_target(line, control, &target),
+            None => walks(line, control),
         },
     }
 }
 
+/// The target of a line that refers to memory, where its operand is not indirect: it takes no walk.
+#[inline(always)]
+pub(crate) fn direct_target(line: &Line, registers: &Regs) -> Option<Pointer>
+    requires line { IsSayable line.now }
+    requires packable { ArePackable registers.now }
+    ensures is { result ≡ direct_target registers.now line.now }
+    ensures target { IfSome result (IsTarget registers.now) }
+    ensures memory { IfSome result (λ target. IsMemoryLine line.now) }
+{
+    match line {
+        Line::Ask(_) | Line::Set { .. } => None,
+        Line::Epp { operand, .. } => direct(registers, operand),
+        Line::Lda { operand } => direct(registers, operand),
+        Line::Sta { operand } => direct(registers, operand),
+        Line::Spri { operand, .. } => direct(registers, operand),
+        Line::Fetch => Some(target_at(registers, way_back(registers))),
+        Line::Call { operand } => direct(registers, operand),
+        Line::Return { operand } => direct(registers, operand),
+    }
+}
+
+// What a line asks for whose walk begins now.
+#[inline(never)]
+fn walks(line: &Line, control: &Control) -> Next
+    requires line { IsSayable line.now }
+    requires packable { IsPackableControl control.now }
+    requires memory { IsMemoryLine line.now }
+    ensures is { attempts control.now line.now [] ≡ meant control.now line.now result }
+    ensures storable { IsStorable result }
+    ensures good { IsGoodNext control.now result }
+    ensures plain { IsPlain line.now result }
+{
+    match walk_of(line, &control.registers) {
+        Some(walk) => wants(line, control, &walk),
+        None => Next::Nowhere,
+    }
+}
+
 /// The walk of a line that refers to memory, from its beginning.
+#[inline(never)]
 pub(crate) fn walk_of(line: &Line, registers: &Regs) -> Option<Walk>
     requires line { IsSayable line.now }
     requires packable { ArePackable registers.now }
@@ -115,13 +156,14 @@ pub(crate) fn walk_of(line: &Line, registers: &Regs) -> Option<Walk>
         Line::Lda { operand } => Some(start(registers, operand)),
         Line::Sta { operand } => Some(start(registers, operand)),
         Line::Spri { operand, .. } => Some(start(registers, operand)),
-        Line::Fetch => Some(here(registers)),
+        Line::Fetch => Some(Walk::start(registers.ring, way_back(registers), false)),
         Line::Call { operand } => Some(start(registers, operand)),
         Line::Return { operand } => Some(start(registers, operand)),
     }
 }
 
 /// What a line asks for where its walk has come so far.
+#[inline(never)]
 pub(crate) fn wants(line: &Line, control: &Control, walk: &Walk) -> Next
     requires line { IsSayable line.now }
     requires packable { IsPackableControl control.now }
@@ -144,6 +186,7 @@ pub(crate) fn wants(line: &Line, control: &Control, walk: &Walk) -> Next
 }
 
 // What a line asks for at its target.
+#[inline(always)]
 fn at_target(line: &Line, control: &Control, target: &Pointer) -> Next
     requires line { IsSayable line.now }
     requires packable { IsPackableControl control.now }
@@ -173,20 +216,21 @@ fn at_target(line: &Line, control: &Control, target: &Pointer) -> Next
     }
 }
 
-// The walk to where the process runs, in its current ring.
-fn here(registers: &Regs) -> Walk
+// Where the process runs, in its current ring.
+#[inline(always)]
+fn way_back(registers: &Regs) -> Pointer
     requires { ArePackable registers.now }
-    ensures value { result ≡ walk_from registers.now false (way_back registers.now) }
-    ensures good { IsGoodWalk registers.now result }
+    ensures value { result ≡ way_back registers.now }
+    ensures packable { IsPackable result }
 {
-    let base = Pointer {
+    Pointer {
         ring: registers.ring,
         ..registers.procedure
-    };
-    Walk::start(registers.ring, base, false)
+    }
 }
 
 // An operation at the place of a pointer, at its ring.
+#[inline(always)]
 fn at_place(op: Op, target: &Pointer) -> Reference
     requires { op ≡ Write → ⊥ }
     ensures is { reference_in result ≡ at_place op target.now }
@@ -202,6 +246,7 @@ fn at_place(op: Op, target: &Pointer) -> Reference
 }
 
 /// A write of a value there.
+#[inline(always)]
 pub(crate) fn storing(value: Word, target: &Pointer) -> Reference
     ensures is { reference_in result ≡ storing value target.now }
     ensures storable { IsStorableBy result.op result.stores }

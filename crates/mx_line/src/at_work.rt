@@ -33,9 +33,9 @@ ghost use Rattle.mx_line.specs.Fills.{IsNoRequest, IsShort, after_fill, counted,
 ghost use Rattle.mx_line.specs.Making.{looks};
 ghost use Rattle.mx_line.specs.Operands.{IsGoodProgress, IsGoodWalk, IsMemoryLine, IsSayable, IsTarget};
 ghost use Rattle.mx_line.specs.declared.at_work.LineAtWork.TheVariants.{At, Ended, Nowhere};
-ghost use Rattle.mx_line.specs.declared.operands.Progress.TheVariants.{Waiting};
+ghost use Rattle.mx_line.specs.declared.operands.Progress.TheVariants.{Before, Waiting};
 
-use crate::asking::{Called, End, Next, begins, walk_of, wants};
+use crate::asking::{Called, End, Next, begins, direct_target, walk_of, wants};
 use crate::fills::{Behind, Fill, Filled, Snap, first_fill};
 use crate::operands::{Onward, Place, Progress, feed};
 use mx_call::Regs;
@@ -189,10 +189,7 @@ fn seen_at(
     ensures known { IsMet control.now line.now (At progress) element.now desc.now → IsKnown result }
 {
     match progress {
-        Progress::Before => match walk_of(line, &control.registers) {
-            Some(walk) => led_by(walk, line, control, element, desc),
-            None => LineAtWork::Nowhere,
-        },
+        Progress::Before => first_seen(line, control, element, desc),
         Progress::Walking(walk) => led_by(walk, line, control, element, desc),
         Progress::Filling(fill) => stored(&fill, control, element, desc),
         Progress::AtLink(_) => LineAtWork::Nowhere,
@@ -200,7 +197,49 @@ fn seen_at(
     }
 }
 
+/// The first reference of a line was made.
+#[inline(always)]
+pub(crate) fn first_seen(
+    line: &Line,
+    control: &Control,
+    element: &Element,
+    desc: &Desc,
+) -> LineAtWork
+    requires line { IsSayable line.now }
+    requires packable { IsPackableControl control.now }
+    requires desc { IsAdmissible desc.now }
+    ensures taken { (setting : Setting) → setting.descriptor element.now ≡ desc.now
+        → IsTaken control.now line.now setting (Core (Seen element.now)) (At Before) result }
+    ensures good { IsGoodWork control.now result }
+    ensures nearer { IsNearer (At Before) result }
+    ensures known { IsMet control.now line.now (At Before) element.now desc.now → IsKnown result }
+{
+    match direct_target(line, &control.registers) {
+        Some(target) => did(line, control, &target, element, desc),
+        None => first_led(line, control, element, desc),
+    }
+}
+
+// The reference was made for which a walk asks that begins now.
+#[inline(never)]
+fn first_led(line: &Line, control: &Control, element: &Element, desc: &Desc) -> LineAtWork
+    requires line { IsSayable line.now }
+    requires packable { IsPackableControl control.now }
+    requires desc { IsAdmissible desc.now }
+    ensures taken { (setting : Setting) → setting.descriptor element.now ≡ desc.now
+        → IsTaken control.now line.now setting (Core (Seen element.now)) (At Before) result }
+    ensures good { IsGoodWork control.now result }
+    ensures nearer { IsNearer (At Before) result }
+    ensures known { IsMet control.now line.now (At Before) element.now desc.now → IsKnown result }
+{
+    match walk_of(line, &control.registers) {
+        Some(walk) => led_by(walk, line, control, element, desc),
+        None => LineAtWork::Nowhere,
+    }
+}
+
 // The reference for which a walk asks was made.
+#[inline(never)]
 fn led_by(walk: Walk, line: &Line, control: &Control, element: &Element, desc: &Desc) -> LineAtWork
     requires line { IsSayable line.now }
     requires packable { IsPackableControl control.now }
@@ -392,6 +431,7 @@ fn moved(after: &Change) -> LineAtWork
 }
 
 // A write that a reply asks for was made.
+#[inline(never)]
 fn stored(fill: &Fill, control: &Control, element: &Element, desc: &Desc) -> LineAtWork
     requires packable { IsPackableControl control.now }
     requires short { IsShort fill.now }
@@ -413,6 +453,7 @@ fn stored(fill: &Fill, control: &Control, element: &Element, desc: &Desc) -> Lin
 }
 
 // A call was entered for a line that goes on from here.
+#[inline(never)]
 fn answered_at(progress: Progress, line: &Line, control: &Control, reply: &Reply) -> LineAtWork
     requires line { IsSayable line.now }
     requires packable { IsPackableControl control.now }

@@ -1,22 +1,22 @@
 //! How far the line at work has come, and what an indirect word makes of its walk.
 
-ghost use Rattle.std.specs.Prelude.{◌≡◌, ◌≤◌, ◌-◌, ℕ, true, List, [], ◌∷◌, ◌++◌, Some, length};
+ghost use Rattle.std.specs.Prelude.{◌≡◌, ◌≤◌, ◌-◌, ℕ, true, false, List, [], ◌∷◌, ◌++◌, Some, IfSome, length};
 ghost use Rattle.mx_call.specs.Loading.{loaded};
 ghost use Rattle.mx_call.specs.Registers.{ArePackable};
 ghost use Rattle.mx_core.specs.declared.elements.Outcome.TheVariants.{Read as WasRead};
 ghost use Rattle.mx_effring.specs.Walks.{wanted};
 ghost use Rattle.mx_effring.specs.declared.walks.Want.TheVariants.{Word as WantsWord};
 ghost use Rattle.mx_transcript.specs.Courses.{Judged};
-ghost use Rattle.mx_transcript.specs.Operands.{base_of, beyond, operand_walk};
+ghost use Rattle.mx_transcript.specs.Operands.{base_of, beyond, operand_walk, walk_from};
 ghost use Rattle.mx_transcript.specs.Standing.{IsWalked};
 ghost use Rattle.mx_transcript.specs.declared.transcripts.Result2.TheVariants as results;
 ghost use Rattle.mx_ptr.specs.Pointers.{IsPackable};
 ghost use Rattle.mx_script.specs.Sessions.{is_address};
-ghost use Rattle.mx_line.specs.Operands.{HasBegun, IsGoodWalk, IsTarget, IsOnward, IsGoodOnward, IsCloser, IsRegisterWord, IsSayable};
+ghost use Rattle.mx_line.specs.Operands.{HasBegun, IsGoodWalk, IsTarget, IsOnward, IsGoodOnward, IsCloser, IsRegisterWord, IsSayable, first_target};
 ghost use Rattle.mx_line.specs.declared.operands.Onward.TheVariants.{End};
 
 use crate::fills::Fill;
-use mx_call::Regs;
+use mx_call::{Regs, raised_to};
 use mx_effring::{Stuck, Walk, Want};
 use mx_ptr::Pointer;
 use mx_script::{Base, Line, Operand};
@@ -55,6 +55,7 @@ pub(crate) enum Onward {
 }
 
 /// The walk of an operand that begins now.
+#[inline(never)]
 pub(crate) fn start(registers: &Regs, operand: &Operand) -> Walk
     requires address { is_address operand.now ≡ true }
     requires packable { ArePackable registers.now }
@@ -65,7 +66,36 @@ pub(crate) fn start(registers: &Regs, operand: &Operand) -> Walk
     Walk::start(registers.ring, base, operand.indirect)
 }
 
+/// The target of an operand that is not indirect, which takes no walk.
+#[inline(always)]
+pub(crate) fn direct(registers: &Regs, operand: &Operand) -> Option<Pointer>
+    requires address { is_address operand.now ≡ true }
+    requires packable { ArePackable registers.now }
+    ensures is { result ≡ first_target (operand_walk registers.now operand.now) }
+    ensures target { IfSome result (IsTarget registers.now) }
+{
+    if operand.indirect {
+        None
+    } else {
+        Some(target_at(registers, base_of(registers, operand)))
+    }
+}
+
+/// The target of a walk that begins at a pointer and asks for no word.
+#[inline(always)]
+pub(crate) fn target_at(registers: &Regs, base: Pointer) -> Pointer
+    requires { IsPackable base }
+    ensures is { first_target (Some (walk_from registers.now false base)) ≡ Some result }
+    ensures target { IsTarget registers.now result }
+{
+    Pointer {
+        further: false,
+        ..raised_to(registers.ring, base)
+    }
+}
+
 // The pointer at which an operand begins: at a word of a segment in the current ring, or where a register points.
+#[inline(always)]
 fn base_of(registers: &Regs, operand: &Operand) -> Pointer
     requires address { is_address operand.now ≡ true }
     requires packable { ArePackable registers.now }
