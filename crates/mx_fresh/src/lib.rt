@@ -26,6 +26,8 @@ mod listing;
 mod lists;
 mod mail;
 mod making;
+mod messages;
+mod own_state;
 mod pages;
 mod processes;
 mod replies;

@@ -35,6 +35,7 @@ pub struct Fresh {
 }
 
 impl Model for Fresh {
+    ghost use Rattle.std.specs.Prelude.{◌≡◌, length};
     ghost use Rattle.mx_state.specs.Plain.{Plain};
 
     ghost Value = { Plain };
@@ -45,6 +46,8 @@ impl Model for Fresh {
       processes = a.processes.items;
       mail = a.mail.items;
     } };
+
+    ghost invariant = { λ a. length a.mail.items ≡ length a.processes.items };
 }
 
 impl Fresh {
