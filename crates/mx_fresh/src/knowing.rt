@@ -38,6 +38,7 @@ impl Fresh {
         requires process { p ≤ length self.old.processes }
         ensures answer { IfOk result (λ given.
             plain self.old p ring (ask.Initiate path.now (option_copied name.entry)) ≡ answer given self.new) }
+        ensures processes { length self.new.processes ≡ length self.old.processes }
         ensures err { OnErr result (self.new ≡ self.old) }
     {
         let process = own_process(self.processes.as_slice(), p);
@@ -64,6 +65,7 @@ impl Fresh {
         requires some { 1 ≤ p }
         requires process { p ≤ length self.old.processes }
         ensures answer { IfOk result (λ given. plain self.old p ring (ask.Terminate segno) ≡ answer given self.new) }
+        ensures processes { length self.new.processes ≡ length self.old.processes }
         ensures err { OnErr result (self.new ≡ self.old) }
     {
         let process = own_process(self.processes.as_slice(), p);
@@ -88,6 +90,7 @@ impl Fresh {
         requires some { 1 ≤ p }
         requires process { p ≤ length self.old.processes }
         ensures answer { IfOk result (λ given. plain self.old p ring (ask.Link segno word) ≡ answer given self.new) }
+        ensures processes { length self.new.processes ≡ length self.old.processes }
         ensures err { OnErr result (self.new ≡ self.old) }
     {
         let process = own_process(self.processes.as_slice(), p);

@@ -26,6 +26,7 @@ impl Fresh {
         requires some { 1 ≤ p }
         requires process { p ≤ length self.old.processes }
         ensures answer { IfOk result (λ given. plain self.old p ring (ask.Wakeup to word) ≡ answer given self.new) }
+        ensures processes { length self.new.processes ≡ length self.old.processes }
         ensures err { OnErr result (self.new ≡ self.old) }
     {
         let _process = own_process(self.processes.as_slice(), p);
@@ -41,6 +42,7 @@ impl Fresh {
         requires process { p ≤ length self.old.processes }
         ensures block { plain self.old p ring ask.Block ≡ answer result self.new }
         ensures resume { plain self.old p ring ask.Resume ≡ answer result self.new }
+        ensures processes { length self.new.processes ≡ length self.old.processes }
     {
         let _process = own_process(self.processes.as_slice(), p);
         let taken = take(&mut self.mail, p);
@@ -51,7 +53,8 @@ impl Fresh {
     pub(crate) fn logout(&mut self, p: u8, ring: Ring) -> Reply
         requires some { 1 ≤ p }
         requires process { p ≤ length self.old.processes }
-        ensures { plain self.old p ring ask.Logout ≡ answer result self.new }
+        ensures answer { plain self.old p ring ask.Logout ≡ answer result self.new }
+        ensures processes { length self.new.processes ≡ length self.old.processes }
     {
         let _process = own_process(self.processes.as_slice(), p);
         end(&mut self.mail, p);

@@ -27,6 +27,7 @@ impl Fresh {
         requires some { 1 ≤ p }
         requires process { p ≤ length self.old.processes }
         ensures answer { IfOk result (λ given. plain self.old p ring (ask.ChangeWdir path.now) ≡ answer given self.new) }
+        ensures processes { length self.new.processes ≡ length self.old.processes }
         ensures err { OnErr result (self.new ≡ self.old) }
     {
         let who = own_caller(own_process(self.processes.as_slice(), p), ring);
@@ -49,6 +50,7 @@ impl Fresh {
         requires some { 1 ≤ p }
         requires process { p ≤ length self.old.processes }
         ensures answer { IfOk result (λ given. plain self.old p ring (ask.SetRules rules.now) ≡ answer given self.new) }
+        ensures processes { length self.new.processes ≡ length self.old.processes }
         ensures err { OnErr result (self.new ≡ self.old) }
     {
         let _process = own_process(self.processes.as_slice(), p);

@@ -36,6 +36,7 @@ pub trait PlainSupervisor: Drop {
         requires { MayAsk (state self.old) p request.now }
         ensures answer { IfOk result (λ given.
             plain (state self.old) p ring request.now ≡ answer given (state self.new)) }
+        ensures processes { length (state self.new).processes ≡ length (state self.old).processes }
         ensures err { OnErr result (state self.new ≡ state self.old) };
 
     /// The descriptor that process `p` has of a segment number.

@@ -81,6 +81,7 @@ impl Fresh {
         requires asker { p ≤ length self.old.processes }
         ensures answer { IfOk result (λ reply. on_path self.old p ring (λ who.
             changed self.old (meant_by self.old.hierarchy who request.now)) ≡ answer reply self.new) }
+        ensures processes { length self.new.processes ≡ length self.old.processes }
         ensures err { OnErr result (self.new ≡ self.old) }
     {
         let initializer = make_initializer();
@@ -130,6 +131,7 @@ impl Fresh {
         requires asker { p ≤ length self.old.processes }
         requires class { class_of request.now ≡ OfPath }
         ensures answer { IfOk result (λ given. plain self.old p ring request.now ≡ answer given self.new) }
+        ensures processes { length self.new.processes ≡ length self.old.processes }
         ensures err { OnErr result (self.new ≡ self.old) }
     {
         match request {
@@ -171,6 +173,7 @@ impl Fresh {
         requires process { p ≤ length self.old.processes }
         requires class { class_of request.now ≢ OfPath }
         ensures answer { IfOk result (λ given. plain self.old p ring request.now ≡ answer given self.new) }
+        ensures processes { length self.new.processes ≡ length self.old.processes }
         ensures err { OnErr result (self.new ≡ self.old) }
     {
         match request {
@@ -214,6 +217,7 @@ impl Fresh {
     ) -> Result<Reply, AllocError>
         requires { MayAsk self.old p request.now }
         ensures answer { IfOk result (λ given. plain self.old p ring request.now ≡ answer given self.new) }
+        ensures processes { length self.new.processes ≡ length self.old.processes }
         ensures err { OnErr result (self.new ≡ self.old) }
     {
         match request.class() {
