@@ -4,3 +4,4 @@ pub mod Numbered
 pub mod Sent
 pub mod Connections
 pub mod Meant
+pub mod Outcomes

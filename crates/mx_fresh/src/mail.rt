@@ -87,6 +87,7 @@ pub(crate) fn send(
     word: Word,
 ) -> Result<Result<(), Refusal>, AllocError>
     ensures sent { IfOk result (λ given. Sends mail.old.items sender to word given mail.new.items) }
+    ensures count { vec_len mail.new ≡ vec_len mail.old }
     ensures err { OnErr result (mail.new.items ≡ mail.old.items) }
 {
     match wakeup_refusal(process_at(mail.as_slice(), to)) {
@@ -102,6 +103,7 @@ pub(crate) fn send(
 fn deliver(mail: &mut Vec<Mailbox>, to: u8, sender: u8, word: Word) -> Result<(), AllocError>
     ensures ok { OnOk result
         (mail.new.items ≡ deliver mail.old.items to (process_at mail.old.items to) (sender, word)) }
+    ensures count { vec_len mail.new ≡ vec_len mail.old }
     ensures err { OnErr result (mail.new.items ≡ mail.old.items) }
 {
     if to == 0 {
@@ -125,7 +127,8 @@ fn add_message(process: &mut Mailbox, sender: u8, word: Word) -> Result<(), Allo
 pub(crate) fn take(mail: &mut Vec<Mailbox>, p: u8) -> Taken
     requires some { 1 ≤ p }
     requires process { p ≤ vec_len mail.old }
-    ensures { take_message mail.old.items p ≡ take_answer result mail.new.items }
+    ensures answer { take_message mail.old.items p ≡ take_answer result mail.new.items }
+    ensures count { vec_len mail.new ≡ vec_len mail.old }
 {
     let i = usize::from(p) - 1;
     let nobody = nobody_else(mail.as_slice(), p);
@@ -184,7 +187,8 @@ fn take_from(process: &mut Mailbox, nobody: bool) -> Taken
 pub(crate) fn end(mail: &mut Vec<Mailbox>, p: u8)
     requires some { 1 ≤ p }
     requires process { p ≤ vec_len mail.old }
-    ensures { mail.new.items ≡ end_process mail.old.items p }
+    ensures after { mail.new.items ≡ end_process mail.old.items p }
+    ensures count { vec_len mail.new ≡ vec_len mail.old }
 {
     end_in(&mut mail[usize::from(p) - 1]);
 }

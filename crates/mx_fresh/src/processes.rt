@@ -1,6 +1,6 @@
 //! The processes: what each has of its own, and who asks.
 
-ghost use Rattle.std.specs.Prelude.{◌≡◌, ◌≤◌, ◌<◌, [], Some, length, slice_get, map, IfOk};
+ghost use Rattle.std.specs.Prelude.{◌≡◌, ◌≤◌, ◌<◌, ◌-◌, [], Some, length, slice_get, map, IfOk};
 ghost use Rattle.std.specs.Option.{option_map};
 ghost use Rattle.mx_hier.specs.Who.{caller as caller_of};
 ghost use Rattle.mx_state.specs.Askers.{initializer, initializer as the_initializer, asker, caller};
@@ -135,4 +135,13 @@ pub(crate) fn process_in(processes: &[FreshProcess], place: usize) -> &FreshProc
     ensures { slice_get processes.now place ≡ Some result.now }
 {
     &processes[place]
+}
+
+/// Process `p`, which is there.
+pub(crate) fn own_process(processes: &[FreshProcess], p: u8) -> &FreshProcess
+    requires some { 1 ≤ p }
+    requires process { p ≤ length processes.now }
+    ensures { slice_get processes.now (p - 1) ≡ Some result.now }
+{
+    process_in(processes, usize::from(p) - 1)
 }

@@ -1,8 +1,8 @@
 //! The plain supervisor from plain lists.
 
-ghost use Rattle.std.specs.Prelude.{◌≡◌, ◌≤◌, length, IfOk, OnErr};
+ghost use Rattle.std.specs.Prelude.{◌≡◌, ◌≢◌, ◌≤◌, length, IfOk, OnErr};
 ghost use Rattle.mx_state.specs.Askers.{on_path};
-ghost use Rattle.mx_state.specs.History.{opening};
+ghost use Rattle.mx_state.specs.History.{opening, MayAsk};
 ghost use Rattle.mx_state.specs.Plain.{answer};
 ghost use Rattle.mx_request.specs.Classes.{class_of};
 ghost use Rattle.mx_request.specs.declared.classes.RequestClass.TheVariants.{OfPath};
@@ -19,7 +19,7 @@ use crate::serving::change;
 use mx_hier::HierError;
 use mx_kst::Lot;
 use mx_name::{Path, Pathname};
-use mx_request::{Entrant, Reply, Request};
+use mx_request::{Entrant, Reply, Request, RequestClass};
 use mx_sdw::{Brackets, Desc, Ring};
 use std::alloc::{AllocError, Global};
 use std::marker::Model;
@@ -35,6 +35,7 @@ pub struct Fresh {
 }
 
 impl Model for Fresh {
+    ghost use Rattle.std.specs.Prelude.{◌≡◌, length};
     ghost use Rattle.mx_state.specs.Plain.{Plain};
 
     ghost Value = { Plain };
@@ -45,6 +46,8 @@ impl Model for Fresh {
       processes = a.processes.items;
       mail = a.mail.items;
     } };
+
+    ghost invariant = { λ a. length a.mail.items ≡ length a.processes.items };
 }
 
 impl Fresh {
@@ -68,7 +71,7 @@ impl Fresh {
 
     /// Answers a request that changes the hierarchy, of the initializer as process 0 or of process `p`, exactly as the
     /// plain supervisor does. A refusal changes nothing, and nor does want of memory, the only error.
-    pub fn change(
+    fn change(
         &mut self,
         alloc: Global,
         p: u8,
@@ -78,6 +81,7 @@ impl Fresh {
         requires asker { p ≤ length self.old.processes }
         ensures answer { IfOk result (λ reply. on_path self.old p ring (λ who.
             changed self.old (meant_by self.old.hierarchy who request.now)) ≡ answer reply self.new) }
+        ensures processes { length self.new.processes ≡ length self.old.processes }
         ensures err { OnErr result (self.new ≡ self.old) }
     {
         let initializer = make_initializer();
@@ -117,7 +121,7 @@ impl Fresh {
 
     /// Answers a request on a path, of the initializer as process 0 or of process `p`, exactly as the plain supervisor
     /// does. A refusal changes nothing, and nor does want of memory, the only error.
-    pub fn serve_path(
+    fn serve_path(
         &mut self,
         alloc: Global,
         p: u8,
@@ -127,6 +131,7 @@ impl Fresh {
         requires asker { p ≤ length self.old.processes }
         requires class { class_of request.now ≡ OfPath }
         ensures answer { IfOk result (λ given. plain self.old p ring request.now ≡ answer given self.new) }
+        ensures processes { length self.new.processes ≡ length self.old.processes }
         ensures err { OnErr result (self.new ≡ self.old) }
     {
         match request {
@@ -154,6 +159,71 @@ impl Fresh {
             Request::Link { .. } => unreachable!(),
             Request::Resume => unreachable!(),
             Request::Logout => unreachable!(),
+        }
+    }
+
+    fn serve_own(
+        &mut self,
+        alloc: Global,
+        p: u8,
+        ring: Ring,
+        request: &Request,
+    ) -> Result<Reply, AllocError>
+        requires some { 1 ≤ p }
+        requires process { p ≤ length self.old.processes }
+        requires class { class_of request.now ≢ OfPath }
+        ensures answer { IfOk result (λ given. plain self.old p ring request.now ≡ answer given self.new) }
+        ensures processes { length self.new.processes ≡ length self.old.processes }
+        ensures err { OnErr result (self.new ≡ self.old) }
+    {
+        match request {
+            Request::ChangeWdir { path } => self.change_wdir(alloc, p, ring, path),
+            Request::SetRules { rules } => self.set_rules(p, ring, rules),
+            Request::Initiate { path, name } => {
+                self.initiate(alloc, p, ring, path, name.as_ref())
+            }
+            Request::Terminate { segno } => self.terminate(alloc, p, ring, *segno),
+            Request::Wakeup { to, word } => self.wakeup(p, ring, *to, *word),
+            Request::Block => Ok(self.block(p, ring)),
+            Request::Link { segno, word } => self.link(alloc, p, ring, *segno, *word),
+            Request::Resume => Ok(self.block(p, ring)),
+            Request::Logout => Ok(self.logout(p, ring)),
+            Request::CreateDir { .. } => unreachable!(),
+            Request::CreateSeg { .. } => unreachable!(),
+            Request::CreateObject { .. } => unreachable!(),
+            Request::CreateLink { .. } => unreachable!(),
+            Request::Rename { .. } => unreachable!(),
+            Request::Delete { .. } => unreachable!(),
+            Request::SetAcl { .. } => unreachable!(),
+            Request::DelAcl { .. } => unreachable!(),
+            Request::SetIacl { .. } => unreachable!(),
+            Request::DelIacl { .. } => unreachable!(),
+            Request::SetBrackets { .. } => unreachable!(),
+            Request::SetDirBrackets { .. } => unreachable!(),
+            Request::SetClass { .. } => unreachable!(),
+            Request::Status { .. } => unreachable!(),
+            Request::List { .. } => unreachable!(),
+        }
+    }
+
+    /// Answers the request of process `p` in a ring as the definition says; process 0 is the initializer, which makes
+    /// requests on paths alone. A refusal changes nothing, and nor does want of memory, the only error.
+    pub fn apply(
+        &mut self,
+        alloc: Global,
+        p: u8,
+        ring: Ring,
+        request: &Request,
+    ) -> Result<Reply, AllocError>
+        requires { MayAsk self.old p request.now }
+        ensures answer { IfOk result (λ given. plain self.old p ring request.now ≡ answer given self.new) }
+        ensures processes { length self.new.processes ≡ length self.old.processes }
+        ensures err { OnErr result (self.new ≡ self.old) }
+    {
+        match request.class() {
+            RequestClass::OfPath => self.serve_path(alloc, p, ring, request),
+            RequestClass::OfProcess => self.serve_own(alloc, p, ring, request),
+            RequestClass::OfSupervisor => self.serve_own(alloc, p, ring, request),
         }
     }
 
