@@ -1,5 +1,6 @@
 -- What an entry leaves its process, and what a full journal does: each field is what the process's own part wants.
 use Rattle.std.specs.Prelude.{◌≡◌, ℕ, suc, ◌+◌, ◌<◌, ◌≤◌, List, [], ◌∷◌, ◌++◌, length, Option, Some, None, slice_get}
+use Rattle.mx_closing.specs.Views.{marked_in}
 use Rattle.mx_core.specs.declared.changes.Run.{Run}
 use Rattle.mx_desc.specs.Passes.{PassValue}
 use Rattle.mx_pages.specs.declared.pages.PageRun.{PageRun}
@@ -12,7 +13,6 @@ use Rattle.mx_state.specs.declared.journal.Entry as journaled
 use Rattle.mx_ties.specs.Closed.{followed}
 use Rattle.mx_ties.specs.Views.{Marked}
 use Rattle.mx_transcript.specs.Misses.{IsChanged}
-use Rattle.mx_office.specs.Locked.{marked_in}
 use Rattle.mx_office.specs.declared.answers.Answer.{Answer}
 use Rattle.mx_office.specs.declared.answers.Answer.TheVariants.{Refused, Known, Linked, Waiting, Other}
 use Rattle.mx_office.specs.declared.answers.Served.{Served}
