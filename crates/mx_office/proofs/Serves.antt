@@ -84,6 +84,9 @@ module _ (s s' : Supervised) (p ring : ℕ) (request : Request) (number : ℕ)
   number_within = let a = ap (λ (z : Supervised). length z.journal) made.entry in
       let b = length-append s.journal (mine ∷ []) in let c = made.number in omega arith
 
+  pub longer_by : length s'.journal ≡ length s.journal + 1
+  longer_by = ap (λ (z : Supervised). length z.journal) made.entry ∙ length-append s.journal (mine ∷ [])
+
   pub entry_found : (found : journaled.Entry) → entry_at s'.journal number ≡ Some found → found ≡ mine
   entry_found found at = same_entry found mine (sym at
       ∙ (λ i. entry_at ((ap (λ (z : Supervised). z.journal) made.entry) i) (made.number i))
