@@ -4,3 +4,4 @@ pub mod Comings
 pub mod Locks
 pub mod Serves
 pub mod Announces
+pub mod Missing

@@ -51,9 +51,14 @@ use Rattle.mx_office.specs.Revoking.{IsListed}
 use Rattle.mx_transcript.specs.Opened.{opening_of}
 use Rattle.mx_office.specs.Announcing.{Coming, MayAnnounce, announced_view, came_view, coming}
 use Rattle.mx_office.specs.Clearing.{cleaned, cleaned_pages}
-use Rattle.mx_office.specs.Locked.{ArePages, IsLocked, marked_in, marked_of, state_at}
+use Rattle.mx_office.specs.Locked.{ArePages, IsLocked, state_at}
+use Rattle.mx_closing.specs.Views.{marked_in}
 use Rattle.mx_office.specs.Serving.{runs_of}
 use Rattle.mx_office.proofs.Comings.{admissible_new, all_at, both_true, covered_by, each_new, from_true, listed_new, not_true, or_left, or_right, pairs_once, run_within, runs_give, table_new, to_true}
+
+-- an entry of a history with its mark
+abbrev pub marked_of : EntryView journaled.Entry → Marked
+marked_of e = record { entry = e.entry; mark = e.mark }
 
 -- what is reported, or noted, changes nothing of it
 pub locked_as : (x : Outline) (setup : List journaled.Entry) (y : Layout) (s : Supervised)

@@ -15,7 +15,7 @@ use Rattle.mx_sup.specs.Entering.{HasEntered as HasBeenEntered}
 use Rattle.mx_sup.specs.Supervised.{Supervised, supervised}
 use Rattle.mx_ties.specs.Views.{Marked}
 use Rattle.mx_transcript.specs.Settings.{entry_at}
-use Rattle.mx_office.specs.Locked.{marked_in, marked_of}
+use Rattle.mx_closing.specs.Views.{marked_in}
 use Rattle.mx_office.specs.Announcing.{Coming, IsAnnounced, announced_view}
 use Rattle.mx_office.specs.Revoking.{IsListed}
 use Rattle.mx_office.specs.Serving.{HasEntered, HasGrown, answer_of, told_to}
@@ -26,7 +26,7 @@ use Rattle.std.proofs.Common.{Result, Ok, Err}
 use Rattle.mx_office.specs.declared.answers.EnterError.{EnterError}
 use Rattle.mx_office.specs.declared.answers.EnterError.TheVariants.{HistoryFull}
 use Rattle.std.specs.declared.alloc.AllocError.{AllocError}
-use Rattle.mx_office.proofs.Locks.{append_one, marked_length}
+use Rattle.mx_office.proofs.Locks.{append_one, marked_length, marked_of}
 
 append_none : {X : Type 0} (xs : List X) → xs ++ [] ≡ xs
 append_none [] = refl
@@ -83,6 +83,9 @@ module _ (s s' : Supervised) (p ring : ℕ) (request : Request) (number : ℕ)
   pub number_within : number ≤ length s'.journal
   number_within = let a = ap (λ (z : Supervised). length z.journal) made.entry in
       let b = length-append s.journal (mine ∷ []) in let c = made.number in omega arith
+
+  pub longer_by : length s'.journal ≡ length s.journal + 1
+  longer_by = ap (λ (z : Supervised). length z.journal) made.entry ∙ length-append s.journal (mine ∷ [])
 
   pub entry_found : (found : journaled.Entry) → entry_at s'.journal number ≡ Some found → found ≡ mine
   entry_found found at = same_entry found mine (sym at

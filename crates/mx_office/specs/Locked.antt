@@ -1,13 +1,14 @@
 -- What the office keeps under its lock: whenever the lock is free, nothing is pending, and what the supervisor at the
 -- shared words knows is the journal since the opening.
 use Rattle.std.specs.Prelude.{◌≡◌, ℕ, suc, ◌+◌, ◌<◌, ◌≤◌, true, false, IsTrue, List, [], ◌∷◌, ◌++◌, length, take, Some, slice_get}
+use Rattle.mx_closing.specs.Keeping.{AreMakers}
+use Rattle.mx_closing.specs.Views.{marked_in}
 use Rattle.mx_core.specs.Pages.{page_of}
 use Rattle.mx_pages.specs.Runs.{is_free, page_count}
 use Rattle.mx_request.specs.Versions.{last_number}
 use Rattle.mx_rule.specs.Shown.{office_of}
 use Rattle.mx_rule.specs.Telling.{AreRightWords}
 use Rattle.mx_rule.specs.declared.layout.Layout.{Layout}
-use Rattle.mx_rule.specs.declared.views.EntryView.{EntryView}
 use Rattle.mx_rule.specs.declared.views.SuperView.{SuperView}
 use Rattle.mx_script.specs.Sessions.{Outline}
 use Rattle.mx_sdw.specs.Admissible.{IsAdmissible}
@@ -17,23 +18,9 @@ use Rattle.mx_state.specs.Plain.{Plain}
 use Rattle.mx_state.specs.declared.journal.Entry as journaled
 use Rattle.mx_sup.specs.Supervised.{Supervised, IsHistory, state_of}
 use Rattle.mx_ties.specs.Closed.{followed}
-use Rattle.mx_ties.specs.Views.{Marked}
 use Rattle.mx_transcript.specs.Access.{descriptor_at}
 use Rattle.mx_transcript.specs.Legal.{setup_entries}
 use Rattle.mx_transcript.specs.Opened.{opening_of}
-
--- the entries of a history, the first one first, each with its mark
-abbrev pub marked_of : EntryView journaled.Entry → Marked
-marked_of e = record { entry = e.entry; mark = e.mark }
-
-abbrev pub marked_in : List (EntryView journaled.Entry) → List Marked
-marked_in [] = []
-marked_in (e ∷ es) = marked_in es ++ marked_of e ∷ []
-
--- each entry of a history is its process's, and stands at its place of the journal
-abbrev pub AreMakers : ℕ → List (EntryView journaled.Entry) → Type 0
-AreMakers start [] = Unit {0}
-AreMakers start (e ∷ es) = (e.process ≡ e.entry.process) × (e.before ≡ start + length es) × AreMakers start es
 
 -- the plain supervisor's state after so many entries
 abbrev pub state_at : Outline → List journaled.Entry → ℕ → Plain

@@ -1,6 +1,9 @@
 -- What an entry leaves its process, and what a full journal does: each field is what the process's own part wants.
 use Rattle.std.specs.Prelude.{◌≡◌, ℕ, suc, ◌+◌, ◌<◌, ◌≤◌, List, [], ◌∷◌, ◌++◌, length, Option, Some, None, slice_get}
+use Rattle.mx_closing.specs.Views.{marked_in}
 use Rattle.mx_core.specs.declared.changes.Run.{Run}
+use Rattle.mx_core.specs.declared.elements.Kept.{Kept}
+use Rattle.mx_core.specs.declared.elements.Kept.TheVariants.{Missed}
 use Rattle.mx_desc.specs.Passes.{PassValue}
 use Rattle.mx_pages.specs.declared.pages.PageRun.{PageRun}
 use Rattle.mx_request.specs.declared.replies.Reply.{Reply}
@@ -12,7 +15,6 @@ use Rattle.mx_state.specs.declared.journal.Entry as journaled
 use Rattle.mx_ties.specs.Closed.{followed}
 use Rattle.mx_ties.specs.Views.{Marked}
 use Rattle.mx_transcript.specs.Misses.{IsChanged}
-use Rattle.mx_office.specs.Locked.{marked_in}
 use Rattle.mx_office.specs.declared.answers.Answer.{Answer}
 use Rattle.mx_office.specs.declared.answers.Answer.TheVariants.{Refused, Known, Linked, Waiting, Other}
 use Rattle.mx_office.specs.declared.answers.Served.{Served}
@@ -77,4 +79,12 @@ pub record HasMetLimit (x : Outline) (length : ℕ) (o o' : PassValue journaled.
   pub limit : length ≡ limit_of x
   pub floor : o'.view.floor ≡ length
   pub grown : HasGrown o o'
+  pub amount : o'.amount ≡ o.amount
+
+-- The process was told of more, and did nothing. Where the last that it did was a miss of this number, its floor has
+-- reached the entry by which it missed, and it knows the number settled by that entry or a later one.
+pub record HasSettled (segno : ℕ) (o o' : PassValue journaled.Entry) : Type 0 where
+  pub grown : HasGrown o o'
+  pub floor : (front : List Kept) (by : ℕ) → o.view.trace ≡ front ++ Missed segno by ∷ [] → by ≤ o'.view.floor
+  pub told : (front : List Kept) (by : ℕ) → o.view.trace ≡ front ++ Missed segno by ∷ [] → by ≤ told_to o' segno
   pub amount : o'.amount ≡ o.amount

@@ -1,12 +1,14 @@
--- Once an entry is answered, the words of its own process that it changed are settled.
+-- Once an entry is answered, the words of its own process that it changed are settled; a word that a process missed is
+-- settled when it asks for it.
 use Rattle.std.specs.Prelude.{◌≡◌, ℕ, ◌==◌, List, [], ◌∷◌, Some, slice_get}
 use Rattle.mx_sdw.specs.Descriptors.{Descriptor}
 use Rattle.mx_core.specs.Put.{pick}
 use Rattle.mx_core.specs.declared.changes.Change.{Change}
-use Rattle.mx_core.specs.declared.words.DescriptorWord.TheVariants.{Valid}
+use Rattle.mx_core.specs.declared.words.DescriptorWord.{DescriptorWord}
+use Rattle.mx_core.specs.declared.words.DescriptorWord.TheVariants.{Fault, Valid}
 use Rattle.mx_desc.specs.Slots.{IsPair}
 use Rattle.mx_rule.specs.Shown.{office_of}
-use Rattle.mx_rule.specs.Striking.{MaySettle}
+use Rattle.mx_rule.specs.Striking.{MaySettle, settled_view}
 use Rattle.mx_rule.specs.declared.layout.Layout.{Layout}
 use Rattle.mx_rule.specs.declared.views.SuperView.{SuperView}
 use Rattle.mx_rule.specs.declared.views.Told.{Told}
@@ -46,3 +48,12 @@ AreStruckLast y v p changes = (i : ℕ) (c : Change) → slice_get changes i ≡
 abbrev pub ArePairsOnce : List Change → Type 0
 ArePairsOnce changes = (i j : ℕ) (a b : Change) → slice_get changes i ≡ Some a → slice_get changes j ≡ Some b
     → a.process ≡ b.process → a.segno ≡ b.segno → i ≡ j
+
+-- Helper: the word of a pair, which this is, is settled where it is a fault.
+abbrev pub mended_by : {E : Type 0} → DescriptorWord → ℕ → ℕ → SuperView E → SuperView E
+mended_by (Fault number) p n v = settled_view p n number v
+mended_by (Valid number desc) p n v = v
+
+-- the word of a pair is settled where it is a fault
+abbrev pub mended_view : {E : Type 0} → ℕ → ℕ → SuperView E → SuperView E
+mended_view p n v = mended_by ((office_of v).word p n) p n v

@@ -1,21 +1,21 @@
 //! What the office keeps under its lock.
 
-ghost use Rattle.std.specs.Prelude.{◌≡◌, ◌<◌, ℕ, false, true, Ok, Err, length};
-ghost use Rattle.mx_office.specs.Serving.{HasEntered, HasMetLimit};
+ghost use Rattle.std.specs.Prelude.{◌≡◌, ◌+◌, ◌<◌, ℕ, false, true, Ok, Err, IsErr, IsOk, OnErr, OnOk, length};
+ghost use Rattle.mx_office.specs.Serving.{HasEntered, HasMetLimit, HasSettled};
 ghost use Rattle.mx_office.specs.declared.answers.EnterError.TheVariants.{HistoryFull, Memory};
 ghost use Rattle.mx_office.specs.declared.answers.Served.{Served as ServedValue};
 ghost use Rattle.mx_script.specs.Sessions.{limit_of};
 
 use crate::answers::{EnterError, Served};
 use crate::naming::Sitting;
-use crate::serving::serve;
+use crate::serving::{serve, settle_for};
 use mx_desc::{Pass, Super};
 use mx_request::Request;
 use mx_rule::Board;
 use mx_sdw::Ring;
 use mx_state::Entry;
 use mx_sup::Supervisor;
-use std::alloc::Global;
+use std::alloc::{AllocError, Global};
 use std::marker::Model;
 use std::sync::Wait;
 use std::sync::ledger::Book;
@@ -70,6 +70,9 @@ impl<'a, B: Sitting> Locked<'a, B> {
             → result ≡ Err (HistoryFull (limit_of B.session)) }
         ensures memory { result ≡ Err Memory → pass.new ≡ pass.old }
         ensures over { self.old.stopped ≡ true → result ≡ Err Memory }
+        ensures longer { (served : ServedValue) → result ≡ Ok served
+            → length self.new.supervised.journal ≡ length self.old.supervised.journal + 1 }
+        ensures still { OnErr result (self.new.supervised ≡ self.old.supervised) }
         ensures stopped { self.new.stopped ≡ self.old.stopped }
     {
         if self.stopped {
@@ -86,5 +89,36 @@ impl<'a, B: Sitting> Locked<'a, B> {
             ring,
             request,
         )
+    }
+
+    /// Settles the word of this number of a process, where it is a fault, and tells the process of all entries, in one hold
+    /// of the lock. Once the run is to end it refuses, and changes nothing.
+    pub fn settle_for(
+        &mut self,
+        pass: &mut Pass<Entry, B>,
+        shared: &Board<Entry>,
+        segno: u16,
+    ) -> Result<(), AllocError>
+        requires fits { shared.now.table_id ≡ B.table }
+        requires layout { shared.now.key.layout ≡ B.layout }
+        ensures settled { OnOk result (HasSettled segno pass.old pass.new) }
+        ensures err { OnErr result (pass.new ≡ pass.old) }
+        ensures over { self.old.stopped ≡ true → IsErr result }
+        ensures running { self.old.stopped ≡ false → IsOk result }
+        ensures journal { self.new.supervised ≡ self.old.supervised }
+        ensures stopped { self.new.stopped ≡ self.old.stopped }
+    {
+        if !self.stopped {
+            settle_for(&mut self.chief, pass, shared, segno);
+            return Ok(());
+        }
+        Err(AllocError)
+    }
+
+    /// The run is to end: from now on every request is answered with `Memory`.
+    pub fn stop(&mut self)
+        ensures { self.new ≡ record self.old { stopped = true } }
+    {
+        self.stopped = true;
     }
 }

@@ -1,19 +1,22 @@
 //! One entry of a process, or a full journal, under the lock.
 
-ghost use Rattle.std.specs.Prelude.{◌≡◌, ◌≤◌, ◌<◌, ◌≢◌, ℕ, Ok, Err, IfOk, OnErr, length};
+ghost use Rattle.std.specs.Prelude.{◌≡◌, ◌+◌, ◌≤◌, ◌<◌, ◌≢◌, ℕ, Ok, Err, IfOk, OnErr, length};
+ghost use Rattle.mx_core.specs.Words.{number_of};
 ghost use Rattle.mx_office.specs.Locked.{IsLocked};
-ghost use Rattle.mx_office.specs.Serving.{HasEntered, HasGrown, HasMetLimit, runs_of};
+ghost use Rattle.mx_office.specs.Serving.{HasEntered, HasGrown, HasMetLimit, HasSettled, runs_of, told_to};
 ghost use Rattle.mx_office.specs.declared.answers.EnterError.TheVariants.{HistoryFull, Memory};
 ghost use Rattle.mx_office.specs.declared.answers.Served.{Served as ServedValue};
-ghost use Rattle.mx_rule.specs.Notes.{noting_view, reported_view, reporting_view};
+ghost use Rattle.mx_rule.specs.Notes.{last_miss, noting_view, reported_view, reporting_view};
 ghost use Rattle.mx_rule.specs.Shown.{office_of};
 ghost use Rattle.mx_rule.specs.Telling.{AreRightWords};
 ghost use Rattle.mx_script.specs.Sessions.{limit_of};
+ghost use Rattle.mx_sup.specs.Supervised.{Supervised};
 ghost use Rattle.mx_sup.specs.Entering.{HasCome, HasEntered as HasBeenEntered};
 
 use crate::announcing::announce;
 use crate::answers::{Answer, EnterError, Served};
 use crate::naming::Sitting;
+use crate::settling::settle_fault;
 use mx_core::{Run, Runs};
 use mx_desc::{Pass, Super};
 use mx_list::Sequence;
@@ -81,12 +84,36 @@ pub(crate) fn tell<B: Sitting>(
     ensures grown { HasGrown pass.old pass.new }
     ensures floor { pass.new.view.floor ≡ chief.old.length }
     ensures amount { pass.new.amount ≡ pass.old.amount }
+    ensures told { (n : ℕ) → (office_of chief.new).told pass.old.view.process n ≤ told_to pass.new n }
+    ensures answered { chief.new.answered ≤ pass.new.view.floor }
+    ensures miss { (last_miss pass.old.view.trace).1
+        ≤ number_of ((office_of chief.new).word pass.old.view.process (last_miss pass.old.view.trace).0) }
 {
     // The supervisor is asked for what its type says of its length.
     let _length = chief.length();
     chief.report(shared, pass);
     let note = chief.split(shared);
     pass.join(shared, note);
+}
+
+/// Settles the word of this number of a process, where it is a fault, and tells the process of all entries: so after a
+/// miss it knows the word settled.
+pub(crate) fn settle_for<B: Sitting>(
+    chief: &mut Super<Entry, B>,
+    pass: &mut Pass<Entry, B>,
+    shared: &Board<Entry>,
+    segno: u16,
+)
+    requires fits { shared.now.table_id ≡ B.table }
+    requires layout { shared.now.key.layout ≡ B.layout }
+    requires rest { chief.old.length ≤ chief.old.answered }
+    ensures locked { (s : Supervised) (total : ℕ) → IsLocked B.session B.setup B.layout s chief.old total
+        → IsLocked B.session B.setup B.layout s chief.new total }
+    ensures settled { (s : Supervised) (total : ℕ) → IsLocked B.session B.setup B.layout s chief.old total
+        → HasSettled segno pass.old pass.new }
+{
+    settle_fault(chief, shared, pass.process(), segno);
+    tell(chief, pass, shared);
 }
 
 /// An entry below the limit.
@@ -108,7 +135,10 @@ fn enter_below<R: Wait, B: Sitting>(
     ensures locked { IsLocked B.session B.setup B.layout supervisor.new chief.new book.new.total }
     ensures entered { (served : ServedValue) → result ≡ Ok served
         → HasEntered B.session B.setup ring request.now served pass.old pass.new }
+    ensures longer { (served : ServedValue) → result ≡ Ok served
+        → length supervisor.new.journal ≡ length supervisor.old.journal + 1 }
     ensures err { OnErr result (pass.new ≡ pass.old) }
+    ensures still { OnErr result (supervisor.new ≡ supervisor.old) }
 {
     let process = pass.process();
     let (_length, _layout) = (chief.length(), chief.layout());
@@ -160,6 +190,9 @@ pub(crate) fn serve<R: Wait, B: Sitting>(
     ensures at_limit { length supervisor.old.journal ≡ limit_of B.session → result
         ≡ Err (HistoryFull (limit_of B.session)) }
     ensures memory { result ≡ Err Memory → pass.new ≡ pass.old }
+    ensures longer { (served : ServedValue) → result ≡ Ok served
+        → length supervisor.new.journal ≡ length supervisor.old.journal + 1 }
+    ensures still { OnErr result (supervisor.new ≡ supervisor.old) }
 {
     let length = supervisor.length();
     let _length = chief.length();

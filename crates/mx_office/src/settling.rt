@@ -1,7 +1,7 @@
-//! The words of a process that its own entry changed are settled.
+//! The words of a process that its own entry changed are settled, and a word that it missed.
 
-ghost use Rattle.std.specs.Prelude.{◌≡◌};
-ghost use Rattle.mx_office.specs.Settling.{AreStruckLast, ArePairsOnce, IsStruckLast, settled_views};
+ghost use Rattle.std.specs.Prelude.{◌≡◌, ◌<◌, ◌≤◌};
+ghost use Rattle.mx_office.specs.Settling.{AreStruckLast, ArePairsOnce, IsStruckLast, mended_view, settled_views};
 ghost use Rattle.std.specs.Prelude.{[], ◌∷◌};
 
 use mx_core::Change;
@@ -45,5 +45,26 @@ pub fn settle_own<E, B: Naming>(
             settle_one(chief, shared, process, change);
             settle_own(chief, shared, process, rest);
         },
+    }
+}
+
+/// Settles the word of a pair, where the table has it and it is a fault: it becomes the present descriptor, with the
+/// number of the fault. Condition: nothing is pending.
+pub(crate) fn settle_fault<E, B: Naming>(
+    chief: &mut Super<E, B>,
+    shared: &Board<E>,
+    process: u8,
+    segno: u16,
+)
+    requires fits { shared.now.table_id ≡ B.table }
+    requires layout { shared.now.key.layout ≡ B.layout }
+    requires low { 1 ≤ process }
+    requires high { process ≤ B.layout.processes }
+    requires rest { chief.old.length ≤ chief.old.answered }
+    ensures within { segno < B.layout.numbers → chief.new ≡ mended_view process segno chief.old }
+    ensures beyond { B.layout.numbers ≤ segno → chief.new ≡ chief.old }
+{
+    if segno < chief.layout().numbers && chief.is_fault(process, segno) {
+        chief.settle(shared, process, segno);
     }
 }

@@ -14,7 +14,7 @@ use Rattle.mx_rule.specs.Telling.{AreRightWords}
 use Rattle.mx_transcript.specs.Misses.{IsChanged}
 use Rattle.mx_office.specs.Locked.{IsLocked}
 use Rattle.mx_office.proofs.Locks.{changed_listed, journal_after, length_is, locked_after, locked_as, may_announce}
-use Rattle.mx_office.proofs.Serves.{entered_by, entry_found, grown_journal, number_within, same_served}
+use Rattle.mx_office.proofs.Serves.{entered_by, entry_found, grown_journal, longer_by, number_within, same_served}
 use Rattle.mx_office.proofs.serving.enter_below.Goals as goal
 
 pub entry-entry-requires-clause-most : goal.entry-entry-requires-clause-most
@@ -62,6 +62,9 @@ announce-requires-clause-may g c =
         ),
       ),
     )) may
+
+pub returns-clause-longer : goal.returns-clause-longer
+returns-clause-longer g c served same = longer_by _ _ _ _ _ _ c.in_ok-made.ensures.entered
 
 pub returns-clause-locked : goal.returns-clause-locked
 returns-clause-locked g c =
