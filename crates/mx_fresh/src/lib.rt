@@ -3,10 +3,10 @@
 //! [`Fresh`] is the state as the definitions speak of it: the hierarchy as the root, the branches in the order of their
 //! making, whether each page is free, and the object maps; the processes with what each knows; and the messages that
 //! wait for each. Every question goes through the lists from the front; there is no table, no map and no index.
-//! [`Fresh::serve_path`] has the exact answer to each request on a path and leaves the exact state that the definition
-//! gives, and `descriptor` is the descriptor of the definition; a refusal, and the want of memory, change nothing. What
-//! a segment becomes known by, where a link leads, and the mail stand beside it, each equal to its definition; the
-//! requests of a process on its own state are not answered yet. Shares with the plain supervisor its definitions and its
+//! [`Fresh::apply`] has the exact answer to each request and leaves the exact state that the definition gives, and
+//! `descriptor` is the descriptor of the definition; a refusal, and the want of memory, change nothing. It does not tell
+//! which descriptors changed, nor which pages were given out. [`PlainSupervisor`] is what the two programs have in common,
+//! and both meet it: so each answers the same journal the same. Shares with the plain supervisor its definitions and its
 //! words, as a refusal, a status, a lot and who asks, and nothing of what it does; stands on names, access lists,
 //! classes, object maps, search rules and descriptors.
 #![tactic(auto)]

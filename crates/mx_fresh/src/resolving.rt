@@ -93,14 +93,7 @@ fn resolved_to(
         return Ok(Err(Reply::Done));
     };
     let name = free_name(&process.known, ring, link.segment);
-    match connect(
-        alloc,
-        hierarchy,
-        &process.known,
-        ring,
-        name.as_ref(),
-        uid,
-    )? {
+    match connect(alloc, hierarchy, &process.known, ring, name.as_ref(), uid)? {
         Ok(connection) => Ok(Ok(Leading {
             connection,
             word: to.word,
