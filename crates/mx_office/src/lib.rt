@@ -1,9 +1,11 @@
 //! The office: whoever keeps the journal for all processes, behind one lock, so that references need none.
 //!
-//! An entry of a process is announced by the supervisor at the shared words: the pairs that it changed are revoked
-//! (`Revoking`), the cells of pages that it freed are cleared (`Clearing`), and its own process's words are settled
-//! (`Settling`) before that process is told of it (`Announcing`). Stands on `mx_desc` (the supervisor and passes at
-//! the shared words) and `mx_sup` (the plain supervisor with its journal).
+//! [`Locked`] is what lies behind the lock: a request of a process, the settling of a word that it missed, and the end of
+//! the run are each one hold of it. An entry of a process is announced by the supervisor at the shared words: the pairs
+//! that it changed are revoked (`Revoking`), the cells of pages that it freed are cleared (`Clearing`), and its own
+//! process's words are settled (`Settling`) before that process is told of it (`Announcing`). Stands on `mx_desc` (the
+//! supervisor and passes at the shared words), `mx_sup` (the plain supervisor with its journal) and `mx_closing` (how a
+//! history is the journal).
 #![tactic(auto)]
 
 mod announcing;
