@@ -7,7 +7,7 @@ ghost use Rattle.mx_request.specs.Reading.{directory_at, ring_at, rule_at};
 ghost use Rattle.mx_request.specs.ReadingObjects.{definition_at, object_link_at};
 ghost use Rattle.mx_request.specs.WordNumbers.{word_number_of};
 ghost use Rattle.mx_script.specs.Fronts.{after};
-ghost use Rattle.mx_script.specs.Fields.{base_at, offset_at, operand_at};
+ghost use Rattle.mx_script.specs.Fields.{base_at, indirect_at, offset_at, operand_at};
 ghost use Rattle.mx_lint.specs.Fields.{is_limit_text, is_receiver_text, is_definition_text, is_object_link_text, is_version_text};
 
 use mx_name::{EntryName, NameError, Path, PathError, Pathname, cut};
@@ -175,9 +175,18 @@ fn after<'a>(front: &[u8], text: &'a [u8]) -> Option<&'a [u8]>
 fn is_offset(text: &[u8]) -> bool
     ensures { result ≡ is_some (offset_at text.now) }
 {
+    match read_word_number(text) {
+        Some(_) => true,
+        None => is_indirect(text),
+    }
+}
+
+fn is_indirect(text: &[u8]) -> bool
+    ensures { result ≡ is_some (indirect_at text.now) }
+{
     match cut(b',', text) {
         Some((word, star)) => is_word_number(word) && star == b"*".as_slice(),
-        None => is_word_number(text),
+        None => false,
     }
 }
 
