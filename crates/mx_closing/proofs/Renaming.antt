@@ -1,10 +1,10 @@
 -- Reads that are right stay right where cells have other names, each one of its own.
-use Rattle.std.proofs.Common.{◌≡◌, inl, inr, ℕ, List, map, refl, ap, sym, ◌∙◌, subst, Option, Some, None}
+use Rattle.std.proofs.Common.{◌≡◌, ℕ, List, map, refl, ap, sym, ◌∙◌, subst, Option, Some, None}
 use Rattle.std.specs.List.{slice_get}
 use Rattle.std.specs.Option.{option_map}
 use Rattle.std.proofs.lemmas.Option.{slice_get-map}
 use Rattle.mx_reads.specs.Deeds.{CellUse, Deed, Deeds, Enters, Stores, Loads, Refers, Misses}
-use Rattle.mx_reads.specs.ReadRule.{Fronts, known_by, IsSuperseded, IsSuch, IsRightRead, AreRightReads}
+use Rattle.mx_reads.specs.ReadRule.{Fronts, known_by, Reading, IsSuperseded, IsSuch, IsRightRead, AreRightReads}
 use Rattle.mx_reads.specs.Sightings.{Source, HasStored, Sights, HasSighted, IsLatest, IsBeyond}
 use Rattle.mx_ties.specs.Uses.{renamed}
 
@@ -112,125 +112,118 @@ module _ (name : CellUse → CellUse) (apart : (a b : CellUse) → name a ≡ na
           (subst (λ (d : Deed). Sights source p i d (name c) w j) (sym is.is) s.sights);
     }
 
-    latest_to : (p i : ℕ) (c : CellUse) (h w j : ℕ) → IsLatest done source p i c h w j
-        → IsLatest alias source p i (name c) h w j
-    latest_to p i c h w j l = record {
+    latest_to : (p i : ℕ) (c : CellUse) (w j : ℕ) → IsLatest done source p i c w j
+        → IsLatest alias source p i (name c) w j
+    latest_to p i c w j l = record {
+      earlier = l.earlier;
       before = l.before;
-      sighted = sighted_to p h c w j l.sighted;
+      sighted = sighted_to p l.earlier c w j l.sighted;
       last = λ later w' j' after within s. l.last later w' j' after within (sighted_from p later c w' j' s);
     }
 
-    latest_from : (p i : ℕ) (c : CellUse) (h w j : ℕ) → IsLatest alias source p i (name c) h w j
-        → IsLatest done source p i c h w j
-    latest_from p i c h w j l = record {
+    latest_from : (p i : ℕ) (c : CellUse) (w j : ℕ) → IsLatest alias source p i (name c) w j
+        → IsLatest done source p i c w j
+    latest_from p i c w j l = record {
+      earlier = l.earlier;
       before = l.before;
-      sighted = sighted_from p h c w j l.sighted;
+      sighted = sighted_from p l.earlier c w j l.sighted;
       last = λ later w' j' after within s. l.last later w' j' after within (sighted_to p later c w' j' s);
     }
 
     beyond_to : (p i : ℕ) (c : CellUse) (w place : ℕ) → IsBeyond done source p i c w place
         → IsBeyond alias source p i (name c) w place
     beyond_to p i c w place b = record {
-      again = λ h j l. b.again h j (latest_from p i c h w j l);
+      again = λ j l. b.again j (latest_from p i c w j l);
       onward = λ none h j before s.
-          b.onward (λ g k l. none g k (latest_to p i c g w k l)) h j before (sighted_from p h c w j s);
+          b.onward (λ k l. none k (latest_to p i c w k l)) h j before (sighted_from p h c w j s);
     }
 
     beyond_from : (p i : ℕ) (c : CellUse) (w place : ℕ) → IsBeyond alias source p i (name c) w place
         → IsBeyond done source p i c w place
     beyond_from p i c w place b = record {
-      again = λ h j l. b.again h j (latest_to p i c h w j l);
+      again = λ j l. b.again j (latest_to p i c w j l);
       onward = λ none h j before s.
-          b.onward (λ g k l. none g k (latest_from p i c g w k l)) h j before (sighted_to p h c w j s);
+          b.onward (λ k l. none k (latest_from p i c w k l)) h j before (sighted_to p h c w j s);
     }
 
   superseded_to : (u place : ℕ) (c : CellUse) (q : ℕ) → IsSuperseded done (known_by front) u place c q
       → IsSuperseded alias (known_by front) u place (name c) q
-  superseded_to u place c q s = elim s [
-    | inl r ↦ inl (record {
-      later = r.later;
-      value = r.value;
-      point = r.point;
-      after = r.after;
-      stored = store_to u r.later c r.value r.point r.stored;
-      known = r.known;
-    })
-    | inr o ↦ inr (record {
-      other = o.other;
-      at = o.at;
-      value = o.value;
-      point = o.point;
-      another = o.another;
-      stored = store_to o.other o.at c o.value o.point o.stored;
-      known = o.known;
-      knew = o.knew;
-    })
-  ]
+  superseded_to u place c q s = record {
+    other = s.other;
+    at = s.at;
+    value = s.value;
+    point = s.point;
+    stored = store_to s.other s.at c s.value s.point s.stored;
+    known = s.known;
+    after = s.after;
+    knew = s.knew;
+  }
 
   superseded_from : (u place : ℕ) (c : CellUse) (q : ℕ) → IsSuperseded alias (known_by front) u place (name c) q
       → IsSuperseded done (known_by front) u place c q
-  superseded_from u place c q s = elim s [
-    | inl r ↦ inl (record {
-      later = r.later;
-      value = r.value;
-      point = r.point;
-      after = r.after;
-      stored = store_from u r.later c r.value r.point r.stored;
-      known = r.known;
-    })
-    | inr o ↦ inr (record {
-      other = o.other;
-      at = o.at;
-      value = o.value;
-      point = o.point;
-      another = o.another;
-      stored = store_from o.other o.at c o.value o.point o.stored;
-      known = o.known;
-      knew = o.knew;
-    })
-  ]
-
-  such_to : (w place : ℕ) (c : CellUse) (value stamp q : ℕ) → IsSuch done (known_by front) w place c value stamp q
-      → IsSuch alias (known_by front) w place (name c) value stamp q
-  such_to w place c value stamp q s = record {
-    stored = store_to w place c value stamp s.stored;
-    current = λ is. s.current (superseded_from w place c q is);
+  superseded_from u place c q s = record {
+    other = s.other;
+    at = s.at;
+    value = s.value;
+    point = s.point;
+    stored = store_from s.other s.at c s.value s.point s.stored;
+    known = s.known;
+    after = s.after;
+    knew = s.knew;
   }
 
-  such_from : (w place : ℕ) (c : CellUse) (value stamp q : ℕ)
-      → IsSuch alias (known_by front) w place (name c) value stamp q
-      → IsSuch done (known_by front) w place c value stamp q
-  such_from w place c value stamp q s = record {
-    stored = store_from w place c value stamp s.stored;
-    current = λ is. s.current (superseded_to w place c q is);
+  -- a read of the cell under its other name
+  abbrev of_alias : Reading → Reading
+  of_alias read = record {
+    process = read.process;
+    place = read.place;
+    cell = name read.cell;
+    value = read.value;
+    writer = read.writer;
+    stamp = read.stamp;
+    point = read.point;
   }
 
-  right_from : (source : Source) (p i : ℕ) (c : CellUse) (value writer stamp q : ℕ)
-      → IsRightRead alias (known_by front) source p i (name c) value writer stamp q
-      → IsRightRead done (known_by front) source p i c value writer stamp q
-  right_from source p i c value writer stamp q r = record {
+  such_to : (read : Reading) (place : ℕ) → IsSuch done (known_by front) read place
+      → IsSuch alias (known_by front) (of_alias read) place
+  such_to read place s = record {
+    stored = store_to read.writer place read.cell read.value read.stamp s.stored;
+    current = λ is. s.current (superseded_from read.writer place read.cell read.point is);
+  }
+
+  such_from : (read : Reading) (place : ℕ) → IsSuch alias (known_by front) (of_alias read) place
+      → IsSuch done (known_by front) read place
+  such_from read place s = record {
+    stored = store_from read.writer place read.cell read.value read.stamp s.stored;
+    current = λ is. s.current (superseded_to read.writer place read.cell read.point is);
+  }
+
+  right_from : (source : Source) (read : Reading) → IsRightRead alias (known_by front) source (of_alias read)
+      → IsRightRead done (known_by front) source read
+  right_from source read r = record {
     nobody = λ zero. let n = r.nobody zero in record {
       zero_value = n.zero_value;
       zero_stamp = n.zero_stamp;
-      unsighted = λ h w j before s. n.unsighted h w j before (sighted_to source p h c w j s);
-      unknown = λ u place v point s. n.unknown u place v point (store_to u place c v point s);
+      unsighted = λ h w j before s. n.unsighted h w j before (sighted_to source read.process h read.cell w j s);
+      unknown = λ u place v point s. n.unknown u place v point (store_to u place read.cell v point s);
     };
+    such = λ some. such_from read (source read.process read.place) (r.such some);
     own = λ some is. let o = r.own some is in record {
       before = o.before;
-      such = such_from p (source p i) c value stamp q o.such;
-      last = λ later v point after before s. o.last later v point after before (store_to p later c v point s);
+      last = λ later v point after before s.
+          o.last later v point after before (store_to read.process later read.cell v point s);
     };
     another = λ some not. let o = r.another some not in record {
-      such = such_from writer (source p i) c value stamp q o.such;
-      beyond = beyond_from source p i c writer (source p i) o.beyond;
-      first = λ earlier before s b. o.first earlier before (such_to writer earlier c value stamp q s)
-          (beyond_to source p i c writer earlier b);
+      beyond = beyond_from source read.process read.place read.cell read.writer (source read.process read.place)
+          o.beyond;
+      first = λ earlier before s b. o.first earlier before (such_to read earlier s)
+          (beyond_to source read.process read.place read.cell read.writer earlier b);
     };
   }
 
   pub reads_from : AreRightReads alias (known_by front) → AreRightReads done (known_by front)
   reads_from reads = record {
     source = reads.source;
-    right = λ p i c value writer stamp q at. right_from reads.source p i c value writer stamp q
-        (reads.right p i (name c) value writer stamp q (to p i (Loads c value writer stamp q) at));
+    right = λ read at. right_from reads.source read (reads.right (of_alias read)
+        (to read.process read.place (Loads read.cell read.value read.writer read.stamp read.point) at));
   }

@@ -111,7 +111,7 @@ module _ (processes numbers start : ℕ) (table : ℕ → ℕ → Descriptor) (c
       low = λ u q l. front_within start (λ r. record { process = 0; mark = 0 }) u q 0 (λ r a b e. omega arith);
       idle = λ u l. refl;
       source = λ p i. 0;
-      right = λ p i cell value writer stamp q h. absurd (nothing_at _ h);
+      right = λ read h. absurd (nothing_at _ h);
       held = λ c h. held_new (deeds w) (front start (λ r. record { process = 0; mark = 0 })) (λ p i. 0) c (holding w c)
           (record {
             value = refl;

@@ -1,7 +1,7 @@
 -- What the invariant says of the end of the history.
 use Rattle.std.proofs.Common.{◌≡◌, ◌≢◌, inl, inr, ℕ, refl, ap, sym, ◌∙◌, subst, arith}
 use Rattle.std.specs.Prelude.{IsTrue, not, ◌||◌, ◌==◌}
-use Rattle.std.proofs.lemmas.Bool.{cases_eq, cases_lt, and_from, or_left, eq-eqb}
+use Rattle.std.proofs.lemmas.Bool.{cases_lt, and_from, or_left, eq-eqb}
 use Rattle.mx_reads.specs.Sightings.{HasStored}
 use Rattle.mx_core.specs.Deeds.{deeds}
 use Rattle.mx_core.specs.RightWords.{IsValid, IsFault, IsWord}
@@ -46,14 +46,17 @@ sentences_law w g = record {
   struck = λ p n a changed. let b = (g.access.processes p).acknowledged a in
       ((g.access.processes p).cut b.0 b.1).struck n changed;
   stored = stood;
-  read = λ p i c value writer stamp point at some ready none. elim (cases_eq writer p) [
-    | inl own ↦
-        let from = ((g.reads.right p i (in_use w c) value writer stamp point at).own some own).such.stored in
-        stood p (g.reads.source p i) c value stamp from ready none
-    | inr apart ↦
-        let from = ((g.reads.right p i (in_use w c) value writer stamp point at).another some apart).such.stored in
-        stood writer (g.reads.source p i) c value stamp from ready none
-  ];
+  read = λ p i c value writer stamp point at some ready none.
+      let from = ((g.reads.right (record {
+        process = p;
+        place = i;
+        cell = in_use w c;
+        value = value;
+        writer = writer;
+        stamp = stamp;
+        point = point;
+      }) at).such some).stored in
+      stood writer (g.reads.source p i) c value stamp from ready none;
 }
   where
     -- a cell that can be read in its present use, where somebody stored, has a writer

@@ -3,7 +3,7 @@ use Rattle.std.proofs.Common.{◌≡◌, inl, inr, ℕ, ◌<◌, ◌≤◌, ◌=
 use Rattle.std.proofs.lemmas.Bool.{eqb-true}
 use Rattle.std.specs.List.{slice_get}
 use Rattle.mx_core.specs.declared.elements.Element.{Element}
-use Rattle.mx_core.specs.declared.elements.Event.TheVariants.{Seen, Missing}
+use Rattle.mx_core.specs.declared.elements.Event.TheVariants.{Seen}
 use Rattle.mx_core.specs.declared.elements.Outcome.{Outcome}
 use Rattle.mx_core.specs.declared.elements.Outcome.TheVariants as outcome
 use Rattle.mx_effring.specs.Chains as chains
@@ -23,6 +23,7 @@ use Rattle.mx_sdw.specs.declared.descriptors.Cell.{Cell}
 use Rattle.mx_sdw.specs.declared.operations.Op.{Op}
 use Rattle.mx_sdw.specs.declared.operations.Op.TheVariants as op
 use Rattle.mx_state.specs.declared.journal.Entry as journaled
+use Rattle.mx_transcript.proofs.Outcomes as outcomes
 use Rattle.mx_transcript.proofs.WalkLaws.{walk_begun_law}
 use Rattle.mx_transcript.specs.Asking.{next, attempts}
 use Rattle.mx_transcript.specs.Attempts.{wants}
@@ -58,19 +59,7 @@ use Rattle.mx_line.specs.declared.operands.Progress.TheVariants.{Before, Walking
 
 -- an event that answers leaves one course
 pub one_course : OneCourseLaw
-one_course setting asks before (Core (Seen e)) after other is is' = elim is [
-  | inl a ↦ elim is' [
-    | inl b ↦ b.leads ∙ sym a.leads
-    | inr b ↦ let n = a.next in let m = b.next in absurd cc
-  ]
-  | inr a ↦ elim is' [
-    | inl b ↦ let n = a.next in let m = b.next in absurd cc
-    | inr b ↦ let n = a.since in let m = b.since in let p = a.leads in let q = b.leads in cc
-  ]
-]
-one_course setting asks before (Core (Missing segno by)) after other is is' = is'.leads ∙ sym is.leads
-one_course setting asks before (Entry number) after other is is' =
-    let n = is.there in let m = is'.there in let p = is.leads in let q = is'.leads in cc
+one_course setting asks before event after other is is' = outcomes.one_course setting asks before event other after is' is
 
 -- what a line asks for is one thing
 asks_fills : (asks : Next) (a b : Reference) → asks ≡ Asks a → asks ≡ Fills b → ⊥

@@ -4,7 +4,7 @@ use Rattle.std.specs.List.{slice_get}
 use Rattle.std.proofs.lemmas.Bool.{cases_eq, cases_lt}
 use Rattle.std.proofs.lemmas.Option.{slice_get_within}
 use Rattle.mx_reads.specs.Deeds.{CellUse, Deed, Deeds, Enters, Stores, Loads, Refers, Misses}
-use Rattle.mx_reads.specs.ReadRule.{Fronts, known_by, IsReplaced, IsOverwritten, IsSuperseded, IsSuch, IsFirstOther}
+use Rattle.mx_reads.specs.ReadRule.{Fronts, known_by, Reading, IsSuperseded, IsSuch, IsFirstOther}
 use Rattle.mx_reads.specs.Sightings.{Source, Sights, HasSighted, IsLatest, IsBeyond}
 use Rattle.mx_reads.proofs.CellUses.{same_cell}
 use Rattle.mx_reads.proofs.Decide.{Dec, IsFirst, first_below, last_below, IsStore, store_at}
@@ -14,95 +14,63 @@ same_value : (o : Option Deed) (c : CellUse) (v s v' s' : ℕ) → o ≡ Some (S
 same_value o c v s v' s' h k = let e : Some (Stores c v s) ≡ Some (Stores c v' s') = sym h ∙ k in (cc, cc)
 
 module _ (count : ℕ) (done : Deeds) (front : Fronts) (idle : (u : ℕ) → count ≤ u → length (done u) ≡ 0) where
-  record Replaces (u place : ℕ) (cell : CellUse) (q later : ℕ) : Type 0 where
-    pub after : place < later
-    pub store : IsStore (done u) later cell
-    pub known : later < front u q
-
-  replaces : (u place : ℕ) (cell : CellUse) (q later : ℕ) → Dec (Replaces u place cell q later)
-  replaces u place cell q later = elim (cases_lt place later) [
-    | inr high ↦ inr (λ r. let after = r.after in absurd (omega arith))
-    | inl after ↦ elim (cases_lt later (front u q)) [
-      | inr high ↦ inr (λ r. let known = r.known in absurd (omega arith))
-      | inl known ↦ elim (store_at (done u) later cell) [
-        | inr none ↦ inr (λ r. none r.store)
-        | inl store ↦ inl (record { after = after; store = store; known = known })
-      ]
-    ]
-  ]
-
-  replaced : (u place : ℕ) (cell : CellUse) (q : ℕ) → Dec (IsReplaced done (known_by front) u place cell q)
-  replaced u place cell q = elim (first_below (Replaces u place cell q) (length (done u)) (replaces u place cell q)) [
-    | inl f ↦ inl (record {
-      later = f.at;
-      value = f.has.store.value;
-      point = f.has.store.point;
-      after = f.has.after;
-      stored = f.has.store.at;
-      known = f.has.known;
-    })
-    | inr none ↦ inr (λ r. none r.later (slice_get_within (done u) r.later (Stores cell r.value r.point) r.stored)
-        (record {
-          after = r.after;
-          store = record { value = r.value; point = r.point; at = r.stored };
-          known = r.known;
-        }))
-  ]
-
-  record Overwrites (u place : ℕ) (cell : CellUse) (q other at : ℕ) : Type 0 where
-    pub another : other ≢ u
+  record Supersedes (u place : ℕ) (cell : CellUse) (q other at : ℕ) : Type 0 where
     pub store : IsStore (done other) at cell
     pub known : at < front other q
-    pub knew : place < front u store.point
+    pub after : other ≡ u → place < at
+    pub knew : other ≢ u → place < front u store.point
 
-  overwrites : (u place : ℕ) (cell : CellUse) (q other at : ℕ) → Dec (Overwrites u place cell q other at)
-  overwrites u place cell q other at = elim (cases_eq other u) [
-    | inl e ↦ inr (λ r. r.another e)
-    | inr another ↦ elim (cases_lt at (front other q)) [
-      | inr high ↦ inr (λ r. let known = r.known in absurd (omega arith))
-      | inl known ↦ elim (store_at (done other) at cell) [
-        | inr none ↦ inr (λ r. none r.store)
-        | inl store ↦ elim (cases_lt place (front u store.point)) [
-          | inl knew ↦ inl (record { another = another; store = store; known = known; knew = knew })
+  supersedes : (u place : ℕ) (cell : CellUse) (q other at : ℕ) → Dec (Supersedes u place cell q other at)
+  supersedes u place cell q other at = elim (cases_lt at (front other q)) [
+    | inr high ↦ inr (λ r. let known = r.known in absurd (omega arith))
+    | inl known ↦ elim (store_at (done other) at cell) [
+      | inr none ↦ inr (λ r. none r.store)
+      | inl store ↦ elim (cases_eq other u) [
+        | inl same ↦ elim (cases_lt place at) [
+          | inl after ↦ inl (record { store = store; known = known; after = λ e. after; knew = λ n. absurd (n same) })
+          | inr early ↦ inr (λ r. let after = r.after same in absurd (omega arith))
+        ]
+        | inr another ↦ elim (cases_lt place (front u store.point)) [
+          | inl knew ↦ inl (record { store = store; known = known; after = λ e. absurd (another e); knew = λ n. knew })
           | inr high ↦ inr (λ r.
               let same = (same_value (slice_get (done other) at) cell r.store.value r.store.point store.value
               store.point r.store.at store.at).1 in
-              let knew = r.knew in
+              let knew = r.knew another in
               let point = ap (front u) same in absurd (omega arith))
         ]
       ]
     ]
   ]
 
-  abbrev OverwritesBy : ℕ → ℕ → CellUse → ℕ → ℕ → Type 0
-  OverwritesBy u place cell q other = IsFirst (Overwrites u place cell q other) (length (done other))
+  abbrev SupersedesBy : ℕ → ℕ → CellUse → ℕ → ℕ → Type 0
+  SupersedesBy u place cell q other = IsFirst (Supersedes u place cell q other) (length (done other))
 
-  overwritten : (u place : ℕ) (cell : CellUse) (q : ℕ) → Dec (IsOverwritten done (known_by front) u place cell q)
-  overwritten u place cell q = elim (first_below (OverwritesBy u place cell q) count by) [
-    | inl f ↦ let o = f.has.has in inl (record {
+  superseded : (u place : ℕ) (cell : CellUse) (q : ℕ) → Dec (IsSuperseded done (known_by front) u place cell q)
+  superseded u place cell q = elim (first_below (SupersedesBy u place cell q) count by) [
+    | inl f ↦ let s = f.has.has in inl (record {
       other = f.at;
       at = f.has.at;
-      value = o.store.value;
-      point = o.store.point;
-      another = o.another;
-      stored = o.store.at;
-      known = o.known;
-      knew = o.knew;
+      value = s.store.value;
+      point = s.store.point;
+      stored = s.store.at;
+      known = s.known;
+      after = s.after;
+      knew = s.knew;
     })
-    | inr none ↦ inr (λ o.
-        let within = slice_get_within (done o.other) o.at (Stores cell o.value o.point) o.stored in
-        none o.other (counted o.other o.at within)
-        (found o.other (record {
-          another = o.another;
-          store = record { value = o.value; point = o.point; at = o.stored };
-          known = o.known;
-          knew = o.knew;
+    | inr none ↦ inr (λ s.
+        let within = slice_get_within (done s.other) s.at (Stores cell s.value s.point) s.stored in
+        none s.other (counted s.other s.at within)
+        (found s.other (record {
+          store = record { value = s.value; point = s.point; at = s.stored };
+          known = s.known;
+          after = s.after;
+          knew = s.knew;
         }) within))
   ]
     where
-      by : (other : ℕ) → Dec (OverwritesBy u place cell q other)
+      by : (other : ℕ) → Dec (SupersedesBy u place cell q other)
       by other =
-          elim (first_below (Overwrites u place cell q other) (length (done other)) (overwrites u place cell q other)) [
+          elim (first_below (Supersedes u place cell q other) (length (done other)) (supersedes u place cell q other)) [
             | inl f ↦ inl f
             | inr none ↦ inr (λ f. none f.at f.below f.has)
           ]
@@ -113,36 +81,27 @@ module _ (count : ℕ) (done : Deeds) (front : Fronts) (idle : (u : ℕ) → cou
         | inr out ↦ let nothing = idle other out in absurd (omega arith)
       ]
 
-      found : (other : ℕ) {at : ℕ} → Overwrites u place cell q other at → at < length (done other)
-          → OverwritesBy u place cell q other
-      found other {at} o within =
-          elim (first_below (Overwrites u place cell q other) (length (done other)) (overwrites u place cell q other)) [
+      found : (other : ℕ) {at : ℕ} → Supersedes u place cell q other at → at < length (done other)
+          → SupersedesBy u place cell q other
+      found other {at} s within =
+          elim (first_below (Supersedes u place cell q other) (length (done other)) (supersedes u place cell q other)) [
             | inl f ↦ f
-            | inr none ↦ absurd (none at within o)
+            | inr none ↦ absurd (none at within s)
           ]
 
-  superseded : (u place : ℕ) (cell : CellUse) (q : ℕ) → Dec (IsSuperseded done (known_by front) u place cell q)
-  superseded u place cell q = elim (replaced u place cell q) [
-    | inl r ↦ inl (inl r)
-    | inr not_replaced ↦ elim (overwritten u place cell q) [
-      | inl o ↦ inl (inr o)
-      | inr not_overwritten ↦ inr (λ s. elim s [ inl r ↦ not_replaced r | inr o ↦ not_overwritten o ])
-    ]
-  ]
-
-  such : (w place : ℕ) (cell : CellUse) (value stamp q : ℕ) → Dec (IsSuch done (known_by front) w place cell value stamp q)
-  such w place cell value stamp q = elim (store_at (done w) place cell) [
-    | inr none ↦ inr (λ s. none (record { value = value; point = stamp; at = s.stored }))
-    | inl store ↦ elim (cases_eq store.value value) [
-      | inr other ↦ inr (λ s. other (same_value (slice_get (done w) place) cell store.value store.point value stamp
-          store.at s.stored).0)
-      | inl e ↦ elim (cases_eq store.point stamp) [
-        | inr other ↦ inr (λ s. other (same_value (slice_get (done w) place) cell store.value store.point value stamp
-            store.at s.stored).1)
+  such : (read : Reading) (place : ℕ) → Dec (IsSuch done (known_by front) read place)
+  such read place = elim (store_at (done read.writer) place read.cell) [
+    | inr none ↦ inr (λ s. none (record { value = read.value; point = read.stamp; at = s.stored }))
+    | inl store ↦ elim (cases_eq store.value read.value) [
+      | inr other ↦ inr (λ s. other (same_value (slice_get (done read.writer) place) read.cell store.value store.point
+          read.value read.stamp store.at s.stored).0)
+      | inl e ↦ elim (cases_eq store.point read.stamp) [
+        | inr other ↦ inr (λ s. other (same_value (slice_get (done read.writer) place) read.cell store.value store.point
+            read.value read.stamp store.at s.stored).1)
         | inl f ↦
-            let stored = store.at ∙ ap (λ (v : ℕ). Some (Stores cell v store.point)) e ∙ ap
-            (λ (s : ℕ). Some (Stores cell value s)) f in
-            elim (superseded w place cell q) [
+            let stored = store.at ∙ ap (λ (v : ℕ). Some (Stores read.cell v store.point)) e ∙ ap
+            (λ (s : ℕ). Some (Stores read.cell read.value s)) f in
+            elim (superseded read.writer place read.cell read.point) [
               | inl s ↦ inr (λ t. t.current s)
               | inr current ↦ inl (record { stored = stored; current = current })
             ]
@@ -290,32 +249,33 @@ module _ (count : ℕ) (done : Deeds) (front : Fronts) (idle : (u : ℕ) → cou
         low = 0;
         is = λ place b. omega arith;
         gives = λ place l. record {
-          again =
-              λ h j t. let before = t.before in absurd (none h before (record { w = w; j = j; sighted = t.sighted }));
+          again = λ j t.
+              let before = t.before in absurd (none t.earlier before (record { w = w; j = j; sighted = t.sighted }));
           onward = λ no_latest h j before s. absurd (none h before (record { w = w; j = j; sighted = s }));
         };
       }
       | inl f ↦ elim (cases_eq f.has.w w) [
         | inl mine ↦
-            let latest : IsLatest done source p i cell f.at w f.has.j = record {
+            let latest : IsLatest done source p i cell w f.has.j = record {
+              earlier = f.at;
               before = f.below;
               sighted = subst (λ (v : ℕ). HasSighted done source p f.at cell v f.has.j) mine f.has.sighted;
               last = λ later w' j' a b s. f.none later a b (record { w = w'; j = j'; sighted = s });
             } in record {
               low = f.has.j;
-              is = λ place b. b.again f.at f.has.j latest;
+              is = λ place b. b.again f.has.j latest;
               gives = λ place l. record {
-                again = λ h j t. again_same f.at f.has.w f.has.j f.below f.has.sighted f.none h j t place l;
-                onward = λ no_latest h j before s. absurd (no_latest f.at f.has.j latest);
+                again = λ j t. again_same f.at f.has.w f.has.j f.below f.has.sighted f.none j t place l;
+                onward = λ no_latest h j before s. absurd (no_latest f.has.j latest);
               };
             }
         | inr other ↦
             let a = above w i in record {
               low = a.low;
               is = λ place b. a.least place (λ h j l s. b.onward
-                  (λ h' j' t. never f.at f.has.w f.has.j f.below f.has.sighted f.none other h' j' t) h j l s);
+                  (λ j' t. never f.at f.has.w f.has.j f.below f.has.sighted f.none other j' t) h j l s);
               gives = λ place l. record {
-                again = λ h j t. absurd (never f.at f.has.w f.has.j f.below f.has.sighted f.none other h j t);
+                again = λ j t. absurd (never f.at f.has.w f.has.j f.below f.has.sighted f.none other j t);
                 onward = λ no_latest h j before s. let less = a.covers h j before s in omega arith;
               };
             }
@@ -324,60 +284,63 @@ module _ (count : ℕ) (done : Deeds) (front : Fronts) (idle : (u : ℕ) → cou
       where
         same_place : (at w0 j0 : ℕ) → at < i → HasSighted done source p at cell w0 j0
             → ((k : ℕ) → at < k → k < i → Sighting k → ⊥)
-            → (h j : ℕ) → IsLatest done source p i cell h w j → h ≡ at
-        same_place at w0 j0 below s none h j t =
+            → (j : ℕ) → (t : IsLatest done source p i cell w j) → t.earlier ≡ at
+        same_place at w0 j0 below s none j t =
             let before = t.before in
-            elim (cases_lt h at) [
+            elim (cases_lt t.earlier at) [
               | inl l ↦ absurd (t.last at w0 j0 l below s)
-              | inr m ↦ elim (cases_lt at h) [
-                | inl l ↦ absurd (none h l before (record { w = w; j = j; sighted = t.sighted }))
+              | inr m ↦ elim (cases_lt at t.earlier) [
+                | inl l ↦ absurd (none t.earlier l before (record { w = w; j = j; sighted = t.sighted }))
                 | inr m' ↦ omega arith
               ]
             ]
 
         never : (at w0 j0 : ℕ) → at < i → HasSighted done source p at cell w0 j0
             → ((k : ℕ) → at < k → k < i → Sighting k → ⊥)
-            → w0 ≢ w → (h j : ℕ) → IsLatest done source p i cell h w j → ⊥
-        never at w0 j0 below s none other h j t =
-            let e = same_place at w0 j0 below s none h j t in
+            → w0 ≢ w → (j : ℕ) → IsLatest done source p i cell w j → ⊥
+        never at w0 j0 below s none other j t =
+            let e = same_place at w0 j0 below s none j t in
             other (same_sighting at w0 j0 w j s (subst (λ (k : ℕ). HasSighted done source p k cell w j) e t.sighted)).0
 
         again_same : (at w0 j0 : ℕ) → at < i → HasSighted done source p at cell w0 j0
             → ((k : ℕ) → at < k → k < i → Sighting k → ⊥)
-            → (h j : ℕ) → IsLatest done source p i cell h w j → (place : ℕ) → j0 ≤ place → j ≤ place
-        again_same at w0 j0 below s none h j t place l =
-            let e = same_place at w0 j0 below s none h j t in
+            → (j : ℕ) → IsLatest done source p i cell w j → (place : ℕ) → j0 ≤ place → j ≤ place
+        again_same at w0 j0 below s none j t place l =
+            let e = same_place at w0 j0 below s none j t in
             let f = (same_sighting at w0 j0 w j s
             (subst (λ (k : ℕ). HasSighted done source p k cell w j) e t.sighted)).1 in omega arith
 
-    -- the first that will do, where one will do
-    pub record Choice (i w value stamp q : ℕ) : Type 0 where
+  -- the first that will do, where one will do
+  module _ (source : Source) (read : Reading) where
+    abbrev IsPast : ℕ → Type 0
+    IsPast place = IsBeyond done source read.process read.place read.cell read.writer place
+
+    pub record Choice : Type 0 where
       pub place : ℕ
-      pub first : IsFirstOther done (known_by front) source p i w place cell value stamp q
+      pub such : IsSuch done (known_by front) read place
+      pub first : IsFirstOther done (known_by front) source read place
 
-    record Fits (low w value stamp q place : ℕ) : Type 0 where
+    record Fits (low place : ℕ) : Type 0 where
       pub high : low ≤ place
-      pub is : IsSuch done (known_by front) w place cell value stamp q
+      pub is : IsSuch done (known_by front) read place
 
-    fits_dec : (low w value stamp q place : ℕ) → Dec (Fits low w value stamp q place)
-    fits_dec low w value stamp q place = elim (cases_lt place low) [
+    fits_dec : (low place : ℕ) → Dec (Fits low place)
+    fits_dec low place = elim (cases_lt place low) [
       | inl under ↦ inr (λ f. let high = f.high in absurd (omega arith))
-      | inr high ↦ elim (such w place cell value stamp q) [
+      | inr high ↦ elim (such read place) [
         | inl is ↦ inl (record { high = high; is = is })
         | inr not_such ↦ inr (λ f. not_such f.is)
       ]
     ]
 
-    pub choose : (i w value stamp q place : ℕ) → IsSuch done (known_by front) w place cell value stamp q
-        → IsBeyond done source p i cell w place
-        → Choice i w value stamp q
-    choose i w value stamp q place is beyond =
-        let t = threshold i w in
-        elim (first_below (Fits t.low w value stamp q) (place + 1) (fits_dec t.low w value stamp q)) [
+    pub choose : (place : ℕ) → IsSuch done (known_by front) read place → IsPast place → Choice
+    choose place is beyond =
+        let t = threshold source read.process read.cell read.place read.writer in
+        elim (first_below (Fits t.low) (place + 1) (fits_dec t.low)) [
           | inl f ↦ record {
             place = f.at;
+            such = f.has.is;
             first = record {
-              such = f.has.is;
               beyond = t.gives f.at f.has.high;
               first = λ earlier l s b. f.none earlier l (record { high = t.is earlier b; is = s });
             };

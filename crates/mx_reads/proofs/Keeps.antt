@@ -9,7 +9,7 @@ use Rattle.mx_reads.specs.Deeds.{CellUse, Deed, Deeds, Enters, Stores, Loads, Re
 use Rattle.mx_reads.specs.Growth.{Extends, IsWithin, AreWithin, IsQuiet, IsQuietWithin}
 use Rattle.mx_reads.specs.Held.{Held, IsHeld, AreRight}
 use Rattle.mx_reads.specs.KeepLaws.{IsNew, QuietLaw, StoreLaw}
-use Rattle.mx_reads.specs.ReadRule.{Fronts, known_by, IsRightRead}
+use Rattle.mx_reads.specs.ReadRule.{Fronts, known_by, Reading, HasRead, IsRightRead}
 use Rattle.mx_reads.specs.Sightings.{Source, HasStored, Sights, IsLatest}
 use Rattle.mx_reads.proofs.CellUses.{same_cell}
 use Rattle.mx_reads.proofs.Moves.{IsApart, read_forth, held_apart}
@@ -29,6 +29,10 @@ quiet_apart (Loads own value writer stamp point) cell q = absurd q
 quiet_apart (Refers point) cell q = tt
 quiet_apart (Misses segno by) cell q = tt
 
+-- a read as a deed
+abbrev pub load_of : Reading → Deed
+load_of read = Loads read.cell read.value read.writer read.stamp read.point
+
 -- nobody but the processes below the count does anything
 pub idle_still : (count bound p : ℕ) (old new : Deeds) (front front' : Fronts) (Fresh : Deed → Type 0) → p < count
     → Extends bound old front new front' p Fresh
@@ -46,24 +50,17 @@ pub reads_still : (bound : ℕ) (old new : Deeds) (front front' : Fronts) (p : �
     → (g : Extends bound old front new front' p Fresh) → AreWithin bound old
     → ((u q : ℕ) → q ≤ bound → front u q ≤ length (old u))
     → ((u h : ℕ) → h < length (old u) → source' u h ≡ source u h)
-    → ((r i : ℕ) (cell : CellUse) (value writer stamp q : ℕ)
-    → slice_get (old r) i ≡ Some (Loads cell value writer stamp q)
-    → IsRightRead old (known_by front) source r i cell value writer stamp q)
-    → ((r i : ℕ) (cell : CellUse) (value writer stamp q : ℕ) → r ≡ p → i ≡ length (old p)
-    → Fresh (Loads cell value writer stamp q)
-    → IsRightRead new (known_by front') source' r i cell value writer stamp q)
-    → (r i : ℕ) (cell : CellUse) (value writer stamp q : ℕ)
-    → slice_get (new r) i ≡ Some (Loads cell value writer stamp q)
-    → IsRightRead new (known_by front') source' r i cell value writer stamp q
-reads_still bound old new front front' p Fresh source source' g within low agree right here r i cell value writer stamp
-    q h =
-    elim (g.found r i (Loads cell value writer stamp q) h) [
+    → ((read : Reading) → HasRead old read → IsRightRead old (known_by front) source read)
+    → ((read : Reading) → read.process ≡ p → read.place ≡ length (old p) → Fresh (load_of read)
+    → IsRightRead new (known_by front') source' read)
+    → (read : Reading) → HasRead new read → IsRightRead new (known_by front') source' read
+reads_still bound old new front front' p Fresh source source' g within low agree right here read h =
+    elim (g.found read.process read.place (load_of read) h) [
       | inl a ↦
-          let at = slice_get_within (old r) i (Loads cell value writer stamp q) a in
-          read_forth bound old front new front' p Fresh g within low source source' agree r i cell value writer stamp q
-          (omega arith)
-          (within r i (Loads cell value writer stamp q) a) (agree r i at) (right r i cell value writer stamp q a)
-      | inr b ↦ here r i cell value writer stamp q b.0 b.1 b.2
+          let at = slice_get_within (old read.process) read.place (load_of read) a in
+          read_forth bound old front new front' p Fresh g within low source source' agree read (omega arith)
+          (within read.process read.place (load_of read) a) (agree read.process read.place at) (right read a)
+      | inr b ↦ here read b.0 b.1 b.2
     ]
 
 -- what nobody stored in is as its zero says
@@ -91,7 +88,7 @@ quiet_law count bound bound' p old new front front' present present' memory own 
   source = are.source;
   right = reads_still bound old new front front' p (IsQuietWithin bound') are.source are.source g are.within are.low
       (λ u h l. refl) are.right
-      (λ r i cell value writer stamp q a b f. absurd f.quiet);
+      (λ read a b f. absurd f.quiet);
   held = λ cell here. held_apart bound old front new front' p (IsQuietWithin bound') g are.within are.low are.source
       are.source (λ u h l. refl)
       cell (memory cell) (λ d f. quiet_apart d cell f.quiet) (elim (given cell here) [
@@ -142,9 +139,7 @@ pub record IsThere (done : Deeds) (w j : ℕ) (cell : CellUse) : Type 0 where
   pub at : HasStored done w j cell value point
 
 pub sight_there : (done : Deeds) (front : Fronts) (source : Source)
-    → ((r i : ℕ) (cell : CellUse) (value writer stamp q : ℕ)
-    → slice_get (done r) i ≡ Some (Loads cell value writer stamp q)
-    → IsRightRead done (known_by front) source r i cell value writer stamp q)
+    → ((read : Reading) → HasRead done read → IsRightRead done (known_by front) source read)
     → (p h : ℕ) (d : Deed) (cell : CellUse) (w j : ℕ) → slice_get (done p) h ≡ Some d → Sights source p h d cell w j
     → IsThere done w j cell
 sight_there done front source right p h (Enters number) cell w j at s = absurd s
@@ -163,12 +158,19 @@ sight_there done front source right p h (Loads own value writer stamp point) cel
       (subst (λ (i : ℕ). HasStored done writer i own value stamp) (sym s.3) stood));
 }
   where
+    read : Reading
+    read = record {
+      process = p;
+      place = h;
+      cell = own;
+      value = value;
+      writer = writer;
+      stamp = stamp;
+      point = point;
+    }
+
     stood : HasStored done writer (source p h) own value stamp
-    stood = elim (cases_eq writer p) [
-      | inl e ↦ subst (λ (u : ℕ). HasStored done u (source p h) own value stamp) (sym e)
-          ((right p h own value writer stamp point at).own s.1 e).such.stored
-      | inr n ↦ ((right p h own value writer stamp point at).another s.1 n).such.stored
-    ]
+    stood = ((right read at).such s.1).stored
 sight_there done front source right p h (Refers point) cell w j at s = absurd s
 sight_there done front source right p h (Misses segno by) cell w j at s = absurd s
 
@@ -210,7 +212,7 @@ module _ (count bound p : ℕ) (cell : CellUse) (value q : ℕ) (old new : Deeds
           let e = ap (front p) (same_point cell v point cell value q b.2) in absurd (omega arith)
     ];
     onward = λ n u none h j s. elim (cases_eq u p) [
-      | inl e ↦ absurd (mine (subst (λ (v : ℕ). (h j : ℕ) → IsLatest new are.source v (length (new v)) cell h p j → ⊥)
+      | inl e ↦ absurd (mine (subst (λ (v : ℕ). (j : ℕ) → IsLatest new are.source v (length (new v)) cell p j → ⊥)
           e none))
       | inr apart ↦ elim (g.found u h s.deed s.at) [
         | inl a ↦
@@ -221,8 +223,9 @@ module _ (count bound p : ℕ) (cell : CellUse) (value q : ℕ) (old new : Deeds
     ];
   }
     where
-      mine : ((h j : ℕ) → IsLatest new are.source p (length (new p)) cell h p j → ⊥) → ⊥
-      mine none = none (length (old p)) (length (old p)) (record {
+      mine : ((j : ℕ) → IsLatest new are.source p (length (new p)) cell p j → ⊥) → ⊥
+      mine none = none (length (old p)) (record {
+        earlier = length (old p);
         before = slice_get_within (new p) (length (old p)) (Stores cell value q) stored_last;
         sighted = record { deed = Stores cell value q; at = stored_last; sights = (refl, refl, refl) };
         last = λ later w j a b s. let one = g.length_own in absurd (omega arith);
@@ -239,7 +242,7 @@ module _ (count bound p : ℕ) (cell : CellUse) (value q : ℕ) (old new : Deeds
     source = are.source;
     right = reads_still bound old new front front p (λ d. d ≡ Stores cell value q) are.source are.source g are.within
         are.low (λ u h l. refl) are.right
-        (λ r i c v w s point a b f. absurd (store_no_load c v w s point cell value q (sym f)));
+        (λ read a b f. absurd (store_no_load read.cell read.value read.writer read.stamp read.point cell value q (sym f)));
     held = λ c here_too. elim (same_cell c cell) [
       | inl e ↦ subst (λ (m : CellUse). IsHeld new front are.source m (memory' m)) (sym e)
           (subst (λ (h : Held). IsHeld new front are.source cell h) (sym here) held_stored)

@@ -8,11 +8,11 @@ use Rattle.mx_reads.specs.Deeds.{CellUse, Deed, Deeds, Stores, Loads}
 use Rattle.mx_reads.specs.Growth.{Extends, IsWithin}
 use Rattle.mx_reads.specs.Held.{Held, IsHeld, AreRight}
 use Rattle.mx_reads.specs.KeepLaws.{LoadLaw}
-use Rattle.mx_reads.specs.ReadRule.{Fronts, known_by, IsSuch, IsOwnLast, IsFirstOther, IsRightRead}
+use Rattle.mx_reads.specs.ReadRule.{Fronts, known_by, Reading, IsSuch, IsOwnLast, IsFirstOther, IsRightRead}
 use Rattle.mx_reads.specs.Sightings.{Source, HasStored, HasSighted, IsLatest, IsBeyond}
 use Rattle.mx_reads.proofs.CellUses.{same_cell}
 use Rattle.mx_reads.proofs.Moves.{IsApart, read_forth, held_apart, sighted_back, sighted_forth, beyond_forth, beyond_back}
-use Rattle.mx_reads.proofs.Keeps.{grown, idle_still, reads_still, sight_there, store_no_load}
+use Rattle.mx_reads.proofs.Keeps.{load_of, grown, idle_still, reads_still, sight_there, store_no_load}
 use Rattle.mx_reads.proofs.Places.{place_last}
 use Rattle.mx_reads.proofs.Choosing.{choose}
 
@@ -75,6 +75,17 @@ module _ (count bound p : ℕ) (cell : CellUse) (q : ℕ) (old new : Deeds) (fro
   abbrev i : ℕ
   i = length (old p)
 
+  abbrev read : Reading
+  read = record {
+    process = p;
+    place = i;
+    cell = cell;
+    value = value;
+    writer = writer;
+    stamp = stamp;
+    point = q;
+  }
+
   is : IsHeld old front are.source cell (memory cell)
   is = are.held cell there
 
@@ -85,38 +96,56 @@ module _ (count bound p : ℕ) (cell : CellUse) (q : ℕ) (old new : Deeds) (fro
   load_last = subst (λ (l : List Deed). slice_get l i ≡ Some load) (sym own) (place_last (old p) load)
 
   -- the store that the cell holds will do
-  such_held : writer ≢ 0 → IsSuch old (known_by front) writer is.place cell value stamp q
+  such_held : writer ≢ 0 → IsSuch old (known_by front) read is.place
   such_held some = record {
     stored = is.stored some;
-    current = λ s. elim s [
-      | inl r ↦ let most = is.last some r.later r.value r.point r.stored in let after = r.after in absurd (omega arith)
-      | inr o ↦ is.unseen some o.other o.at o.value o.point o.stored o.knew
+    current = λ s. elim (cases_eq s.other writer) [
+      | inl e ↦
+          let most = is.last some s.at s.value s.point
+          (subst (λ (u : ℕ). HasStored old u s.at cell s.value s.point) e s.stored) in
+          let after = s.after e in absurd (omega arith)
+      | inr n ↦ is.unseen some s.other s.at s.value s.point s.stored (s.knew n)
     ];
   }
 
   beyond_held : writer ≢ 0 → IsBeyond old are.source p i cell writer is.place
   beyond_held some = record {
-    again = λ h j l.
+    again = λ j l.
         let s = l.sighted in
-        let t = sight_there old front are.source are.right p h s.deed cell writer j s.at s.sights in
+        let t = sight_there old front are.source are.right p l.earlier s.deed cell writer j s.at s.sights in
         is.last some j t.value t.point t.at;
     onward = λ none h j before s. is.onward some p none h j s;
   }
 
   record Chosen : Type 0 where
     place : ℕ
+    will_do : writer ≢ 0 → IsSuch old (known_by front) read place
     mine : writer ≢ 0 → writer ≡ p → place ≡ is.place
-    foreign : writer ≢ 0 → writer ≢ p → IsFirstOther old (known_by front) are.source p i writer place cell value stamp q
+    foreign : writer ≢ 0 → writer ≢ p → IsFirstOther old (known_by front) are.source read place
 
   chosen : Chosen
   chosen = elim (cases_eq writer 0) [
-    | inl none ↦ record { place = 0; mine = λ some e. absurd (some none); foreign = λ some n. absurd (some none) }
+    | inl none ↦ record {
+      place = 0;
+      will_do = λ some. absurd (some none);
+      mine = λ some e. absurd (some none);
+      foreign = λ some n. absurd (some none);
+    }
     | inr some ↦ elim (cases_eq writer p) [
-      | inl e ↦ record { place = is.place; mine = λ s e'. refl; foreign = λ s n. absurd (n e) }
+      | inl e ↦ record {
+        place = is.place;
+        will_do = such_held;
+        mine = λ s e'. refl;
+        foreign = λ s n. absurd (n e);
+      }
       | inr n ↦
-          let c = choose count old front are.idle are.source p cell i writer value stamp q is.place (such_held some)
-          (beyond_held some) in
-          record { place = c.place; mine = λ s e. absurd (n e); foreign = λ s m. c.first }
+          let c = choose count old front are.idle are.source read is.place (such_held some) (beyond_held some) in
+          record {
+            place = c.place;
+            will_do = λ s. c.such;
+            mine = λ s e. absurd (n e);
+            foreign = λ s m. c.first;
+          }
     ]
   ]
 
@@ -130,7 +159,7 @@ module _ (count bound p : ℕ) (cell : CellUse) (q : ℕ) (old new : Deeds) (fro
   agree u h l = source_else are.source p i chosen.place u h
       (λ e f. let a = ap (λ (v : ℕ). length (old v)) e in absurd (omega arith))
 
-  read_here : IsRightRead old (known_by front) source p i cell value writer stamp q
+  read_here : IsRightRead old (known_by front) source read
   read_here = record {
     nobody = λ e. record {
       zero_value = is.zero_value e;
@@ -142,21 +171,19 @@ module _ (count bound p : ℕ) (cell : CellUse) (q : ℕ) (old new : Deeds) (fro
           is.unwritten e w j t.value t.point t.at;
       unknown = λ u place v point h known. is.unwritten e u place v point h;
     };
+    such = λ some. subst (λ (place : ℕ). IsSuch old (known_by front) read place) (sym at_load) (chosen.will_do some);
     own = λ some e.
         let same = at_load ∙ chosen.mine some e in
-        let s = such_held some in
-        subst (λ (place : ℕ). IsOwnLast old (known_by front) p i place cell value stamp q) (sym same) (record {
+        subst (λ (place : ℕ). IsOwnLast old read place) (sym same) (record {
           before = slice_get_within (old p) is.place (Stores cell value stamp)
-              (subst (λ (u : ℕ). HasStored old u is.place cell value stamp) e s.stored);
-          such = subst (λ (u : ℕ). IsSuch old (known_by front) u is.place cell value stamp q) e s;
+              (subst (λ (u : ℕ). HasStored old u is.place cell value stamp) e (is.stored some));
           last = λ later v point a b h.
               let most = is.last some later v point (subst (λ (u : ℕ). HasStored old u later cell v point) (sym e) h)
               in absurd (omega arith);
         });
     another = λ some n.
         let f = chosen.foreign some n in
-        subst (λ (place : ℕ). IsFirstOther old (known_by front) source p i writer place cell value stamp q) (sym at_load) (record {
-          such = f.such;
+        subst (λ (place : ℕ). IsFirstOther old (known_by front) source read place) (sym at_load) (record {
           beyond = beyond_forth bound old front old front p (λ d. ⊥) (still bound p old front) are.within are.low
               are.source source agree
               p i cell writer chosen.place (omega arith) f.beyond;
@@ -192,39 +219,49 @@ module _ (count bound p : ℕ) (cell : CellUse) (q : ℕ) (old new : Deeds) (fro
     unseen = λ some u at v point h known. is.unseen some u at v point (old_store u at cell v point h) known;
     onward = λ some u none h j s. elim (cases_eq u p) [
       | inl e ↦ absurd (mine some (subst
-          (λ (v : ℕ). (h j : ℕ) → IsLatest new source v (length (new v)) cell h writer j → ⊥) e none))
-      | inr apart ↦ is.onward some u (λ h' j' l. none h' j' (still_latest u apart h' j' l)) h j
+          (λ (v : ℕ). (j : ℕ) → IsLatest new source v (length (new v)) cell writer j → ⊥) e none))
+      | inr apart ↦ is.onward some u (λ j' l. none j' (still_latest u apart j' l)) h j
           (others_sighting u apart h writer j s)
     ];
   }
     where
-      mine : writer ≢ 0 → ((h j : ℕ) → IsLatest new source p (length (new p)) cell h writer j → ⊥) → ⊥
-      mine some none = none i (source p i) (record {
+      mine : writer ≢ 0 → ((j : ℕ) → IsLatest new source p (length (new p)) cell writer j → ⊥) → ⊥
+      mine some none = none (source p i) (record {
+        earlier = i;
         before = slice_get_within (new p) i load load_last;
         sighted = record { deed = load; at = load_last; sights = (refl, some, refl, refl) };
         last = λ later w j a b s. let one = g.length_own in absurd (omega arith);
       })
 
-      still_latest : (u : ℕ) → u ≢ p → (h j : ℕ) → IsLatest old are.source u (length (old u)) cell h writer j
-          → IsLatest new source u (length (new u)) cell h writer j
-      still_latest u apart h j l = let before = l.before in let longer = g.longer u in record {
+      still_latest : (u : ℕ) → u ≢ p → (j : ℕ) → IsLatest old are.source u (length (old u)) cell writer j
+          → IsLatest new source u (length (new u)) cell writer j
+      still_latest u apart j l = let before = l.before in let longer = g.longer u in record {
+        earlier = l.earlier;
         before = omega arith;
         sighted = sighted_forth bound old front new front p (λ d. d ≡ load) g are.within are.low are.source source
-            agree u h cell writer j l.sighted;
+            agree u l.earlier cell writer j l.sighted;
         last = λ later w' j' a b s.
             let o = others_sighting u apart later w' j' s in
             l.last later w' j' a (slice_get_within (old u) later o.deed o.at) o;
       }
 
-  same_load : (c : CellUse) (v w s point : ℕ) → Loads c v w s point ≡ load
-      → IsRightRead old (known_by front) source p i c v w s point × (point ≤ bound)
-  same_load c v w s point e =
-      let ec : c ≡ cell = cc in
-      let ev : v ≡ value = cc in
-      let ew : w ≡ writer = cc in
-      let es : s ≡ stamp = cc in
-      let eq : point ≡ q = cc in
-      (rw (ec, ev, ew, es, eq) read_here, rw eq under)
+  -- the new read is this one
+  same_read : (other : Reading) → other.process ≡ p → other.place ≡ i → load_of other ≡ load → read ≡ other
+  same_read other a b e =
+      let cells : other.cell ≡ cell = cc in
+      let values : other.value ≡ value = cc in
+      let writers : other.writer ≡ writer = cc in
+      let stamps : other.stamp ≡ stamp = cc in
+      let points : other.point ≡ q = cc in
+      λ k. record {
+        process = sym a k;
+        place = sym b k;
+        cell = sym cells k;
+        value = sym values k;
+        writer = sym writers k;
+        stamp = sym stamps k;
+        point = sym points k;
+      }
 
   loaded_right : AreRight count bound new front present memory
   loaded_right = record {
@@ -237,12 +274,9 @@ module _ (count bound p : ℕ) (cell : CellUse) (q : ℕ) (old new : Deeds) (fro
     source = source;
     right =
         reads_still bound old new front front p (λ d. d ≡ load) are.source source g are.within are.low agree are.right
-        (λ r k c v w s point a b f.
-        let here = same_load c v w s point f in
-        subst (λ (u : ℕ). IsRightRead new (known_by front) source u k c v w s point) (sym a)
-        (subst (λ (m : ℕ). IsRightRead new (known_by front) source p m c v w s point) (sym b)
-        (read_forth bound old front new front p (λ d. d ≡ load) g are.within are.low source source (λ u h l. refl) p i
-        c v w s point (omega arith) here.1 refl here.0)));
+        (λ other a b f. subst (λ (x : Reading). IsRightRead new (known_by front) source x) (same_read other a b f)
+        (read_forth bound old front new front p (λ d. d ≡ load) g are.within are.low source source (λ u h l. refl) read
+        (omega arith) under refl read_here));
     held = λ c here_too. elim (same_cell c cell) [
       | inl e ↦ subst (λ (m : CellUse). IsHeld new front source m (memory m)) (sym e) held_loaded
       | inr n ↦ held_apart bound old front new front p (λ d. d ≡ load) g are.within are.low are.source source agree

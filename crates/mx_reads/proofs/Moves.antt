@@ -5,7 +5,7 @@ use Rattle.std.proofs.lemmas.Option.{slice_get_within}
 use Rattle.mx_reads.specs.Deeds.{CellUse, Deed, Deeds, Enters, Stores, Loads, Refers, Misses}
 use Rattle.mx_reads.specs.Growth.{Extends, AreWithin}
 use Rattle.mx_reads.specs.Held.{Held, IsHeld}
-use Rattle.mx_reads.specs.ReadRule.{Fronts, known_by, IsSuperseded, IsSuch, IsOwnLast, IsFirstOther, IsRightRead}
+use Rattle.mx_reads.specs.ReadRule.{Fronts, known_by, Reading, IsSuperseded, IsSuch, IsOwnLast, IsFirstOther, IsRightRead}
 use Rattle.mx_reads.specs.Sightings.{Source, HasStored, Sights, HasSighted, IsLatest, IsBeyond}
 
 -- a deed that neither stores in the cell nor loads from it
@@ -43,78 +43,52 @@ module _ (bound : ℕ) (old : Deeds) (front : Fronts) (new : Deeds) (front' : Fr
 
   pub superseded_forth : (u place : ℕ) (cell : CellUse) (q : ℕ) → q ≤ bound → IsSuperseded old (known_by front) u place cell q
       → IsSuperseded new (known_by front') u place cell q
-  superseded_forth u place cell q under s = elim s [
-    | inl r ↦ let e = g.same u q under in let known = r.known in inl (record {
-      later = r.later;
-      value = r.value;
-      point = r.point;
-      after = r.after;
-      stored = g.kept u r.later (Stores cell r.value r.point) r.stored;
-      known = omega arith;
-    })
-    | inr o ↦
-        let e = g.same o.other q under in
-        let known = o.known in
-        let point_under = within o.other o.at (Stores cell o.value o.point) o.stored in
-        let e' = g.same u o.point point_under in
-        let knew = o.knew in inr (record {
-          other = o.other;
-          at = o.at;
-          value = o.value;
-          point = o.point;
-          another = o.another;
-          stored = g.kept o.other o.at (Stores cell o.value o.point) o.stored;
-          known = omega arith;
-          knew = omega arith;
-        })
-  ]
+  superseded_forth u place cell q under s =
+      let e = g.same s.other q under in
+      let known = s.known in
+      let point_under = within s.other s.at (Stores cell s.value s.point) s.stored in
+      let e' = g.same u s.point point_under in record {
+        other = s.other;
+        at = s.at;
+        value = s.value;
+        point = s.point;
+        stored = g.kept s.other s.at (Stores cell s.value s.point) s.stored;
+        known = omega arith;
+        after = s.after;
+        knew = λ another. let knew = s.knew another in omega arith;
+      }
 
   pub superseded_back : (u place : ℕ) (cell : CellUse) (q : ℕ) → q ≤ bound → IsSuperseded new (known_by front') u place cell q
       → IsSuperseded old (known_by front) u place cell q
-  superseded_back u place cell q under s = elim s [
-    | inl r ↦
-        let e = g.same u q under in
-        let known = r.known in
-        let most = low u q under in inl (record {
-          later = r.later;
-          value = r.value;
-          point = r.point;
-          after = r.after;
-          stored = earlier u r.later (Stores cell r.value r.point) (omega arith) r.stored;
-          known = omega arith;
-        })
-    | inr o ↦
-        let e = g.same o.other q under in
-        let known = o.known in
-        let most = low o.other q under in
-        let stored = earlier o.other o.at (Stores cell o.value o.point) (omega arith) o.stored in
-        let point_under = within o.other o.at (Stores cell o.value o.point) stored in
-        let e' = g.same u o.point point_under in
-        let knew = o.knew in inr (record {
-          other = o.other;
-          at = o.at;
-          value = o.value;
-          point = o.point;
-          another = o.another;
-          stored = stored;
-          known = omega arith;
-          knew = omega arith;
-        })
-  ]
+  superseded_back u place cell q under s =
+      let e = g.same s.other q under in
+      let known = s.known in
+      let most = low s.other q under in
+      let stored = earlier s.other s.at (Stores cell s.value s.point) (omega arith) s.stored in
+      let point_under = within s.other s.at (Stores cell s.value s.point) stored in
+      let e' = g.same u s.point point_under in record {
+        other = s.other;
+        at = s.at;
+        value = s.value;
+        point = s.point;
+        stored = stored;
+        known = omega arith;
+        after = s.after;
+        knew = λ another. let knew = s.knew another in omega arith;
+      }
 
-  pub such_forth : (w place : ℕ) (cell : CellUse) (value stamp q : ℕ) → q ≤ bound
-      → IsSuch old (known_by front) w place cell value stamp q → IsSuch new (known_by front') w place cell value stamp q
-  such_forth w place cell value stamp q under s = record {
-    stored = g.kept w place (Stores cell value stamp) s.stored;
-    current = λ h. s.current (superseded_back w place cell q under h);
+  pub such_forth : (read : Reading) (place : ℕ) → read.point ≤ bound
+      → IsSuch old (known_by front) read place → IsSuch new (known_by front') read place
+  such_forth read place under s = record {
+    stored = g.kept read.writer place (Stores read.cell read.value read.stamp) s.stored;
+    current = λ h. s.current (superseded_back read.writer place read.cell read.point under h);
   }
 
-  pub such_back : (w place : ℕ) (cell : CellUse) (value stamp q : ℕ) → q ≤ bound → place < length (old w)
-      → IsSuch new (known_by front') w place cell value stamp q
-      → IsSuch old (known_by front) w place cell value stamp q
-  such_back w place cell value stamp q under l s = record {
-    stored = earlier w place (Stores cell value stamp) l s.stored;
-    current = λ h. s.current (superseded_forth w place cell q under h);
+  pub such_back : (read : Reading) (place : ℕ) → read.point ≤ bound → place < length (old read.writer)
+      → IsSuch new (known_by front') read place → IsSuch old (known_by front) read place
+  such_back read place under l s = record {
+    stored = earlier read.writer place (Stores read.cell read.value read.stamp) l s.stored;
+    current = λ h. s.current (superseded_forth read.writer place read.cell read.point under h);
   }
 
   module _ (source source' : Source) (agree : (u h : ℕ) → h < length (old u) → source' u h ≡ source u h) where
@@ -135,71 +109,73 @@ module _ (bound : ℕ) (old : Deeds) (front : Fronts) (new : Deeds) (front' : Fr
       sights = sights_change source' source u h s.deed cell w j (sym (agree u h l)) s.sights;
     }
 
-    pub latest_forth : (u i : ℕ) (cell : CellUse) (h w j : ℕ) → i ≤ length (old u) → IsLatest old source u i cell h w j
-        → IsLatest new source' u i cell h w j
-    latest_forth u i cell h w j most l = record {
+    pub latest_forth : (u i : ℕ) (cell : CellUse) (w j : ℕ) → i ≤ length (old u) → IsLatest old source u i cell w j
+        → IsLatest new source' u i cell w j
+    latest_forth u i cell w j most l = record {
+      earlier = l.earlier;
       before = l.before;
-      sighted = sighted_forth u h cell w j l.sighted;
+      sighted = sighted_forth u l.earlier cell w j l.sighted;
       last = λ later w' j' a b s. l.last later w' j' a b (sighted_back u later cell w' j' (omega arith) s);
     }
 
-    pub latest_back : (u i : ℕ) (cell : CellUse) (h w j : ℕ) → i ≤ length (old u) → IsLatest new source' u i cell h w j
-        → IsLatest old source u i cell h w j
-    latest_back u i cell h w j most l = let before = l.before in record {
+    pub latest_back : (u i : ℕ) (cell : CellUse) (w j : ℕ) → i ≤ length (old u) → IsLatest new source' u i cell w j
+        → IsLatest old source u i cell w j
+    latest_back u i cell w j most l = let before = l.before in record {
+      earlier = l.earlier;
       before = before;
-      sighted = sighted_back u h cell w j (omega arith) l.sighted;
+      sighted = sighted_back u l.earlier cell w j (omega arith) l.sighted;
       last = λ later w' j' a b s. l.last later w' j' a b (sighted_forth u later cell w' j' s);
     }
 
     pub beyond_forth : (u i : ℕ) (cell : CellUse) (w place : ℕ) → i ≤ length (old u)
         → IsBeyond old source u i cell w place → IsBeyond new source' u i cell w place
     beyond_forth u i cell w place most b = record {
-      again = λ h j l. b.again h j (latest_back u i cell h w j most l);
+      again = λ j l. b.again j (latest_back u i cell w j most l);
       onward = λ none h j before s.
-          b.onward (λ h' j' l. none h' j' (latest_forth u i cell h' w j' most l)) h j before
+          b.onward (λ j' l. none j' (latest_forth u i cell w j' most l)) h j before
           (sighted_back u h cell w j (omega arith) s);
     }
 
     pub beyond_back : (u i : ℕ) (cell : CellUse) (w place : ℕ) → i ≤ length (old u)
         → IsBeyond new source' u i cell w place → IsBeyond old source u i cell w place
     beyond_back u i cell w place most b = record {
-      again = λ h j l. b.again h j (latest_forth u i cell h w j most l);
+      again = λ j l. b.again j (latest_forth u i cell w j most l);
       onward = λ none h j before s.
-          b.onward (λ h' j' l. none h' j' (latest_back u i cell h' w j' most l)) h j before
+          b.onward (λ j' l. none j' (latest_back u i cell w j' most l)) h j before
           (sighted_forth u h cell w j s);
     }
 
-    pub read_forth : (r i : ℕ) (cell : CellUse) (value writer stamp q : ℕ) → i ≤ length (old r) → q ≤ bound
-        → source' r i ≡ source r i
-        → IsRightRead old (known_by front) source r i cell value writer stamp q
-        → IsRightRead new (known_by front') source' r i cell value writer stamp q
-    read_forth r i cell value writer stamp q most under same read = record {
-      nobody = λ e. let u = read.nobody e in record {
+    pub read_forth : (read : Reading) → read.place ≤ length (old read.process) → read.point ≤ bound
+        → source' read.process read.place ≡ source read.process read.place
+        → IsRightRead old (known_by front) source read → IsRightRead new (known_by front') source' read
+    read_forth read most under same right = let there = source read.process read.place in record {
+      nobody = λ e. let u = right.nobody e in record {
         zero_value = u.zero_value;
         zero_stamp = u.zero_stamp;
-        unsighted = λ h w j before s. u.unsighted h w j before (sighted_back r h cell w j (omega arith) s);
-        unknown = λ v place value' point stored known.
-            let e' = g.same v q under in
-            let fewer = low v q under in
-            u.unknown v place value' point (earlier v place (Stores cell value' point) (omega arith) stored)
+        unsighted = λ h w j before s.
+            u.unsighted h w j before (sighted_back read.process h read.cell w j (omega arith) s);
+        unknown = λ v place value point stored known.
+            let e' = g.same v read.point under in
+            let fewer = low v read.point under in
+            u.unknown v place value point (earlier v place (Stores read.cell value point) (omega arith) stored)
             (omega arith);
       };
-      own = λ some e. let o = read.own some e in
-          subst (λ (place : ℕ). IsOwnLast new (known_by front') r i place cell value stamp q) (sym same) (record {
+      such = λ some. subst (λ (place : ℕ). IsSuch new (known_by front') read place) (sym same)
+          (such_forth read there under (right.such some));
+      own = λ some e. let o = right.own some e in
+          subst (λ (place : ℕ). IsOwnLast new read place) (sym same) (record {
             before = o.before;
-            such = such_forth r (source r i) cell value stamp q under o.such;
-            last = λ later value' point a b stored. o.last later value' point a b
-                (earlier r later (Stores cell value' point) (omega arith) stored);
+            last = λ later value point a b stored. o.last later value point a b
+                (earlier read.process later (Stores read.cell value point) (omega arith) stored);
           });
-      another = λ some n. let o = read.another some n in
-          subst (λ (place : ℕ). IsFirstOther new (known_by front') source' r i writer place cell value stamp q) (sym same)
-          (record {
-            such = such_forth writer (source r i) cell value stamp q under o.such;
-            beyond = beyond_forth r i cell writer (source r i) most o.beyond;
+      another = λ some n. let o = right.another some n in
+          subst (λ (place : ℕ). IsFirstOther new (known_by front') source' read place) (sym same) (record {
+            beyond = beyond_forth read.process read.place read.cell read.writer there most o.beyond;
             first = λ before a s b.
-                let at = slice_get_within (old writer) (source r i) (Stores cell value stamp) o.such.stored in
-                o.first before a (such_back writer before cell value stamp q under (omega arith) s)
-                (beyond_back r i cell writer before most b);
+                let at = slice_get_within (old read.writer) there (Stores read.cell read.value read.stamp)
+                (right.such some).stored in
+                o.first before a (such_back read before under (omega arith) s)
+                (beyond_back read.process read.place read.cell read.writer before most b);
           });
     }
 
@@ -217,7 +193,7 @@ module _ (bound : ℕ) (old : Deeds) (front : Fronts) (new : Deeds) (front' : Fr
           let o = old_store u at value point h in
           let e = g.same held.writer point (within u at (Stores cell value point) o) in
           is.unseen some u at value point o (omega arith);
-      onward = λ some u none h j s. is.onward some u (λ h' j' l. none h' j' (still_latest u h' held.writer j' l)) h j
+      onward = λ some u none h j s. is.onward some u (λ j' l. none j' (still_latest u held.writer j' l)) h j
           (old_sighting u h held.writer j s);
     }
       where
@@ -233,11 +209,12 @@ module _ (bound : ℕ) (old : Deeds) (front : Fronts) (new : Deeds) (front' : Fr
           | inr b ↦ absurd (apart_sights source' u h s.deed cell w j (apart s.deed b.2) s.sights)
         ]
 
-        still_latest : (u h w j : ℕ) → IsLatest old source u (length (old u)) cell h w j
-            → IsLatest new source' u (length (new u)) cell h w j
-        still_latest u h w j l = let before = l.before in let longer = g.longer u in record {
+        still_latest : (u w j : ℕ) → IsLatest old source u (length (old u)) cell w j
+            → IsLatest new source' u (length (new u)) cell w j
+        still_latest u w j l = let before = l.before in let longer = g.longer u in record {
+          earlier = l.earlier;
           before = omega arith;
-          sighted = sighted_forth u h cell w j l.sighted;
+          sighted = sighted_forth u l.earlier cell w j l.sighted;
           last = λ later w' j' a b s.
               let o = old_sighting u later w' j' s in
               l.last later w' j' a (slice_get_within (old u) later o.deed o.at) o;

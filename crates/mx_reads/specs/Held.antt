@@ -1,8 +1,8 @@
 -- What the cells hold, and what is right of reads and cells together.
-use Rattle.std.specs.Prelude.{Bool, IsTrue, ◌≡◌, ◌≢◌, ℕ, ◌<◌, ◌≤◌, length, Some, slice_get}
-use Rattle.mx_reads.specs.Deeds.{CellUse, Deeds, Loads}
+use Rattle.std.specs.Prelude.{Bool, IsTrue, ◌≡◌, ◌≢◌, ℕ, ◌<◌, ◌≤◌, length}
+use Rattle.mx_reads.specs.Deeds.{CellUse, Deeds}
 use Rattle.mx_reads.specs.Growth.{AreWithin}
-use Rattle.mx_reads.specs.ReadRule.{Fronts, known_by, IsRightRead}
+use Rattle.mx_reads.specs.ReadRule.{Fronts, known_by, Reading, HasRead, IsRightRead}
 use Rattle.mx_reads.specs.Sightings.{Source, HasStored, HasSighted, IsLatest}
 
 -- the contents of a cell: a value, who stored it (0: nobody), and at which point
@@ -25,8 +25,8 @@ pub record IsHeld (done : Deeds) (front : Fronts) (source : Source) (cell : Cell
   pub unseen : held.writer ≢ 0 → (u at value point : ℕ) → HasStored done u at cell value point
       → place < front held.writer point → ⊥
   pub onward : held.writer ≢ 0 → (p : ℕ)
-      → ((h j : ℕ) → IsLatest done source p (length (done p)) cell h held.writer j → ⊥)
-      → (h j : ℕ) → HasSighted done source p h cell held.writer j → j < place
+      → ((store : ℕ) → IsLatest done source p (length (done p)) cell held.writer store → ⊥)
+      → (earlier store : ℕ) → HasSighted done source p earlier cell held.writer store → store < place
 
 -- What is right when the journal has so many entries (the bound), of the processes below the count: no point exceeds
 -- the bound, no more deeds are known than were done, each read is right, and each present cell holds what it should.
@@ -36,7 +36,5 @@ pub record AreRight (count bound : ℕ) (done : Deeds) (front : Fronts) (present
   pub low : (u q : ℕ) → q ≤ bound → front u q ≤ length (done u)
   pub idle : (u : ℕ) → count ≤ u → length (done u) ≡ 0
   pub source : Source
-  pub right : (p i : ℕ) (cell : CellUse) (value writer stamp q : ℕ)
-      → slice_get (done p) i ≡ Some (Loads cell value writer stamp q)
-      → IsRightRead done (known_by front) source p i cell value writer stamp q
+  pub right : (read : Reading) → HasRead done read → IsRightRead done (known_by front) source read
   pub held : (cell : CellUse) → IsTrue (present cell) → IsHeld done front source cell (memory cell)

@@ -1,6 +1,6 @@
 -- The read rule: which store a read word stands for. It is said once, for whatever is known: in a run by entries, in
 -- the core machine by how many deeds of each process are.
-use Rattle.std.specs.Prelude.{◌≡◌, ◌≢◌, ◌⊎◌, ℕ, ◌<◌, Some, slice_get}
+use Rattle.std.specs.Prelude.{◌≡◌, ◌≢◌, ℕ, ◌<◌, Some, slice_get}
 use Rattle.mx_reads.specs.Sightings.{Source, HasStored, HasSighted, IsBeyond}
 use Rattle.mx_reads.specs.Deeds.{CellUse, Deeds, Loads}
 
@@ -15,66 +15,68 @@ Fronts = ℕ → ℕ → ℕ
 abbrev pub known_by : Fronts → Known
 known_by front storer place q = place < front storer q
 
--- a later store of the same process in the cell is known
-pub record IsReplaced (done : Deeds) (is_known : Known) (storer place : ℕ) (cell : CellUse) (q : ℕ) : Type 0 where
-  pub later : ℕ
+-- a read: of which process, at which place of its deeds, of which cell; the value that it gave, who stored it, and that
+-- store's stamp; and at which point
+pub record Reading : Type 0 where
+  pub process : ℕ
+  pub place : ℕ
+  pub cell : CellUse
   pub value : ℕ
+  pub writer : ℕ
+  pub stamp : ℕ
   pub point : ℕ
-  pub after : place < later
-  pub stored : HasStored done storer later cell value point
-  pub known : is_known storer later q
 
--- a store of another process in the cell is known, at whose point this one was known
-pub record IsOverwritten (done : Deeds) (is_known : Known) (storer place : ℕ) (cell : CellUse) (q : ℕ) : Type 0 where
+abbrev pub HasRead : Deeds → Reading → Type 0
+HasRead done read =
+    slice_get (done read.process) read.place ≡ Some (Loads read.cell read.value read.writer read.stamp read.point)
+
+-- A store in the cell is known that came after this one: a later one of the same process, or one of another process, at
+-- whose point this one was known.
+pub record IsSuperseded (done : Deeds) (is_known : Known) (storer place : ℕ) (cell : CellUse) (q : ℕ) : Type 0 where
   pub other : ℕ
   pub at : ℕ
   pub value : ℕ
   pub point : ℕ
-  pub another : other ≢ storer
   pub stored : HasStored done other at cell value point
   pub known : is_known other at q
-  pub knew : is_known storer place point
+  pub after : other ≡ storer → place < at
+  pub knew : other ≢ storer → is_known storer place point
 
-abbrev pub IsSuperseded : Deeds → Known → ℕ → ℕ → CellUse → ℕ → Type 0
-IsSuperseded done is_known storer place cell q = IsReplaced done is_known storer place cell q ⊎ IsOverwritten done is_known storer place cell q
+-- a store of its writer, at this place, that the read can stand for
+pub record IsSuch (done : Deeds) (is_known : Known) (read : Reading) (place : ℕ) : Type 0 where
+  pub stored : HasStored done read.writer place read.cell read.value read.stamp
+  pub current : IsSuperseded done is_known read.writer place read.cell read.point → ⊥
 
--- a store of this process that a read of this value and stamp at the point q can stand for
-pub record IsSuch (done : Deeds) (is_known : Known) (storer place : ℕ) (cell : CellUse) (value stamp q : ℕ) : Type 0 where
-  pub stored : HasStored done storer place cell value stamp
-  pub current : IsSuperseded done is_known storer place cell q → ⊥
+-- nobody's store: zero with stamp 0, no sighting of the cell by the process before, and no store there known
+pub record IsUnwritten (done : Deeds) (is_known : Known) (source : Source) (read : Reading) : Type 0 where
+  pub zero_value : read.value ≡ 0
+  pub zero_stamp : read.stamp ≡ 0
+  pub unsighted : (earlier storer store : ℕ) → earlier < read.place
+      → HasSighted done source read.process earlier read.cell storer store → ⊥
+  pub unknown : (storer place value point : ℕ) → HasStored done storer place read.cell value point
+      → is_known storer place read.point → ⊥
 
--- nobody's store: zero with stamp 0, no sighting of the cell by p before, and no store there known
-pub record IsUnwritten (done : Deeds) (is_known : Known) (source : Source) (p here : ℕ) (cell : CellUse)
-    (value stamp q : ℕ) : Type 0 where
-  pub zero_value : value ≡ 0
-  pub zero_stamp : stamp ≡ 0
-  pub unsighted : (earlier storer store : ℕ) → earlier < here → HasSighted done source p earlier cell storer store → ⊥
-  pub unknown : (storer place value' point : ℕ) → HasStored done storer place cell value' point → is_known storer place q → ⊥
-
--- the process's own last store there before the read, which is not superseded
-pub record IsOwnLast (done : Deeds) (is_known : Known) (p here place : ℕ) (cell : CellUse) (value stamp q : ℕ) : Type 0 where
-  pub before : place < here
-  pub such : IsSuch done is_known p place cell value stamp q
-  pub last : (later value' point : ℕ) → place < later → later < here → HasStored done p later cell value' point → ⊥
+-- the process's own store: its last one there before the read
+pub record IsOwnLast (done : Deeds) (read : Reading) (place : ℕ) : Type 0 where
+  pub before : place < read.place
+  pub last : (later value point : ℕ) → place < later → later < read.place
+      → HasStored done read.process later read.cell value point → ⊥
 
 -- another process's store: the first that will do
-pub record IsFirstOther (done : Deeds) (is_known : Known) (source : Source) (p here storer place : ℕ) (cell : CellUse)
-    (value stamp q : ℕ) : Type 0 where
-  pub such : IsSuch done is_known storer place cell value stamp q
-  pub beyond : IsBeyond done source p here cell storer place
-  pub first : (earlier : ℕ) → earlier < place → IsSuch done is_known storer earlier cell value stamp q
-      → IsBeyond done source p here cell storer earlier → ⊥
+pub record IsFirstOther (done : Deeds) (is_known : Known) (source : Source) (read : Reading) (place : ℕ) : Type 0 where
+  pub beyond : IsBeyond done source read.process read.place read.cell read.writer place
+  pub first : (earlier : ℕ) → earlier < place → IsSuch done is_known read earlier
+      → IsBeyond done source read.process read.place read.cell read.writer earlier → ⊥
 
--- what a read of process p may give: by its writer
-pub record IsRightRead (done : Deeds) (is_known : Known) (source : Source) (p here : ℕ) (cell : CellUse)
-    (value writer stamp q : ℕ) : Type 0 where
-  pub nobody : writer ≡ 0 → IsUnwritten done is_known source p here cell value stamp q
-  pub own : writer ≢ 0 → writer ≡ p → IsOwnLast done is_known p here (source p here) cell value stamp q
-  pub another : writer ≢ 0 → writer ≢ p → IsFirstOther done is_known source p here writer (source p here) cell value stamp q
+-- what a read may give: by its writer
+pub record IsRightRead (done : Deeds) (is_known : Known) (source : Source) (read : Reading) : Type 0 where
+  pub nobody : read.writer ≡ 0 → IsUnwritten done is_known source read
+  pub such : read.writer ≢ 0 → IsSuch done is_known read (source read.process read.place)
+  pub own : read.writer ≢ 0 → read.writer ≡ read.process → IsOwnLast done read (source read.process read.place)
+  pub another : read.writer ≢ 0 → read.writer ≢ read.process
+      → IsFirstOther done is_known source read (source read.process read.place)
 
 -- each read of each process is right; the stores that reads stand for are fixed by this rule
 pub record AreRightReads (done : Deeds) (is_known : Known) : Type 0 where
   pub source : Source
-  pub right : (p here : ℕ) (cell : CellUse) (value writer stamp q : ℕ)
-      → slice_get (done p) here ≡ Some (Loads cell value writer stamp q)
-      → IsRightRead done is_known source p here cell value writer stamp q
+  pub right : (read : Reading) → HasRead done read → IsRightRead done is_known source read

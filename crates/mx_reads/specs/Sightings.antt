@@ -26,8 +26,9 @@ pub record HasSighted (done : Deeds) (source : Source) (p here : ℕ) (cell : Ce
   pub at : slice_get (done p) here ≡ Some deed
   pub sights : Sights source p here deed cell storer store
 
--- before the place `here`, process p sighted the cell last at the place `earlier`
-pub record IsLatest (done : Deeds) (source : Source) (p here : ℕ) (cell : CellUse) (earlier storer store : ℕ) : Type 0 where
+-- before the place `here`, process p's last sighting of the cell was of this store of the process `storer`
+pub record IsLatest (done : Deeds) (source : Source) (p here : ℕ) (cell : CellUse) (storer store : ℕ) : Type 0 where
+  pub earlier : ℕ
   pub before : earlier < here
   pub sighted : HasSighted done source p earlier cell storer store
   pub last : (later storer' store' : ℕ) → earlier < later → later < here → HasSighted done source p later cell storer' store' → ⊥
@@ -35,6 +36,6 @@ pub record IsLatest (done : Deeds) (source : Source) (p here : ℕ) (cell : Cell
 -- Where the latest sighting of the cell was of this process's store, one at or after the one sighted will do; otherwise
 -- one after all of its stores that were sighted there.
 pub record IsBeyond (done : Deeds) (source : Source) (p here : ℕ) (cell : CellUse) (storer place : ℕ) : Type 0 where
-  pub again : (earlier store : ℕ) → IsLatest done source p here cell earlier storer store → store ≤ place
-  pub onward : ((earlier store : ℕ) → IsLatest done source p here cell earlier storer store → ⊥)
+  pub again : (store : ℕ) → IsLatest done source p here cell storer store → store ≤ place
+  pub onward : ((store : ℕ) → IsLatest done source p here cell storer store → ⊥)
       → (earlier store : ℕ) → earlier < here → HasSighted done source p earlier cell storer store → store < place

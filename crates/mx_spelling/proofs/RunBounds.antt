@@ -11,7 +11,7 @@ use Rattle.mx_sdw.specs.declared.descriptors.Cell.{Cell}
 use Rattle.mx_sdw.specs.declared.operations.Op.{Op}
 use Rattle.mx_sdw.specs.declared.operations.Op.TheVariants as op
 use Rattle.mx_reads.specs.Deeds.{CellUse, Deed, Stores, Loads, point_of}
-use Rattle.mx_reads.specs.ReadRule.{IsRightRead}
+use Rattle.mx_reads.specs.ReadRule.{Reading, IsRightRead}
 use Rattle.mx_core.specs.declared.elements.Element.{Element}
 use Rattle.mx_core.specs.declared.elements.Event.TheVariants.{Seen, Missing}
 use Rattle.mx_core.specs.declared.elements.Outcome.{Outcome}
@@ -246,10 +246,13 @@ module _ (x : Outline) (journal : List journaled.Entry) (transcripts : List (Lis
 
   writer_low : (p place : ℕ) (cell : CellUse) (value writer stamp q : ℕ)
       → slice_get (deeds x journal transcripts p) place ≡ Some (Loads cell value writer stamp q) → (writer ≤ 15) × (stamp ≤ length journal)
-  writer_low p place cell value writer stamp q at = by_writer (nat_eq writer 0) refl (nat_eq writer p) refl
+  writer_low p place cell value writer stamp q at = by_writer (nat_eq writer 0) refl
     where
-      right : IsRightRead (deeds x journal transcripts) (IsKnown (deeds x journal transcripts)) legal.reads.source p place cell value writer stamp q
-      right = legal.reads.right p place cell value writer stamp q at
+      read : Reading
+      read = record { process = p; place = place; cell = cell; value = value; writer = writer; stamp = stamp; point = q }
+
+      right : IsRightRead (deeds x journal transcripts) (IsKnown (deeds x journal transcripts)) legal.reads.source read
+      right = legal.reads.right read at
 
       is : (a b : ℕ) → nat_eq a b ≡ true → a ≡ b
       is a b e = grind (arith, nat_tests)
@@ -257,17 +260,13 @@ module _ (x : Outline) (journal : List journaled.Entry) (transcripts : List (Lis
       is_not : (a b : ℕ) → nat_eq a b ≡ false → a ≢ b
       is_not a b e = λ same. absurd (grind (arith, nat_tests))
 
-      by_writer : (nobody : Bool) → nat_eq writer 0 ≡ nobody → (own : Bool) → nat_eq writer p ≡ own → (writer ≤ 15) × (stamp ≤ length journal)
-      by_writer true e own f =
+      by_writer : (nobody : Bool) → nat_eq writer 0 ≡ nobody → (writer ≤ 15) × (stamp ≤ length journal)
+      by_writer true e =
           let none : writer ≡ 0 = is writer 0 e in
           let zeros = (right.nobody none).zero_stamp in
           (omega (arith, none), omega (arith, zeros))
-      by_writer false e true f =
-          let same : writer ≡ p = is writer p f in
-          let low = store_low p (legal.reads.source p place) cell value stamp (right.own (is_not writer 0 e) same).such.stored in
-          (omega (arith, same, low.0), low.1)
-      by_writer false e false f =
-          store_low writer (legal.reads.source p place) cell value stamp (right.another (is_not writer 0 e) (is_not writer p f)).such.stored
+      by_writer false e =
+          store_low writer (legal.reads.source p place) cell value stamp (right.such (is_not writer 0 e)).stored
 
   -- elements
   element_fits : (p place : ℕ) (e : Element) → p < length transcripts → slice_get (events_of (part transcripts p)) place ≡ Some (Core (Seen e))

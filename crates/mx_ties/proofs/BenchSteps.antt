@@ -264,8 +264,7 @@ bench_opening_law x setup within right first long makers = record {
     };
     reads = record {
       source = λ p i. 0;
-      right = λ p i cell value writer stamp q h. absurd
-          (nothing_at i (Loads cell value writer stamp q) h);
+      right = λ read h. absurd (nothing_at read.place _ h);
     };
     counted = none_counted (length x.principals);
   };
@@ -274,7 +273,7 @@ bench_opening_law x setup within right first long makers = record {
     low = λ u q l. omega arith;
     idle = λ u l. refl;
     source = λ p i. 0;
-    right = λ p i cell value writer stamp q h. absurd (nothing_at i (Loads cell value writer stamp q) h);
+    right = λ read h. absurd (nothing_at read.place _ h);
     held = λ cell there. record {
       zero_value = λ e. refl;
       zero_stamp = λ e. refl;

@@ -3,7 +3,7 @@ use Rattle.std.proofs.Common.{◌≡◌, inl, inr, ℕ, ◌<◌, ◌≤◌, List
 use Rattle.std.specs.List.{slice_get}
 use Rattle.std.proofs.lemmas.Bool.{cases_lt}
 use Rattle.mx_reads.specs.Deeds.{CellUse, Deed, Deeds, Enters, Stores, Loads, Refers, Misses}
-use Rattle.mx_reads.specs.ReadRule.{Fronts, known_by, IsSuperseded, IsSuch}
+use Rattle.mx_reads.specs.ReadRule.{Fronts, known_by, Reading, IsSuperseded, IsSuch}
 use Rattle.mx_transcript.specs.Reads.{IsKnown}
 use Rattle.mx_ties.specs.Acts.{IsAct, acts, acts_before, place_of}
 use Rattle.mx_ties.specs.Matching.{Matches}
@@ -88,26 +88,17 @@ module _ (use_at : CellUse → CellUse) (done trace : Deeds) (front : Fronts)
   -- which stores are superseded
   superseded_to : (u place : ℕ) (cell : CellUse) (q : ℕ) (d : Deed) → IsAct d → slice_get (done u) place ≡ Some d
       → IsSuperseded done (IsKnown done) u place cell q → IsSuperseded trace (known_by front) u (rank u place) (use_at cell) q
-  superseded_to u place cell q d a h s = elim s [
-    | inl r ↦ inl (record {
-      later = rank u r.later;
-      value = r.value;
-      point = r.point;
-      after = before_rises (done u) place r.later d a h r.after;
-      stored = forth u r.later (Stores cell r.value r.point) tt r.stored;
-      known = m.known_to u r.later q (Stores cell r.value r.point) tt r.stored r.known;
-    })
-    | inr o ↦ inr (record {
-      other = o.other;
-      at = rank o.other o.at;
-      value = o.value;
-      point = o.point;
-      another = o.another;
-      stored = forth o.other o.at (Stores cell o.value o.point) tt o.stored;
-      known = m.known_to o.other o.at q (Stores cell o.value o.point) tt o.stored o.known;
-      knew = m.known_to u place o.point d a h o.knew;
-    })
-  ]
+  superseded_to u place cell q d a h s = record {
+    other = s.other;
+    at = rank s.other s.at;
+    value = s.value;
+    point = s.point;
+    stored = forth s.other s.at (Stores cell s.value s.point) tt s.stored;
+    known = m.known_to s.other s.at q (Stores cell s.value s.point) tt s.stored s.known;
+    after = λ e. subst (λ (w : ℕ). rank u place < rank w s.at) (sym e)
+        (before_rises (done u) place s.at d a h (s.after e));
+    knew = λ n. m.known_to u place s.point d a h (s.knew n);
+  }
 
   known_slot : (u i : ℕ) (cell : CellUse) (near : IsNear cell) (value point q : ℕ)
       → slice_get (trace u) i ≡ Some (Stores (use_at cell) value point)
@@ -119,45 +110,50 @@ module _ (use_at : CellUse → CellUse) (done trace : Deeds) (front : Fronts)
   superseded_from : (u place : ℕ) (cell : CellUse) (near : IsNear cell) (q : ℕ) (d : Deed) → IsAct d
       → slice_get (done u) place ≡ Some d
       → IsSuperseded trace (known_by front) u (rank u place) (use_at cell) q → IsSuperseded done (IsKnown done) u place cell q
-  superseded_from u place cell near q d a h s = elim s [
-    | inl r ↦
-        let here = rank_slot u r.later (Stores (use_at cell) r.value r.point) r.stored in
-        let after = r.after in inl (record {
-          later = slot u r.later;
-          value = r.value;
-          point = r.point;
-          after = less_back u place (slot u r.later) (omega arith);
-          stored = store_slot u r.later cell near r.value r.point r.stored;
-          known = known_slot u r.later cell near r.value r.point q r.stored r.known;
-        })
-    | inr o ↦ inr (record {
-      other = o.other;
-      at = slot o.other o.at;
-      value = o.value;
-      point = o.point;
-      another = o.another;
-      stored = store_slot o.other o.at cell near o.value o.point o.stored;
-      known = known_slot o.other o.at cell near o.value o.point q o.stored o.known;
-      knew = m.known_from u place o.point d a h o.knew;
-    })
-  ]
-
-  pub such_to : (w place : ℕ) (cell : CellUse) (near : IsNear cell) (value stamp q : ℕ)
-      → IsSuch done (IsKnown done) w place cell value stamp q
-      → IsSuch trace (known_by front) w (rank w place) (use_at cell) value stamp q
-  such_to w place cell near value stamp q s = record {
-    stored = forth w place (Stores cell value stamp) tt s.stored;
-    current = λ h. s.current (superseded_from w place cell near q (Stores cell value stamp) tt s.stored h);
+  superseded_from u place cell near q d a h s = record {
+    other = s.other;
+    at = slot s.other s.at;
+    value = s.value;
+    point = s.point;
+    stored = store_slot s.other s.at cell near s.value s.point s.stored;
+    known = known_slot s.other s.at cell near s.value s.point q s.stored s.known;
+    after = λ e.
+        let here = rank_slot s.other s.at (Stores (use_at cell) s.value s.point) s.stored in
+        let after = s.after e in
+        let there = ap (λ (w : ℕ). rank w (slot s.other s.at)) e in
+        less_back u place (slot s.other s.at) (omega arith);
+    knew = λ n. m.known_from u place s.point d a h (s.knew n);
   }
 
-  pub such_from : (w i : ℕ) (cell : CellUse) (near : IsNear cell) (value stamp q : ℕ)
-      → IsSuch trace (known_by front) w i (use_at cell) value stamp q
-      → IsSuch done (IsKnown done) w (slot w i) cell value stamp q
-  such_from w i cell near value stamp q s =
-      let at = store_slot w i cell near value stamp s.stored in
-      let same = rank_slot w i (Stores (use_at cell) value stamp) s.stored in
+  -- a read, and the same read of the trace
+  abbrev pub renamed_read : Reading → Reading
+  renamed_read read = record {
+    process = read.process;
+    place = rank read.process read.place;
+    cell = use_at read.cell;
+    value = read.value;
+    writer = read.writer;
+    stamp = read.stamp;
+    point = read.point;
+  }
+
+  pub such_to : (read : Reading) (near : IsNear read.cell) (place : ℕ) → IsSuch done (IsKnown done) read place
+      → IsSuch trace (known_by front) (renamed_read read) (rank read.writer place)
+  such_to read near place s = record {
+    stored = forth read.writer place (Stores read.cell read.value read.stamp) tt s.stored;
+    current = λ h. s.current (superseded_from read.writer place read.cell near read.point
+        (Stores read.cell read.value read.stamp) tt s.stored h);
+  }
+
+  pub such_from : (read : Reading) (near : IsNear read.cell) (i : ℕ)
+      → IsSuch trace (known_by front) (renamed_read read) i → IsSuch done (IsKnown done) read (slot read.writer i)
+  such_from read near i s =
+      let at = store_slot read.writer i read.cell near read.value read.stamp s.stored in
+      let same = rank_slot read.writer i (Stores (use_at read.cell) read.value read.stamp) s.stored in
       record {
         stored = at;
-        current = λ h. s.current (subst (λ (n : ℕ). IsSuperseded trace (known_by front) w n (use_at cell) q) same
-            (superseded_to w (slot w i) cell q (Stores cell value stamp) tt at h));
+        current = λ h. s.current (subst
+            (λ (n : ℕ). IsSuperseded trace (known_by front) read.writer n (use_at read.cell) read.point) same
+            (superseded_to read.writer (slot read.writer i) read.cell read.point
+            (Stores read.cell read.value read.stamp) tt at h));
       }

@@ -1,9 +1,8 @@
 -- What the read rule says of traces, said of the deeds of transcripts.
-use Rattle.std.proofs.Common.{◌≡◌, ◌≢◌, inl, inr, ℕ, ◌<◌, refl, ap, sym, ◌∙◌, subst, Option, Some, None, arith}
+use Rattle.std.proofs.Common.{◌≡◌, ◌≢◌, ℕ, ◌<◌, refl, ap, sym, ◌∙◌, subst, Option, Some, None, arith}
 use Rattle.std.specs.List.{slice_get}
-use Rattle.std.proofs.lemmas.Bool.{cases_eq}
 use Rattle.mx_reads.specs.Deeds.{CellUse, Deed, Deeds, Enters, Stores, Loads, Refers, Misses}
-use Rattle.mx_reads.specs.ReadRule.{Fronts, known_by, IsOwnLast, IsFirstOther, IsRightRead, AreRightReads}
+use Rattle.mx_reads.specs.ReadRule.{Fronts, known_by, Reading, HasRead, IsSuch, IsOwnLast, IsFirstOther, IsRightRead, AreRightReads}
 use Rattle.mx_reads.specs.Sightings.{Source, Sights, HasSighted, IsLatest, IsBeyond}
 use Rattle.mx_transcript.specs.Reads.{IsKnown}
 use Rattle.mx_ties.specs.Acts.{IsAct, acts_before, place_of}
@@ -58,11 +57,15 @@ module _ (use_at : CellUse → CellUse) (done trace : Deeds) (front : Fronts)
     read_of : (p i : ℕ) (cell : CellUse) (value writer stamp q : ℕ)
         → slice_get (trace p) i ≡ Some (Loads cell value writer stamp q) → writer ≢ 0
         → slice_get (trace writer) (reads.source p i) ≡ Some (Stores cell value stamp)
-    read_of p i cell value writer stamp q h some = elim (cases_eq writer p) [
-      | inl e ↦ subst (λ (u : ℕ). slice_get (trace u) (reads.source p i) ≡ Some (Stores cell value stamp)) (sym e)
-          ((reads.right p i cell value writer stamp q h).own some e).such.stored
-      | inr n ↦ ((reads.right p i cell value writer stamp q h).another some n).such.stored
-    ]
+    read_of p i cell value writer stamp q h some = ((reads.right (record {
+      process = p;
+      place = i;
+      cell = cell;
+      value = value;
+      writer = writer;
+      stamp = stamp;
+      point = q;
+    }) h).such some).stored
 
     -- sightings
     act_sights : (p i : ℕ) (d : Deed) (cell : CellUse) (w j : ℕ) → Sights source p i d cell w j → IsAct d
@@ -156,30 +159,33 @@ module _ (use_at : CellUse → CellUse) (done trace : Deeds) (front : Fronts)
     sighted_store p k (Refers point) cell w l h s = absurd s
     sighted_store p k (Misses segno by) cell w l h s = absurd s
 
-    latest_to : (p i : ℕ) (cell : CellUse) (near : IsNear cell) (h w j : ℕ) → IsLatest done source p i cell h w j
-        → IsLatest trace reads.source p (rank p i) (use_at cell) (rank p h) w (rank w j)
-    latest_to p i cell near h w j l =
+    latest_to : (p i : ℕ) (cell : CellUse) (near : IsNear cell) (w j : ℕ) → IsLatest done source p i cell w j
+        → IsLatest trace reads.source p (rank p i) (use_at cell) w (rank w j)
+    latest_to p i cell near w j l =
         let s = l.sighted in
-        let here = act_sights p h s.deed cell w j s.sights in
+        let here = act_sights p l.earlier s.deed cell w j s.sights in
         record {
-          before = before_rises (done p) h i s.deed here s.at l.before;
-          sighted = sighted_to p h cell w j s;
+          earlier = rank p l.earlier;
+          before = before_rises (done p) l.earlier i s.deed here s.at l.before;
+          sighted = sighted_to p l.earlier cell w j s;
           last = λ later w' j' a b t.
               let same = rank_slot p later t.deed t.at in
-              l.last (slot p later) w' (slot w' j') (less_back p h (slot p later) (omega arith))
+              l.last (slot p later) w' (slot w' j') (less_back p l.earlier (slot p later) (omega arith))
               (less_back p (slot p later) i (omega arith))
               (sighted_from p later cell near w' j' t);
         }
 
-    latest_from : (p i : ℕ) (cell : CellUse) (near : IsNear cell) (k w l : ℕ)
-        → IsLatest trace reads.source p (rank p i) (use_at cell) k w l
-        → IsLatest done source p i cell (slot p k) w (slot w l)
-    latest_from p i cell near k w l t =
+    latest_from : (p i : ℕ) (cell : CellUse) (near : IsNear cell) (w l : ℕ)
+        → IsLatest trace reads.source p (rank p i) (use_at cell) w l
+        → IsLatest done source p i cell w (slot w l)
+    latest_from p i cell near w l t =
+        let k = t.earlier in
         let s = t.sighted in
         let same = rank_slot p k s.deed s.at in
         let b = back p k s.deed s.at in
         let low = t.before in
         record {
+          earlier = slot p k;
           before = less_back p (slot p k) i (omega arith);
           sighted = sighted_from p k cell near w l s;
           last = λ later w' j' a c r.
@@ -192,10 +198,10 @@ module _ (use_at : CellUse → CellUse) (done trace : Deeds) (front : Fronts)
     beyond_to : (p i : ℕ) (cell : CellUse) (near : IsNear cell) (w place : ℕ) → IsBeyond done source p i cell w place
         → IsBeyond trace reads.source p (rank p i) (use_at cell) w (rank w place)
     beyond_to p i cell near w place b = record {
-      again = λ k l t.
+      again = λ l t.
           let s = t.sighted in
-          let most = b.again (slot p k) (slot w l) (latest_from p i cell near k w l t) in
-          let there = sighted_store p k s.deed (use_at cell) w l s.at s.sights in
+          let most = b.again (slot w l) (latest_from p i cell near w l t) in
+          let there = sighted_store p t.earlier s.deed (use_at cell) w l s.at s.sights in
           let same = rank_slot w l there.deed there.at in
           let more = before_grows (done w) (slot w l) place most in omega arith;
       onward = λ none k l low s.
@@ -203,7 +209,7 @@ module _ (use_at : CellUse → CellUse) (done trace : Deeds) (front : Fronts)
           let there = sighted_store p k s.deed (use_at cell) w l s.at s.sights in
           let here = rank_slot w l there.deed there.at in
           let act = back w l there.deed there.at in
-          let less = b.onward (λ h j t. none (rank p h) (rank w j) (latest_to p i cell near h w j t)) (slot p k)
+          let less = b.onward (λ j t. none (rank w j) (latest_to p i cell near w j t)) (slot p k)
           (slot w l)
           (less_back p (slot p k) i (omega arith)) (sighted_from p k cell near w l s) in
           let more = before_rises (done w) (slot w l) place act.deed act.act act.at less in omega arith;
@@ -214,73 +220,103 @@ module _ (use_at : CellUse → CellUse) (done trace : Deeds) (front : Fronts)
         → IsBeyond trace reads.source p (rank p i) (use_at cell) w (rank w place)
         → IsBeyond done source p i cell w place
     beyond_from p i cell near w place d a at b = record {
-      again = λ h j t. alike.most_back use_at done trace front m w j place d a at
-          (b.again (rank p h) (rank w j) (latest_to p i cell near h w j t));
+      again = λ j t. alike.most_back use_at done trace front m w j place d a at
+          (b.again (rank w j) (latest_to p i cell near w j t));
       onward = λ none h j low s.
           let here = act_sights p h s.deed cell w j s.sights in
           less_back w j place
-          (b.onward (λ k l t. none (slot p k) (slot w l) (latest_from p i cell near k w l t)) (rank p h)
-          (rank w j)
+          (b.onward (λ l t. none (slot w l) (latest_from p i cell near w l t)) (rank p h) (rank w j)
           (before_rises (done p) h i s.deed here s.at low) (sighted_to p h cell w j s));
     }
 
-    read_from : (p i : ℕ) (cell : CellUse) (value writer stamp q : ℕ)
-        → slice_get (done p) i ≡ Some (Loads cell value writer stamp q)
-        → IsRightRead done (IsKnown done) source p i cell value writer stamp q
-    read_from p i cell value writer stamp q h =
-        let near : IsNear cell = λ own touched same. m.apart own cell touched
-        (record { process = p; place = i; deed = Loads cell value writer stamp q; at = h; touches = refl }) same in
-        let there = forth p i (Loads cell value writer stamp q) tt h in
-        let right = reads.right p (rank p i) (use_at cell) value writer stamp q there in
-        let at : source p i ≡ slot writer (reads.source p (rank p i)) = ap
-        (λ (o : Option Deed). meant o (reads.source p (rank p i))) h in
-        record {
-          nobody = λ e. let u = right.nobody e in record {
-            zero_value = u.zero_value;
-            zero_stamp = u.zero_stamp;
-            unsighted = λ k w j low s.
-                let here = act_sights p k s.deed cell w j s.sights in
-                u.unsighted (rank p k) w (rank w j) (before_rises (done p) k i s.deed here s.at low)
-                (sighted_to p k cell w j s);
-            unknown = λ v place value' point stored known'.
-                u.unknown v (rank v place) value' point (forth v place (Stores cell value' point) tt stored)
-                (m.known_to v place q (Stores cell value' point) tt stored known');
-          };
-          own = λ some e.
-              let o = right.own some e in
-              let k = reads.source p (rank p i) in
-              let same = rank_slot p k (Stores (use_at cell) value stamp) o.such.stored in
-              let mine : slot p k ≡ source p i = ap (λ (u : ℕ). slot u k) (sym e) ∙ sym at in
-              let low = o.before in
-              subst (λ (place : ℕ). IsOwnLast done (IsKnown done) p i place cell value stamp q) mine (record {
-                before = less_back p (slot p k) i (omega arith);
-                such = alike.such_from use_at done trace front m p k cell near value stamp q o.such;
-                last = λ later value' point a b stored.
-                    let first = before_rises (done p) (slot p k) later (Stores cell value stamp) tt
-                    (alike.store_slot use_at done trace front m p k cell near value stamp o.such.stored) a in
-                    let second = before_rises (done p) later i (Stores cell value' point) tt stored b in
-                    o.last (rank p later) value' point (omega arith) second
-                    (forth p later (Stores cell value' point) tt stored);
-              });
-          another = λ some n.
-              let o = right.another some n in
-              let k = reads.source p (rank p i) in
-              let same = rank_slot writer k (Stores (use_at cell) value stamp) o.such.stored in
-              let stored = alike.store_slot use_at done trace front m writer k cell near value stamp o.such.stored in
-              subst (λ (place : ℕ). IsFirstOther done (IsKnown done) source p i writer place cell value stamp q) (sym at)
-              (record {
-                such = alike.such_from use_at done trace front m writer k cell near value stamp q o.such;
-                beyond = beyond_from p i cell near writer (slot writer k) (Stores cell value stamp) tt stored
-                    (subst (λ (l : ℕ). IsBeyond trace reads.source p (rank p i) (use_at cell) writer l)
-                    (sym same) o.beyond);
-                first = λ earlier a s b.
-                    let less = before_rises (done writer) earlier (slot writer k)
-                    (Stores cell value stamp) tt s.stored a in
-                    o.first (rank writer earlier) (omega arith)
-                    (alike.such_to use_at done trace front m writer earlier cell near value stamp q s)
-                    (beyond_to p i cell near writer earlier b);
-              });
-        }
+    module _ (read : Reading) (h : HasRead done read) where
+      abbrev p : ℕ
+      p = read.process
+
+      abbrev i : ℕ
+      i = read.place
+
+      abbrev w : ℕ
+      w = read.writer
+
+      -- the place in the trace of the store that the read stands for
+      abbrev k : ℕ
+      k = reads.source p (rank p i)
+
+      abbrev store : Deed
+      store = Stores read.cell read.value read.stamp
+
+      abbrev other : Reading
+      other = alike.renamed_read use_at done trace front m read
+
+      near : IsNear read.cell
+      near = λ own touched same. m.apart own read.cell touched (record {
+        process = p;
+        place = i;
+        deed = Loads read.cell read.value w read.stamp read.point;
+        at = h;
+        touches = refl;
+      }) same
+
+      right : IsRightRead trace (known_by front) reads.source other
+      right = reads.right other (forth p i (Loads read.cell read.value w read.stamp read.point) tt h)
+
+      at : source p i ≡ slot w k
+      at = ap (λ (o : Option Deed). meant o k) h
+
+      there : w ≢ 0 → slice_get (done w) (slot w k) ≡ Some store
+      there some =
+          alike.store_slot use_at done trace front m w k read.cell near read.value read.stamp (right.such some).stored
+
+      back_there : w ≢ 0 → rank w (slot w k) ≡ k
+      back_there some = rank_slot w k (Stores (use_at read.cell) read.value read.stamp) (right.such some).stored
+
+      own_from : w ≢ 0 → w ≡ p → IsOwnLast done read (slot w k)
+      own_from some e =
+          let o = right.own some e in
+          let low = o.before in
+          let same = back_there some in
+          let mine = ap (λ (u : ℕ). rank u (slot w k)) e in
+          record {
+            before = less_back p (slot w k) i (omega arith);
+            last = λ later value point a b stored.
+                let first = before_rises (done p) (slot w k) later store tt
+                (subst (λ (u : ℕ). slice_get (done u) (slot w k) ≡ Some store) e (there some)) a in
+                let second = before_rises (done p) later i (Stores read.cell value point) tt stored b in
+                o.last (rank p later) value point (omega arith) second
+                (forth p later (Stores read.cell value point) tt stored);
+          }
+
+      read_from : IsRightRead done (IsKnown done) source read
+      read_from = record {
+        nobody = λ e. let u = right.nobody e in record {
+          zero_value = u.zero_value;
+          zero_stamp = u.zero_stamp;
+          unsighted = λ earlier v j low s.
+              let here = act_sights p earlier s.deed read.cell v j s.sights in
+              u.unsighted (rank p earlier) v (rank v j) (before_rises (done p) earlier i s.deed here s.at low)
+              (sighted_to p earlier read.cell v j s);
+          unknown = λ v place value point stored known'.
+              u.unknown v (rank v place) value point (forth v place (Stores read.cell value point) tt stored)
+              (m.known_to v place read.point (Stores read.cell value point) tt stored known');
+        };
+        such = λ some. subst (λ (place : ℕ). IsSuch done (IsKnown done) read place) (sym at)
+            (alike.such_from use_at done trace front m read near k (right.such some));
+        own = λ some e. subst (λ (place : ℕ). IsOwnLast done read place) (sym at) (own_from some e);
+        another = λ some n.
+            let o = right.another some n in
+            let same = back_there some in
+            subst (λ (place : ℕ). IsFirstOther done (IsKnown done) source read place) (sym at) (record {
+              beyond = beyond_from p i read.cell near w (slot w k) store tt (there some)
+                  (subst (λ (l : ℕ). IsBeyond trace reads.source p (rank p i) (use_at read.cell) w l) (sym same)
+                  o.beyond);
+              first = λ earlier a s b.
+                  let less = before_rises (done w) earlier (slot w k) store tt s.stored a in
+                  o.first (rank w earlier) (omega arith)
+                  (alike.such_to use_at done trace front m read near earlier s)
+                  (beyond_to p i read.cell near w earlier b);
+            });
+      }
 
     pub reads_from : AreRightReads done (IsKnown done)
     reads_from = record { source = source; right = read_from }

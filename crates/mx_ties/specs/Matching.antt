@@ -1,9 +1,8 @@
 -- The read rule said of traces, by fronts, and of transcripts, by entries after a store.
 use Rattle.std.specs.Prelude.{◌≡◌, ℕ, ◌<◌, map, Some, slice_get}
 use Rattle.mx_reads.specs.Deeds.{CellUse, Deed, Deeds}
-use Rattle.mx_reads.specs.ReadRule.{Fronts, known_by}
-use Rattle.mx_reads.specs.ReadRule as rule
-use Rattle.mx_transcript.specs.Reads.{IsKnown, AreRightReads}
+use Rattle.mx_reads.specs.ReadRule.{Fronts, known_by, AreRightReads}
+use Rattle.mx_transcript.specs.Reads.{IsKnown}
 use Rattle.mx_ties.specs.Acts.{IsAct, acts, acts_before}
 use Rattle.mx_ties.specs.Uses.{renamed, AreApart}
 
@@ -19,4 +18,4 @@ pub record Matches (use_at : CellUse → CellUse) (done trace : Deeds) (front : 
 -- then reads that are right in the traces are right in the transcripts
 abbrev pub TransportLaw : Type 0
 TransportLaw = (use_at : CellUse → CellUse) (done trace : Deeds) (front : Fronts) → Matches use_at done trace front
-    → rule.AreRightReads trace (known_by front) → AreRightReads done
+    → AreRightReads trace (known_by front) → AreRightReads done (IsKnown done)

@@ -1,8 +1,9 @@
 -- Integrity: each store of a legal run is a granted write, and what is read was written so.
-use Rattle.std.proofs.Common.{◌≡◌, ℕ, zero, suc, inl, inr, List, [], ◌∷◌, refl, sym, subst, Option, None, Some}
+use Rattle.std.proofs.Common.{◌≡◌, ℕ, zero, suc, inl, inr, List, [], ◌∷◌, refl, Option, None, Some}
 use Rattle.std.specs.Prelude.{map}
 use Rattle.std.specs.List.{slice_get}
 use Rattle.std.proofs.lemmas.Bool.{cases_eq}
+use Rattle.mx_core.specs.declared.elements.Element.{Element}
 use Rattle.mx_core.specs.declared.elements.Event.TheVariants.{Seen, Missing}
 use Rattle.mx_core.specs.declared.elements.Outcome.{Outcome}
 use Rattle.mx_core.specs.declared.elements.Outcome.TheVariants as outcome
@@ -12,10 +13,9 @@ use Rattle.mx_transcript.specs.declared.transcripts.Event2.{Event2}
 use Rattle.mx_transcript.specs.declared.transcripts.Event2.TheVariants.{Core, Entry}
 use Rattle.mx_transcript.specs.Access.{descriptor_of}
 use Rattle.mx_reads.specs.Deeds.{CellUse, Deed, Stores}
-use Rattle.mx_reads.specs.ReadRule.{IsRightRead}
-use Rattle.mx_reads.specs.Sightings.{HasStored}
+use Rattle.mx_reads.specs.ReadRule.{Reading, IsRightRead}
 use Rattle.mx_transcript.specs.Grants.{cell_referred}
-use Rattle.mx_transcript.specs.Integrity.{IsGrantedWrite, GrantedStoresLaw, WasWritten, WrittenBeforeReadLaw}
+use Rattle.mx_transcript.specs.Integrity.{IsGrantedWrite, GrantedStoresLaw, WrittenBeforeReadLaw}
 use Rattle.mx_transcript.specs.Legal.{IsLegal, deeds}
 use Rattle.mx_transcript.specs.Printed.{EachReferenceLaw}
 use Rattle.mx_transcript.specs.Reads.{IsKnown}
@@ -64,20 +64,22 @@ store_event : EachReferenceLaw → (x : Outline) (journal : List journaled.Entry
     → (u place : ℕ) (cell : CellUse) (value point : ℕ) (event : Event2)
     → slice_get (events_of (part transcripts u)) place ≡ Some event
     → deed_by (cell_of (descriptor_of x journal u)) event ≡ Stores cell value point
-    → IsGrantedWrite x journal transcripts u place cell value point
+    → (write : Element) × (slice_get (events_of (part transcripts u)) place ≡ Some (Core (Seen write)))
+    × IsGrantedWrite x journal u write cell value point
 store_event each x journal transcripts legal u place cell value point (Core (Seen e)) at is =
     let store = is_store (cell_of (descriptor_of x journal u) e) e.outcome e.point cell value point is in
     let granted = stored (descriptor_of x journal u e) e value (answer_of each x journal transcripts legal u place e at)
-    store.written in
-    record {
-      write = e;
-      printed = at;
-      kind = granted.kind;
-      written = store.written;
-      into = same_cell _ _ _ granted.touched store.touched;
-      at = store.same;
-      access = write_access x journal u e granted;
-    }
+    store.written in (
+      e,
+      at,
+      record {
+        kind = granted.kind;
+        written = store.written;
+        into = same_cell _ _ _ granted.touched store.touched;
+        at = store.same;
+        access = write_access x journal u e granted;
+      },
+    )
 store_event each x journal transcripts legal u place cell value point (Core (Missing segno by)) at is = absurd cc
 store_event each x journal transcripts legal u place cell value point (Entry number) at is = absurd cc
 
@@ -91,22 +93,22 @@ pub written_before_read_law : EachReferenceLaw → WrittenBeforeReadLaw
 written_before_read_law each x journal transcripts legal p place e value writer stamp at came =
     let is = loaded (descriptor_of x journal p e) e value writer stamp
     (answer_of each x journal transcripts legal p place e at) came in
-    let cell = cell_referred x journal p e in
-    let right : IsRightRead (deeds x journal transcripts) (IsKnown (deeds x journal transcripts)) legal.reads.source p place
-    cell value writer stamp e.point =
-    legal.reads.right p place cell value writer stamp e.point
-    (load_at x journal transcripts p place e value writer stamp at is came) in
-    let written : (u : ℕ) → HasStored (deeds x journal transcripts) u (legal.reads.source p place) cell value stamp
-    → WasWritten x journal transcripts u cell value stamp =
-    λ u store. record {
-      place = legal.reads.source p place;
-      granted = granted_stores_law each x journal transcripts legal u (legal.reads.source p place) cell value stamp store;
+    let read : Reading = record {
+      process = p;
+      place = place;
+      cell = cell_referred x journal p e;
+      value = value;
+      writer = writer;
+      stamp = stamp;
+      point = e.point;
     } in
+    let right : IsRightRead (deeds x journal transcripts) (IsKnown (deeds x journal transcripts)) legal.reads.source read =
+    legal.reads.right read (load_at x journal transcripts p place e value writer stamp at is came) in
     elim (cases_eq writer 0) [
       | inl nobody ↦ inl (nobody, (right.nobody nobody).zero_value)
-      | inr somebody ↦ inr (elim (cases_eq writer p) [
-        | inl own ↦ subst (λ (u : ℕ). WasWritten x journal transcripts u cell value stamp) (sym own)
-            (written p (right.own somebody own).such.stored)
-        | inr other ↦ written writer (right.another somebody other).such.stored
-      ])
+      | inr somebody ↦
+          let source = legal.reads.source p place in
+          let store = granted_stores_law each x journal transcripts legal writer source read.cell value stamp
+          (right.such somebody).stored in
+          inr (record { place = source; write = store.0; printed = store.1; granted = store.2 })
     ]

@@ -14,7 +14,7 @@ use Rattle.mx_transcript.specs.Next.{Next, Asks, Fills, Calls, Ends, Nowhere}
 use Rattle.mx_transcript.specs.Settings.{Setting}
 use Rattle.mx_transcript.specs.SoFar.{OneOutcomeLaw}
 
-one_course : (s : Setting) (asks : Next) (before : Course) (event : Event2) (after after' : Course)
+pub one_course : (s : Setting) (asks : Next) (before : Course) (event : Event2) (after after' : Course)
     → IsEvent s asks before event after → IsEvent s asks before event after' → after ≡ after'
 one_course s asks before (Core (Seen e)) after after' is is' = elim is [
   | inl a ↦ elim is' [

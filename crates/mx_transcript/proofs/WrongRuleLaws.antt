@@ -1,5 +1,5 @@
 -- Wrong points, reads and falls are refused.
-use Rattle.std.proofs.Common.{◌≡◌, ◌≢◌, ℕ, zero, suc, ◌<◌, ◌≤◌, inl, inr, List, [], ◌∷◌, ◌++◌, length, refl, ap, sym, ◌∙◌, subst, None, Some, arith}
+use Rattle.std.proofs.Common.{◌≡◌, ◌≢◌, ℕ, zero, suc, ◌<◌, ◌≤◌, List, [], ◌∷◌, ◌++◌, length, refl, ap, sym, ◌∙◌, subst, None, Some, arith}
 use Rattle.std.specs.List.{slice_get}
 use Rattle.mx_sdw.specs.declared.denials.Denial.TheVariants.{BadReturn}
 use Rattle.mx_upcall.specs.Gates.{ReturnGate}
@@ -10,7 +10,7 @@ use Rattle.mx_core.specs.declared.elements.Outcome.TheVariants as outcome
 use Rattle.mx_transcript.specs.declared.transcripts.Event2.{Event2}
 use Rattle.mx_transcript.specs.declared.transcripts.Event2.TheVariants.{Core, Entry}
 use Rattle.mx_reads.specs.Deeds.{CellUse, Deed, Deeds, Enters, Stores, Loads, Refers, Misses, point_of}
-use Rattle.mx_reads.specs.ReadRule.{IsRightRead}
+use Rattle.mx_reads.specs.ReadRule.{Reading, IsRightRead}
 use Rattle.mx_reads.specs.Sightings.{Source, HasStored, Sights, HasSighted, IsLatest}
 use Rattle.mx_transcript.specs.Points.{IsPoint, ArePoints}
 use Rattle.mx_transcript.specs.Reads.{IsKnown}
@@ -127,10 +127,26 @@ no_other source j deed at sights =
     (sym same) sights in
     other_process 2 3 s.2 refl refl
 
-not_latest : (source : Source) (h j : ℕ) → IsLatest again source 1 2 cell h 2 j → ⊥
-not_latest source zero j latest = latest.last 1 3 (source 1 1) (omega arith) (omega arith) (third_sighted source)
-not_latest source (suc zero) j latest = no_other source j latest.sighted.deed latest.sighted.at latest.sighted.sights
-not_latest source (suc (suc h)) j latest = let l = latest.before in omega arith
+not_latest : (source : Source) (j : ℕ) → IsLatest again source 1 2 cell 2 j → ⊥
+not_latest source j latest = not_at latest.earlier latest.before latest.sighted latest.last
+  where
+    not_at : (h : ℕ) → h < 2 → HasSighted again source 1 h cell 2 j
+        → ((later w k : ℕ) → h < later → later < 2 → HasSighted again source 1 later cell w k → ⊥) → ⊥
+    not_at zero low sighted last = last 1 3 (source 1 1) (omega arith) (omega arith) (third_sighted source)
+    not_at (suc zero) low sighted last = no_other source j sighted.deed sighted.at sighted.sights
+    not_at (suc (suc h)) low sighted last = omega arith
+
+-- a read of the cell
+abbrev pub reading : ℕ → ℕ → ℕ → ℕ → ℕ → ℕ → Reading
+reading process place value writer stamp point = record {
+  process = process;
+  place = place;
+  cell = cell;
+  value = value;
+  writer = writer;
+  stamp = stamp;
+  point = point;
+}
 
 -- a right read: process 1 reads the store of process 2, which is known
 abbrev known : Deeds
@@ -148,22 +164,20 @@ only_store (suc (suc zero)) (suc zero) c value point h = absurd cc
 only_store (suc (suc zero)) (suc (suc at)) c value point h = absurd cc
 only_store (suc (suc (suc u))) at c value point h = absurd cc
 
-read_so : IsRightRead known (IsKnown known) first_store 1 0 cell 5 2 0 1
+read_so : IsRightRead known (IsKnown known) first_store (reading 1 0 5 2 0 1)
 read_so = record {
   nobody = λ e. absurd (omega arith);
+  such = λ n. record {
+    stored = refl;
+    current = λ s.
+        let is = only_store s.other s.at cell s.value s.point s.stored in
+        let first = is.1 in
+        let after = s.after is.0 in omega arith;
+  };
   own = λ n e. absurd (omega arith);
   another = λ n m. record {
-    such = record {
-      stored = refl;
-      current = λ s. elim s [
-        | inl replaced ↦
-            let l = replaced.after in
-            let is = (only_store 2 replaced.later cell replaced.value replaced.point replaced.stored).1 in omega arith
-        | inr over ↦ over.another (only_store over.other over.at cell over.value over.point over.stored).0
-      ];
-    };
     beyond = record {
-      again = λ h j latest. let l = latest.before in absurd (omega arith);
+      again = λ j latest. let l = latest.before in absurd (omega arith);
       onward = λ none h j l sighted. absurd (omega arith);
     };
     first = λ earlier l such beyond. omega arith;
@@ -174,12 +188,28 @@ read_so = record {
 abbrev IsRightOne : Deed → Type 0
 IsRightOne (Enters number) = ⊥
 IsRightOne (Stores c value point) = ⊥
-IsRightOne (Loads c value writer stamp q) = IsRightRead known (IsKnown known) first_store 1 0 c value writer stamp q
+IsRightOne (Loads c value writer stamp q) = IsRightRead known (IsKnown known) first_store (record {
+  process = 1;
+  place = 0;
+  cell = c;
+  value = value;
+  writer = writer;
+  stamp = stamp;
+  point = q;
+})
 IsRightOne (Refers point) = ⊥
 IsRightOne (Misses segno by) = ⊥
 
 the_read : (p i : ℕ) (c : CellUse) (value writer stamp q : ℕ) → slice_get (known p) i ≡ Some (Loads c value writer stamp q)
-    → IsRightRead known (IsKnown known) first_store p i c value writer stamp q
+    → IsRightRead known (IsKnown known) first_store (record {
+      process = p;
+      place = i;
+      cell = c;
+      value = value;
+      writer = writer;
+      stamp = stamp;
+      point = q;
+    })
 the_read zero i c value writer stamp q h = absurd cc
 the_read (suc zero) zero c value writer stamp q h =
     let same : Loads cell 5 2 0 1 ≡ Loads c value writer stamp q = cc in subst IsRightOne same read_so
@@ -191,34 +221,40 @@ the_read (suc (suc (suc p))) i c value writer stamp q h = absurd cc
 
 pub wrong_reads : WrongReads
 wrong_reads = record {
-  right_read = record { source = first_store; right = the_read };
+  right_read = record {
+    source = first_store;
+    right = λ read at. the_read read.process read.place read.cell read.value read.writer read.stamp read.point at;
+  };
   store_before = λ are.
-      let own = (are.right 1 2 cell 5 1 0 0 refl).own (λ e. omega arith) refl in
-      own.last 1 6 0 (before_last (are.source 1 2) own.such.stored) (omega arith) refl;
+      let right = are.right (reading 1 2 5 1 0 0) refl in
+      (right.own (λ e. omega arith) refl).last 1 6 0
+      (before_last (are.source 1 2) (right.such (λ e. omega arith)).stored) (omega arith) refl;
   nobodys = λ are.
-      ((are.right 1 1 cell 0 0 0 0 refl).nobody refl).unsighted 0 1 0 (omega arith)
+      ((are.right (reading 1 1 0 0 0 0) refl).nobody refl).unsighted 0 1 0 (omega arith)
       (record { deed = Stores cell 5 0; at = refl; sights = (refl, refl, refl) });
   other_writer = λ are.
-      no_store (are.source 1 0)
-      ((are.right 1 0 cell 5 3 0 0 refl).another (λ e. omega arith) (λ e. omega arith)).such.stored;
+      no_store (are.source 1 0) ((are.right (reading 1 0 5 3 0 0) refl).such (λ e. omega arith)).stored;
   other_value = λ are.
-      no_six (are.source 1 0) ((are.right 1 0 cell 6 2 0 0 refl).another (two 2 refl) (λ e. omega arith)).such.stored;
+      no_six (are.source 1 0) ((are.right (reading 1 0 6 2 0 0) refl).such (two 2 refl)).stored;
   replaced = λ are.
-      let such = ((are.right 1 0 cell 5 2 0 1 refl).another (two 2 refl) (λ e. omega arith)).such in
-      such.current (inl (record {
-        later = 1;
+      let such = (are.right (reading 1 0 5 2 0 1) refl).such (two 2 refl) in
+      such.current (record {
+        other = 2;
+        at = 1;
         value = 6;
         point = 0;
-        after = first_of (are.source 1 0) such.stored;
         stored = refl;
         known = record { later = 2; number = 1; after = omega arith; entry = refl; within = omega arith };
-      }));
+        after = λ e. first_of (are.source 1 0) such.stored;
+        knew = λ n. absurd (n refl);
+      });
   forgotten = λ are.
-      ((are.right 1 0 cell 0 0 0 1 refl).nobody refl).unknown 2 0 5 0 refl
+      ((are.right (reading 1 0 0 0 0 1) refl).nobody refl).unknown 2 0 5 0 refl
       (record { later = 1; number = 1; after = omega arith; entry = refl; within = omega arith });
   again = λ are.
-      let other = (are.right 1 2 cell 5 2 0 0 refl).another (two 2 refl) (λ e. omega arith) in
-      let here = one_store (are.source 1 2) other.such.stored in
+      let right = are.right (reading 1 2 5 2 0 0) refl in
+      let other = right.another (two 2 refl) (λ e. omega arith) in
+      let here = one_store (are.source 1 2) (right.such (two 2 refl)).stored in
       let l = other.beyond.onward (not_latest are.source) 0 (are.source 1 0) (omega arith)
       (record { deed = Loads cell 5 2 0 0; at = refl; sights = (refl, two 2 refl, refl, refl) }) in
       omega arith;

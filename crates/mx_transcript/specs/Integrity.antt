@@ -16,30 +16,31 @@ use Rattle.mx_transcript.specs.Legal.{IsLegal, deeds}
 use Rattle.mx_transcript.specs.Transcripts.{Step, part, events_of}
 use Rattle.mx_transcript.specs.declared.transcripts.Event2.TheVariants.{Core}
 
--- what process u printed at this place is a granted write, of this value into this cell at this point
-pub record IsGrantedWrite (session : Outline) (journal : List journaled.Entry) (transcripts : List (List Step))
-    (u place : ℕ) (cell : CellUse) (value point : ℕ) : Type 0 where
-  pub write : Element
-  pub printed : slice_get (events_of (part transcripts u)) place ≡ Some (Core (Seen write))
+-- this element of process u is a granted write, of this value into this cell at this point
+pub record IsGrantedWrite (session : Outline) (journal : List journaled.Entry) (u : ℕ) (write : Element)
+    (cell : CellUse) (value point : ℕ) : Type 0 where
   pub kind : write.kind ≡ Write
   pub written : write.outcome ≡ Written value
   pub into : cell_referred session journal u write ≡ cell
   pub at : write.point ≡ point
   pub access : HadAccess session journal u write CanWrite has_w
 
--- each store is one
+-- each store is one, printed at its place
 abbrev pub GrantedStoresLaw : Type 0
 GrantedStoresLaw = (session : Outline) (journal : List journaled.Entry) (transcripts : List (List Step))
     → IsLegal session journal transcripts
     → (u place : ℕ) (cell : CellUse) (value point : ℕ)
     → HasStored (deeds session journal transcripts) u place cell value point
-    → IsGrantedWrite session journal transcripts u place cell value point
+    → (write : Element) × (slice_get (events_of (part transcripts u)) place ≡ Some (Core (Seen write)))
+    × IsGrantedWrite session journal u write cell value point
 
 -- some place of process u's transcript has such a write
 pub record WasWritten (session : Outline) (journal : List journaled.Entry) (transcripts : List (List Step))
     (u : ℕ) (cell : CellUse) (value point : ℕ) : Type 0 where
   pub place : ℕ
-  pub granted : IsGrantedWrite session journal transcripts u place cell value point
+  pub write : Element
+  pub printed : slice_get (events_of (part transcripts u)) place ≡ Some (Core (Seen write))
+  pub granted : IsGrantedWrite session journal u write cell value point
 
 -- what a reference is given is zero that nobody wrote, or was written there by the process that is named as its writer,
 -- at the point that is named as its stamp

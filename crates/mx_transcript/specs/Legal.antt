@@ -8,11 +8,12 @@ use Rattle.mx_state.specs.History.{IsRight}
 use Rattle.mx_state.specs.declared.journal.Entry as journaled
 use Rattle.mx_transcript.specs.Access.{descriptor_of}
 use Rattle.mx_reads.specs.Deeds.{Deeds}
+use Rattle.mx_reads.specs.ReadRule.{AreRightReads}
 use Rattle.mx_transcript.specs.Falls.{AreGated, AreSound}
 use Rattle.mx_transcript.specs.FullJournal.{AreFullFrom, HasNoneAfterFull}
 use Rattle.mx_transcript.specs.Misses.{IsChanged, AreRightMisses}
 use Rattle.mx_transcript.specs.Points.{ArePoints}
-use Rattle.mx_transcript.specs.Reads.{AreRightReads}
+use Rattle.mx_transcript.specs.Reads.{IsKnown}
 use Rattle.mx_transcript.specs.References.{deeds_by}
 use Rattle.mx_transcript.specs.Parts.{AreLines}
 use Rattle.mx_transcript.specs.Scripts.{lines_of}
@@ -74,8 +75,8 @@ pub record IsLegal (session : Outline) (journal : List journaled.Entry) (transcr
   pub misses : (p : ℕ) → AreRightMisses journal (IsChanged session journal p) p (deeds session journal transcripts p)
   -- no point precedes anything that its process had seen
   pub points : (p : ℕ) → ArePoints (setup_entries session) (length journal) (deeds session journal transcripts p)
-  -- each word read is the store that the read rule gives
-  pub reads : AreRightReads (deeds session journal transcripts)
+  -- each word read is the store that the read rule gives, where stores are known by entries
+  pub reads : AreRightReads (deeds session journal transcripts) (IsKnown (deeds session journal transcripts))
 
 -- the current ring of a process falls only through gates
 pub record HasGatedFalls (session : Outline) (journal : List journaled.Entry) (transcripts : List (List Step)) : Type 0 where

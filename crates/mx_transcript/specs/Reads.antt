@@ -1,7 +1,6 @@
--- The read rule of a run: each word read is the store that the read rule gives, where stores are known by entries.
+-- The read rule in a run: stores are known by entries.
 use Rattle.std.specs.Prelude.{◌≡◌, ℕ, ◌<◌, ◌≤◌, Some, slice_get}
 use Rattle.mx_reads.specs.Deeds.{Deeds, Enters}
-use Rattle.mx_reads.specs.ReadRule as rule
 
 -- a store is known at a point where its process has an entry after it, numbered at most that point
 pub record IsKnown (done : Deeds) (storer place q : ℕ) : Type 0 where
@@ -10,6 +9,3 @@ pub record IsKnown (done : Deeds) (storer place q : ℕ) : Type 0 where
   pub after : place < later
   pub entry : slice_get (done storer) later ≡ Some (Enters number)
   pub within : number ≤ q
-
-abbrev pub AreRightReads : Deeds → Type 0
-AreRightReads done = rule.AreRightReads done (IsKnown done)

@@ -1,7 +1,8 @@
 -- Wrong reads: the read rule refuses them. Processes 1, 2 and 3 store and load in cell 320.
 use Rattle.std.specs.Prelude.{zero, suc, List, [], ◌∷◌}
 use Rattle.mx_reads.specs.Deeds.{CellUse, Deed, Deeds, Enters, Stores, Loads}
-use Rattle.mx_transcript.specs.Reads.{AreRightReads}
+use Rattle.mx_reads.specs.ReadRule.{AreRightReads}
+use Rattle.mx_transcript.specs.Reads.{IsKnown}
 use Rattle.mx_transcript.specs.References.{use_of}
 
 abbrev pub cell : CellUse
@@ -14,12 +15,15 @@ did [] (suc p) = []
 did (done ∷ lists) (suc zero) = done
 did (done ∷ lists) (suc (suc p)) = did lists (suc p)
 
+abbrev pub ReadsRight : List (List Deed) → Type 0
+ReadsRight lists = AreRightReads (did lists) (IsKnown (did lists))
+
 abbrev pub NeverReads : List (List Deed) → Type 0
-NeverReads lists = AreRightReads (did lists) → ⊥
+NeverReads lists = ReadsRight lists → ⊥
 
 pub record WrongReads : Type 0 where
   -- right: another process's store, which is known
-  pub right_read : AreRightReads (did ((Loads cell 5 2 0 1 ∷ []) ∷ (Stores cell 5 0 ∷ Enters 1 ∷ []) ∷ []))
+  pub right_read : ReadsRight ((Loads cell 5 2 0 1 ∷ []) ∷ (Stores cell 5 0 ∷ Enters 1 ∷ []) ∷ [])
   -- the process's own store before its last
   pub store_before : NeverReads ((Stores cell 5 0 ∷ Stores cell 6 0 ∷ Loads cell 5 1 0 0 ∷ []) ∷ [])
   -- nobody's word after an own store

@@ -1,8 +1,8 @@
 -- Wrong reads by the stores for which they stand, and of what nobody stored: the read rule refuses them. Processes 1, 2
 -- and 3 store and load in cell 320.
-use Rattle.std.specs.Prelude.{◌≡◌, ℕ, List, [], ◌∷◌, Some, slice_get}
-use Rattle.mx_reads.specs.Deeds.{CellUse, Deed, Deeds, Enters, Stores, Loads}
-use Rattle.mx_reads.specs.ReadRule.{IsRightRead}
+use Rattle.std.specs.Prelude.{ℕ, List, [], ◌∷◌}
+use Rattle.mx_reads.specs.Deeds.{Deed, Deeds, Enters, Stores, Loads}
+use Rattle.mx_reads.specs.ReadRule.{Reading, HasRead, IsRightRead}
 use Rattle.mx_reads.specs.Sightings.{Source}
 use Rattle.mx_transcript.specs.Reads.{IsKnown}
 use Rattle.mx_transcript.specs.WrongReads.{cell, did, NeverReads}
@@ -13,9 +13,7 @@ always place p i = place
 
 -- each read is right, where it stands for the store that is said
 abbrev pub AreRightWith : Deeds → Source → Type 0
-AreRightWith done source = (p i : ℕ) (c : CellUse) (value writer stamp q : ℕ)
-    → slice_get (done p) i ≡ Some (Loads c value writer stamp q)
-    → IsRightRead done (IsKnown done) source p i c value writer stamp q
+AreRightWith done source = (read : Reading) → HasRead done read → IsRightRead done (IsKnown done) source read
 
 -- process 1 reads once what process 2 stored twice
 abbrev pub stored_twice : List (List Deed)

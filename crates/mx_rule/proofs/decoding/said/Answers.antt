@@ -1,4 +1,4 @@
-use Rattle.std.proofs.Common.{ap, sym, ◌∙◌, subst}
+use Rattle.std.proofs.Common.{ap, sym, subst}
 use Rattle.mx_rule.specs.Codes.{IsCodable, word_by}
 use Rattle.mx_rule.proofs.CodeLaws.{code_is_word, said_codable}
 use Rattle.mx_rule.proofs.decoding.said.Goals as goal
