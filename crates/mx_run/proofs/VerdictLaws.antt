@@ -7,7 +7,7 @@ use Rattle.mx_script.specs.FirstBadLine.{IsFirstBad}
 use Rattle.mx_script.specs.SessionTexts.{IsText}
 use Rattle.mx_run.specs.Commands.{IsRun}
 use Rattle.mx_run.specs.Done.{most_bytes, IsDone, IsDoneBy}
-use Rattle.mx_run.specs.Statuses.{GainsFront, IsDueStatus}
+use Rattle.mx_run.specs.Statuses.{HasPrinted, IsDueStatus}
 use Rattle.mx_run.specs.Verdicts.{IsVerdict, verdict_status, verdict_text}
 use Rattle.mx_run.specs.declared.verdicts.Unreached.{Unreached}
 use Rattle.mx_run.specs.declared.verdicts.Verdict.{Verdict}
@@ -93,7 +93,7 @@ done_of words source source' sink sink' accounts accounts' TooLong grown right p
 pub front_of : (words : List (List ℕ)) (source source' sink sink' : Option (List ℕ)) (accounts accounts' : List Account) (verdict : Verdict)
     → HaveGrown accounts accounts' → IsVerdict words source source' accounts accounts' verdict
     → (verdict_status verdict ≡ 0) × AppendsPart sink sink' (verdict_text verdict)
-    → GainsFront words source source' sink sink' accounts accounts' 0
+    → HasPrinted (AppendsPart sink sink') words source source' accounts accounts' 0
 front_of words source source' sink sink' accounts accounts' verdict grown right front = record {
   verdict = verdict;
   right = right;

@@ -3,10 +3,11 @@
 ghost use Rattle.std.specs.Prelude.{◌≡◌, ◌⊎◌, ℕ, List, map, Some};
 ghost use Rattle.std.specs.String.{string_bytes};
 ghost use Rattle.mx_audit.specs.Accounts.{HaveGrown, HaveRoom};
+ghost use Rattle.mx_io.specs.Bytes.{Appends, AppendsPart};
 ghost use Rattle.mx_io.specs.Faults.{Rose};
 ghost use Rattle.mx_run.specs.Commands.{IsRun, IsDrill, IsAccepted};
 ghost use Rattle.mx_run.specs.Done.{IsDoneBy};
-ghost use Rattle.mx_run.specs.Statuses.{GainsVerdict, GainsFront, IsStopped, IsDueStatus};
+ghost use Rattle.mx_run.specs.Statuses.{HasPrinted, IsStopped, IsDueStatus};
 
 use crate::verdicts::{Unreached, Verdict};
 use mx_audit::Auditor;
@@ -62,7 +63,7 @@ pub fn multics<R: Threads + Wait + Sync, S: Source, K: Sink, G: Gate>(
 
     // Statuses 0, 2, 5 and 6 are those of a right verdict, told whole. There are no others but 1, 3 and 4.
     ensures verdict { IsStopped result
-        ⊎ GainsVerdict (map string_bytes words.now) (S.left source.old) (S.left source.new) (K.out sink.old) (K.out sink.new)
+        ⊎ HasPrinted (Appends (K.out sink.old) (K.out sink.new)) (map string_bytes words.now) (S.left source.old) (S.left source.new)
         (map account auditors.old.items) (map account auditors.new.items) result }
 
     // Which one it is follows from the words and from the bytes of a source that tells them: no session is refused.
@@ -78,7 +79,7 @@ pub fn multics<R: Threads + Wait + Sync, S: Source, K: Sink, G: Gate>(
     // At status 1 no end had failed; nothing was written, or the front of a run text.
     ensures unfailed { result ≡ 1 → (S.faults source.new ≡ S.faults source.old) × (K.faults sink.new ≡ K.faults sink.old) }
     ensures out_of_memory { result ≡ 1 → (sink.new ≡ sink.old)
-        ⊎ GainsFront (map string_bytes words.now) (S.left source.old) (S.left source.new) (K.out sink.old) (K.out sink.new)
+        ⊎ HasPrinted (AppendsPart (K.out sink.old) (K.out sink.new)) (map string_bytes words.now) (S.left source.old) (S.left source.new)
         (map account auditors.old.items) (map account auditors.new.items) 0 }
 
     // At status 3 the source failed, and nothing was written.
@@ -92,7 +93,7 @@ pub fn multics<R: Threads + Wait + Sync, S: Source, K: Sink, G: Gate>(
     // At status 4 the sink failed, and the front of what was due was written.
     ensures sink_fault { result ≡ 4 → Rose (K.faults sink.old) (K.faults sink.new) }
     ensures cut_short { result ≡ 4 → (status : ℕ)
-        × GainsFront (map string_bytes words.now) (S.left source.old) (S.left source.new) (K.out sink.old) (K.out sink.new)
+        × HasPrinted (AppendsPart (K.out sink.old) (K.out sink.new)) (map string_bytes words.now) (S.left source.old) (S.left source.new)
         (map account auditors.old.items) (map account auditors.new.items) status }
 {
     match Verdict::reach(rt, alloc, words, source, gate, auditors) {
