@@ -12,6 +12,7 @@ pub mod Requests
 pub mod Table
 pub mod DecidingEntry
 pub mod Told
+pub mod AtOnce
 pub mod Changes
 pub mod Given
 pub mod AimAlone
