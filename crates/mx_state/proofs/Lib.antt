@@ -26,3 +26,4 @@ pub mod AimLaws
 pub mod WaitingLaws
 pub mod BareLaws
 pub mod AtOnceLaws
+pub mod TakenLaws
