@@ -11,6 +11,7 @@ use Rattle.mx_line.specs.Operands.{IsSayable}
 use Rattle.mx_script.specs.Sessions.{Outline, IsSession, is_script, is_script_line, ends}
 use Rattle.mx_script.specs.declared.lines.Line.{Line}
 use Rattle.mx_sup.specs.Supervised.{Supervised}
+use Rattle.mx_line.proofs.ScriptLaws.{all_in, fewer_done, script_lines, scripts_fit}
 use Rattle.mx_line.proofs.SeatLaws.{set_here, set_length}
 use Rattle.mx_bench.specs.Benches.{world_in, IsKept}
 use Rattle.mx_line.specs.Processes.{seat_in, AreGood, IsGoodAt, IsStill, IsCountable}
@@ -43,26 +44,6 @@ at_principal x s whole room cells processes p i line k place a =
     let t = ap (λ (y : Outline). length y.principals) k.same in
     let one = a.some in
     omega (arith, place, h, n, t, one)
-
--- the lines of a script are among those of the session
-scripts_fit : (scripts : List (List Line)) (i : ℕ) → lines_before scripts i + length (script_at scripts i) ≤ length scripts + sum_by length scripts
-scripts_fit [] zero = omega arith
-scripts_fit [] (suc i) = omega arith
-scripts_fit (script ∷ scripts) zero =
-    let here : length (script_at (script ∷ scripts) zero) ≡ length script = refl in
-    let all : sum_by length (script ∷ scripts) ≡ length script + sum_by length scripts = sum_by-cons length script scripts in
-    omega (arith, here, all)
-scripts_fit (script ∷ scripts) (suc i) =
-    let h = scripts_fit scripts i in
-    let before : lines_before (script ∷ scripts) (suc i) ≡ 1 + length script + lines_before scripts i = refl in
-    let all : sum_by length (script ∷ scripts) ≡ length script + sum_by length scripts = sum_by-cons length script scripts in
-    omega (arith, h, before, all)
-
-pub fewer_done : (first k : ℕ) (lines : List Line) (next : ℕ × Line) (left : List (ℕ × Line)) → drop k (numbered first lines) ≡ next ∷ left → k < length lines
-fewer_done first zero [] next left e = absurd (cc)
-fewer_done first (suc k) [] next left e = absurd (cc)
-fewer_done first zero (l ∷ lines) next left e = omega arith
-fewer_done first (suc k) (l ∷ lines) next left e = omega (arith, fewer_done (suc first) k lines next left e)
 
 small_number : (x : Outline) (i : ℕ) (seat : Seat) (next : ℕ × Line) (left : List (ℕ × Line)) → IsSession x → left_of x (suc i) seat ≡ next ∷ left
     → first_line x (suc i) + length seat.steps < 2 ^ 32
@@ -122,31 +103,6 @@ within_seats x s whole room cells processes w i k view h =
     let t = k.session.scripts in
     let v : length w.seats ≡ length (map seat_in processes) = ap (λ (v : World). length v.seats) (sym view) in
     (omega (arith, h, m, v), omega (arith, h, m, v, n, t))
-
--- the line of a script is one that a script may hold
-all_in : (f : Line → Bool) (first k : ℕ) (lines : List Line) (number : ℕ) (line : Line) (left : List (ℕ × Line)) → list_all f lines ≡ true
-    → drop k (numbered first lines) ≡ (number, line) ∷ left → f line ≡ true
-all_in f first zero [] number line left all e = absurd (cc)
-all_in f first (suc k) [] number line left all e = absurd (cc)
-all_in f first zero (l ∷ lines) number line left all e =
-    let same : l ≡ line = heads e in ap f (sym same) ∙ (both (f l) (list_all f lines) all).0
-  where
-    heads : (first, l) ∷ numbered (suc first) lines ≡ (number, line) ∷ left → l ≡ line
-    heads e = ap (λ (p : ℕ × Line). p.1) (first_of (first, l) (number, line) (numbered (suc first) lines) left e)
-      where
-        first_of : (a b : ℕ × Line) (more others : List (ℕ × Line)) → a ∷ more ≡ b ∷ others → a ≡ b
-        first_of a b more others e = cc
-all_in f first (suc k) (l ∷ lines) number line left all e =
-    all_in f (suc first) k lines number line left (both (f l) (list_all f lines) all).1 e
-
-script_lines : (version : ℕ) (scripts : List (List Line)) (i : ℕ) → list_all (is_script version) scripts ≡ true
-    → list_all (is_script_line version) (script_at scripts i) ≡ true
-script_lines version [] i e = refl
-script_lines version (script ∷ scripts) zero e =
-    (both (list_all (is_script_line version) script) (ends script)
-    (both (is_script version script) (list_all (is_script version) scripts) e).0).0
-script_lines version (script ∷ scripts) (suc i) e =
-    script_lines version scripts i (both (is_script version script) (list_all (is_script version) scripts) e).1
 
 pub at_script_line : (x : Outline) (s : Supervised) (whole : List (List Step)) (room : ℕ) (cells : List Contents) (processes : List Process) (p i : ℕ) (line : Line)
     → IsKept x s whole room cells processes → i ≡ p - 1 → IsAtLine (world_in x s whole cells processes) p line → IsSayable line

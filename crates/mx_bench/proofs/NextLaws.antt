@@ -11,41 +11,13 @@ use Rattle.mx_script.specs.declared.lines.Line.{Line}
 use Rattle.mx_sup.specs.Supervised.{Supervised}
 use Rattle.mx_bench.specs.Running.{left_of}
 use Rattle.mx_bench.specs.Benches.{world_in}
+use Rattle.mx_line.proofs.ScriptLaws.{numbered_next, numbered_none, past_end, script_is}
 use Rattle.mx_line.specs.Processes.{seat_in}
 use Rattle.mx_bench.specs.Stepping.{HasNone, IsAtLine, HasEnded}
 use Rattle.mx_line.specs.Seats.{Seat}
 use Rattle.mx_bench.specs.Worlds.{World}
 use Rattle.mx_line.specs.declared.memory.Contents.{Contents}
 use Rattle.mx_line.specs.declared.processes.Process.{Process}
-
-numbered_next : (first k : ℕ) (lines : List Line) (line : Line) → slice_get lines k ≡ Some line
-    → drop k (numbered first lines) ≡ (first + k, line) ∷ drop (suc k) (numbered first lines)
-numbered_next first k [] line e = absurd (cc)
-numbered_next first zero (l ∷ lines) line e =
-    let none : first ≡ first + 0 = omega arith in
-    ap (λ (m : Line). (first, m) ∷ numbered (suc first) lines) (same l line e) ∙ ap (λ n. (n, line) ∷ numbered (suc first) lines) none
-  where
-    same : (a b : Line) → Some a ≡ Some b → a ≡ b
-    same a b e = cc
-numbered_next first (suc k) (l ∷ lines) line e =
-    let shift : suc first + k ≡ first + suc k = omega arith in
-    numbered_next (suc first) k lines line e ∙ ap (λ n. (n, line) ∷ drop (suc k) (numbered (suc first) lines)) shift
-
-numbered_none : (first k : ℕ) (lines : List Line) → length lines ≤ k → drop k (numbered first lines) ≡ []
-numbered_none first zero [] h = refl
-numbered_none first (suc k) [] h = refl
-numbered_none first zero (l ∷ lines) h = absurd (omega (arith, h))
-numbered_none first (suc k) (l ∷ lines) h = numbered_none (suc first) k lines (omega (arith, h))
-
-script_is : (scripts : List (List Line)) (i : ℕ) (script : List Line) → slice_get scripts i ≡ Some script → script_at scripts i ≡ script
-script_is [] i script e = absurd (cc)
-script_is (s ∷ scripts) zero script e = cc
-script_is (s ∷ scripts) (suc i) script e = script_is scripts i script e
-
-past_end : {A : Type 0} (xs : List A) (i : ℕ) → slice_get xs i ≡ None → length xs ≤ i
-past_end [] i e = omega arith
-past_end (x ∷ xs) zero e = absurd (cc)
-past_end (x ∷ xs) (suc i) e = omega (arith, past_end xs i e)
 
 pub seat_of : (processes : List Process) (i : ℕ) (q : Process) → slice_get processes i ≡ Some q → slice_get (map seat_in processes) i ≡ Some (seat_in q)
 seat_of [] i q e = absurd (cc)

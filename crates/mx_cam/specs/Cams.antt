@@ -1,5 +1,6 @@
 -- A reference through an associative memory.
 use Rattle.std.specs.Prelude.{◌≡◌, ◌⊎◌, ℕ, None, Some}
+use Rattle.mx_sdw.specs.Admissible.{IsAdmissible}
 use Rattle.mx_core.specs.AssociativeMemory.{recalled}
 use Rattle.mx_core.specs.declared.elements.Element.{Element}
 use Rattle.mx_core.specs.declared.words.Asked.{Asked}
@@ -12,6 +13,7 @@ pub record HasRecalled {E : Type 0} (n : ℕ) (a : Asked) (value : ℕ) (v : Pas
     : Type 0 where
   pub on : Triple
   pub at : recalled n v.memory ≡ Some on
+  pub admissible : IsAdmissible on.desc
   pub seen : HasSeen on a value v e v'
 
 -- the memory had not the number, and its descriptor word was judged on, and remembered

@@ -2,6 +2,7 @@
 //! makes the cell step that is granted.
 
 ghost use Rattle.std.specs.Prelude.{◌≡◌, ◌≤◌, ◌<◌, ◌+◌, ◌++◌, ◌∷◌, ℕ, [], Ok, Err, Some, vec_len, vec_capacity};
+ghost use Rattle.mx_sdw.specs.Admissible.{IsAdmissible};
 ghost use Rattle.mx_core.specs.AssociativeMemory.{recalled};
 ghost use Rattle.mx_core.specs.Loading.{element_of};
 ghost use Rattle.mx_core.specs.declared.elements.Element.{Element as ElementValue};
@@ -95,6 +96,7 @@ impl<E, B: Naming> Pass<E, B> {
         requires recall { recalled on.now.segno self.old.view.memory ≡ Some on.now }
         ensures seen { HasSeen on.now (record { op = op; ring = ring; word = word }) value self.old.view result
             self.new.view }
+        ensures admissible { IsAdmissible on.now.desc }
         ensures amount { self.new.amount ≡ self.old.amount }
         ensures spare { self.old.spare ≤ self.new.spare + 1 }
     {

@@ -10,3 +10,4 @@ pub mod StandingLaws
 pub mod ReplyLaws
 pub mod TakenLaws
 pub mod DirectLaws
+pub mod ScriptLaws

@@ -365,8 +365,8 @@ impl Process {
         self.control.registers
     }
 
-    // What its line asks for.
-    fn asks(&self, line: &Line) -> Next
+    /// What its line asks for.
+    pub fn asks(&self, line: &Line) -> Next
         requires packable { IsPackableControl self.now.control }
         requires progress { IsGoodProgress self.now.control.registers self.now.progress }
         requires line { IsSayable line.now }

@@ -1,8 +1,7 @@
 -- Where a link leads, and why it leads nowhere.
-use Rattle.std.proofs.Common.{◌≡◌, ◌↔◌, ℕ, zero, suc, false, List, [], ◌∷◌, slice_get, Option, Some, None, Result, Ok, Err, refl, ap, sym, ◌∙◌, subst}
+use Rattle.std.proofs.Common.{◌≡◌, ◌↔◌, ℕ, zero, suc, List, [], ◌∷◌, Option, Some, None, Result, Ok, Err, refl, ap, sym, ◌∙◌, subst}
 use Rattle.mx_link.specs.Leading.{FindsNothing, LeadsTo}
 use Rattle.mx_link.specs.Targets.{at_word, in_object, in_segment, target}
-use Rattle.mx_link.specs.declared.resolving.LinkError.{LinkError}
 use Rattle.mx_link.specs.declared.resolving.LinkError.TheVariants.{SegmentNotFound, NotObject, NoDefinition}
 use Rattle.mx_link.specs.declared.resolving.Target.{Target}
 use Rattle.mx_object.proofs.DefinitionLaws.{answer_defines}

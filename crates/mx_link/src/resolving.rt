@@ -1,7 +1,7 @@
 //! Resolving a link.
 ghost use Rattle.std.specs.Prelude.{◌≡◌, ◌⊎◌, Err};
 ghost use Rattle.std.specs.Option.{option_map};
-ghost use Rattle.mx_link.specs.Targets.{target};
+ghost use Rattle.mx_link.specs.Targets.{in_segment, target};
 ghost use Rattle.mx_link.specs.declared.resolving.LinkError.TheVariants.{Memory};
 
 use mx_name::EntryName;
@@ -68,7 +68,19 @@ pub fn resolve<F: Linker>(
     ensures { (result ≡ target (F.answer finder.now) (F.object_of finder.now) rules.now segment.now symbol.now)
         ⊎ (result ≡ Err Memory) }
 {
-    let Some(found) = search(rules, segment, finder)? else {
+    let found = search(rules, segment, finder)?;
+    in_segment(found, symbol, finder)
+}
+
+/// The word of the symbol in the segment that was found, if any. Takes no memory: each refusal is told.
+fn in_segment<F: Linker>(
+    found: Option<Found>,
+    symbol: &EntryName,
+    finder: &F,
+) -> Result<Target, LinkError>
+    ensures { result ≡ in_segment (F.object_of finder.now) found symbol.now }
+{
+    let Some(found) = found else {
         return Err(LinkError::SegmentNotFound);
     };
     let Some(object) = finder.object(&found) else {

@@ -91,17 +91,8 @@ impl ObjectMap {
         ensures { (result ≡ object_map (record { gate = gate; definitions = definitions; links = links }))
             ⊎ (result ≡ Err Memory) }
     {
-        if repeats(alloc, definitions.items())? {
-            return Err(ObjectError::Twice);
-        }
-        if definitions.items().len() > MOST || links.items().len() > MOST {
-            return Err(ObjectError::TooMany);
-        }
-        Ok(ObjectMap {
-            gate,
-            definitions,
-            links,
-        })
+        let twice = repeats(alloc, definitions.items())?;
+        made(gate, definitions, links, twice)
     }
 
     /// The map of an object with so many gates, no definitions and no links. Takes no memory.
@@ -162,6 +153,29 @@ impl ObjectMap {
     {
         self.clone()
     }
+}
+
+/// The map of these parts, once it is known whether a symbol is defined twice. Takes no memory: each refusal is told.
+fn made(
+    gate: u16,
+    definitions: Definitions,
+    links: Links,
+    twice: bool,
+) -> Result<ObjectMap, ObjectError>
+    requires { twice ≡ has_twice (symbols_of definitions) }
+    ensures { result ≡ object_map (record { gate = gate; definitions = definitions; links = links }) }
+{
+    if twice {
+        return Err(ObjectError::Twice);
+    }
+    if definitions.items().len() > MOST || links.items().len() > MOST {
+        return Err(ObjectError::TooMany);
+    }
+    Ok(ObjectMap {
+        gate,
+        definitions,
+        links,
+    })
 }
 
 fn word_of(definitions: &[(EntryName, u16)], symbol: &EntryName) -> Option<u16>

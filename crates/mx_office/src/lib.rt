@@ -11,8 +11,10 @@
 mod announcing;
 mod answers;
 mod clearing;
+mod finishing;
 mod locked;
 mod naming;
+mod opening;
 mod revoking;
 mod serving;
 mod settling;
@@ -22,5 +24,6 @@ pub use answers::{Answer, EnterError, Served};
 pub use clearing::clear_pages;
 pub use locked::Locked;
 pub use naming::Sitting;
+pub use opening::{Opening, open};
 pub use revoking::revoke;
 pub use settling::settle_own;

@@ -11,7 +11,7 @@ use Rattle.mx_script.specs.Sessions.{Outline}
 use Rattle.mx_script.specs.declared.lines.Line.{Line}
 use Rattle.mx_sdw.specs.declared.denials.Denial.{Denial}
 use Rattle.mx_bench.proofs.BenchLaws.{map_get, map_set, set_same}
-use Rattle.mx_bench.proofs.BoundLaws.{fewer_done}
+use Rattle.mx_line.proofs.ScriptLaws.{fewer_done}
 use Rattle.mx_line.proofs.SeatLaws.{set_here}
 use Rattle.mx_proc.specs.Auditors.{WereTold, HaveRoomForLines}
 use Rattle.mx_proc.specs.Auditing.{AreTold, IsAudited, HasRoomAt, denied_in, with_more}

@@ -1,10 +1,13 @@
 -- Helpers that only private contracts cite: what the fields of an object's map are read as, from GATE on.
-use Rattle.std.specs.Prelude.{ℕ, zero, suc, ◌==◌, List, [], ◌∷◌, ◌++◌, length, Option, None, Some, codes, if◌then◌else◌}
+use Rattle.std.specs.Prelude.{◌≡◌, ℕ, zero, suc, ◌==◌, List, [], ◌∷◌, ◌++◌, length, Option, None, Some, Result, Ok, Err, IsErr, codes, if◌then◌else◌}
 use Rattle.std.specs.Cmp.Lexicographic.{pointwise}
 use Rattle.std.specs.Result.{result_ok}
+use Rattle.std.specs.declared.alloc.AllocError.{AllocError}
 use Rattle.mx_name.specs.Cuts.{cut_at}
 use Rattle.mx_name.specs.Names.{name_of}
 use Rattle.mx_object.specs.Objects.{PlainObjectMap, object_map, of_gates}
+use Rattle.mx_object.specs.declared.objects.ObjectError.{ObjectError}
+use Rattle.mx_object.specs.declared.objects.ObjectError.TheVariants.{Twice, TooMany, Memory}
 use Rattle.mx_request.specs.declared.reading.objects.Parts.{Parts}
 use Rattle.mx_request.specs.Decimals.{decimal_number}
 use Rattle.mx_request.specs.Steps.{◌>>=◌, when}
@@ -68,3 +71,10 @@ object_by text (Some p) =
 
 abbrev pub object_at : List ℕ → Option PlainObjectMap
 object_at text = object_by text (cut_at 32 text)
+
+-- a line whose parts make no map says nothing; where memory was wanting, that is told and nothing else
+abbrev pub ReadsMap : Result PlainObjectMap ObjectError → Result (Option PlainObjectMap) AllocError → Type 0
+ReadsMap (Ok object) result = result ≡ Ok (Some object)
+ReadsMap (Err Twice) result = result ≡ Ok None
+ReadsMap (Err TooMany) result = result ≡ Ok None
+ReadsMap (Err Memory) result = IsErr result

@@ -161,6 +161,7 @@ impl<E> PassSeat<E> {
         ensures view { pass_of self.new.seat.me.0
             ≡ judged_view (at_once on.now.desc (record { op = op; ring = ring; word = word })) on.now
             (record { op = op; ring = ring; word = word }) (pass_of self.old.seat.me.0) }
+        ensures admissible { IsAdmissible on.now.desc }
         ensures place { self.new.seat.table_id ≡ self.old.seat.table_id }
         ensures layout { self.new.layout ≡ self.old.layout }
     {
@@ -177,6 +178,7 @@ impl<E> PassSeat<E> {
         requires recall { recalled on.now.segno (pass_of self.old.seat.me.0).memory ≡ Some on.now }
         ensures view { pass_of self.new.seat.me.0
             ≡ judged_view (at_once on.now.desc asked.now) on.now asked.now (pass_of self.old.seat.me.0) }
+        ensures admissible { IsAdmissible on.now.desc }
         ensures place { self.new.seat.table_id ≡ self.old.seat.table_id }
         ensures layout { self.new.layout ≡ self.old.layout }
     {

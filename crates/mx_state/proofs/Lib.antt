@@ -25,3 +25,5 @@ pub mod MessageLaws
 pub mod AimLaws
 pub mod WaitingLaws
 pub mod BareLaws
+pub mod AtOnceLaws
+pub mod TakenLaws

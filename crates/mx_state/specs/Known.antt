@@ -69,3 +69,16 @@ Leads h process ring link (Ok place) =
 Leads h process ring link (Err (given.Refused why)) =
     (error : LinkError) × (link_target h process ring link ≡ Err error) × (link_refusal error ≡ Some why)
 Leads h process ring link (Err given.Memory) = Unit {0}
+
+-- what is told of a link that leads nowhere; want of memory is told as that
+abbrev pub link_error : LinkError → HierError
+link_error SegmentNotFound = given.Refused refusal.SegmentNotFound
+link_error NotObject = given.Refused refusal.NotObject
+link_error NoDefinition = given.Refused refusal.NoDefinition
+link_error Memory = given.Memory
+
+-- the place of a target, or why there is none, is told as it was found, and never as anything else
+abbrev pub IsToldAt : KnownSegments → Result Target LinkError → Result Place HierError → Type 0
+IsToldAt known (Ok to) result =
+    (place : Place) × (result ≡ Ok place) × (found_uid known to.found ≡ Some place.uid) × (place.word ≡ to.word)
+IsToldAt known (Err error) result = result ≡ Err (link_error error)

@@ -12,6 +12,7 @@ pub mod Requests
 pub mod Table
 pub mod DecidingEntry
 pub mod Told
+pub mod AtOnce
 pub mod Changes
 pub mod Given
 pub mod AimAlone
@@ -21,6 +22,7 @@ pub mod Serving
 pub mod Laws
 pub mod Waiting
 pub mod Pages
+pub mod Taking
 pub mod Sound
 pub mod Calling
 pub mod Known

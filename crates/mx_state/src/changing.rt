@@ -4,9 +4,11 @@
 //! itself is taken before the hierarchy changes: the descriptors that are held of the segment, in place of which those
 //! that become others are told.
 
-ghost use Rattle.std.specs.Prelude.{◌≡◌, ◌≤◌, length, IfOk, OnErr};
+ghost use Rattle.std.specs.Prelude.{◌≡◌, ◌≤◌, length, None, IfOk, OnErr};
 ghost use Rattle.mx_hier.specs.Rules.{Answers};
 ghost use Rattle.mx_hier.specs.Who.{subject};
+ghost use Rattle.mx_state.specs.Askers.{asker};
+ghost use Rattle.mx_state.specs.AtOnce.{pathless};
 ghost use Rattle.mx_state.specs.Changing.{alteration, altered_at};
 ghost use Rattle.mx_state.specs.Serving.{Serves};
 
@@ -35,6 +37,7 @@ impl State {
     ) -> Result<Applied, AllocError>
         requires asker { p ≤ length self.old.processes }
         ensures served { IfOk result (Serves self.old self.new (alteration self.old p ring path.now follow request.now)) }
+        ensures told { OnErr result (pathless (asker self.old.processes p) ring path.now ≡ None) }
         ensures err { OnErr result (self.new ≡ self.old) }
     {
         let processes = self.processes.as_slice();

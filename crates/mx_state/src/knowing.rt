@@ -1,6 +1,6 @@
 //! Requests on what a process knows.
 
-ghost use Rattle.std.specs.Prelude.{◌≡◌, ◌≤◌, ◌<◌, [], true, Some, Ok, length, slice_get, vec_len, IfOk, IfSome, OnErr};
+ghost use Rattle.std.specs.Prelude.{◌≡◌, ◌≤◌, ◌<◌, [], true, Some, None, Ok, length, slice_get, vec_len, IfOk, IfSome, OnErr};
 ghost use Rattle.std.specs.Option.{option_copied};
 ghost use Rattle.mx_kst.specs.Initiating.{initiate};
 ghost use Rattle.mx_kst.specs.KnownSegments.{KnownSegments};
@@ -8,6 +8,8 @@ ghost use Rattle.mx_kst.specs.Lots.{lot_of, is_branch};
 ghost use Rattle.mx_kst.specs.Sections.{IsWithinPage};
 ghost use Rattle.mx_kst.specs.Terminating as kst;
 ghost use Rattle.mx_request.specs.declared.requests.Request.TheVariants as ask;
+ghost use Rattle.mx_state.specs.Askers.{asker};
+ghost use Rattle.mx_state.specs.AtOnce.{no_link, pathless, unknown_number};
 ghost use Rattle.mx_state.specs.Connecting.{connect, with_section_page};
 ghost use Rattle.mx_state.specs.Known.{knowing, section_or_refusal, Connects};
 ghost use Rattle.mx_state.specs.Knowing.{free_name};
@@ -55,6 +57,7 @@ impl State {
         requires process { p ≤ length self.old.processes }
         ensures served { IfOk result
             (Serves self.old self.new (plain self.old p ring (ask.Initiate path.now (option_copied name.entry)))) }
+        ensures told { OnErr result (pathless (asker self.old.processes p) ring path.now ≡ None) }
         ensures err { OnErr result (self.new ≡ self.old) }
     {
         let process = process_in(self.processes.as_slice(), usize::from(p) - 1);
@@ -88,6 +91,7 @@ impl State {
         requires process { p ≤ length self.old.processes }
         ensures served { IfOk result (Serves self.old self.new (plain self.old p ring (ask.Link segno word))) }
         ensures linked { IfOk result (λ applied. IsLinkedWithin applied.reply) }
+        ensures told { OnErr result (no_link self.old p segno word ≡ None) }
         ensures err { OnErr result (self.new ≡ self.old) }
     {
         let process = process_in(self.processes.as_slice(), usize::from(p) - 1);
@@ -166,6 +170,7 @@ impl State {
         requires some { 1 ≤ p }
         requires process { p ≤ length self.old.processes }
         ensures served { IfOk result (Serves self.old self.new (plain self.old p ring (ask.Terminate segno))) }
+        ensures told { OnErr result (unknown_number self.old p segno ≡ None) }
         ensures err { OnErr result (self.new ≡ self.old) }
     {
         let i = usize::from(p) - 1;

@@ -1,17 +1,17 @@
 //! Where the links of a process lead.
 
-ghost use Rattle.std.specs.Prelude.{◌≡◌, ◌≤◌, ◌<◌, IfOk};
+ghost use Rattle.std.specs.Prelude.{◌≡◌, ◌⊎◌, ◌≤◌, ◌<◌, Err, IfOk};
 ghost use Rattle.mx_hier.specs.Find.{find_at, find_in};
 ghost use Rattle.mx_hier.specs.declared.refusals.HierError.TheVariants as given;
 ghost use Rattle.mx_state.specs.Askers.{caller};
-ghost use Rattle.mx_state.specs.Known.{Leads};
-ghost use Rattle.mx_state.specs.Linking.{branch_found, found_uid, known_uid, link_at, referencing_dir_finds, initiated_finds};
+ghost use Rattle.mx_state.specs.Known.{IsToldAt, Leads};
+ghost use Rattle.mx_state.specs.Linking.{branch_found, found_uid, known_uid, link_at, link_target, referencing_dir_finds, initiated_finds};
 
 use crate::callers::own_caller;
 use crate::states::ProcessState;
 use mx_hier::{Hier, HierError, Refusal};
 use mx_kst::{Kst, Lot};
-use mx_link::{LinkError, Linker, resolve};
+use mx_link::{LinkError, Linker, Target, resolve};
 use mx_name::{EntryName, Path};
 use mx_object::ObjectMap;
 use mx_sdw::Ring;
@@ -177,14 +177,30 @@ pub(crate) fn place_of(
         ring,
         object: link.object,
     };
-    match resolve(&link.segment, &link.symbol, &process.rules, &search) {
+    let target = resolve(&link.segment, &link.symbol, &process.rules, &search);
+    placed(&search, link, target)
+}
+
+// The place of a target to which a link was resolved, or why there is none. Takes no memory: each refusal is told.
+fn placed(
+    search: &LinkSearch,
+    link: &Link,
+    target: Result<Target, LinkError>,
+) -> Result<Place, HierError>
+    requires right { (target ≡ link_target search.now.hier.now search.now.process.now search.now.ring link.now) ⊎ (target ≡ Err LinkError.Memory) }
+    ensures leads { Leads search.now.hier.now search.now.process.now search.now.ring link.now result }
+    ensures told { IsToldAt search.now.process.now.known target result }
+    ensures below { IfOk result (λ at. at.uid < search.now.hier.now.next) }
+    ensures word { IfOk result (λ at. at.word ≤ 1023) }
+{
+    match target {
         Ok(to) => {
             let Some(uid) = search.uid(&to.found) else {
                 unreachable!()
             };
             // These are called for their clauses: the segment stands, so that it was made, and the symbol is defined
             // with a word of the longest segment.
-            let (_stands, _words) = (hier.is_segment(uid), hier.object_at(uid));
+            let (_stands, _words) = (search.hier.is_segment(uid), search.hier.object_at(uid));
             Ok(Place { uid, word: to.word })
         }
         Err(LinkError::SegmentNotFound) => Err(HierError::Refused(Refusal::SegmentNotFound)),

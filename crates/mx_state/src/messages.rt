@@ -1,8 +1,10 @@
 //! Requests on messages, and on who runs, waits or has ended. Only a message that is sent takes memory.
 
-ghost use Rattle.std.specs.Prelude.{◌≡◌, ◌≤◌, length, IfOk, OnErr};
+ghost use Rattle.std.specs.Prelude.{◌≡◌, ◌≤◌, length, None, IfOk, OnErr};
+ghost use Rattle.mx_hier.specs.Rules.{first_of};
+ghost use Rattle.mx_mail.specs.Processes.{process_at};
 ghost use Rattle.mx_request.specs.declared.requests.Request.TheVariants as ask;
-ghost use Rattle.mx_state.specs.Messages.{taken_reply};
+ghost use Rattle.mx_state.specs.Messages.{taken_reply, wakeup_refusals};
 ghost use Rattle.mx_state.specs.Replies.{SaysSent};
 ghost use Rattle.mx_state.specs.Requests.{plain};
 ghost use Rattle.mx_state.specs.Serving.{Serves};
@@ -28,6 +30,7 @@ impl State {
         requires some { 1 ≤ p }
         requires process { p ≤ length self.old.processes }
         ensures served { IfOk result (Serves self.old self.new (plain self.old p ring (ask.Wakeup to word))) }
+        ensures told { OnErr result (first_of (wakeup_refusals (process_at self.old.mail to)) ≡ None) }
         ensures err { OnErr result (self.new ≡ self.old) }
     {
         let given = self.mail.send(p, to, word);

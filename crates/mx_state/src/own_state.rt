@@ -1,7 +1,9 @@
 //! Requests on what a process has of its own beside its known segments.
 
-ghost use Rattle.std.specs.Prelude.{◌≡◌, ◌≤◌, ◌<◌, Some, length, slice_get, slice_set, vec_len, IfOk, OnErr};
+ghost use Rattle.std.specs.Prelude.{◌≡◌, ◌≤◌, ◌<◌, Some, None, length, slice_get, slice_set, vec_len, IfOk, OnErr};
 ghost use Rattle.mx_request.specs.declared.requests.Request.TheVariants as ask;
+ghost use Rattle.mx_state.specs.Askers.{asker};
+ghost use Rattle.mx_state.specs.AtOnce.{pathless};
 ghost use Rattle.mx_state.specs.Requests.{plain};
 ghost use Rattle.mx_state.specs.Serving.{Serves};
 ghost use Rattle.mx_state.specs.declared.states.ProcessState.{ProcessState as ProcessValue};
@@ -28,6 +30,7 @@ impl State {
         requires some { 1 ≤ p }
         requires process { p ≤ length self.old.processes }
         ensures served { IfOk result (Serves self.old self.new (plain self.old p ring (ask.ChangeWdir path.now))) }
+        ensures told { OnErr result (pathless (asker self.old.processes p) ring path.now ≡ None) }
         ensures err { OnErr result (self.new ≡ self.old) }
     {
         let i = usize::from(p) - 1;

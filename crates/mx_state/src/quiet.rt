@@ -1,9 +1,13 @@
 //! Requests that change no descriptor.
 
-ghost use Rattle.std.specs.Prelude.{◌≡◌, ◌≤◌, length, IfOk, OnErr};
-ghost use Rattle.mx_hier.specs.Rules.{Answers};
+ghost use Rattle.std.specs.Prelude.{◌≡◌, ◌≤◌, length, None, IfOk, OnErr};
+ghost use Rattle.std.specs.Option.{option_and_then};
+ghost use Rattle.mx_hier.specs.Rules.{Answers, TellsFirst};
 ghost use Rattle.mx_hier.specs.Who.{caller as caller_of, subject};
 ghost use Rattle.mx_request.specs.declared.requests.Request.TheVariants as ask;
+ghost use Rattle.mx_state.specs.Askers.{asker};
+ghost use Rattle.mx_state.specs.AtOnce.{path_of, pathless};
+ghost use Rattle.mx_state.specs.Calling.{begun};
 ghost use Rattle.mx_state.specs.Changing.{created, creation, amended_at, amendment};
 ghost use Rattle.mx_state.specs.NextRun.{IsNext};
 ghost use Rattle.mx_state.specs.Requests.{plain};
@@ -33,6 +37,7 @@ impl State {
     ) -> Result<Applied, AllocError>
         requires asker { p ≤ length self.old.processes }
         ensures served { IfOk result (Serves self.old self.new (creation self.old p ring request.now)) }
+        ensures told { OnErr result (option_and_then (pathless (asker self.old.processes p) ring) (path_of request.now) ≡ None) }
         ensures err { OnErr result (self.new ≡ self.old) }
     {
         let processes = self.processes.as_slice();
@@ -62,6 +67,7 @@ impl State {
     ) -> Result<Applied, AllocError>
         requires asker { p ≤ length self.old.processes }
         ensures served { IfOk result (Serves self.old self.new (amendment self.old p ring path.now follow request.now)) }
+        ensures told { OnErr result (pathless (asker self.old.processes p) ring path.now ≡ None) }
         ensures err { OnErr result (self.new ≡ self.old) }
     {
         let processes = self.processes.as_slice();
@@ -83,7 +89,8 @@ impl State {
         path: &Pathname,
     ) -> Result<Applied, AllocError>
         requires asker { p ≤ length self.now.processes }
-        ensures { IfOk result (Serves self.now self.now (plain self.now p ring (ask.Status path.now))) }
+        ensures served { IfOk result (Serves self.now self.now (plain self.now p ring (ask.Status path.now))) }
+        ensures told { OnErr result (pathless (asker self.now.processes p) ring path.now ≡ None) }
     {
         let processes = self.processes.as_slice();
         let who = caller(&self.initializer, &self.root, processes, p, ring);
@@ -101,7 +108,8 @@ impl State {
         path: &Pathname,
     ) -> Result<Applied, AllocError>
         requires asker { p ≤ length self.now.processes }
-        ensures { IfOk result (Serves self.now self.now (plain self.now p ring (ask.List path.now))) }
+        ensures served { IfOk result (Serves self.now self.now (plain self.now p ring (ask.List path.now))) }
+        ensures told { OnErr result (pathless (asker self.now.processes p) ring path.now ≡ None) }
     {
         let processes = self.processes.as_slice();
         let who = caller(&self.initializer, &self.root, processes, p, ring);
@@ -121,6 +129,7 @@ fn create(
 ) -> Result<Option<PageRun>, HierError>
     ensures answer { Answers (created hier.old (caller_of who.now) request.now) hier.old result hier.new }
     ensures run { IfOk result (IsNext hier.old.pages hier.new.pages) }
+    ensures told { TellsFirst (begun (caller_of who.now) (path_of request.now)) result }
 {
     match request {
         Request::CreateDir { path, d1, d2 } => {

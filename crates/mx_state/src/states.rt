@@ -1,9 +1,10 @@
 //! The plain supervisor as a program.
 
-ghost use Rattle.std.specs.Prelude.{◌≡◌, ◌≤◌, ◌↔◌, ℕ, length, IfOk, IsTrue, OnErr};
+ghost use Rattle.std.specs.Prelude.{◌≡◌, ◌≤◌, ◌↔◌, ℕ, length, None, IfOk, IsTrue, OnErr};
 ghost use Rattle.std.specs.List.{All};
 ghost use Rattle.std.specs.Option.{option_map};
 ghost use Rattle.mx_sdw.specs.Admissible.{IsAdmissible};
+ghost use Rattle.mx_state.specs.AtOnce.{at_once};
 ghost use Rattle.mx_state.specs.Changes.{AreChanges, IsBounded};
 ghost use Rattle.mx_state.specs.DecidingEntry.{entry_behind, Explains};
 ghost use Rattle.mx_state.specs.Given.{AreGiven, AreFreed};
@@ -118,7 +119,8 @@ impl State {
     /// Answers the request of process `p` in a ring as the plain supervisor does; process 0 is the initializer, which
     /// makes requests on paths alone. The changes are exactly the descriptors that differ afterwards, and the runs of
     /// pages exactly those that were given out and that were freed. A refusal changes nothing, and nor does want of
-    /// memory, the only error. Where a link leads is a place that a pointer can name.
+    /// memory, the only error: it is told only where nothing refuses the request before memory is taken (`at_once`). Where a
+    /// link leads is a place that a pointer can name.
     pub fn apply(
         &mut self,
         alloc: Global,
@@ -136,6 +138,7 @@ impl State {
         ensures linked { IfOk result (λ applied. IsLinkedWithin applied.reply) }
         ensures processes { length self.new.processes ≡ length self.old.processes }
         ensures version { self.new.version ≡ self.old.version }
+        ensures told { OnErr result (at_once self.old p ring request.now ≡ None) }
         ensures err { OnErr result (self.new ≡ self.old) }
     {
         let applied = self.serve(alloc, p, ring, request)?;
@@ -153,6 +156,7 @@ impl State {
         ensures served { IfOk result (Serves self.old self.new (plain self.old p ring request.now)) }
         ensures linked { (segno word : ℕ) → request.now ≡ ask.Link segno word
             → IfOk result (λ applied. IsLinkedWithin applied.reply) }
+        ensures told { OnErr result (at_once self.old p ring request.now ≡ None) }
         ensures err { OnErr result (self.new ≡ self.old) }
     {
         match request {

@@ -51,15 +51,29 @@ ended begun events (first ∷ lines) line e are =
     }
 
 -- one more event of the line at work
+pushed_below : (before : Recorded) (events more : List Event2) (event : Event2) (lines : List LineEnd) (most most' : ℕ) → IsFew events lines
+    → recorded events lines most most' ≡ before → length events < min most 4294967295 → more ≡ events ++ event ∷ []
+    → IsFew more lines × (steps_from 0 more lines ≡ before.steps) × (left_from 0 more lines ≡ before.events ++ event ∷ [])
+pushed_below before events more event lines most most' are is few e =
+    let on = longer 0 events (event ∷ []) lines are.ends in
+    let n : length (events ++ event ∷ []) ≡ length events + 1 = length-append events (event ∷ []) in
+    (record { few = rw (e, n) (omega arith); ends = rw e on.ends }, rw e on.steps ∙ ap (λ (r : Recorded). r.steps) is, rw e on.left ∙ ap (λ (r : Recorded). r.events ++ event ∷ []) is)
+
 pub pushed : (before : Recorded) (events more : List Event2) (event : Event2) (lines : List LineEnd) (most most' : ℕ) → IsFew events lines
     → recorded events lines most most' ≡ before → IsTrue before.event_room → more ≡ events ++ event ∷ []
     → IsFew more lines × (steps_from 0 more lines ≡ before.steps) × (left_from 0 more lines ≡ before.events ++ event ∷ [])
 pushed before events more event lines most most' are is room e =
-    let on = longer 0 events (event ∷ []) lines are.ends in
-    let n : length (events ++ event ∷ []) ≡ length events + 1 = length-append events (event ∷ []) in
     let room' : IsTrue (nat_lt (length events) (min most 4294967295)) = subst (λ (r : Recorded). IsTrue r.event_room) (sym is) room in
     let few : length events < min most 4294967295 = grind (arith, nat_tests) in
-    (record { few = rw (e, n) (omega arith); ends = rw e on.ends }, rw e on.steps ∙ ap (λ (r : Recorded). r.steps) is, rw e on.left ∙ ap (λ (r : Recorded). r.events ++ event ∷ []) is)
+    pushed_below before events more event lines most most' are is few e
+
+-- where so much room was made
+pub kept_with : (before : Recorded) (events more : List Event2) (event : Event2) (lines : List LineEnd) (most most' : ℕ) → IsFew events lines
+    → recorded events lines most most' ≡ before → 1 ≤ before.spare → more ≡ events ++ event ∷ []
+    → IsFew more lines × (steps_from 0 more lines ≡ before.steps) × (left_from 0 more lines ≡ before.events ++ event ∷ [])
+kept_with before events more event lines most most' are is room e =
+    let spare : min most 4294967295 - length events ≡ before.spare = ap (λ (r : Recorded). r.spare) is in
+    pushed_below before events more event lines most most' are is (omega (arith, spare, room)) e
 
 -- the line at work has ended
 pub has_ended : (before : Recorded) (events : List Event2) (lines more : List LineEnd) (line : LineEnd) (most most' : ℕ) → IsFew events lines

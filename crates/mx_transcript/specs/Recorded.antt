@@ -21,12 +21,13 @@ AreEnds begun events [] = ⊤
 AreEnds begun events (line ∷ lines) =
     (begun ≤ line.end) × (line.end ≤ begun + length events) × AreEnds line.end (drop (line.end - begun) events) lines
 
--- the lines that have ended and the events of the line at work; whether there is room for one more event, and for the
--- end of one more line
+-- the lines that have ended and the events of the line at work; whether there is room for one more event, and for how
+-- many; and whether there is room for the end of one more line
 pub record Recorded : Type 0 where
   pub steps : List Step
   pub events : List Event2
   pub event_room : Bool
+  pub spare : ℕ
   pub line_room : Bool
 
 abbrev pub recorded : List Event2 → List LineEnd → ℕ → ℕ → Recorded
@@ -34,6 +35,7 @@ recorded events lines most_events most_lines = record {
   steps = steps_from 0 events lines;
   events = left_from 0 events lines;
   event_room = nat_lt (length events) (min most_events 4294967295);
+  spare = min most_events 4294967295 - length events;
   line_room = nat_lt (length lines) most_lines;
 }
 

@@ -1,6 +1,6 @@
 //! Transcripts: what each line of a process's script came to.
 
-ghost use Rattle.std.specs.Prelude.{◌≡◌, [], ◌∷◌, ◌++◌, IsTrue, length, OnOk, IfOk};
+ghost use Rattle.std.specs.Prelude.{◌≡◌, ◌≤◌, ◌+◌, [], ◌∷◌, ◌++◌, IsTrue, length, OnOk, IfOk};
 ghost use Rattle.std.specs.Iterator.{YieldsFirstBy, item_count};
 ghost use Rattle.mx_transcript.specs.Asking.{result_of};
 ghost use Rattle.mx_transcript.specs.Denials.{last_denial};
@@ -202,6 +202,32 @@ impl Recording {
         self.lines.reserve(1)
     }
 
+    /// Makes room for so many more events and for the end of one more line, as [`Recording::reserve`] does for one event.
+    pub fn reserve_events(&mut self, events: u32) -> Result<(), AllocError>
+        ensures spare { OnOk result (events ≤ self.new.spare) }
+        ensures line { OnOk result (IsTrue self.new.line_room) }
+        ensures same { IsStill self.old self.new }
+    {
+        if u32::MAX as usize - self.events.len() < events as usize {
+            return Err(AllocError);
+        }
+        self.events.reserve(events as usize)?;
+        self.lines.reserve(1)
+    }
+
+    /// One more event of the line at work, for which room was made.
+    pub fn keep(&mut self, event: Event2)
+        requires { 1 ≤ self.old.spare }
+        ensures steps { self.new.steps ≡ self.old.steps }
+        ensures events { self.new.events ≡ self.old.events ++ event ∷ [] }
+        ensures room { self.new.line_room ≡ self.old.line_room }
+        ensures spare { self.old.spare ≤ self.new.spare + 1 }
+    {
+        let Ok(()) = self.events.extend_from_slice(&[event]) else {
+            unreachable!()
+        };
+    }
+
     /// One more event of the line at work.
     pub fn push(&mut self, event: Event2)
         requires { IsTrue self.old.event_room }
@@ -219,6 +245,7 @@ impl Recording {
         requires { IsTrue self.old.line_room }
         ensures steps { self.new.steps ≡ self.old.steps ++ (number, self.old.events, ends) ∷ [] }
         ensures events { self.new.events ≡ [] }
+        ensures spare { self.new.spare ≡ self.old.spare }
     {
         let end = self.events.len() as u32;
         let line = LineEnd {

@@ -2,7 +2,7 @@
 
 ghost use Rattle.std.specs.Prelude.{◌≡◌, IfOk};
 ghost use Rattle.mx_request.specs.Decimals.{decimal_number};
-ghost use Rattle.mx_request.specs.ReadingObjects.{definition_at, object_link_at, with_definition, with_link, with_field, with_fields, no_parts, object_at};
+ghost use Rattle.mx_request.specs.ReadingObjects.{definition_at, object_link_at, with_definition, with_link, with_field, with_fields, no_parts, object_at, ReadsMap};
 ghost use Rattle.mx_request.specs.Steps.{when};
 
 use super::decimals::read_decimal;
@@ -89,7 +89,14 @@ pub(super) fn read_object(alloc: Global, text: &[u8]) -> Result<Option<ObjectMap
     let Some(parts) = read_parts(alloc, fields)? else {
         return Ok(None);
     };
-    match ObjectMap::new(alloc, gate, parts.definitions, parts.links) {
+    read_map(ObjectMap::new(alloc, gate, parts.definitions, parts.links))
+}
+
+/// What a line says whose parts make this map, or none. Takes no memory.
+fn read_map(made: Result<ObjectMap, ObjectError>) -> Result<Option<ObjectMap>, AllocError>
+    ensures { ReadsMap made result }
+{
+    match made {
         Ok(object) => Ok(Some(object)),
         Err(ObjectError::Memory) => Err(AllocError),
         Err(ObjectError::Twice | ObjectError::TooMany) => Ok(None),

@@ -33,6 +33,7 @@ returns-in-Some-clause-seen g c e is =
     inl (record {
       on = on;
       at = sym (ap (recalled n) memory) ∙ c.in-Some.ensures;
+      admissible = c.recall-in-Some.ensures.admissible;
       seen = subst (λ (z : Element). HasSeen on (record { op = c.args.op; ring = c.args.ring; word = c.args.word })
           c.args.value c.args.pass.now.view z c.recall-in-Some.new.self.view) (same_seen c.recall-in-Some.result e is)
           c.recall-in-Some.ensures.seen;

@@ -1,3 +1,9 @@
+use Rattle.mx_hier.specs.Walks.{resolved}
+use Rattle.mx_state.specs.Plain.{Plain}
+use Rattle.std.proofs.Common.{OnErr, subst, ◌≡◌}
+use Rattle.mx_state.specs.Askers.{asker}
+use Rattle.mx_state.specs.AtOnce.{pathless}
+use Rattle.mx_state.proofs.AtOnceLaws.{entry_path, on_err, told_path, with_path}
 use Rattle.std.proofs.Common.{None}
 use Rattle.mx_hier.specs.Rules.{onward}
 use Rattle.mx_hier.specs.Walks.{entry}
@@ -30,3 +36,20 @@ returns-clause-served c =
     c.amend-given.ensures.answer c.in_ok-reply.ensures (amended_leaves s.hier who.subject uid request)
     (pages_kept (amended_at s.hier who.subject uid request) s.hier c.amend-given.new.hier c.amend-given.result c.amend-given.ensures.answer
     (amended_keeps s.hier who.subject uid request)) c.self.invariant.sound c.unchanged.ensures)
+
+pub returns-in-Err-clause-told : goal.returns-in-Err-clause-told
+returns-in-Err-clause-told c =
+    let s = c.self.inside in
+    let who = caller c.caller-who.result in
+    subst (λ (t : Plain). OnErr c.refused.result (pathless (asker t.processes c.args.p) c.args.ring c.args.path.now ≡ None)) c.self.view_is
+    (told_path _ (resolved who c.args.path.now) c.in-Err.error c.refused.result
+    (with_path (asker s.processes.items c.args.p) c.args.ring who c.args.path.now (rw c.as_slice-processes.ensures.value at c.caller-who.ensures))
+    c.in-Err.ensures.told c.refused.ensures)
+
+pub returns-in_err-reply-clause-told : goal.returns-in_err-reply-clause-told
+returns-in_err-reply-clause-told c =
+    let s = c.self.inside in
+    let who = caller c.caller-who.result in
+    on_err _ (subst (λ (t : Plain). pathless (asker t.processes c.args.p) c.args.ring c.args.path.now ≡ None) c.self.view_is
+    (with_path (asker s.processes.items c.args.p) c.args.ring who c.args.path.now (rw c.as_slice-processes.ensures.value at c.caller-who.ensures)
+    (entry_path s.hier who c.args.path.now c.args.follow c.in-Ok.uid c.in-Ok.ensures.answer)))

@@ -1,3 +1,9 @@
+use Rattle.mx_state.specs.Calling.{begun}
+use Rattle.std.proofs.Common.{OnErr, ◌≡◌}
+use Rattle.std.specs.Option.{option_and_then}
+use Rattle.mx_state.specs.Askers.{asker}
+use Rattle.mx_state.specs.AtOnce.{path_of, pathless}
+use Rattle.mx_state.proofs.AtOnceLaws.{told_path, with_any_path}
 use Rattle.std.proofs.Common.{List, None, Ok, IfOk, ap, refl, subst}
 use Rattle.mx_core.specs.declared.changes.Change.{Change}
 use Rattle.mx_hier.specs.Who.{caller}
@@ -39,3 +45,12 @@ returns-in-Err-clause-served c =
     (quiet_refused s.version (λ who. created s.hier who c.args.request.now) meant s.hier c.create.new.hier s.mail s.processes.items c.args.p c.args.ring who
     c.create.result c.in-Err.error c.refused.result (rw c.as_slice-processes.ensures.value at c.caller-who.ensures) refl c.in-Err.is
     c.create.ensures.answer (created_leaves s.hier who c.args.request.now) c.self.invariant.sound c.refused.ensures)
+
+pub returns-in-Err-clause-told : goal.returns-in-Err-clause-told
+returns-in-Err-clause-told c =
+    let s = c.self.inside in
+    let who = caller c.caller-who.result in
+    subst (λ (t : Plain). OnErr c.refused.result (option_and_then (pathless (asker t.processes c.args.p) c.args.ring) (path_of c.args.request.now) ≡ None)) c.self.view_is
+    (told_path _ (begun who (path_of c.args.request.now)) c.in-Err.error c.refused.result
+    (with_any_path (asker s.processes.items c.args.p) c.args.ring who (path_of c.args.request.now) (rw c.as_slice-processes.ensures.value at c.caller-who.ensures))
+    c.in-Err.ensures.told c.refused.ensures)

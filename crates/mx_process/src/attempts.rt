@@ -1,0 +1,190 @@
+//! An attempt at a line: no memory, no lock, nobody is waited for.
+
+ghost use Rattle.std.specs.Prelude.{◌≡◌, ◌≤◌, ◌<◌, ◌↔◌, ℕ, IsTrue, None, Some};
+ghost use Rattle.mx_audit.specs.Accounts.{Account, with_denials};
+ghost use Rattle.std.specs.Option.{option_map};
+ghost use Rattle.mx_process.specs.Audited.{as_list};
+ghost use Rattle.mx_core.specs.declared.words.Stage.TheVariants.{Outside, Ready};
+ghost use Rattle.mx_line.specs.AtWork.{IsFree};
+ghost use Rattle.mx_line.specs.Fills.{IsNoRequest};
+ghost use Rattle.mx_line.specs.Operands.{steps_in};
+ghost use Rattle.mx_process.specs.Attempts.{HasAttempted, HasDone, HasMissed, IsAtLinkIn, IsAtRequest};
+ghost use Rattle.mx_process.specs.Processes.{HasLine, HasRoom, IsAtLine, known_of};
+ghost use Rattle.mx_process.specs.Turns.{IsAttempting, IsUntold, inside};
+ghost use Rattle.mx_process.specs.declared.misses.Fast.TheVariants.{Done, Journal, Link, Missing};
+
+use crate::misses::{Fast, Miss};
+use crate::naming::Attending;
+use crate::processes::Process;
+use crate::turns::{Turn, turn};
+use mx_audit::{Auditor, Verdict};
+use mx_cam::Cam;
+use mx_desc::Pass;
+use mx_line::Process as LineState;
+use mx_office::Sitting;
+use mx_rule::Board;
+use mx_script::Line;
+use mx_sdw::Denial;
+use mx_state::Entry;
+
+/// So many turns at most.
+fn turns<B: Sitting>(
+    state: &mut LineState,
+    pass: &mut Pass<Entry, B>,
+    cam: &mut Cam,
+    shared: &Board<Entry>,
+    line: &Line,
+    left: u8,
+) -> Fast
+    requires fits { shared.now.table_id ≡ B.table }
+    requires layout { shared.now.key.layout ≡ B.layout }
+    requires same { cam.old ≡ pass.old.view.memory }
+    requires ready { pass.old.view.stage ≡ Ready }
+    requires spare { left ≤ pass.old.spare }
+    requires room { left ≤ state.old.recording.spare }
+    requires end { IsTrue state.old.recording.line_room }
+    requires enough { steps_in state.old.progress ≤ left }
+    requires attempting { IsAttempting B.session B.setup state.old line.now (known_of pass.old) }
+    ensures came { HasAttempted B.session B.setup line.now state.old result (inside state.new pass.new) }
+    ensures same { cam.new ≡ pass.new.view.memory }
+    ensures ready { pass.new.view.stage ≡ Ready }
+    ensures untold { IsUntold pass.old pass.new }
+{
+    if left == 0 {
+        unreachable!()
+    }
+    match turn(state, pass, cam, shared, line) {
+        Turn::More => turns(state, pass, cam, shared, line, left - 1),
+        Turn::Ended => Fast::Done,
+        Turn::Missing(miss) => Fast::Missing {
+            segno: miss.segno,
+            by: miss.by,
+        },
+        Turn::AtLink(place) => Fast::Link {
+            segno: place.segno,
+            word: place.word,
+            ring: place.ring,
+        },
+    }
+}
+
+/// One attempt at a line that is no request, from outside to outside.
+fn attempt<B: Sitting>(
+    state: &mut LineState,
+    pass: &mut Pass<Entry, B>,
+    cam: &mut Cam,
+    shared: &Board<Entry>,
+    line: &Line,
+) -> Fast
+    requires fits { shared.now.table_id ≡ B.table }
+    requires layout { shared.now.key.layout ≡ B.layout }
+    requires same { cam.old ≡ pass.old.view.memory }
+    requires outside { pass.old.view.stage ≡ Outside }
+    requires spare { 10 ≤ pass.old.spare }
+    requires room { 10 ≤ state.old.recording.spare }
+    requires end { IsTrue state.old.recording.line_room }
+    requires attempting { IsAttempting B.session B.setup state.old line.now (known_of pass.old) }
+    ensures came { HasAttempted B.session B.setup line.now state.old result (inside state.new pass.new) }
+    ensures same { cam.new ≡ pass.new.view.memory }
+    ensures outside { pass.new.view.stage ≡ Outside }
+    ensures untold { IsUntold pass.old pass.new }
+{
+    cam.enter(pass, shared);
+    let came = turns(state, pass, cam, shared, line, 10);
+    pass.leave(shared);
+    came
+}
+
+impl<'a, B: Attending, A: Auditor> Process<'a, B, A> {
+    /// One attempt at the present line, with the registers of its start: its references are judged on what the process was
+    /// told of, by its memory or the descriptor words. The line ends with it, and where it ends denied the auditor is told;
+    /// or a reference missed, or a link is to be snapped first; a request waits for the office. A miss that is not yet settled is answered
+    /// again. Conditions: a line is left, no write that a reply asks for is due, and room was made for the attempt. It
+    /// takes no memory, and waits for nobody.
+    pub fn line_fast(&mut self, shared: &Board<Entry>) -> Fast
+        requires fits { shared.now.table_id ≡ B.table }
+        requires layout { shared.now.key.layout ≡ B.layout }
+        requires left { HasLine B.session self.old }
+        requires free { IsFree self.old.state.progress }
+        requires room { HasRoom self.old }
+        ensures journal { (result ≡ Journal) ↔ IsAtRequest B.session self.old }
+        ensures still { result ≡ Journal → self.new ≡ self.old }
+        ensures done { result ≡ Done → HasDone self.old self.new }
+        ensures missing { (segno by : ℕ) → result ≡ Missing segno by → HasMissed segno by self.old self.new }
+        ensures link { (segno word ring : ℕ) → result ≡ Link segno word ring
+            → IsAtLinkIn B.session segno word ring self.old self.new }
+    {
+        let line = self.line();
+        match line {
+            Line::Ask(_) => Fast::Journal,
+            Line::Set { .. }
+            | Line::Epp { .. }
+            | Line::Lda { .. }
+            | Line::Sta { .. }
+            | Line::Spri { .. }
+            | Line::Fetch
+            | Line::Call { .. }
+            | Line::Return { .. } => match self.missing {
+                Some(miss) => Fast::Missing { segno: miss.segno, by: miss.by },
+                None => self.attempt(shared, line),
+            },
+        }
+    }
+
+    // The attempt at a line that is no request, where no miss is to be settled.
+    fn attempt(&mut self, shared: &Board<Entry>, line: &Line) -> Fast
+        requires fits { shared.now.table_id ≡ B.table }
+        requires layout { shared.now.key.layout ≡ B.layout }
+        requires at { (number : ℕ) × IsAtLine B.session self.old number line.now }
+        requires other { IsNoRequest line.now }
+        requires free { IsFree self.old.state.progress }
+        requires settled { self.old.missing ≡ None }
+        requires room { HasRoom self.old }
+        ensures never { result ≡ Journal → ⊥ }
+        ensures done { result ≡ Done → HasDone self.old self.new }
+        ensures missing { (segno by : ℕ) → result ≡ Missing segno by → HasMissed segno by self.old self.new }
+        ensures link { (segno word ring : ℕ) → result ≡ Link segno word ring
+            → IsAtLinkIn B.session segno word ring self.old self.new }
+    {
+        match attempt(&mut self.state, &mut self.pass, &mut self.cam, shared, line) {
+            Fast::Done => {
+                tell(&mut self.auditor, self.state.recording.last_denial());
+                Fast::Done
+            }
+            Fast::Missing { segno, by } => {
+                self.missing = Some(Miss { segno, by });
+                Fast::Missing { segno, by }
+            }
+            Fast::Link { segno, word, ring } => Fast::Link { segno, word, ring },
+            Fast::Journal => unreachable!(),
+        }
+    }
+
+    // The present line.
+    fn line(&self) -> &'a Line
+        requires { HasLine B.session self.now }
+        ensures { (number : ℕ) × IsAtLine B.session self.now number result.now }
+    {
+        let script = self.script;
+        let Some(line) = script.get(self.state.recording.lines()) else {
+            unreachable!()
+        };
+        line
+    }
+}
+
+// The auditor, if there is one, is told of the denial of a line, if it was denied.
+fn tell<A: Auditor>(auditor: &mut Option<A>, told: Option<(u32, Denial)>)
+    requires { (account : Account) → option_map A.account auditor.old ≡ Some account → 1 ≤ account.room }
+    ensures { option_map A.account auditor.new
+        ≡ option_map (λ account. with_denials account (as_list told)) (option_map A.account auditor.old) }
+{
+    if let Some((line, denial)) = told {
+        match auditor {
+            Some(auditor) => match auditor.denied(line, denial) {
+                Verdict::GoOn => {}
+            },
+            None => {}
+        }
+    }
+}

@@ -1,0 +1,148 @@
+//! A process: its place in its script, what was recorded of its lines, and what it did at the shared words.
+
+ghost use Rattle.std.specs.Prelude.{◌≡◌, ◌≤◌, ◌<◌, ◌-◌, ◌↔◌, [], None, Some, IfOk, OnOk, IsTrue, length, slice_get};
+ghost use Rattle.mx_core.specs.declared.words.Stage.TheVariants.{Outside};
+ghost use Rattle.mx_closing.specs.Views.{view_in};
+ghost use Rattle.mx_process.specs.Audited.{IsAudited};
+ghost use Rattle.mx_process.specs.Processes.{HasLine, HasRoom, IsNew, IsNewPass, IsStill, left_of, script_of};
+ghost use Rattle.mx_ties.specs.Working.{HasWorked};
+
+use crate::misses::Miss;
+use crate::naming::Attending;
+use mx_audit::Auditor;
+use mx_cam::Cam;
+use mx_desc::Pass;
+use mx_line::{Process as LineState, Progress};
+use mx_request::most_gates;
+use mx_script::{Line, Script, Session};
+use mx_state::Entry;
+use mx_transcript::{Recording, Transcript, first_line};
+use mx_upcall::Control;
+use std::alloc::{AllocError, Global};
+use std::marker::Model;
+
+/// How many events an attempt at a line has at most.
+const ATTEMPT: u32 = 10;
+
+/// A process of the run that `B` names, with its pass. Its auditor is told of each of its denials.
+#[derive(Drop)]
+pub struct Process<'a, B: Attending, A: Auditor> {
+    pub(crate) script: &'a [Line],
+    pub(crate) state: LineState,
+    pub(crate) missing: Option<Miss>,
+    pub(crate) pass: Pass<Entry, B>,
+    pub(crate) cam: Cam,
+    pub(crate) auditor: Option<A>,
+}
+
+impl<'a, B: Attending, A: Auditor> Model for Process<'a, B, A> {
+    ghost use Rattle.std.specs.Option.{option_map};
+    ghost use Rattle.mx_process.specs.Processes.{ProcessValue, IsProcess};
+
+    ghost Value = { ProcessValue };
+
+    ghost view = { λ a. record {
+      state = a.state;
+      missing = a.missing;
+      pass = a.pass;
+      account = option_map A.account a.auditor;
+    } };
+
+    ghost invariant = { λ a. IsProcess B.session B.setup B.accounts a.script.now a.cam (record {
+      state = a.state;
+      missing = a.missing;
+      pass = a.pass;
+      account = option_map A.account a.auditor;
+    }) };
+}
+
+impl<'a, B: Attending, A: Auditor> Process<'a, B, A> {
+    /// The process of a pass before its first line, without an auditor. Condition: the pass is that of a process of the
+    /// session, and did nothing yet. The only error is want of memory; then the pass is given up.
+    pub fn new(
+        alloc: Global,
+        session: &'a Session,
+        pass: Pass<Entry, B>,
+    ) -> Result<Process<'a, B, A>, AllocError>
+        requires session { session.now ≡ B.session }
+        requires fresh { IsNewPass B.session pass }
+        ensures { IfOk result (λ process. IsNew B.session pass process) }
+    {
+        let p = pass.process();
+        let script = script_of(session, p);
+        Ok(Process {
+            script,
+            state: LineState {
+                first: first_line(session, p),
+                control: Control::opening(most_gates(session.version())),
+                recording: Recording::with_room(alloc, script.len())?,
+                progress: Progress::Before,
+            },
+            missing: None,
+            pass,
+            cam: Cam::new(),
+            auditor: None,
+        })
+    }
+
+    /// Gives the process its auditor. Conditions: it has none, no line of it has ended, the auditor is that of the process, and has room for
+    /// a denial of each line of its script. Takes no memory.
+    pub fn attend(&mut self, auditor: A)
+        requires none { self.old.account ≡ None }
+        requires begun { self.old.state.recording.steps ≡ [] }
+        requires own { slice_get B.accounts (self.old.pass.view.process - 1) ≡ Some (A.account auditor) }
+        requires room { length (script_of B.session self.old.pass.view.process) ≤ (A.account auditor).room }
+        ensures { self.new ≡ record self.old { account = Some (A.account auditor) } }
+    {
+        self.auditor = Some(auditor);
+    }
+
+    /// Makes room for one attempt at a line, and for the line's end. Want of memory changes nothing but room.
+    pub fn reserve(&mut self) -> Result<(), AllocError>
+        ensures room { OnOk result (HasRoom self.new) }
+        ensures still { IsStill self.old self.new }
+    {
+        self.pass.reserve(ATTEMPT as usize)?;
+        self.state.recording.reserve_events(ATTEMPT)
+    }
+
+    /// Whether a line is left.
+    pub fn has_line(&self) -> bool
+        ensures { IsTrue result ↔ HasLine B.session self.now }
+    {
+        self.state.recording.lines() < self.script.len()
+    }
+
+    /// The transcript, the pass and the auditor, where all lines are done. Takes no memory.
+    pub fn finish(self) -> (Transcript, Pass<Entry, B>, Option<A>)
+        requires { left_of B.session self.pass.view.process self.state.recording.steps ≡ [] }
+        ensures worked { HasWorked B.session B.setup result.1.view.process result.0 (view_in result.1) }
+        ensures pass { result.1 ≡ self.entry.pass }
+        ensures outside { result.1.view.stage ≡ Outside }
+        ensures steps { result.0 ≡ self.entry.state.recording.steps }
+    {
+        let Process {
+            state,
+            pass,
+            auditor,
+            ..
+        } = self;
+        (state.finish(), pass, auditor)
+    }
+}
+
+/// The script of a process, counted from 1.
+fn script_of(session: &Session, p: u8) -> &[Line]
+    requires some { 1 ≤ p }
+    requires process { p ≤ length session.now.scripts }
+    ensures { result.now ≡ script_of session.now p }
+{
+    script_at(session.scripts().items(), usize::from(p) - 1)
+}
+
+fn script_at(scripts: &[Script], i: usize) -> &[Line]
+    requires { i < length scripts.now }
+    ensures { slice_get scripts.now i ≡ Some result.now }
+{
+    scripts[i].items()
+}

@@ -1,0 +1,195 @@
+//! One turn of an attempt: what the line asks for next, and what comes of it.
+
+ghost use Rattle.std.specs.Prelude.{◌≡◌, ◌≤◌, ◌<◌, ◌+◌, ◌++◌, ◌∷◌, ◌^◌, ℕ, [], IsTrue, None, Some};
+ghost use Rattle.mx_core.specs.declared.elements.Event.TheVariants.{Seen};
+ghost use Rattle.mx_core.specs.declared.elements.Outcome.TheVariants.{Read};
+ghost use Rattle.mx_core.specs.declared.words.Stage.TheVariants.{Ready};
+ghost use Rattle.mx_line.specs.AtWork.{IsMet, IsStorableBy};
+ghost use Rattle.mx_line.specs.Operands.{IsGoodProgress, IsSayable};
+ghost use Rattle.mx_line.specs.declared.at_work.LineAtWork.TheVariants.{At};
+ghost use Rattle.mx_process.specs.Processes.{known_of, number_in};
+ghost use Rattle.mx_process.specs.Turns.{HasEnd, HasTaken, HasTurned, IsAtLink, IsAttempting, IsLinkCall, IsReferring, IsUntold, inside};
+ghost use Rattle.mx_sdw.specs.Admissible.{IsAdmissible};
+ghost use Rattle.mx_transcript.specs.declared.transcripts.Event2.TheVariants.{Core};
+ghost use Rattle.mx_upcall.specs.Changes.{Fits};
+ghost use Rattle.mx_upcall.specs.Soundness.{IsPackableControl};
+
+use crate::misses::Miss;
+use mx_cam::Cam;
+use mx_desc::{Pass, Referred};
+use mx_line::{Called, End, LineAtWork, Next, Place, Process as LineState, Progress, Reference};
+use mx_office::Sitting;
+use mx_rule::Board;
+use mx_script::Line;
+use mx_sdw::{Desc, Ring, Word};
+use mx_state::Entry;
+use mx_transcript::{Element, Event, Event2, Outcome};
+use std::mem;
+
+/// What a turn came to: the line goes on, or has ended, or its reference missed; or its link is to be snapped first.
+pub(crate) enum Turn {
+    More,
+    Ended,
+    Missing(Miss),
+    AtLink(Place),
+}
+
+/// One turn of an attempt at a line that is no request: the reference for which it asks is made, or it ends.
+pub(crate) fn turn<B: Sitting>(
+    state: &mut LineState,
+    pass: &mut Pass<Entry, B>,
+    cam: &mut Cam,
+    shared: &Board<Entry>,
+    line: &Line,
+) -> Turn
+    requires fits { shared.now.table_id ≡ B.table }
+    requires layout { shared.now.key.layout ≡ B.layout }
+    requires same { cam.old ≡ pass.old.view.memory }
+    requires ready { pass.old.view.stage ≡ Ready }
+    requires spare { 1 ≤ pass.old.spare }
+    requires room { 1 ≤ state.old.recording.spare }
+    requires end { IsTrue state.old.recording.line_room }
+    requires attempting { IsAttempting B.session B.setup state.old line.now (known_of pass.old) }
+    ensures turned { HasTurned B.session B.setup line.now state.old result (inside state.new pass.new) }
+    ensures same { cam.new ≡ pass.new.view.memory }
+    ensures ready { pass.new.view.stage ≡ Ready }
+    ensures spare { pass.old.spare ≤ pass.new.spare + 1 }
+    ensures room { state.old.recording.spare ≤ state.new.recording.spare + 1 }
+    ensures untold { IsUntold pass.old pass.new }
+{
+    match state.asks(line) {
+        Next::Asks(asked) => refer(state, pass, cam, shared, line, &asked),
+        Next::Calls { ring, called } => at_link(ring, called),
+        Next::Ends(end) => {
+            end_line(state, &end);
+            Turn::Ended
+        }
+        Next::Fills(_) => unreachable!(),
+        Next::Nowhere => unreachable!(),
+    }
+}
+
+// The link that is to be snapped.
+fn at_link(ring: Ring, called: Called) -> Turn
+    requires { IsLinkCall called }
+    ensures { IsAtLink ring called result }
+{
+    match called {
+        Called::Link { segno, word } => Turn::AtLink(Place { segno, word, ring }),
+        Called::Own => unreachable!(),
+        Called::Resume => unreachable!(),
+    }
+}
+
+// The reference for which the line asks is made.
+fn refer<B: Sitting>(
+    state: &mut LineState,
+    pass: &mut Pass<Entry, B>,
+    cam: &mut Cam,
+    shared: &Board<Entry>,
+    line: &Line,
+    asked: &Reference,
+) -> Turn
+    requires fits { shared.now.table_id ≡ B.table }
+    requires layout { shared.now.key.layout ≡ B.layout }
+    requires same { cam.old ≡ pass.old.view.memory }
+    requires ready { pass.old.view.stage ≡ Ready }
+    requires spare { 1 ≤ pass.old.spare }
+    requires room { 1 ≤ state.old.recording.spare }
+    requires end { IsTrue state.old.recording.line_room }
+    requires attempting { IsAttempting B.session B.setup state.old line.now (known_of pass.old) }
+    requires asks { IsReferring state.old line.now asked.now }
+    ensures turned { HasTurned B.session B.setup line.now state.old result (inside state.new pass.new) }
+    ensures same { cam.new ≡ pass.new.view.memory }
+    ensures ready { pass.new.view.stage ≡ Ready }
+    ensures spare { pass.old.spare ≤ pass.new.spare + 1 }
+    ensures room { state.old.recording.spare ≤ state.new.recording.spare + 1 }
+    ensures untold { IsUntold pass.old pass.new }
+{
+    let value = value_of(asked.stores);
+    match cam.refer(
+        pass,
+        shared,
+        asked.segno,
+        asked.op,
+        asked.ring,
+        asked.word,
+        value,
+    ) {
+        Referred::Seen(element) => {
+            let desc = pass.desc();
+            words_are_short(&element);
+            take(state, line, &element, &desc)
+        }
+        Referred::Missing { by } => Turn::Missing(Miss {
+            segno: asked.segno,
+            by,
+        }),
+    }
+}
+
+// What a write stores; a read stores nothing.
+fn value_of(stores: Option<Word>) -> Word
+    ensures { (value : ℕ) → stores ≡ Some value → result ≡ value }
+{
+    match stores {
+        Some(value) => value,
+        None => Word::zero(),
+    }
+}
+
+// A word that was read has 36 bits.
+fn words_are_short(element: &Element)
+    ensures { (value writer stamp : ℕ) → element.now.outcome ≡ Read value writer stamp → value < 2 ^ 36 }
+{
+    match element.outcome {
+        Outcome::Read { value, .. } => {
+            let _value = value.value();
+        }
+        Outcome::Written { .. } | Outcome::Entered { .. } | Outcome::Denied(_) => {}
+    }
+}
+
+// The reference for which the line asks was made, on this descriptor: the line goes on by it, or ends.
+fn take(state: &mut LineState, line: &Line, element: &Element, desc: &Desc) -> Turn
+    requires room { 1 ≤ state.old.recording.spare }
+    requires end { IsTrue state.old.recording.line_room }
+    requires number { number_in state.old < 2 ^ 32 }
+    requires line { IsSayable line.now }
+    requires packable { IsPackableControl state.old.control }
+    requires good { IsGoodProgress state.old.control.registers state.old.progress }
+    requires desc { IsAdmissible desc.now }
+    requires met { IsMet state.old.control line.now (At state.old.progress) element.now desc.now }
+    ensures taken { HasTaken state.old line.now element.now desc.now state.new result }
+    ensures room { state.old.recording.spare ≤ state.new.recording.spare + 1 }
+{
+    let event = Event2::Core(Event::Seen(*element));
+    let progress = mem::replace(&mut state.progress, Progress::Before);
+    let work = LineAtWork::At(progress).seen(line, &state.control, element, desc);
+    state.recording.keep(event);
+    match work {
+        LineAtWork::At(progress) => {
+            state.progress = progress;
+            Turn::More
+        }
+        LineAtWork::Ended(end) => {
+            end_line(state, &end);
+            Turn::Ended
+        }
+        LineAtWork::Nowhere => unreachable!(),
+    }
+}
+
+// The line at work ends.
+fn end_line(state: &mut LineState, end: &End)
+    requires room { IsTrue state.old.recording.line_room }
+    requires number { number_in state.old < 2 ^ 32 }
+    requires fits { Fits state.old.control.gates end.now.after.gates }
+    ensures ended { HasEnd state.old state.old.recording.events end.now state.new }
+    ensures spare { state.new.recording.spare ≡ state.old.recording.spare }
+{
+    let number = state.first + state.recording.lines() as u32;
+    state.recording.end_line(number, end.ends);
+    state.control.change(&end.after);
+    state.progress = Progress::Before;
+}
