@@ -5,3 +5,5 @@ pub mod Locks
 pub mod Serves
 pub mod Announces
 pub mod Missing
+pub mod Wakings
+pub mod Blocks

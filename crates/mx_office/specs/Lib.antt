@@ -1,7 +1,9 @@
 pub mod Announcing
+pub mod Blocking
 pub mod Clearing
 pub mod Holding
 pub mod Locked
 pub mod Serving
 pub mod Revoking
 pub mod Settling
+pub mod Waking
