@@ -82,6 +82,15 @@ by_nobody (suc n) (request ∷ requests) zero call e = ap (λ (c : Call). c.proc
     is e = cc
 by_nobody (suc n) (request ∷ requests) (suc i) call e = by_nobody n requests i call e
 
+pub setup_makers : (x : Outline) (setup rest : List journaled.Entry) → length setup ≡ setup_entries x
+    → take (setup_entries x) (map call_of (setup ++ rest)) ≡ take (setup_entries x) (map setup_call x.setup)
+    → (i : ℕ) (entry : journaled.Entry) → slice_get setup i ≡ Some entry → entry.process ≡ 0
+setup_makers x setup rest many first i entry at =
+    let within = slice_get_within setup i entry at in
+    by_nobody (setup_entries x) x.setup i (call_of entry)
+    (ap (λ (calls : List Call). slice_get calls i) (sym first)
+    ∙ called (setup_entries x) setup rest i entry (omega (arith, many, within)) at)
+
 -- those after them are processes'
 all_processes : (count : ℕ) (history : List Marked)
     → ((i : ℕ) (m : Marked) → slice_get history i ≡ Some m → (1 ≤ m.entry.process) × (m.entry.process ≤ count))
@@ -119,14 +128,6 @@ module _ (x : Outline) (setup : List journaled.Entry) (v : SuperView journaled.E
       let many = marked_length v.history in
       let begun = keeps.begun in
       let counted = keeps.counted in omega (arith, all, many, begun, counted)
-
-  setup_makers : (i : ℕ) (entry : journaled.Entry) → slice_get setup i ≡ Some entry → entry.process ≡ 0
-  setup_makers i entry at =
-      let n = keeps.setup_length in
-      let within = slice_get_within setup i entry at in
-      by_nobody (setup_entries x) x.setup i (call_of entry)
-      (ap (λ (calls : List Call). slice_get calls i) (sym keeps.history.setup_first)
-      ∙ called (setup_entries x) setup (map entry_in history) i entry (omega (arith, n, within)) at)
 
   makers : AreProcesses (length x.principals) (map maker (map entry_in history))
   makers = all_processes (length x.principals) history (λ i m at.
@@ -257,7 +258,7 @@ module _ (x : Outline) (setup : List journaled.Entry) (v : SuperView journaled.E
     right = keeps.history.right;
     setup_first = keeps.history.setup_first;
     setup_length = keeps.setup_length;
-    setup_makers = setup_makers;
+    setup_makers = setup_makers x setup (map entry_in history) keeps.setup_length keeps.history.setup_first;
     makers = makers;
     quiet = refl;
     beyond = λ p beyond. ap (λ (w : View). w.trace) (no_pass passes p

@@ -1,7 +1,9 @@
 -- A session whose setup is entered, and whose shared words are open.
-use Rattle.std.specs.Prelude.{◌≡◌, ℕ, length}
+use Rattle.std.specs.Prelude.{◌≡◌, ℕ, ◌+◌, length}
 use Rattle.mx_desc.specs.Openings.{IsOpening}
-use Rattle.mx_rule.specs.Openings.{ArePlaced}
+use Rattle.mx_request.specs.Versions.{last_number}
+use Rattle.mx_rule.specs.Dealing.{opening_view}
+use Rattle.mx_rule.specs.Openings.{ArePlaced, MayOpen}
 use Rattle.mx_rule.specs.Seats.{super_of}
 use Rattle.mx_script.specs.Sessions.{Outline}
 use Rattle.mx_sup.specs.Entering.{IsOpened}
@@ -18,6 +20,9 @@ pub record IsPrepared (x : Outline) (prepared : Prepared) : Type 0 where
   pub place : prepared.seat.seat.table_id ≡ prepared.words.shared.table_id
   pub laid : prepared.seat.layout ≡ layout_of x
   pub opening : IsOpening (length prepared.supervisor.journal) (super_of prepared.seat.seat.me.0)
+  pub view : super_of prepared.seat.seat.me.0
+      ≡ opening_view (length x.principals) (last_number x.version + 1) (length prepared.supervisor.journal) prepared.base
   pub listed : prepared.base ≡ (super_of prepared.seat.seat.me.0).base
   pub placed : ArePlaced (layout_of x) prepared.base
+  pub may : MayOpen (layout_of x) (length prepared.supervisor.journal) prepared.base
   pub keeps : (next : ℕ) → KeepsJournal x prepared.supervisor.journal (record (super_of prepared.seat.seat.me.0) { next = next })

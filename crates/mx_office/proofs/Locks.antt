@@ -51,7 +51,7 @@ use Rattle.mx_office.specs.Revoking.{IsListed}
 use Rattle.mx_transcript.specs.Opened.{opening_of}
 use Rattle.mx_office.specs.Announcing.{Coming, MayAnnounce, announced_view, came_view, coming}
 use Rattle.mx_office.specs.Clearing.{cleaned, cleaned_pages}
-use Rattle.mx_office.specs.Locked.{ArePages, IsLocked, state_at}
+use Rattle.mx_office.specs.Locked.{ArePages, IsLocked, IsTaken, state_at}
 use Rattle.mx_closing.specs.Views.{marked_in}
 use Rattle.mx_office.specs.Serving.{runs_of}
 use Rattle.mx_office.proofs.Comings.{admissible_new, all_at, both_true, covered_by, each_new, from_true, listed_new, not_true, or_left, or_right, pairs_once, run_within, runs_give, table_new, to_true}
@@ -76,7 +76,7 @@ locked_as x setup y s v total reported made l = record {
   tables = l.tables;
   admissible = l.admissible;
   words = l.words;
-  pages = record { clean = l.pages.clean; ready = l.pages.ready; given = l.pages.given };
+  pages = record { clean = l.pages.clean; ready = l.pages.ready; given = l.pages.given; taken = l.pages.taken };
   counted = l.counted;
   dealt = l.dealt;
   out = l.out;
@@ -118,12 +118,12 @@ journal_length x setup y s v total l counted =
     let c = marked_length v.history in
     let d = l.start in omega arith
 
-nobody_beyond : (s : Plain) (p n : ℕ) → length s.processes < p → descriptor s p n ≡ unknown_desc
+pub nobody_beyond : (s : Plain) (p n : ℕ) → length s.processes < p → descriptor s p n ≡ unknown_desc
 nobody_beyond s p n past = ap (λ (o : Option ProcessState). process_desc s.hierarchy p o n)
     (process_at_place s.processes p (omega arith) ∙ slice_get_past s.processes (p - 1) (omega arith))
 
 -- a descriptor that a table may hold covers only pages that there are
-covers_within : (d : Descriptor) (page : ℕ) → IsAdmissible d → IsTrue (covers d page) → page < page_count
+pub covers_within : (d : Descriptor) (page : ℕ) → IsAdmissible d → IsTrue (covers d page) → page < page_count
 covers_within d page a h = by_kind d.kind refl
   where
     high : 64 * page < 64 * d.page + d.bound
@@ -404,6 +404,7 @@ module _ (x : Outline) (setup : List journaled.Entry) (y : Layout) (s s' : Super
         subst IsTrue (sym (pages_stay_ready came.freed page
         (Covered came.changes (runs_of came.given) ∷ v.cleanings) kept)) (given_or_ready page low taken);
     given = λ q page from below low. by_place q page from below low (cases_eq q v.length);
+    taken = λ q p n page from to covered. by_point q p n page from to covered (cases_eq q (v.length + 1));
   }
     where
       and_none : (b : Bool) → (b && false) ≡ false
@@ -444,6 +445,25 @@ module _ (x : Outline) (setup : List journaled.Entry) (y : Layout) (s s' : Super
           ∙ l.pages.given q page from (omega arith) low
           ∙ sym (λ i. given.gives ((ap (λ (o : Outline). state_at o s'.journal q) session_is ∙ still_by q (omega arith)) i)
           ((ap (λ (o : Outline). state_at o s'.journal (q + 1)) session_is ∙ still_by (q + 1) (omega arith)) i) page)
+
+      by_point : (q p n page : ℕ) → v.start ≤ q → q ≤ v.length + 1
+          → IsTrue (covers ((office_of after).table q p n) page) → (q ≡ v.length + 1) ⊎ (q ≢ v.length + 1)
+          → IsTaken (state_at s'.session s'.journal q) page
+      by_point q p n page from to covered (inl is) =
+          let now = subst (λ (d : Descriptor). IsTrue (covers d page))
+          (ap (λ (k : ℕ). (office_of after).table k p n) is ∙ ap (λ (t : ℕ → ℕ → Descriptor). t p n) came_table ∙ next_is p n)
+          covered in
+          subst (λ (z : Plain). IsTaken z page)
+          (sym (ap (state_at s'.session s'.journal) is
+          ∙ ap (λ (o : Outline). state_at o s'.journal (v.length + 1)) (session_is ∙ l.session) ∙ new_at))
+          (covers_within (descriptor new p n) page (new_admissible p n) now, covered_taken p n page now)
+      by_point q p n page from to covered (inr ne) =
+          subst (λ (z : Plain). IsTaken z page)
+          (sym (ap (λ (o : Outline). state_at o s'.journal q) session_is ∙ still_by q (omega arith)))
+          (l.pages.taken q p n page from (omega arith)
+          (subst (λ (d : Descriptor). IsTrue (covers d page)) (ap (λ (t : ℕ → ℕ → Descriptor). t p n)
+          (put_else (office_of v).table (v.length + 1) (with_changes came.changes ((office_of v).table v.length)) q ne))
+          covered))
 
   pub journal_after : (mark : ℕ)
       → s'.journal ≡ followed setup (marked_in v.history ++ record { entry = entry; mark = mark } ∷ [])

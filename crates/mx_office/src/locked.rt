@@ -1,7 +1,10 @@
 //! What the office keeps under its lock.
 
 ghost use Rattle.std.specs.Prelude.{◌≡◌, ◌+◌, ◌<◌, ◌≤◌, ℕ, false, true, Ok, Err, IsErr, IsFalse, IsOk, IsTrue, OnErr, OnOk, length};
+ghost use Rattle.mx_closing.specs.Closing.{AreOfAll};
 ghost use Rattle.mx_office.specs.Blocking.{IsStuck};
+ghost use Rattle.mx_office.specs.Ends.{HasFinished};
+ghost use Rattle.mx_office.specs.Locked.{IsLocked};
 ghost use Rattle.mx_office.specs.Serving.{HasEntered, HasMetLimit, HasSettled, IsServed};
 ghost use Rattle.mx_office.specs.declared.answers.Answer.TheVariants.{Waiting};
 ghost use Rattle.mx_office.specs.declared.answers.EnterError.TheVariants.{HistoryFull, Memory};
@@ -10,18 +13,19 @@ ghost use Rattle.mx_request.specs.declared.requests.Request.TheVariants.{Resume}
 ghost use Rattle.mx_script.specs.Sessions.{limit_of};
 
 use crate::answers::{EnterError, Served};
+use crate::finishing::finish;
 use crate::naming::Sitting;
 use crate::serving::{serve, settle_for};
-use mx_desc::{Pass, Super};
+use mx_desc::{Pass, Passes, Super};
 use mx_request::Request;
-use mx_rule::Board;
+use mx_rule::{Board, Words};
 use mx_sdw::Ring;
-use mx_state::Entry;
+use mx_state::{Entry, Journal};
 use mx_sup::Supervisor;
 use std::alloc::{AllocError, Global};
 use std::marker::Model;
 use std::sync::Wait;
-use std::sync::ledger::Book;
+use std::sync::ledger::{Book, Share};
 
 /// The supervisor of a run: the plain one with its journal, the one at the shared words, the book of the processes' own
 /// entries, and whether the run is to end. Whenever the lock is free these say the same of the journal.
@@ -50,6 +54,19 @@ impl<'a, B: Sitting> Model for Locked<'a, B> {
 }
 
 impl<'a, B: Sitting> Locked<'a, B> {
+    /// A run that is not to end, of these. It takes no memory. Condition: they say the same of the journal.
+    pub fn new(supervisor: Supervisor<'a>, chief: Super<Entry, B>, book: Book<B>) -> Locked<'a, B>
+        requires { IsLocked B.session B.setup B.layout supervisor chief book.total }
+        ensures { result ≡ record { supervised = supervisor.entry; chief = chief; total = book.total; stopped = false } }
+    {
+        Locked {
+            supervisor,
+            chief,
+            book,
+            stopped: false,
+        }
+    }
+
     /// A request of a process, from the limit to its being told of its entry, in one hold of the lock. Once the run is to
     /// end every request is answered with `Memory`. Waits for the processes whose access the entry changed.
     pub fn serve<R: Wait>(
@@ -162,6 +179,28 @@ impl<'a, B: Sitting> Locked<'a, B> {
             return Ok(());
         }
         Err(AllocError)
+    }
+
+    /// The end of the run: takes back the passes of all processes, with which it is closed, and gives the journal. It takes
+    /// no memory. Conditions: the words are those of the run, the passes are those of all its processes in order, and with
+    /// the rest of the ledger, in which no entry is counted, they have all its parts.
+    pub fn finish(self, words: Words<Entry>, share: Share<B>, passes: Passes<Entry, B>) -> Journal
+        requires fits { words.shared.table_id ≡ B.table }
+        requires slots { words.shared.table_id.slots ≡ 0 }
+        requires layout { words.shared.key.layout ≡ B.layout }
+        requires all { AreOfAll (length B.session.principals) passes }
+        requires parts { share.parts + length passes ≡ B.parts }
+        requires amount { share.amount ≡ 0 }
+        ensures journal { result ≡ self.entry.supervised.journal }
+        ensures finished { HasFinished B.session B.setup passes result }
+    {
+        let Locked {
+            supervisor,
+            chief,
+            book,
+            stopped: _,
+        } = self;
+        finish(supervisor, chief, book, words, share, passes)
     }
 
     /// The run is to end: from now on every request is answered with `Memory`.

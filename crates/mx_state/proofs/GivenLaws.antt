@@ -123,7 +123,7 @@ Ends so meant = (k : Hierarchy) → meant ≡ Ok k → so k
 ends_ok : (so : Hierarchy → Type 0) (k : Hierarchy) → so k → Ends so (Ok k)
 ends_ok so k is = λ l e. let same : k ≡ l = cc in subst so same is
 
-ends_onward : {A : Type 0} (so : Hierarchy → Type 0) (given : Result A Refusal) (rest : A → Result Hierarchy Refusal)
+pub ends_onward : {A : Type 0} (so : Hierarchy → Type 0) (given : Result A Refusal) (rest : A → Result Hierarchy Refusal)
     → ((value : A) → Ends so (rest value)) → Ends so (onward given rest)
 ends_onward so (Ok value) rest ends = ends value
 ends_onward so (Err why) rest ends = λ k e. cc
@@ -178,7 +178,7 @@ create_link_keeps h who path target =
 abbrev pub TakesRun : Hierarchy → ℕ → Hierarchy → Type 0
 TakesRun h words k = k.pages ≡ after_run h.pages (pages_for words) (run_given h.pages (pages_for words))
 
-make_segment_takes : (h : Hierarchy) (who : Caller) (path : List ℕ) (wanted : Wanted) → Ends (TakesRun h wanted.words) (make_segment h who path wanted)
+pub make_segment_takes : (h : Hierarchy) (who : Caller) (path : List ℕ) (wanted : Wanted) → Ends (TakesRun h wanted.words) (make_segment h who path wanted)
 make_segment_takes h who path wanted =
     let so = TakesRun h wanted.words in
     ends_onward so (resolved who path) (λ path. onward (place h who.subject path) (λ at. make_segment_at h who.subject at wanted))

@@ -25,3 +25,4 @@ pub mod MessageLaws
 pub mod AimLaws
 pub mod WaitingLaws
 pub mod BareLaws
+pub mod TakenLaws
