@@ -1,6 +1,7 @@
 //! The office: whoever keeps the journal for all processes, behind one lock, so that references need none.
 //!
-//! [`Locked`] is what lies behind the lock: a request of a process, the settling of a word that it missed, and the end of
+//! [`Office`] is the lock, the bells of those who sleep, and the shared words. [`Locked`] is what lies behind the lock: a
+//! request of a process, the settling of a word that it missed, and the end of
 //! the run are each one hold of it. An entry of a process is announced by the supervisor at the shared words: the pairs
 //! that it changed are revoked (`Revoking`), the cells of pages that it freed are cleared (`Clearing`), and its own
 //! process's words are settled (`Settling`) before that process is told of it (`Announcing`). Stands on `mx_desc` (the
@@ -10,20 +11,24 @@
 
 mod announcing;
 mod answers;
+mod blocking;
 mod clearing;
 mod finishing;
 mod locked;
 mod naming;
+mod offices;
 mod opening;
 mod revoking;
 mod serving;
 mod settling;
+mod waking;
 
 pub use announcing::announce;
-pub use answers::{Answer, EnterError, Served};
+pub use answers::{Answer, Blocked, EnterError, Served};
 pub use clearing::clear_pages;
 pub use locked::Locked;
 pub use naming::Sitting;
+pub use offices::Office;
 pub use opening::{Opening, open};
 pub use revoking::revoke;
 pub use settling::settle_own;
