@@ -1,5 +1,5 @@
 -- Laws of entries: what a line is read as has that line, and an entry that can be said is read back.
-use Rattle.std.proofs.Common.{◌≡◌, ◌≢◌, ℕ, ◌==◌, ◌≤◌, nat_le, Bool, true, ◌&&◌, List, [], ◌∷◌, ◌++◌, Option, None, Some, Result, Ok, Err, Bor, codes, refl, ap, sym, subst, ◌∙◌, append_assoc}
+use Rattle.std.proofs.Common.{◌≡◌, ◌≢◌, ℕ, ◌==◌, true, ◌&&◌, List, [], ◌∷◌, ◌++◌, Option, None, Some, Result, Ok, Err, Bor, codes, refl, ap, sym, subst, ◌∙◌, append_assoc}
 use Rattle.std.proofs.lemmas.Bool.{eqb-true, eq-eqb}
 use Rattle.std.proofs.lemmas.List.{append_cancel_right}
 use Rattle.std.specs.Fmt.{decimal}
@@ -15,17 +15,15 @@ use Rattle.mx_reader.specs.Fields.{entry_number_at, process_at, ring_number_at}
 use Rattle.mx_reader.specs.Lines.{IsEntry, IsReply, says_entry}
 use Rattle.mx_reader.specs.ReadingEntries.{before_blank, call_then, caller_then, entry_at}
 use Rattle.mx_reader.specs.ReadingReplies.{reply_at}
-use Rattle.mx_reader.specs.RunTexts.{says_reply, tells_path}
+use Rattle.mx_reader.specs.RunTexts.{tells_path}
 use Rattle.mx_request.proofs.AgainLaws.{request_again}
-use Rattle.mx_request.proofs.FieldLaws.{at_most_test}
 use Rattle.mx_request.proofs.ForeignLaws.{equals_free, free_append}
 use Rattle.mx_request.proofs.StepLaws.{both, both_hold, bind_some, some_is, when_some}
 use Rattle.mx_request.proofs.TakenLaws.{request_takes}
 use Rattle.mx_request.specs.Reading.{request_at}
 use Rattle.mx_request.specs.ReplyTexts.{reply_text}
 use Rattle.mx_request.specs.RequestTexts.{fits_request, is_ring, request_text}
-use Rattle.mx_request.specs.Steps.{◌>>=◌, when}
-use Rattle.mx_request.specs.declared.replies.Reply.{Reply}
+use Rattle.mx_request.specs.Steps.{when}
 use Rattle.mx_request.specs.declared.requests.Request.{Request}
 use Rattle.mx_script.proofs.FrontLaws.{after_takes}
 use Rattle.mx_script.specs.Fronts.{after}

@@ -1,5 +1,5 @@
 -- Laws of the lines of transcripts: what a line is read as has that line, and what can be said is read back.
-use Rattle.std.proofs.Common.{◌≡◌, ℕ, ◌==◌, Bool, true, false, not, ◌&&◌, List, [], ◌∷◌, ◌++◌, Option, None, Some, codes, refl, ap, sym, subst, ◌∙◌, append_assoc}
+use Rattle.std.proofs.Common.{◌≡◌, ℕ, ◌==◌, true, not, ◌&&◌, List, ◌∷◌, ◌++◌, None, Some, codes, refl, ap, sym, subst, ◌∙◌, append_assoc}
 use Rattle.std.proofs.lemmas.Bool.{eqb-true, eq-eqb}
 use Rattle.std.proofs.lemmas.List.{append_cancel_right}
 use Rattle.std.specs.Fmt.{decimal}
@@ -18,13 +18,12 @@ use Rattle.mx_reader.specs.Exact.{IsExact}
 use Rattle.mx_reader.specs.Fields.{address_at, denial_at, entry_number_at, kind_at, line_number_at, process_at, ring_number_at}
 use Rattle.mx_reader.specs.Lines.{IsEnd, IsEvent, end_text, says_end}
 use Rattle.mx_reader.specs.ReadingEvents.{a_at, denied_at, denied_result, element_at, end_at, entered_at, event_at, granted_at, missing_at, moved_at, named_at, outcome_at, pr_at, read_at, result_at, written_at}
-use Rattle.mx_reader.specs.RunTexts.{comes_to, says_event, tells_outcome}
+use Rattle.mx_reader.specs.RunTexts.{comes_to, says_event}
 use Rattle.mx_request.proofs.AddressLaws.{address_free}
 use Rattle.mx_request.proofs.FieldLaws.{segno_again, segno_takes}
 use Rattle.mx_request.proofs.StepLaws.{both, both_hold, bind_some, fails, some_is}
 use Rattle.mx_request.specs.Fields.{address_text}
 use Rattle.mx_request.specs.RequestTexts.{is_ring, is_segno, is_word, is_word_address}
-use Rattle.mx_request.specs.Steps.{◌>>=◌}
 use Rattle.mx_script.proofs.FieldLaws.{octal_free, word_again}
 use Rattle.mx_script.proofs.FieldLaws as field
 use Rattle.mx_script.proofs.FrontLaws.{after_takes}
@@ -33,7 +32,7 @@ use Rattle.mx_script.specs.Fronts.{after}
 use Rattle.mx_script.specs.Sessions.{is_register}
 use Rattle.mx_sdw.specs.Denials.{denial_text}
 use Rattle.mx_sdw.specs.Octal.{octal, octal_number}
-use Rattle.mx_spelling.specs.Spelling.{fits_element, fits_event, fits_outcome, fits_pointer, fits_result, is_entry_number, is_line_number, is_process}
+use Rattle.mx_spelling.specs.Spelling.{fits_element, fits_outcome, fits_pointer, fits_result, is_entry_number, is_line_number, is_process}
 use Rattle.mx_text.specs.RunText.{element_text, event_text, kind_text, result_text}
 use Rattle.mx_transcript.specs.declared.transcripts.Event2.{Event2}
 use Rattle.mx_transcript.specs.declared.transcripts.Event2.TheVariants.{Core, Entry}

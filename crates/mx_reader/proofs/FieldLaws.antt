@@ -1,10 +1,10 @@
 -- Laws of fields: what a field is read as spells it, and a field that can be said is read back.
-use Rattle.std.proofs.Common.{◌≡◌, ℕ, ◌==◌, ◌^◌, ◌<◌, ◌≤◌, nat_le, nat_lt, Bool, true, false, cond, not, ◌&&◌, List, [], ◌∷◌, ◌++◌, Option, None, Some, codes, refl, ap, sym, subst, ◌∙◌, append-nil, append_assoc, arith}
+use Rattle.std.proofs.Common.{◌≡◌, ℕ, ◌==◌, ◌^◌, ◌<◌, ◌≤◌, nat_le, Bool, true, false, cond, ◌&&◌, List, [], ◌∷◌, ◌++◌, Option, None, Some, codes, refl, ap, sym, subst, ◌∙◌, append_assoc, arith}
 use Rattle.std.proofs.lemmas.Bool.{eqb-true}
 use Rattle.std.proofs.lemmas.Bool.Decides.{nat_tests}
-use Rattle.std.specs.Cmp.Lexicographic.{pointwise, same_text}
+use Rattle.std.specs.Cmp.Lexicographic.{pointwise}
 use Rattle.std.specs.Fmt.{decimal}
-use Rattle.std.specs.List.{find, flat_map, list_all, onto_first, slice_split}
+use Rattle.std.specs.List.{find}
 use Rattle.std.specs.Result.{result_ok}
 use Rattle.mx_acl.proofs.ModesLaws.{modes_takes, modes_again, modes_is_free}
 use Rattle.mx_acl.specs.Modes.{modes_of_text, modes_text}
@@ -13,24 +13,22 @@ use Rattle.mx_aim.proofs.TextLaws.{class_of_text-class_text, class_text-class_of
 use Rattle.mx_aim.specs.Classes.{PlainClass, class_of_text, class_text}
 use Rattle.mx_core.specs.declared.elements.Kind.{Kind}
 use Rattle.mx_core.specs.declared.elements.Kind.TheVariants as kind
-use Rattle.mx_hier.proofs.NameTextLaws.{behind_again}
 use Rattle.mx_hier.specs.Refusals.{refusal_text}
 use Rattle.mx_hier.specs.declared.refusals.Refusal.{Refusal}
 use Rattle.mx_hier.specs.declared.refusals.Refusal.TheVariants.{BadPath, NoEntry, NoInfo, NotADir, LinkLoop, IncorrectAccess, NameDup, NotASeg, DirNotEmpty, DirFull, BadLength, BadBrackets, InvalidMode, AclFull, NoAclEntry, NoPages, KstFull, UnknownSegno, NotLinkage, SegmentNotFound, NotObject, NoDefinition, NoProcess, MailFull, Ended, BadClass}
 use Rattle.mx_name.proofs.CutLaws.{cut_takes, cut_again}
-use Rattle.mx_name.proofs.TextLaws.{all_free, name_is_free}
 use Rattle.mx_name.specs.Cuts.{cut_at}
-use Rattle.mx_name.specs.Names.{is_free, is_name_byte, name_fault}
+use Rattle.mx_name.specs.Names.{is_free}
 use Rattle.mx_name.specs.Pathnames.{is_absolute, pathname_of}
 use Rattle.mx_name.specs.Paths.{path_text, resolution}
 use Rattle.mx_reader.specs.Fields.{address_at, all_denials, all_kinds, all_refusals, amount_at, amount_then, brackets_then, denial_at, entry_number_at, fresh_at, kind_at, known_at, known_by, labelled_then, line_number_at, map_then, modes_at, modes_by, path_at, process_at, refusal_at, ring_number_at}
 use Rattle.mx_request.proofs.ClassTexts.{class_fits, class_is}
 use Rattle.mx_request.proofs.FieldLaws.{at_most, number_again, number_free, number_takes, ring_again, ring_free, ring_takes, segno_again, segno_free, segno_takes, word_number_again, word_number_takes}
 use Rattle.mx_request.proofs.RuleLaws.{cut_none, rule_again, rule_takes}
-use Rattle.mx_request.proofs.StepLaws.{both, both_hold, bind_some, faultless, same_bytes, some_is, when_some}
+use Rattle.mx_request.proofs.StepLaws.{both, both_hold, bind_some, same_bytes, some_is, when_some}
 use Rattle.mx_request.specs.Decimals.{decimal_number, is_digit}
-use Rattle.mx_request.specs.Fields.{address_text, is_name, line_of, ring_text}
-use Rattle.mx_request.specs.Reading.{ring_at, rule_at}
+use Rattle.mx_request.specs.Fields.{address_text, line_of, ring_text}
+use Rattle.mx_request.specs.Reading.{ring_at}
 use Rattle.mx_request.specs.ReplyTexts.{class_fields, fresh_text, linkage_fields}
 use Rattle.mx_request.specs.RequestTexts.{is_class, is_path, is_ring, is_segno, is_word_address}
 use Rattle.mx_request.specs.Steps.{◌>>=◌, when}
@@ -42,7 +40,6 @@ use Rattle.mx_sdw.specs.declared.denials.Denial.{Denial}
 use Rattle.mx_sdw.specs.declared.denials.Denial.TheVariants.{UnknownSegment, NoSegment, OutOfBounds, NotReadable, ReadBracket, NotWritable, WriteBracket, NotExecutable, ExecuteBracket, CallBracket, UpwardCall, Gate, RaisedRing, BadReturn, NotPointer, IndirectLimit, AimRead, AimWrite}
 use Rattle.mx_sdw.specs.Octal.{octal, octal_number}
 use Rattle.mx_sdw.specs.Rings.{Bracketing, brackets_of}
-use Rattle.mx_search.specs.declared.rules.Rule.{Rule}
 use Rattle.mx_search.specs.declared.rules.Rule.TheVariants.{Directory}
 use Rattle.mx_spelling.specs.Spelling.{are_ordered, is_amount, is_entry_number, is_line_number, is_none_or, is_process}
 use Rattle.mx_text.specs.RunText.{kind_text}

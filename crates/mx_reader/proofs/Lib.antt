@@ -4,3 +4,6 @@ pub mod NameLaws
 pub mod ReplyLaws
 pub mod EventLaws
 pub mod EntryLaws
+pub mod RunLines
+pub mod ProgressLaws
+pub mod ReadLaws

@@ -1,12 +1,10 @@
 -- Laws of replies: what a text is read as has that text, and a reply that can be said is read back.
-use Rattle.std.proofs.Common.{◌≡◌, ℕ, ◌==◌, ◌<◌, ◌^◌, Bool, true, false, ◌&&◌, List, [], ◌∷◌, ◌++◌, Option, None, Some, codes, refl, ap, sym, subst, ◌∙◌, append_assoc, nat_le, length, arith}
+use Rattle.std.proofs.Common.{◌≡◌, ℕ, ◌==◌, ◌<◌, ◌^◌, true, ◌&&◌, List, ◌∷◌, ◌++◌, None, Some, codes, refl, ap, sym, subst, ◌∙◌, append_assoc, nat_le, length, arith}
 use Rattle.std.proofs.lemmas.Bool.{eqb-true, eq-eqb}
 use Rattle.std.specs.Fmt.{decimal}
-use Rattle.std.specs.List.{flat_map, list_all}
+use Rattle.std.specs.List.{list_all}
 use Rattle.mx_acl.proofs.ModesLaws.{modes_again, modes_takes}
 use Rattle.mx_acl.specs.Modes.{modes_of_text, modes_text}
-use Rattle.mx_acl.specs.declared.modes.Modes.{Modes}
-use Rattle.mx_aim.specs.Classes.{PlainClass}
 use Rattle.mx_hier.specs.Refusals.{refusal_number, refusal_text}
 use Rattle.mx_hier.specs.declared.asking.Status as said
 use Rattle.mx_hier.specs.declared.asking.Status.TheVariants.{Segment, Object, Directory, Link}
@@ -14,7 +12,6 @@ use Rattle.mx_hier.specs.declared.refusals.Refusal.{Refusal}
 use Rattle.mx_hier.specs.declared.refusals.Refusal.TheVariants.{BadPath, NoEntry, NoInfo, NotADir, LinkLoop, IncorrectAccess, NameDup, NotASeg, DirNotEmpty, DirFull, BadLength, BadBrackets, InvalidMode, AclFull, NoAclEntry, NoPages, KstFull, UnknownSegno, NotLinkage, SegmentNotFound, NotObject, NoDefinition, NoProcess, MailFull, Ended, BadClass}
 use Rattle.mx_name.proofs.CutLaws.{cut_takes, cut_again}
 use Rattle.mx_name.specs.Cuts.{cut_at}
-use Rattle.mx_name.specs.Names.{is_free}
 use Rattle.mx_name.specs.Paths.{path_text}
 use Rattle.mx_reader.proofs.FieldLaws.{amount_then_again, amount_then_takes, brackets_again, brackets_take, known_again, known_takes, map_takes, modes_back, modes_take, path_again, path_takes, process_again, process_free, process_takes, refusal_again, refusal_takes}
 use Rattle.mx_reader.proofs.NameLaws.{line_behind, names_again, names_take}
@@ -25,14 +22,13 @@ use Rattle.mx_reader.specs.Lines.{IsReply}
 use Rattle.mx_reader.specs.ReadingReplies.{bare_at, directory_at, link_reply, linked_at, message_at, names_reply, object_at, plain_at, refused_at, reply_at, segment_at, segno_at, short_at}
 use Rattle.mx_reader.specs.RunTexts.{says_reply}
 use Rattle.mx_request.proofs.AddressLaws.{address_free}
-use Rattle.mx_request.proofs.FieldLaws.{number_again, number_free, number_takes, ring_again, ring_free, ring_takes, segno_again, segno_free, segno_takes, word_number_again, word_number_takes}
+use Rattle.mx_request.proofs.FieldLaws.{number_again, number_free, number_takes, ring_again, ring_free, ring_takes, segno_again, segno_takes, word_number_again, word_number_takes}
 use Rattle.mx_request.proofs.StepLaws.{both, both_hold, bind_some, some_is, when_some}
 use Rattle.mx_request.specs.Decimals.{decimal_number}
 use Rattle.mx_request.specs.Fields.{address_text, is_name, line_of, ring_text}
 use Rattle.mx_request.specs.Reading.{ring_at}
 use Rattle.mx_request.specs.ReplyTexts.{class_fields, fresh_text, linkage_fields, reply_text}
 use Rattle.mx_request.specs.RequestTexts.{is_class, is_path, is_ring, is_segno, is_word, is_word_address}
-use Rattle.mx_request.specs.Steps.{◌>>=◌, when}
 use Rattle.mx_request.specs.WordNumbers.{word_number_of}
 use Rattle.mx_request.specs.declared.replies.Reply.{Reply}
 use Rattle.mx_request.specs.declared.replies.Reply.TheVariants.{Done, Refused, Status, Names, Segno, Linked, Sent, Message, Nobody, Waiting}
@@ -40,10 +36,10 @@ use Rattle.mx_script.proofs.FieldLaws.{octal_free, word_again}
 use Rattle.mx_script.proofs.FieldLaws as field
 use Rattle.mx_script.proofs.FrontLaws.{after_takes}
 use Rattle.mx_script.specs.Fields.{word_at}
-use Rattle.mx_script.specs.Fronts.{after, read_or}
+use Rattle.mx_script.specs.Fronts.{after}
 use Rattle.mx_sdw.specs.Octal.{octal, octal_number}
 use Rattle.mx_sdw.specs.Rings.{Bracketing}
-use Rattle.mx_spelling.specs.Spelling.{are_ordered, bounds_reply, bounds_status, is_amount, is_none_or, is_process}
+use Rattle.mx_spelling.specs.Spelling.{are_ordered, bounds_status, is_amount, is_none_or, is_process}
 
 -- what is read of each kind of reply
 refused_takes : (text : List ℕ) (reply : Reply) → refused_at text ≡ Some reply → IsReply (codes "refused " ++ text) reply

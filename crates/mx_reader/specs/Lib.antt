@@ -6,3 +6,4 @@ pub mod Fields
 pub mod ReadingReplies
 pub mod ReadingEvents
 pub mod ReadingEntries
+pub mod Progress

@@ -1,5 +1,5 @@
 -- Helpers that only private contracts cite: what a reply's text is read as, by its first words.
-use Rattle.std.specs.Prelude.{ℕ, ◌==◌, List, [], ◌∷◌, Option, None, Some, codes, if◌then◌else◌}
+use Rattle.std.specs.Prelude.{ℕ, ◌==◌, List, Option, None, Some, codes, if◌then◌else◌}
 use Rattle.std.specs.Cmp.Lexicographic.{pointwise}
 use Rattle.mx_acl.specs.Modes.{modes_of_text}
 use Rattle.mx_hier.specs.Refusals.{refusal_number}

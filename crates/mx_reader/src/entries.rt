@@ -28,7 +28,11 @@ pub fn read_entry(alloc: Global, number: u32, line: &[u8]) -> Result<Option<Entr
 
 // `NUMBER PROCESS RING REQUEST = REPLY`
 #[tactic(auto, unfolding(crate::specs::ReadingEntries::entry_at))]
-fn read_fields(alloc: Global, number: u32, line: &[u8]) -> Result<Option<Entry>, AllocError>
+pub(crate) fn read_fields(
+    alloc: Global,
+    number: u32,
+    line: &[u8],
+) -> Result<Option<Entry>, AllocError>
     ensures { IfOk result (λ told. told ≡ entry_at number line.now) }
 {
     let Some(((process, ring), call)) = cut_caller(number, line) else {

@@ -35,7 +35,7 @@ pub fn read_end(line: &[u8]) -> Option<(u32, Result2)>
 
 // An event of any kind.
 #[tactic(auto, unfolding(crate::specs::ReadingEvents::event_at))]
-fn read_any(line: &[u8]) -> Option<Event2>
+pub(crate) fn read_any(line: &[u8]) -> Option<Event2>
     ensures { result ≡ event_at line.now }
 {
     if let Some(number) = after(b"entry ", line) {
@@ -152,7 +152,7 @@ fn read_entered(text: &[u8]) -> Option<Outcome>
 
 // `line N RESULT`
 #[tactic(auto, unfolding(crate::specs::ReadingEvents::end_at))]
-fn cut_end(line: &[u8]) -> Option<(u32, Result2)>
+pub(crate) fn cut_end(line: &[u8]) -> Option<(u32, Result2)>
     ensures { result ≡ end_at line.now }
 {
     let (number, rest) = cut(b' ', after(b"line ", line)?)?;

@@ -9,11 +9,14 @@
 
 mod cutting;
 mod decimals;
+mod drafts;
 mod entries;
 mod events;
 mod fields;
+mod reading;
 mod replies;
 
 pub use entries::read_entry;
 pub use events::{read_end, read_event};
+pub use reading::{ReadText, read};
 pub use replies::read_reply;
