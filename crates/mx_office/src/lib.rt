@@ -18,6 +18,8 @@ mod opening;
 mod revoking;
 mod serving;
 mod settling;
+#[cfg(test)]
+mod tests;
 
 pub use announcing::announce;
 pub use answers::{Answer, EnterError, Served};
