@@ -7,3 +7,5 @@ pub mod Announces
 pub mod Missing
 pub mod Opens
 pub mod Keeps
+pub mod Wakings
+pub mod Blocks

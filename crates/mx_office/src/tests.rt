@@ -7,14 +7,13 @@ ghost use Rattle.mx_closing.specs.Opening.{layout_of};
 ghost use Rattle.mx_closing.specs.Preparing.{IsPrepared};
 
 use crate::answers::EnterError;
-use crate::locked::Locked;
 use crate::naming::Sitting;
+use crate::offices::Office;
 use crate::opening::{Opening, open};
 use mx_closing::{Prepared, prepare};
 use mx_desc::Pass;
 use mx_list::Sequence;
 use mx_request::Request;
-use mx_rule::Board;
 use mx_script::{Session, read_session};
 use mx_sdw::Ring;
 use mx_state::Entry;
@@ -37,19 +36,16 @@ const TEXT: &[u8] = b"multics 1\n\
 fn ask<R: Wait, B: Sitting>(
     rt: &R,
     alloc: Global,
-    locked: &mut Locked<'_, B>,
-    shared: &Board<Entry>,
+    office: &Office<'_, B>,
     passes: &mut Vec<Pass<Entry, B>>,
     place: usize,
     request: &Request,
 ) -> Result<u32, EnterError>
-    requires fits { shared.now.table_id ≡ B.table }
-    requires layout { shared.now.key.layout ≡ B.layout }
     ensures { (processes : ℕ) → AreOfAll processes passes.old.items → AreOfAll processes passes.new.items }
 {
     match (Ring::new(4), place < passes.len()) {
         (Some(ring), true) => {
-            let served = locked.serve(rt, alloc, &mut passes[place], shared, ring, request)?;
+            let served = office.enter(rt, alloc, &mut passes[place], ring, request)?;
             Ok(served.number)
         }
         _ => Ok(0),
@@ -74,41 +70,18 @@ fn run<R: Wait, B: Sitting>(
     requires each { B.parts ≡ B.layout.processes }
 {
     let Opening {
-        mut locked,
+        locked,
         words,
         passes,
         share,
         part: _part,
     } = open::<B>(alloc, prepared, blank)?;
+    let office = Office::new(locked, words);
     let mut passes = passes.into_items();
-    ask(
-        rt,
-        alloc,
-        &mut locked,
-        &words.shared,
-        &mut passes,
-        1,
-        &Request::Logout,
-    )?;
-    ask(
-        rt,
-        alloc,
-        &mut locked,
-        &words.shared,
-        &mut passes,
-        0,
-        &Request::Block,
-    )?;
-    ask(
-        rt,
-        alloc,
-        &mut locked,
-        &words.shared,
-        &mut passes,
-        0,
-        &Request::Logout,
-    )?;
-    let journal = locked.finish(words, share, Sequence::of(passes));
+    ask(rt, alloc, &office, &mut passes, 1, &Request::Logout)?;
+    ask(rt, alloc, &office, &mut passes, 0, &Request::Block)?;
+    ask(rt, alloc, &office, &mut passes, 0, &Request::Logout)?;
+    let journal = office.finish(share, Sequence::of(passes));
     Ok(journal.items().len())
 }
 

@@ -25,6 +25,6 @@ returns-in_ok-served-in-Some-true g c n all =
     let passes = c.args.passes.now.items in
     let old = c.index_mut.result.now in
     let within : c.args.place < length passes = search rules in
-    still_all n c.args.place passes old c.serve.new.pass
+    still_all n c.args.place passes old c.enter.new.pass
     (slice_get-get_or passes c.args.place old within ∙ ap Some (search rules))
-    (c.serve.ensures.entered c.in_ok-served-in-Some-true.served c.in_ok-served-in-Some-true.was).grown.process all
+    (c.enter.ensures.entered c.in_ok-served-in-Some-true.served c.in_ok-served-in-Some-true.was).grown.process all
