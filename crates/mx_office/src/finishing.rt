@@ -6,7 +6,6 @@ ghost use Rattle.mx_office.specs.Ends.{HasFinished};
 ghost use Rattle.mx_office.specs.Locked.{IsLocked};
 
 use crate::naming::Sitting;
-use crate::offices::Office;
 use mx_desc::{Passes, Super};
 use mx_rule::Words;
 use mx_state::{Entry, Journal};
@@ -36,23 +35,4 @@ pub(crate) fn finish<B: Sitting>(
     let (_layout, _length) = (chief.layout(), chief.length());
     mx_closing::finish(words, chief, book, share, passes);
     supervisor.into_journal()
-}
-
-impl<'a, B: Sitting> Office<'a, B> {
-    /// The end of the run: takes back the passes of all processes, with which the run is closed, and gives the journal. It
-    /// takes no memory. Conditions: the passes are those of all processes of the run in order, and with the rest of the
-    /// ledger, in which no entry is counted, they have all its parts.
-    pub fn finish(self, share: Share<B>, passes: Passes<Entry, B>) -> Journal
-        requires all { AreOfAll (length B.session.principals) passes }
-        requires parts { share.parts + length passes ≡ B.parts }
-        requires amount { share.amount ≡ 0 }
-        ensures { HasFinished B.session B.setup passes result }
-    {
-        let Office {
-            lock,
-            bells: _,
-            words,
-        } = self;
-        lock.into_inner().finish(words, share, passes)
-    }
 }

@@ -1,6 +1,8 @@
 //! The office: what is locked, the bells of those who sleep, and the shared words, which need no lock.
 
-ghost use Rattle.std.specs.Prelude.{◌≡◌, ℕ, Ok, Err, OnErr, OnOk};
+ghost use Rattle.std.specs.Prelude.{◌≡◌, ◌+◌, ℕ, Ok, Err, OnErr, OnOk, length};
+ghost use Rattle.mx_closing.specs.Closing.{AreOfAll};
+ghost use Rattle.mx_office.specs.Ends.{HasFinished};
 ghost use Rattle.mx_office.specs.Serving.{HasEntered, HasMetLimit, HasSettled};
 ghost use Rattle.mx_office.specs.declared.answers.EnterError.TheVariants.{HistoryFull, Memory};
 ghost use Rattle.mx_office.specs.declared.answers.Served.{Served as ServedValue};
@@ -9,12 +11,13 @@ use crate::answers::{EnterError, Served};
 use crate::locked::Locked;
 use crate::naming::Sitting;
 use crate::waking::{Bells, Woken};
-use mx_desc::Pass;
+use mx_desc::{Pass, Passes};
 use mx_request::Request;
 use mx_rule::{Board, Words};
 use mx_sdw::Ring;
-use mx_state::Entry;
+use mx_state::{Entry, Journal};
 use std::alloc::{AllocError, Global};
+use std::sync::ledger::Share;
 use std::sync::{Mutex, MutexGuard, Wait};
 
 /// Where the processes of a run make their requests, each on a thread of its own, one at a time; to what they refer
@@ -94,6 +97,23 @@ impl<'a, B: Sitting> Office<'a, B> {
     pub fn stop<R: Wait>(&self, rt: &R) {
         self.lock.lock(rt).stop();
         self.bells.ring(Woken::All);
+    }
+
+    /// The end of the run: takes back the passes of all processes, with which it is closed, and gives the journal. It takes
+    /// no memory. Conditions: the passes are those of all processes in order, and with the rest of the ledger, in which no
+    /// entry is counted, they have all its parts.
+    pub fn finish(self, share: Share<B>, passes: Passes<Entry, B>) -> Journal
+        requires all { AreOfAll (length B.session.principals) passes }
+        requires parts { share.parts + length passes ≡ B.parts }
+        requires amount { share.amount ≡ 0 }
+        ensures { HasFinished B.session B.setup passes result }
+    {
+        let Office {
+            lock,
+            bells: _,
+            words,
+        } = self;
+        lock.into_inner().finish(words, share, passes)
     }
 
     /// Gives the lock back after a request was entered, and wakes those whose wait it ended.
