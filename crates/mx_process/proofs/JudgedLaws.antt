@@ -108,7 +108,7 @@ entered_gives op.Write stores entered ring t is = cc
 entered_gives op.Indirect stores entered ring t is = cc
 entered_gives op.Fetch stores entered ring t is = cc
 
-abbrev asked_by : asked.Reference → Asked
+abbrev pub asked_by : asked.Reference → Asked
 asked_by r = record { op = r.op; ring = r.ring; word = r.word }
 
 -- the write stores what was asked for
@@ -116,8 +116,11 @@ stores_it : (r : asked.Reference) (value written : ℕ) → IsStorableBy r.op r.
     → ((v : ℕ) → r.stores ≡ Some v → value ≡ v) → written ≡ value → r.op ≡ op.Write → r.stores ≡ Some written
 stores_it r value written storable stored is write = by_stores r.stores refl (storable write)
   where
+    none : IsSome {T = ℕ} None → ⊥
+    none e = cc
+
     by_stores : (s : Option ℕ) → r.stores ≡ s → IsSome s → r.stores ≡ Some written
-    by_stores None e some = absurd some
+    by_stores None e some = absurd (none some)
     by_stores (Some v) e some = e ∙ ap Some (sym (is ∙ stored v e))
 
 agrees : (r : asked.Reference) (d : Descriptor) (value : ℕ) (o : Outcome) → IsStorableBy r.op r.stores

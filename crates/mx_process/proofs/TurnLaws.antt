@@ -38,7 +38,7 @@ use Rattle.mx_upcall.specs.Control.{Control}
 use Rattle.mx_upcall.specs.Soundness.{IsPackableControl}
 use Rattle.mx_process.proofs.JudgedLaws.{WasJudged, asked_by, at_floor, is_judged}
 use Rattle.mx_process.proofs.KnownLaws.{seen_known, known_seen, known_missed}
-use Rattle.mx_process.proofs.WorkLaws.{IsNext, line_ended, line_ends, line_goes_on}
+use Rattle.mx_process.proofs.WorkLaws.{IsNext, line_ended, line_ends, line_goes_on, never_fills}
 use Rattle.mx_process.specs.Attempts.{HasAttempted}
 use Rattle.mx_process.specs.Processes.{Known, AsksIn, IsAtWork, IsBefore, IsMissing, at_work, having_done, known_of, left_of, number_in}
 use Rattle.mx_process.specs.Turns.{Ends, GoesOn, HasEnd, HasEvent, HasTaken, HasTurned, Comes, Inside, IsAttempting, IsLinking, IsReferring, IsSameLine, Links, Misses, inside}
@@ -202,14 +202,8 @@ module _ (x : Outline) (setup : List journaled.Entry) (line : Line) (old new : L
         where
           free_after : (progress : Progress) → Takes old.control line old.progress e j.on.desc (works.At progress) → IsFree progress
           free_after progress takes fill is =
-              not_filling (subst (λ (p : Progress). Takes old.control line old.progress e j.on.desc (works.At p)) is takes)
-            where
-              not_filling : Takes old.control line old.progress e j.on.desc (works.At (Filling fill)) → ⊥
-              not_filling t =
-                  let come = (line_goes_on x setup line old (known_of o) (reference_in r) e j.on.desc floor
-                  (record old { progress = Filling fill; recording = record old.recording { events = old.recording.events ++ Core (Seen e) ∷ [] } }) (Filling fill) next_is t
-                  (record { first = refl; control = refl; steps = refl; events = refl; progress = refl; room = refl })).come in
-                  come.0
+              never_fills x setup line old (known_of o) (reference_in r) e j.on.desc floor next_is fill
+              (subst (λ (p : Progress). Takes old.control line old.progress e j.on.desc (works.At p)) is takes)
       by_work (works.Ended end) takes comes =
           let ended = comes.1 in
           subst (λ (t : Turn). HasTurned x setup line old t (inside new o')) (sym comes.0) (record {
