@@ -36,13 +36,13 @@ use Rattle.mx_bench.proofs.OpeningLaws.{seat_of as process_of}
 use Rattle.mx_line.proofs.ReplyLaws.{memory_answers}
 use Rattle.mx_line.proofs.SeatLaws.{set_here}
 use Rattle.mx_line.proofs.StandingLaws.{waits_next}
-use Rattle.mx_bench.specs.Asking.{HasSeat, HasSeatWith, IsAsking, IsTold, IsToFill, IsUnfilled, IsUntold, IsReadyBelow, IsUnreadyBelow, IsToldToWait, IsCalling}
+use Rattle.mx_bench.specs.Asking.{HasSeat, HasSeatWith, IsAsking, IsReferring, IsTold, IsToFill, IsUnfilled, IsUntold, IsReadyBelow, IsUnreadyBelow, IsToldToWait, IsCalling}
 use Rattle.mx_line.specs.Fills.{IsAnsweredBy, IsNoRequest}
 use Rattle.mx_bench.proofs.WorldLaws.{IsAt, at_line, not_told, told_blocks}
 use Rattle.mx_bench.specs.Stepping.{IsLastDenial, IsAtLine, IsWaiting, state_in}
 use Rattle.mx_bench.specs.Benches.{world_in, IsKept}
 use Rattle.mx_line.specs.Operands.{IsMemoryLine, IsPlaced, IsGoodProgress, IsSayable}
-use Rattle.mx_line.specs.Processes.{seat_in, IsGoodAt, IsStill, HasProgress, HasAsked, HasFill, HasLastDenial, HasRegisters, fill_of}
+use Rattle.mx_line.specs.Processes.{seat_in, IsGoodAt, IsStill, HasProgress, HasAsked, HasReferred, HasFill, HasLastDenial, HasRegisters, fill_of}
 use Rattle.mx_line.specs.AtWork.{IsAnswered, IsCome, IsFree}
 use Rattle.mx_bench.specs.Running.{IsRunning, left_of}
 use Rattle.mx_line.specs.Seats.{Seat}
@@ -52,6 +52,7 @@ use Rattle.mx_line.specs.declared.memory.Contents.{Contents}
 use Rattle.mx_line.specs.declared.asking.Called.TheVariants as called
 use Rattle.mx_line.specs.declared.asking.Next as asking
 use Rattle.mx_line.specs.declared.asking.Next.TheVariants as asks
+use Rattle.mx_line.specs.declared.asking.Reference as asking_for
 use Rattle.mx_line.specs.declared.operands.Progress.{Progress}
 use Rattle.mx_line.specs.declared.operands.Progress.TheVariants.{Before, Walking, AtLink, Waiting, Filling}
 use Rattle.mx_line.specs.declared.processes.Process.{Process}
@@ -107,6 +108,17 @@ seen_asking x s whole room cells processes w p i l asks k view place a idle othe
       plain = h.says.plain now.course (subst (λ (seat : Seat). IsCome seat.control l now.course seat.progress) same now.come) other
           (λ it at. idle (seat_in h.process) it seated at);
     }
+
+pub seen_referring : (x : Outline) (s : Supervised) (whole : List (List Step)) (cells : List Contents) (processes : List Process) (w : World) (p i : ℕ)
+    (l : Line) (r : asking_for.Reference) → world_in x s whole cells processes ≡ w → i ≡ p - 1 → HasReferred processes i l r
+    → IsReferring w p l r
+seen_referring x s whole cells processes w p i l r view place h = record {
+  memory = h.refers.memory;
+  seat = seat_in h.process;
+  seated = ap (λ (v : World). slice_get v.seats (p - 1)) (sym view) ∙ ap (slice_get _) (sym place) ∙ seat_of processes i h.process h.at;
+  asks = h.refers.says.is;
+  storable = h.refers.says.storable;
+}
 
 pub seen_registers : (x : Outline) (s : Supervised) (whole : List (List Step)) (room : ℕ) (cells : List Contents) (processes : List Process) (w : World) (p i : ℕ)
     (g : Registers) → IsKept x s whole room cells processes → world_in x s whole cells processes ≡ w → i ≡ p - 1 → HasRegisters processes i g

@@ -114,6 +114,29 @@ impl<'a> Bench<'a> {
         ensures gone { IfOk result (λ stepped. HasGone self.old p stepped self.new) }
         ensures err { OnErr result (self.new ≡ self.old) }
     {
+        match self.refers(p, line) {
+            Some(asked) => self.refer(p, line, &asked),
+            None => self.do_other(alloc, p, line),
+        }
+    }
+
+    // The reference that a line asks for at its beginning, where its operand is not indirect; none where it has begun
+    // already, or asks for another thing.
+    #[inline(always)]
+    fn refers(&self, p: u8, line: &Line) -> Option<Reference>
+        requires { IsAtLine self.now p line.now }
+        ensures { IfSome result (IsReferring self.now p line.now) }
+    {
+        self.processes.refers(usize::from(p) - 1, line)
+    }
+
+    // The process goes on with its next line, whatever that asks for.
+    #[inline(never)]
+    fn do_other(&mut self, alloc: Global, p: u8, line: &Line) -> Result<Stepped, AllocError>
+        requires { IsAtLine self.old p line.now }
+        ensures gone { IfOk result (λ stepped. HasGone self.old p stepped self.new) }
+        ensures err { OnErr result (self.new ≡ self.old) }
+    {
         match self.filling(p) {
             Some(fill) => self.fill(p, line, &fill),
             None => self.do_next(alloc, p, line),

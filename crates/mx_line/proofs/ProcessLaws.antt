@@ -21,10 +21,11 @@ use Rattle.mx_core.specs.declared.elements.Event.TheVariants.{Seen}
 use Rattle.mx_sdw.specs.Descriptors.{Descriptor}
 use Rattle.mx_sdw.specs.declared.denials.Denial.{Denial}
 use Rattle.mx_line.proofs.SeatLaws.{set_here}
-use Rattle.mx_line.specs.AtWork.{IsMet}
+use Rattle.mx_line.specs.AtWork.{IsMet, IsTaken, left}
 use Rattle.mx_line.specs.Operands.{IsGoodProgress}
 use Rattle.mx_line.specs.declared.asking.Next as asking
-use Rattle.mx_line.specs.Processes.{IsFresh, AreFreshUpTo, IsStill, HasRoom, IsCountable, IsGoodAt, IsMetAt, IsSeen, Takes, Goes, IsAsking, HasAsked, HasMet, HasEnded, HasGoneOn, HasProgress, HasFill, HasRegisters, HasControl, HasGateRoom, HasLines, HasNumber, HasLastDenial, fill_of}
+use Rattle.mx_line.specs.declared.asking.Reference as asked
+use Rattle.mx_line.specs.Processes.{IsFresh, AreFreshUpTo, IsStill, HasRoom, IsCountable, IsGoodAt, IsMetAt, IsSeen, Takes, Goes, IsAsking, HasAsked, HasPlainEnd, HasReferred, IsReferring, HasMet, HasEnded, HasGoneOn, HasProgress, HasFill, HasRegisters, HasControl, HasGateRoom, HasLines, HasNumber, HasLastDenial, fill_of}
 use Rattle.mx_line.specs.declared.steps.Stepped.{Stepped}
 use Rattle.mx_line.specs.declared.fills.Fill.{Fill}
 use Rattle.mx_line.specs.declared.at_work.LineAtWork.{LineAtWork}
@@ -112,6 +113,22 @@ seen_so before after middle progress l e d work stepped same come takes goes = r
   work = work;
   takes = subst (λ (g : Control). Takes g l before.progress e d work) same
       (subst (λ (r : Progress). Takes middle l r e d work) come takes);
+  goes = goes;
+}
+
+-- it ended so by its first event
+pub ended_plainly : (before after : Process) (l : Line) (e : Element) (d : Descriptor) (ends : Result2) (stepped : Stepped)
+    → HasPlainEnd before l e ends → Goes before (Core (Seen e)) (left before.control (Some ends)) after stepped
+    → IsSeen before l e d after stepped
+ended_plainly before after l e d ends stepped plain goes = record {
+  work = left before.control (Some ends);
+  takes = record {
+    taken = λ setting on.
+        subst (λ (r : Progress). IsTaken before.control l setting (Core (Seen e)) (at.At r) (left before.control (Some ends)))
+        (sym plain.before) (plain.taken d setting on);
+    good = plain.good;
+    nearer = tt;
+  };
   goes = goes;
 }
 
@@ -205,6 +222,10 @@ met_of processes i q l e d h met =
 pub has_asked : (processes : List Process) (i : ℕ) (q : Process) (l : Line) (asks : asking.Next) → i < length processes
     → IsAsking (slice_index_or processes i q) l asks → HasAsked processes i l asks
 has_asked processes i q l asks h says = record { process = slice_index_or processes i q; at = get_at processes i q h; says = says }
+
+pub has_referred : (processes : List Process) (i : ℕ) (q : Process) (l : Line) (r : asked.Reference) → i < length processes
+    → IsReferring (slice_index_or processes i q) l r → HasReferred processes i l r
+has_referred processes i q l r h refers = record { process = slice_index_or processes i q; at = get_at processes i q h; refers = refers }
 
 pub has_met : (processes : List Process) (i : ℕ) (q p : Process) (l : Line) (e : Element) (d : Descriptor) (stepped : Stepped)
     → i < length processes → IsSeen (slice_index_or processes i q) l e d p stepped

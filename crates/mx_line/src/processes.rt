@@ -1,18 +1,19 @@
 //! Processes: their registers and return gates, and what was recorded of them.
 
-ghost use Rattle.std.specs.Prelude.{◌≡◌, ◌<◌, ◌+◌, ◌^◌, true, [], ◌∷◌, ◌++◌, IfOk, IsTrue, IsFalse, OnOk, Some, length};
+ghost use Rattle.std.specs.Prelude.{◌≡◌, ◌<◌, ◌+◌, ◌^◌, true, [], ◌∷◌, ◌++◌, IfOk, IfSome, IsTrue, IsFalse, OnOk, Some, length};
 ghost use Rattle.mx_upcall.specs.Changes.{Fits, keeping, changed};
 ghost use Rattle.mx_upcall.specs.Soundness.{IsPackableControl};
 ghost use Rattle.mx_sdw.specs.Admissible.{IsAdmissible};
 ghost use Rattle.mx_script.specs.Sessions.{IsSession};
-ghost use Rattle.mx_line.specs.AtWork.{IsMet};
+ghost use Rattle.mx_line.specs.AtWork.{IsMet, left_in};
+ghost use Rattle.mx_upcall.specs.Control.{with_registers};
 ghost use Rattle.mx_line.specs.Operands.{IsGoodProgress, IsSayable};
-ghost use Rattle.mx_line.specs.Processes.{AreFresh, IsStill, HasRoom, IsCountable, IsGoodAt, HasGateRoom, HasEnded, HasGoneOn, HasMet, IsSeen, IsMetAt, HasProgress, HasRegisters, HasControl, HasLines, HasNumber, HasLastDenial, HasAsked, IsAsking, HasFill, fill_of, events_in};
+ghost use Rattle.mx_line.specs.Processes.{AreFresh, IsStill, HasRoom, IsCountable, IsGoodAt, HasGateRoom, HasEnded, HasGoneOn, HasMet, IsSeen, IsMetAt, HasProgress, HasRegisters, HasControl, HasLines, HasNumber, HasLastDenial, HasAsked, HasPlainEnd, HasReferred, IsAsking, IsReferring, HasFill, fill_of, events_in};
 ghost use Rattle.mx_line.specs.declared.at_work.LineAtWork.TheVariants.{At};
 ghost use Rattle.mx_line.specs.declared.operands.Progress.TheVariants.{Before, Waiting};
 
-use crate::asking::Next;
-use crate::at_work::{LineAtWork, next_at};
+use crate::asking::{Next, Reference, first_reference};
+use crate::at_work::{LineAtWork, first_end, leave, next_at};
 use crate::fills::Fill;
 use crate::operands::Progress;
 use crate::steps::Stepped;
@@ -164,6 +165,17 @@ impl Processes {
         is_waiting(&self.items, i)
     }
 
+    /// The reference that the line at work of a process asks for at its beginning, where its operand is not indirect; none
+    /// where the line has begun already, or asks for another thing.
+    pub fn refers(&self, i: usize, line: &Line) -> Option<Reference>
+        requires within { i < length self.now }
+        requires good { IsGoodAt self.now i }
+        requires line { IsSayable line.now }
+        ensures { IfSome result (HasReferred self.now i line.now) }
+    {
+        refers_at(&self.items, i, line)
+    }
+
     /// What the line at work of a process asks for.
     pub fn asks(&self, i: usize, line: &Line) -> Next
         requires within { i < length self.now }
@@ -289,6 +301,15 @@ fn fill_of(progress: &Progress) -> Option<Fill>
     }
 }
 
+fn refers_at(processes: &[Process], i: usize, line: &Line) -> Option<Reference>
+    requires within { i < length processes.now }
+    requires good { IsGoodAt processes.now i }
+    requires line { IsSayable line.now }
+    ensures { IfSome result (HasReferred processes.now i line.now) }
+{
+    processes[i].refers(line)
+}
+
 fn asks_at(processes: &[Process], i: usize, line: &Line) -> Next
     requires within { i < length processes.now }
     requires good { IsGoodAt processes.now i }
@@ -365,6 +386,20 @@ impl Process {
         self.control.registers
     }
 
+    // The reference that its line asks for at its beginning, where its operand is not indirect.
+    #[inline(always)]
+    fn refers(&self, line: &Line) -> Option<Reference>
+        requires packable { IsPackableControl self.now.control }
+        requires line { IsSayable line.now }
+        ensures { IfSome result (IsReferring self.now line.now) }
+    {
+        match &self.progress {
+            Progress::Before => first_reference(line, &self.control),
+            Progress::Walking(_) | Progress::AtLink(_) | Progress::Waiting | Progress::Filling(_) =>
+                None,
+        }
+    }
+
     /// What its line asks for.
     pub fn asks(&self, line: &Line) -> Next
         requires packable { IsPackableControl self.now.control }
@@ -396,9 +431,8 @@ impl Process {
         ensures idle { self.new.recording.events ≡ [] }
         ensures fresh { self.new.progress ≡ Before }
     {
-        let number = self.number();
         push_if(&mut self.recording, event);
-        self.recording.end_line(number, ends);
+        self.record_end(ends);
         self.control.change(after);
         self.progress = Progress::Before;
     }
@@ -417,7 +451,79 @@ impl Process {
     }
 
     // The reference for which its line asks was made.
+    #[inline(always)]
     fn seen(&mut self, line: &Line, element: &Element, desc: &Desc) -> Stepped
+        requires event { IsTrue self.old.recording.event_room }
+        requires room { IsTrue self.old.recording.line_room }
+        requires number { self.old.first + length self.old.recording.steps < 2 ^ 32 }
+        requires packable { IsPackableControl self.old.control }
+        requires progress { IsGoodProgress self.old.control.registers self.old.progress }
+        requires line { IsSayable line.now }
+        requires desc { IsAdmissible desc.now }
+        requires met { IsMet self.old.control line.now (At self.old.progress) element.now desc.now }
+        ensures { IsSeen self.old line.now element.now desc.now self.new result }
+    {
+        match self.plain_end(line, element) {
+            Some(ends) => {
+                self.end_plainly(Event2::Core(Event::Seen(*element)), ends);
+                Stepped::LineDone
+            }
+            None => self.went(line, element, desc),
+        }
+    }
+
+    // How its line ends by its first reference, where its operand is not indirect and that does not move the process.
+    #[inline(always)]
+    fn plain_end(&self, line: &Line, element: &Element) -> Option<Result2>
+        requires packable { IsPackableControl self.now.control }
+        requires line { IsSayable line.now }
+        ensures { IfSome result (HasPlainEnd self.now line.now element.now) }
+    {
+        match &self.progress {
+            Progress::Before => first_end(line, &self.control, element),
+            Progress::Walking(_) | Progress::AtLink(_) | Progress::Waiting | Progress::Filling(_) =>
+                None,
+        }
+    }
+
+    // Its line at work ends so with its first event.
+    #[inline(always)]
+    fn end_plainly(&mut self, event: Event2, ends: Result2)
+        requires event { IsTrue self.old.recording.event_room }
+        requires line { IsTrue self.old.recording.line_room }
+        requires number { self.old.first + length self.old.recording.steps < 2 ^ 32 }
+        requires before { self.old.progress ≡ Before }
+        ensures first { self.new.first ≡ self.old.first }
+        ensures done { self.new.control ≡ with_registers self.old.control (left_in ends self.old.control.registers) }
+        ensures steps { self.new.recording.steps ≡ self.old.recording.steps
+            ++ (self.old.first + length self.old.recording.steps, self.old.recording.events ++ event ∷ [], ends) ∷ [] }
+        ensures idle { self.new.recording.events ≡ [] }
+        ensures fresh { self.new.progress ≡ Before }
+    {
+        self.recording.push(event);
+        self.record_end(ends);
+        leave(&mut self.control.registers, &ends);
+    }
+
+    // The end of its line at work is recorded under the number of the line.
+    #[inline(always)]
+    fn record_end(&mut self, ends: Result2)
+        requires line { IsTrue self.old.recording.line_room }
+        requires number { self.old.first + length self.old.recording.steps < 2 ^ 32 }
+        ensures first { self.new.first ≡ self.old.first }
+        ensures control { self.new.control ≡ self.old.control }
+        ensures steps { self.new.recording.steps ≡ self.old.recording.steps
+            ++ (self.old.first + length self.old.recording.steps, self.old.recording.events, ends) ∷ [] }
+        ensures idle { self.new.recording.events ≡ [] }
+        ensures progress { self.new.progress ≡ self.old.progress }
+    {
+        let number = self.number();
+        self.recording.end_line(number, ends);
+    }
+
+    // The line goes on by the reference for which it asks, or ends.
+    #[inline(never)]
+    fn went(&mut self, line: &Line, element: &Element, desc: &Desc) -> Stepped
         requires event { IsTrue self.old.recording.event_room }
         requires room { IsTrue self.old.recording.line_room }
         requires number { self.old.first + length self.old.recording.steps < 2 ^ 32 }
