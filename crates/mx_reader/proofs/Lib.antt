@@ -7,3 +7,4 @@ pub mod EntryLaws
 pub mod RunLines
 pub mod ProgressLaws
 pub mod ReadLaws
+pub mod FirstBadLaws

@@ -7,3 +7,4 @@ pub mod ReadingReplies
 pub mod ReadingEvents
 pub mod ReadingEntries
 pub mod Progress
+pub mod Laws
