@@ -21,8 +21,6 @@ mod opening;
 mod revoking;
 mod serving;
 mod settling;
-#[cfg(test)]
-mod tests;
 mod waking;
 
 pub use announcing::announce;

@@ -1,1 +1,2 @@
+mod running;
 mod waiting;

@@ -6,13 +6,10 @@ ghost use Rattle.mx_closing.specs.Closing.{AreOfAll};
 ghost use Rattle.mx_closing.specs.Opening.{layout_of};
 ghost use Rattle.mx_closing.specs.Preparing.{IsPrepared};
 
-use crate::answers::EnterError;
-use crate::naming::Sitting;
-use crate::offices::Office;
-use crate::opening::{Opening, open};
 use mx_closing::{Prepared, prepare};
 use mx_desc::Pass;
 use mx_list::Sequence;
+use mx_office::{EnterError, Office, Opening, Sitting, open};
 use mx_request::Request;
 use mx_script::{Session, read_session};
 use mx_sdw::Ring;
@@ -56,10 +53,11 @@ fn ask<R: Wait, B: Sitting>(
 fn run<R: Wait, B: Sitting>(
     rt: &R,
     alloc: Global,
-    _session: &Session,
+    session: &Session,
     prepared: Prepared<'_>,
     blank: Blank,
 ) -> Result<usize, EnterError>
+    requires session { session.now ≡ B.session }
     requires prepared { IsPrepared B.session prepared }
     requires setup { prepared.supervisor.journal ≡ B.setup }
     requires start { B.start ≡ length B.setup }
@@ -69,6 +67,7 @@ fn run<R: Wait, B: Sitting>(
     requires parts { blank.parts ≡ B.parts }
     requires each { B.parts ≡ B.layout.processes }
 {
+    let _limit = session.limit();
     let Opening {
         locked,
         words,

@@ -5,7 +5,7 @@ use Rattle.mx_closing.specs.Closing.{AreOfAll}
 use Rattle.mx_desc.specs.Passes.{PassValue}
 use Rattle.mx_state.proofs.Lists.{slice_get-set}
 use Rattle.mx_state.specs.declared.journal.Entry as journaled
-use Rattle.mx_office.proofs.tests.ask.Goals as goal
+use Rattle.office_tests.proofs.tests.running.ask.Goals as goal
 
 -- one of the passes is another now, of the same process
 still_all : (n place : ℕ) (passes : List (PassValue journaled.Entry)) (old new : PassValue journaled.Entry)

@@ -3,7 +3,7 @@ use Rattle.mx_closing.specs.Closing.{AreOfAll}
 use Rattle.mx_desc.specs.Passes.{PassValue}
 use Rattle.mx_rule.specs.declared.layout.Layout.{Layout}
 use Rattle.mx_state.specs.declared.journal.Entry as journaled
-use Rattle.mx_office.proofs.tests.run.Goals as goal
+use Rattle.office_tests.proofs.tests.running.run.Goals as goal
 
 pub finish-journal-requires-clause-all : goal.finish-journal-requires-clause-all
 finish-journal-requires-clause-all g c =
