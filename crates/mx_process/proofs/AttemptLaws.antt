@@ -1,5 +1,5 @@
 -- What a process's type says holds after an attempt at a line.
-use Rattle.std.proofs.Common.{◌≡◌, ℕ, suc, ◌+◌, ◌-◌, ◌<◌, ◌≤◌, List, [], ◌∷◌, ◌++◌, length, append-nil, Option, Some, None, refl, sym, ◌∙◌, ap, subst, arith}
+use Rattle.std.proofs.Common.{◌≡◌, ℕ, ◌-◌, ◌≤◌, List, [], ◌∷◌, length, Option, Some, None, refl, sym, ◌∙◌, ap, subst, arith}
 use Rattle.std.specs.List.{slice_get}
 use Rattle.std.specs.Option.{option_map}
 use Rattle.mx_audit.specs.Accounts.{Account}
@@ -9,16 +9,14 @@ use Rattle.mx_core.specs.declared.words.Triple.{Triple}
 use Rattle.mx_desc.specs.Passes.{PassValue}
 use Rattle.mx_line.specs.Operands.{IsGoodProgress}
 use Rattle.mx_line.specs.declared.operands.Place.{Place}
-use Rattle.mx_line.specs.declared.operands.Progress.{Progress}
 use Rattle.mx_line.specs.declared.processes.Process.{Process as LineState}
 use Rattle.mx_rule.specs.Entering.{connected_view, entered_view, left_view}
 use Rattle.mx_script.specs.Sessions.{Outline}
 use Rattle.mx_script.specs.declared.lines.Line.{Line}
 use Rattle.mx_state.specs.declared.journal.Entry as journaled
 use Rattle.mx_transcript.specs.Denials.{last_denial}
-use Rattle.mx_transcript.specs.Scripts.{first_line, lines_of}
+use Rattle.mx_transcript.specs.Scripts.{first_line}
 use Rattle.mx_transcript.specs.Transcripts.{Step}
-use Rattle.mx_upcall.specs.Control.{Control}
 use Rattle.mx_upcall.specs.Soundness.{IsPackableControl}
 use Rattle.mx_line.specs.AtWork.{IsFree}
 use Rattle.mx_line.specs.Fills.{IsNoRequest}
@@ -28,8 +26,8 @@ use Rattle.mx_process.proofs.ProcessLaws.{attempting}
 use Rattle.mx_process.proofs.TurnLaws.{same_line}
 use Rattle.mx_process.specs.Attempts.{HasAttempted, HasDone, HasMissed, IsAtLinkIn}
 use Rattle.mx_process.specs.Audited.{IsAudited}
-use Rattle.mx_process.specs.Processes.{Known, ProcessValue, IsAtLine, IsAtWork, IsBefore, IsMissing, IsProcess, Stands, known_of, left_of, number_in, script_of}
-use Rattle.mx_process.specs.Turns.{Ends, Inside, IsAttempting, IsSameLine, IsUntold, Links, Misses, inside}
+use Rattle.mx_process.specs.Processes.{ProcessValue, IsAtLine, IsProcess, Stands, known_of, left_of, script_of}
+use Rattle.mx_process.specs.Turns.{Ends, IsAttempting, IsSameLine, IsUntold, Links, Misses, inside}
 use Rattle.mx_process.specs.declared.misses.Fast.{Fast}
 use Rattle.mx_process.specs.declared.misses.Fast.TheVariants as fast
 use Rattle.mx_process.specs.declared.misses.Miss.{Miss}
@@ -60,7 +58,6 @@ attempting_entered x setup state line cleared o o' e a =
 
 -- an attempt that came to this inside came to it outside
 module _ (x : Outline) (setup : List journaled.Entry) (line : Line) (old state : LineState) (o : PassValue journaled.Entry) where
-
   came_out : (came : Fast) → HasAttempted x setup line old came (inside state o)
       → HasAttempted x setup line old came (inside state (record o { view = left_view o.view }))
   came_out fast.Done e = record {

@@ -7,7 +7,7 @@ use Rattle.mx_sdw.specs.declared.denials.Denial.{Denial}
 use Rattle.mx_transcript.proofs.DenialLaws.{denials_append, few_denials, last_of}
 use Rattle.mx_transcript.specs.Denials.{denial_of, denials, last_denial}
 use Rattle.mx_transcript.specs.Transcripts.{Step}
-use Rattle.mx_process.specs.Audited.{IsAudited, IsTold, as_list}
+use Rattle.mx_process.specs.Audited.{IsAudited, as_list}
 
 one_line : (step : Step) → denials (step ∷ []) ≡ as_list (denial_of step)
 one_line step = by_denial (denial_of step) refl

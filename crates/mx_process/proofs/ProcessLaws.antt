@@ -1,14 +1,12 @@
 -- What a process's type says holds of a new one, and after each of its calls.
-use Rattle.std.proofs.Common.{◌≡◌, ℕ, zero, suc, ◌+◌, ◌-◌, ◌<◌, ◌≤◌, ◌^◌, nat_lt, IsTrue, map, List, [], ◌∷◌, ◌++◌, drop, length, append-nil, Option, Some, None, refl, sym, ◌∙◌, ap, subst, arith}
+use Rattle.std.proofs.Common.{◌≡◌, ℕ, zero, suc, ◌+◌, ◌-◌, ◌<◌, ◌≤◌, ◌^◌, nat_lt, IsTrue, map, List, [], ◌∷◌, drop, length, Option, Some, None, refl, sym, ◌∙◌, ap, subst, arith}
 use Rattle.std.proofs.lemmas.Bool.Decides.{nat_tests}
 use Rattle.std.specs.List.{slice_get}
-use Rattle.std.specs.Option.{option_map}
 use Rattle.mx_audit.specs.Accounts.{Account}
 use Rattle.mx_call.specs.Loading as start
 use Rattle.mx_closing.specs.Views.{kept_in, marked_in, view_in}
 use Rattle.mx_core.specs.AssociativeMemory.{recalled}
 use Rattle.mx_core.specs.declared.elements.Kept.{Kept as Recorded}
-use Rattle.mx_core.specs.declared.words.Stage.TheVariants.{Outside}
 use Rattle.mx_core.specs.declared.words.Triple.{Triple}
 use Rattle.mx_desc.specs.Passes.{PassValue}
 use Rattle.mx_line.specs.AtWork.{IsCome, IsFree}
@@ -19,7 +17,7 @@ use Rattle.mx_line.specs.declared.operands.Progress.TheVariants.{Before}
 use Rattle.mx_line.specs.declared.processes.Process.{Process as LineState}
 use Rattle.mx_office.specs.Serving.{told_to}
 use Rattle.mx_request.specs.Versions.{most_gates}
-use Rattle.mx_rule.specs.Shown.{all_told, fresh_view}
+use Rattle.mx_rule.specs.Shown.{all_told}
 use Rattle.mx_rule.specs.declared.views.PassView.{PassView}
 use Rattle.mx_script.specs.Sessions.{Outline, IsSession}
 use Rattle.mx_script.specs.declared.lines.Line.{Line}
@@ -29,12 +27,11 @@ use Rattle.mx_ties.specs.AtWork.{AtWork}
 use Rattle.mx_ties.specs.Views.{View}
 use Rattle.mx_ties.specs.Working.{IsWorking, HasWorked}
 use Rattle.mx_transcript.specs.Asking.{next}
-use Rattle.mx_transcript.specs.Courses.{Course, Attempt}
+use Rattle.mx_transcript.specs.Courses.{Attempt}
 use Rattle.mx_transcript.specs.Legal.{setup_entries}
 use Rattle.mx_transcript.specs.Openings.{opening_control}
-use Rattle.mx_transcript.specs.Scripts.{first_line, lines_of, script_at}
+use Rattle.mx_transcript.specs.Scripts.{first_line, lines_of}
 use Rattle.mx_transcript.specs.Transcripts.{Step}
-use Rattle.mx_transcript.specs.declared.transcripts.Event2.{Event2}
 use Rattle.mx_upcall.specs.Control.{Control}
 use Rattle.mx_upcall.specs.Gates.{no_gates}
 use Rattle.mx_upcall.specs.Soundness.{IsPackableControl}
@@ -42,7 +39,7 @@ use Rattle.mx_process.proofs.AuditLaws.{audited_first}
 use Rattle.mx_line.proofs.ScriptLaws.{past_end}
 use Rattle.mx_process.proofs.PlaceLaws.{countable_next, fewer_next, number_next, sayable_next, script_next}
 use Rattle.mx_process.specs.Audited.{IsAudited}
-use Rattle.mx_process.specs.Processes.{Known, ProcessValue, AsksIn, HasLine, IsAtLine, IsAtWork, IsBefore, IsMissing, IsNewPass, IsProcess, IsStill, Stands, at_work, having_done, known_of, left_of, number_in, script_of}
+use Rattle.mx_process.specs.Processes.{Known, ProcessValue, AsksIn, HasLine, IsAtLine, IsAtWork, IsBefore, IsNewPass, IsProcess, IsStill, Stands, having_done, known_of, left_of, number_in, script_of}
 use Rattle.mx_process.specs.Turns.{IsAttempting}
 use Rattle.mx_process.specs.declared.misses.Miss.{Miss}
 

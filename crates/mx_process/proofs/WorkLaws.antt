@@ -48,7 +48,6 @@ with_events w events = record w { events = events }
 -- a line that ended so: the next one is at work, or none is left
 module _ (x : Outline) (setup : List journaled.Entry) (line : Line) (old new : LineState) (k : Known) (course : Course)
     (events : List Event2) (end : End) where
-
   pub line_ended : 1 ≤ k.process → old.first ≡ first_line x k.process
       → IsWorking x setup k.process (with_events (at_work x k.process old line course) events) k.view k.told
       → next old.control line course ≡ Ends end.ends (changed old.control end.after)

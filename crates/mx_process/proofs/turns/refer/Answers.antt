@@ -1,5 +1,4 @@
-use Rattle.std.proofs.Common.{◌≡◌, ap, sym, subst, Some}
-use Rattle.mx_core.specs.declared.words.Asked.{Asked}
+use Rattle.std.proofs.Common.{ap, sym, subst}
 use Rattle.mx_line.specs.AtWork.{IsMet}
 use Rattle.mx_line.specs.declared.at_work.LineAtWork.TheVariants.{At}
 use Rattle.mx_rule.specs.declared.views.PassView.{PassView}

@@ -11,15 +11,15 @@ returns-in-At-clause-taken c = record {
       c.replace-progress.ensures.value
       (record { taken = c.in-At.ensures.taken; good = c.in-At.ensures.good; nearer = c.in-At.ensures.nearer });
   comes = (
-      refl,
-      record {
-        first = refl;
-        control = refl;
-        steps = c.keep.ensures.steps;
-        events = c.keep.ensures.events;
-        progress = refl;
-        room = c.keep.ensures.room;
-      },
+    refl,
+    record {
+      first = refl;
+      control = refl;
+      steps = c.keep.ensures.steps;
+      events = c.keep.ensures.events;
+      progress = refl;
+      room = c.keep.ensures.room;
+    },
   );
 }
 
@@ -31,15 +31,18 @@ returns-in-Ended-clause-taken c =
           c.replace-progress.ensures.value
           (record { taken = c.in-Ended.ensures.taken; good = c.in-Ended.ensures.good; nearer = c.in-Ended.ensures.nearer });
       comes = (
-          refl,
-          record {
-            first = ended.first;
-            control = ended.control;
-            steps = ended.steps
-                ∙ (λ i. c.keep.ensures.steps i ++ (c.args.state.now.first + length (c.keep.ensures.steps i), c.keep.ensures.events i,
-                c.in-Ended.end.ends) ∷ []);
-            idle = ended.idle;
-            progress = ended.progress;
-          },
+        refl,
+        record {
+          first = ended.first;
+          control = ended.control;
+          steps = ended.steps
+              ∙ (λ i. c.keep.ensures.steps i ++ (
+                c.args.state.now.first + length (c.keep.ensures.steps i),
+                c.keep.ensures.events i,
+                c.in-Ended.end.ends,
+              ) ∷ []);
+          idle = ended.idle;
+          progress = ended.progress;
+        },
       );
     }

@@ -1,7 +1,7 @@
 use Rattle.std.proofs.Common.{◌≡◌, ◌∙◌, ℕ, None, Option, ap, subst, sym}
 use Rattle.std.specs.Option.{option_map}
 use Rattle.mx_sdw.specs.declared.denials.Denial.{Denial}
-use Rattle.mx_process.proofs.AttemptLaws.{attempt_begins, done_process, has_room, is_linked, link_told, value_of}
+use Rattle.mx_process.proofs.AttemptLaws.{attempt_begins, done_process, has_room, is_linked, link_told}
 use Rattle.mx_process.proofs.AuditLaws.{told_more}
 use Rattle.mx_process.specs.Attempts.{IsAtLinkIn}
 use Rattle.mx_process.specs.Processes.{IsProcess, ProcessValue}

@@ -1,4 +1,4 @@
-use Rattle.std.proofs.Common.{◌≤◌, IsTrue, nat_lt, length, subst}
+use Rattle.std.proofs.Common.{IsTrue, nat_lt, length, subst}
 use Rattle.mx_process.proofs.ProcessLaws.{line_left}
 use Rattle.mx_process.specs.Processes.{HasLine, ProcessValue}
 use Rattle.mx_process.proofs.processes.Process.has_line.Goals as goal

@@ -1,4 +1,4 @@
-use Rattle.std.proofs.Common.{ℕ, ap, subst, sym, ◌∙◌, Bor, Option}
+use Rattle.std.proofs.Common.{ℕ, ap, subst, sym, ◌∙◌, Bor}
 use Rattle.std.specs.Option.{option_map}
 use Rattle.mx_script.specs.declared.lines.Line.{Line}
 use Rattle.mx_process.proofs.ProcessLaws.{line_next, no_line}

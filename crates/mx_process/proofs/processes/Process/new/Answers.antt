@@ -1,6 +1,5 @@
 use Rattle.std.proofs.Common.{◌≡◌, ◌-◌, ◌≤◌, ◌∙◌, Some, ap, refl, sym, subst, rules}
 use Rattle.std.specs.List.{slice_get}
-use Rattle.mx_core.specs.declared.words.Triple.{Triple}
 use Rattle.mx_line.proofs.ScriptLaws.{script_is}
 use Rattle.mx_request.specs.Versions.{most_gates}
 use Rattle.mx_script.specs.Sessions.{IsSession, Outline}
