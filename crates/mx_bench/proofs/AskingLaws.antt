@@ -21,7 +21,7 @@ use Rattle.mx_script.specs.declared.lines.Line.{Line}
 use Rattle.mx_script.specs.declared.lines.Line.TheVariants as line
 use Rattle.mx_sdw.specs.declared.denials.Denial.{Denial}
 use Rattle.mx_state.proofs.ToldLaws.{link_replies_law}
-use Rattle.std.specs.Prelude.{MatchOption}
+use Rattle.std.specs.Prelude.{IfSome, MatchOption}
 use Rattle.mx_transcript.specs.Opened.{opening_of}
 use Rattle.mx_state.specs.History.{replay, IsRightEntry}
 use Rattle.mx_state.specs.Messages.{is_ready}
@@ -109,16 +109,32 @@ seen_asking x s whole room cells processes w p i l asks k view place a idle othe
           (λ it at. idle (seat_in h.process) it seated at);
     }
 
-pub seen_referring : (x : Outline) (s : Supervised) (whole : List (List Step)) (cells : List Contents) (processes : List Process) (w : World) (p i : ℕ)
-    (l : Line) (r : asking_for.Reference) → world_in x s whole cells processes ≡ w → i ≡ p - 1 → HasReferred processes i l r
-    → IsReferring w p l r
-seen_referring x s whole cells processes w p i l r view place h = record {
-  memory = h.refers.memory;
-  seat = seat_in h.process;
-  seated = ap (λ (v : World). slice_get v.seats (p - 1)) (sym view) ∙ ap (slice_get _) (sym place) ∙ seat_of processes i h.process h.at;
-  asks = h.refers.says.is;
-  storable = h.refers.says.storable;
-}
+pub seen_referring : (x : Outline) (s : Supervised) (whole : List (List Step)) (room : ℕ) (cells : List Contents) (processes : List Process) (w : World) (p i : ℕ)
+    (l : Line) (r : asking_for.Reference) → IsKept x s whole room cells processes → world_in x s whole cells processes ≡ w → i ≡ p - 1
+    → IsAtLine w p l → HasReferred processes i l r → IsReferring w p l r
+seen_referring x s whole room cells processes w p i l r k view place a h =
+    let seated : slice_get w.seats (p - 1) ≡ Some (seat_in h.process)
+    = ap (λ (v : World). slice_get v.seats (p - 1)) (sym view) ∙ ap (slice_get _) (sym place) ∙ seat_of processes i h.process h.at in
+    let running : IsRunning w = subst IsRunning view k.running in
+    let there = at_place w p l a in
+    let same : a.seat ≡ seat_in h.process = same_seats w p a.seat (seat_in h.process) a.seated seated in
+    let now = at_line w.session running.setup (suc (p - 1)) a.seat (left_of w.session (suc (p - 1)) a.seat) a.number l a.left (running.views (suc (p - 1)))
+    there.at (running.each (p - 1) a.seat there.seated) in
+    record {
+      memory = h.refers.memory now.course (subst (λ (seat : Seat). IsCome seat.control l now.course seat.progress) same now.come);
+      seat = seat_in h.process;
+      seated = seated;
+      asks = h.refers.says.is;
+      storable = h.refers.says.storable;
+    }
+
+-- so it is with the reference that is found
+pub seen_referring_in : (x : Outline) (s : Supervised) (whole : List (List Step)) (room : ℕ) (cells : List Contents) (processes : List Process) (w : World) (p i : ℕ)
+    (l : Line) (found : Option asking_for.Reference) → IsKept x s whole room cells processes → world_in x s whole cells processes ≡ w → i ≡ p - 1
+    → IsAtLine w p l → IfSome found (HasReferred processes i l) → IfSome found (IsReferring w p l)
+seen_referring_in x s whole room cells processes w p i l None k view place a h = tt
+seen_referring_in x s whole room cells processes w p i l (Some r) k view place a h =
+    seen_referring x s whole room cells processes w p i l r k view place a h
 
 pub seen_registers : (x : Outline) (s : Supervised) (whole : List (List Step)) (room : ℕ) (cells : List Contents) (processes : List Process) (w : World) (p i : ℕ)
     (g : Registers) → IsKept x s whole room cells processes → world_in x s whole cells processes ≡ w → i ≡ p - 1 → HasRegisters processes i g

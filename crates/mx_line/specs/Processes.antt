@@ -202,7 +202,7 @@ pub record HasAsked (processes : List Process) (i : ℕ) (l : Line) (asks : aski
 
 -- its line, which refers to memory, asks for this reference
 pub record IsReferring (p : Process) (l : Line) (r : asked.Reference) : Type 0 where
-  pub memory : IsMemoryLine l
+  pub memory : (course : Course) → IsCome p.control l course p.progress → IsMemoryLine l
   pub says : IsAsking p l (asks.Asks r)
 
 pub record HasReferred (processes : List Process) (i : ℕ) (l : Line) (r : asked.Reference) : Type 0 where
@@ -212,8 +212,7 @@ pub record HasReferred (processes : List Process) (i : ℕ) (l : Line) (r : aske
 
 -- its line at work ends so by this element, which it has on some descriptor
 pub record HasPlainEnd (p : Process) (l : Line) (e : Element) (ends : Result2) : Type 0 where
-  pub before : p.progress ≡ Before
-  pub taken : IsTakenTo p.control l e (works.At Before) (left p.control (Some ends))
+  pub taken : IsTakenTo p.control l e (works.At p.progress) (left p.control (Some ends))
   pub good : IsGoodWork p.control (left p.control (Some ends))
 
 -- what an element makes of the line at work

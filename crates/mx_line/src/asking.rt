@@ -1,6 +1,6 @@
 //! What a line asks for next.
 
-ghost use Rattle.std.specs.Prelude.{◌≡◌, [], Some, IfSome, IsNone};
+ghost use Rattle.std.specs.Prelude.{◌≡◌, [], Some, None, IfSome, IsNone};
 ghost use Rattle.std.specs.Option.{option_map};
 ghost use Rattle.mx_effring.specs.declared.walks.Want.TheVariants.{Done};
 ghost use Rattle.mx_transcript.specs.Next.{Asks};
@@ -8,7 +8,7 @@ ghost use Rattle.mx_call.specs.Registers.{ArePackable, way_back};
 ghost use Rattle.mx_effring.specs.Walks.{wanted};
 ghost use Rattle.mx_transcript.specs.Asking.{attempts};
 ghost use Rattle.mx_transcript.specs.Attempts.{wants};
-ghost use Rattle.mx_sdw.specs.declared.operations.Op.TheVariants.{Write};
+ghost use Rattle.mx_sdw.specs.declared.operations.Op.TheVariants.{Indirect, Write};
 ghost use Rattle.mx_transcript.specs.Next.{at_place, storing};
 ghost use Rattle.mx_ptr.specs.Pointers.{IsPackable};
 ghost use Rattle.mx_transcript.specs.Operands.{walk_of};
@@ -235,6 +235,20 @@ pub(crate) fn wants(line: &Line, control: &Control, walk: &Walk) -> Next
     at_want(line, control, &walk.want())
 }
 
+/// The reference that a line asks for where its walk has come so far; none where it asks for another thing.
+pub(crate) fn next_reference(line: &Line, control: &Control, walk: &Walk) -> Option<Reference>
+    requires line { IsSayable line.now }
+    requires packable { IsPackableControl control.now }
+    requires good { IsGoodWalk control.now.registers walk.now }
+    ensures some { IfSome result (λ asked. wants control.now line.now (wanted walk.now) ≡ Asks (reference_in asked)) }
+    ensures storable { IfSome result (λ asked. IsStorableBy asked.op asked.stores) }
+{
+    match walk.want() {
+        Want::Word { segno, word, ring } => Some(looking(segno, word, ring)),
+        Want::Done(target) => reference_at(line, control, &target),
+    }
+}
+
 // What a line asks for by what its walk does.
 fn at_want(line: &Line, control: &Control, want: &Want) -> Next
     requires line { IsSayable line.now }
@@ -246,14 +260,22 @@ fn at_want(line: &Line, control: &Control, want: &Want) -> Next
     ensures plain { IsMemoryLine line.now → IsPlain line.now result }
 {
     match want {
-        Want::Word { segno, word, ring } => Next::Asks(Reference {
-            op: Op::Indirect,
-            segno: *segno,
-            word: *word,
-            ring: *ring,
-            stores: None,
-        }),
+        Want::Word { segno, word, ring } => Next::Asks(looking(*segno, *word, *ring)),
         Want::Done(target) => at_target(line, control, target),
+    }
+}
+
+// The reading of an indirect word.
+fn looking(segno: u16, word: u16, ring: Ring) -> Reference
+    ensures is { reference_in result ≡ record { op = Indirect; segno = segno; word = word; ring = ring; stores = None } }
+    ensures storable { IsStorableBy result.op result.stores }
+{
+    Reference {
+        op: Op::Indirect,
+        segno,
+        word,
+        ring,
+        stores: None,
     }
 }
 

@@ -33,7 +33,7 @@ ghost use Rattle.mx_line.specs.Fills.{IsNoRequest, IsShort, after_fill, counted,
 ghost use Rattle.mx_line.specs.Making.{looks};
 ghost use Rattle.mx_line.specs.Operands.{IsGoodProgress, IsGoodWalk, IsMemoryLine, IsSayable, IsTarget};
 ghost use Rattle.mx_line.specs.declared.at_work.LineAtWork.TheVariants.{At, Ended, Nowhere};
-ghost use Rattle.mx_line.specs.declared.operands.Progress.TheVariants.{Before, Waiting};
+ghost use Rattle.mx_line.specs.declared.operands.Progress.TheVariants.{Before, Waiting, Walking};
 
 use crate::asking::{Called, End, Next, begins, first_target, walk_of, wants};
 use crate::fills::{Behind, Fill, Filled, Snap, first_fill};
@@ -348,6 +348,23 @@ pub(crate) fn first_end(line: &Line, control: &Control, element: &Element) -> Op
     match first_target(line, &control.registers) {
         Some(_) => end_at(line, element),
         None => None,
+    }
+}
+
+/// How a line ends by the reference for which its walk asks, where that neither is to an indirect word nor moves the process.
+pub(crate) fn walked_end(
+    line: &Line,
+    control: &Control,
+    walk: &Walk,
+    element: &Element,
+) -> Option<Result2>
+    requires packable { IsPackableControl control.now }
+    ensures taken { IfSome result (λ ends. IsTakenTo control.now line.now element.now (At (Walking walk.now)) (left control.now (Some ends))) }
+    ensures good { IfSome result (λ ends. IsGoodWork control.now (left control.now (Some ends))) }
+{
+    match walk.want() {
+        Want::Done(_) => end_at(line, element),
+        Want::Word { .. } => None,
     }
 }
 
