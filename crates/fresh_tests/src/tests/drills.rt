@@ -13,7 +13,7 @@ fn the_drill_of_seven(rt: HostRuntime) -> Result<(), Fail> {
     let alloc = rt.alloc();
     let session = session_of(alloc, 7)?;
     let text = session_text(alloc, &session)?;
-    let Some(ran) = run_in_order(alloc, &text, b"", ROOM)? else {
+    let Some(ran) = run_in_order(alloc, text.items(), b"", ROOM)? else {
         return Err(Fail::new("not run"));
     };
     let entrants = session.principals().items();
