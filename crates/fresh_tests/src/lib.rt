@@ -2,7 +2,8 @@
 //! descriptors.
 //!
 //! The crate has tests alone. That both are what the definitions say is proved where they stand; a run shows it to who
-//! would rather see it. Stands on both programs and on requests.
+//! would rather see it. A journal with a wrong reply in it shows that the comparison tells it. The journals of the
+//! teaching sessions are played by the program `sessions`. Stands on `both_supervisors`, on drills and on runs in order.
 #![tactic(auto)]
 
 #[cfg(test)]

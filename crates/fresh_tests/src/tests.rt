@@ -1,5 +1,7 @@
 //! The tests, by what they are about.
 
+mod drills;
+mod entrants;
 mod journal;
-mod playing;
 mod replays;
+mod rows;

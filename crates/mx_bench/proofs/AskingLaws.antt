@@ -21,7 +21,7 @@ use Rattle.mx_script.specs.declared.lines.Line.{Line}
 use Rattle.mx_script.specs.declared.lines.Line.TheVariants as line
 use Rattle.mx_sdw.specs.declared.denials.Denial.{Denial}
 use Rattle.mx_state.proofs.ToldLaws.{link_replies_law}
-use Rattle.std.specs.Prelude.{MatchOption}
+use Rattle.std.specs.Prelude.{IfSome, MatchOption}
 use Rattle.mx_transcript.specs.Opened.{opening_of}
 use Rattle.mx_state.specs.History.{replay, IsRightEntry}
 use Rattle.mx_state.specs.Messages.{is_ready}
@@ -36,13 +36,13 @@ use Rattle.mx_bench.proofs.OpeningLaws.{seat_of as process_of}
 use Rattle.mx_line.proofs.ReplyLaws.{memory_answers}
 use Rattle.mx_line.proofs.SeatLaws.{set_here}
 use Rattle.mx_line.proofs.StandingLaws.{waits_next}
-use Rattle.mx_bench.specs.Asking.{HasSeat, HasSeatWith, IsAsking, IsTold, IsToFill, IsUnfilled, IsUntold, IsReadyBelow, IsUnreadyBelow, IsToldToWait, IsCalling}
+use Rattle.mx_bench.specs.Asking.{HasSeat, HasSeatWith, IsAsking, IsReferring, IsTold, IsToFill, IsUnfilled, IsUntold, IsReadyBelow, IsUnreadyBelow, IsToldToWait, IsCalling}
 use Rattle.mx_line.specs.Fills.{IsAnsweredBy, IsNoRequest}
 use Rattle.mx_bench.proofs.WorldLaws.{IsAt, at_line, not_told, told_blocks}
 use Rattle.mx_bench.specs.Stepping.{IsLastDenial, IsAtLine, IsWaiting, state_in}
 use Rattle.mx_bench.specs.Benches.{world_in, IsKept}
 use Rattle.mx_line.specs.Operands.{IsMemoryLine, IsPlaced, IsGoodProgress, IsSayable}
-use Rattle.mx_line.specs.Processes.{seat_in, IsGoodAt, IsStill, HasProgress, HasAsked, HasFill, HasLastDenial, HasRegisters, fill_of}
+use Rattle.mx_line.specs.Processes.{seat_in, IsGoodAt, IsStill, HasProgress, HasAsked, HasReferred, HasFill, HasLastDenial, HasRegisters, fill_of}
 use Rattle.mx_line.specs.AtWork.{IsAnswered, IsCome, IsFree}
 use Rattle.mx_bench.specs.Running.{IsRunning, left_of}
 use Rattle.mx_line.specs.Seats.{Seat}
@@ -52,6 +52,7 @@ use Rattle.mx_line.specs.declared.memory.Contents.{Contents}
 use Rattle.mx_line.specs.declared.asking.Called.TheVariants as called
 use Rattle.mx_line.specs.declared.asking.Next as asking
 use Rattle.mx_line.specs.declared.asking.Next.TheVariants as asks
+use Rattle.mx_line.specs.declared.asking.Reference as asking_for
 use Rattle.mx_line.specs.declared.operands.Progress.{Progress}
 use Rattle.mx_line.specs.declared.operands.Progress.TheVariants.{Before, Walking, AtLink, Waiting, Filling}
 use Rattle.mx_line.specs.declared.processes.Process.{Process}
@@ -107,6 +108,33 @@ seen_asking x s whole room cells processes w p i l asks k view place a idle othe
       plain = h.says.plain now.course (subst (λ (seat : Seat). IsCome seat.control l now.course seat.progress) same now.come) other
           (λ it at. idle (seat_in h.process) it seated at);
     }
+
+pub seen_referring : (x : Outline) (s : Supervised) (whole : List (List Step)) (room : ℕ) (cells : List Contents) (processes : List Process) (w : World) (p i : ℕ)
+    (l : Line) (r : asking_for.Reference) → IsKept x s whole room cells processes → world_in x s whole cells processes ≡ w → i ≡ p - 1
+    → IsAtLine w p l → HasReferred processes i l r → IsReferring w p l r
+seen_referring x s whole room cells processes w p i l r k view place a h =
+    let seated : slice_get w.seats (p - 1) ≡ Some (seat_in h.process)
+    = ap (λ (v : World). slice_get v.seats (p - 1)) (sym view) ∙ ap (slice_get _) (sym place) ∙ seat_of processes i h.process h.at in
+    let running : IsRunning w = subst IsRunning view k.running in
+    let there = at_place w p l a in
+    let same : a.seat ≡ seat_in h.process = same_seats w p a.seat (seat_in h.process) a.seated seated in
+    let now = at_line w.session running.setup (suc (p - 1)) a.seat (left_of w.session (suc (p - 1)) a.seat) a.number l a.left (running.views (suc (p - 1)))
+    there.at (running.each (p - 1) a.seat there.seated) in
+    record {
+      memory = h.refers.memory now.course (subst (λ (seat : Seat). IsCome seat.control l now.course seat.progress) same now.come);
+      seat = seat_in h.process;
+      seated = seated;
+      asks = h.refers.says.is;
+      storable = h.refers.says.storable;
+    }
+
+-- so it is with the reference that is found
+pub seen_referring_in : (x : Outline) (s : Supervised) (whole : List (List Step)) (room : ℕ) (cells : List Contents) (processes : List Process) (w : World) (p i : ℕ)
+    (l : Line) (found : Option asking_for.Reference) → IsKept x s whole room cells processes → world_in x s whole cells processes ≡ w → i ≡ p - 1
+    → IsAtLine w p l → IfSome found (HasReferred processes i l) → IfSome found (IsReferring w p l)
+seen_referring_in x s whole room cells processes w p i l None k view place a h = tt
+seen_referring_in x s whole room cells processes w p i l (Some r) k view place a h =
+    seen_referring x s whole room cells processes w p i l r k view place a h
 
 pub seen_registers : (x : Outline) (s : Supervised) (whole : List (List Step)) (room : ℕ) (cells : List Contents) (processes : List Process) (w : World) (p i : ℕ)
     (g : Registers) → IsKept x s whole room cells processes → world_in x s whole cells processes ≡ w → i ≡ p - 1 → HasRegisters processes i g

@@ -114,9 +114,87 @@ impl<'a> Bench<'a> {
         ensures gone { IfOk result (λ stepped. HasGone self.old p stepped self.new) }
         ensures err { OnErr result (self.new ≡ self.old) }
     {
+        match request_of(line) {
+            Some(request) => self.do_request(alloc, p, line, request),
+            None => self.do_other(alloc, p, line),
+        }
+    }
+
+    // A request goes on: what is to be stored after its reply comes first.
+    fn do_request(
+        &mut self,
+        alloc: Global,
+        p: u8,
+        line: &Line,
+        request: &Request,
+    ) -> Result<Stepped, AllocError>
+        requires at { IsAtLine self.old p line.now }
+        requires line { line.now ≡ lines.Ask request.now }
+        ensures gone { IfOk result (λ stepped. HasGone self.old p stepped self.new) }
+        ensures err { OnErr result (self.new ≡ self.old) }
+    {
         match self.filling(p) {
             Some(fill) => self.fill(p, line, &fill),
-            None => self.do_next(alloc, p, line),
+            None => self.ask(alloc, p, line, request),
+        }
+    }
+
+    // A line that is no request goes on.
+    fn do_other(&mut self, alloc: Global, p: u8, line: &Line) -> Result<Stepped, AllocError>
+        requires at { IsAtLine self.old p line.now }
+        requires other { IsNoRequest line.now }
+        ensures gone { IfOk result (λ stepped. HasGone self.old p stepped self.new) }
+        ensures err { OnErr result (self.new ≡ self.old) }
+    {
+        match self.refers(p, line) {
+            Some(asked) => self.refer(p, line, &asked),
+            None => self.do_begun(alloc, p, line),
+        }
+    }
+
+    // The reference that a line asks for at its beginning, where its operand is not indirect; none where it has begun
+    // already, or asks for another thing.
+    #[inline(always)]
+    fn refers(&self, p: u8, line: &Line) -> Option<Reference>
+        requires { IsAtLine self.now p line.now }
+        ensures { IfSome result (IsReferring self.now p line.now) }
+    {
+        self.processes.refers(usize::from(p) - 1, line)
+    }
+
+    // A line that is no request goes on, which has begun or does not begin with a reference.
+    #[inline(never)]
+    fn do_begun(&mut self, alloc: Global, p: u8, line: &Line) -> Result<Stepped, AllocError>
+        requires at { IsAtLine self.old p line.now }
+        requires other { IsNoRequest line.now }
+        ensures gone { IfOk result (λ stepped. HasGone self.old p stepped self.new) }
+        ensures err { OnErr result (self.new ≡ self.old) }
+    {
+        match self.refers_on(p, line) {
+            Some(asked) => self.refer(p, line, &asked),
+            None => self.do_unwalked(alloc, p, line),
+        }
+    }
+
+    // The reference that a line asks for where it has read some indirect words; none where it has read none, or asks for
+    // another thing.
+    fn refers_on(&self, p: u8, line: &Line) -> Option<Reference>
+        requires { IsAtLine self.now p line.now }
+        ensures { IfSome result (IsReferring self.now p line.now) }
+    {
+        self.processes.refers_on(usize::from(p) - 1, line)
+    }
+
+    // A line goes on that is no request and asks for no reference.
+    fn do_unwalked(&mut self, alloc: Global, p: u8, line: &Line) -> Result<Stepped, AllocError>
+        requires at { IsAtLine self.old p line.now }
+        requires other { IsNoRequest line.now }
+        ensures gone { IfOk result (λ stepped. HasGone self.old p stepped self.new) }
+        ensures err { OnErr result (self.new ≡ self.old) }
+    {
+        match self.filling(p) {
+            Some(fill) => self.fill(p, line, &fill),
+            None => self.go(alloc, p, line),
         }
     }
 
@@ -129,20 +207,7 @@ impl<'a> Bench<'a> {
         self.processes.filling(usize::from(p) - 1)
     }
 
-    // The process, which is to store nothing, goes on with its next line.
-    fn do_next(&mut self, alloc: Global, p: u8, line: &Line) -> Result<Stepped, AllocError>
-        requires at { IsAtLine self.old p line.now }
-        requires idle { IsUnfilled self.old p }
-        ensures gone { IfOk result (λ stepped. HasGone self.old p stepped self.new) }
-        ensures err { OnErr result (self.new ≡ self.old) }
-    {
-        match request_of(line) {
-            Some(request) => self.ask(alloc, p, line, request),
-            None => self.go(alloc, p, line),
-        }
-    }
-
-    // A line that is no request goes on.
+    // A line that is no request, and is to store nothing, goes on.
     fn go(&mut self, alloc: Global, p: u8, line: &Line) -> Result<Stepped, AllocError>
         requires at { IsAtLine self.old p line.now }
         requires idle { IsUnfilled self.old p }

@@ -1,3 +1,3 @@
 mod Recalling
 mod PlaceLaws
-mod CamLaws
+pub mod CamLaws

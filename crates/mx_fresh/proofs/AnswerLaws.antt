@@ -1,19 +1,24 @@
 -- What a request on a path is answered, by what was done to the hierarchy.
-use Rattle.std.proofs.Common.{◌≡◌, ℕ, Result, Ok, Err, IfOk, OnErr, IsErr, refl, sym, ap, subst, ◌∙◌}
+use Rattle.std.proofs.Common.{◌≡◌, ℕ, Option, Result, Ok, Err, IfOk, OnErr, IsErr, IsOk, refl, sym, ap, subst, ◌∙◌}
 use Rattle.std.specs.declared.alloc.AllocError.{AllocError}
 use Rattle.mx_hier.specs.Branches.{Hierarchy}
 use Rattle.mx_hier.specs.Callers.{Caller}
-use Rattle.mx_hier.specs.Rules.{Answers, Tells, onward}
+use Rattle.mx_hier.specs.Rules.{Answers, Tells, TellsFirst, onward}
 use Rattle.mx_hier.specs.declared.refusals.HierError.{HierError}
 use Rattle.mx_hier.specs.declared.refusals.HierError.TheVariants as given
 use Rattle.mx_hier.specs.declared.refusals.Refusal.{Refusal}
+use Rattle.mx_pages.specs.declared.pages.PageRun.{PageRun}
 use Rattle.mx_request.specs.declared.replies.Reply.{Reply}
 use Rattle.mx_request.specs.declared.replies.Reply.TheVariants as reply
 use Rattle.mx_state.specs.Askers.{Asker, Initializer, Process, Nobody, asker, answered_caller, on_path}
 use Rattle.mx_state.specs.Calling.{IsCallerOf}
 use Rattle.mx_state.specs.Plain.{Plain, Answer, answer}
-use Rattle.mx_state.specs.Replies.{Says}
+use Rattle.mx_state.specs.NextRun.{IsNext}
 use Rattle.mx_state.specs.Requests.{changed, told}
+use Rattle.mx_state.proofs.GivenLaws.{Ends, KeepsPages}
+use Rattle.mx_fresh.specs.Runs.{GivesNext}
+use Rattle.mx_fresh.specs.Said.{SaysDone, giving_none, said}
+use Rattle.mx_fresh.specs.declared.answered.Answered.{Answered}
 
 -- whose request it is
 pub asked : (s : Plain) (p ring : ℕ) (who : Caller) (meant : Caller → Answer) → IsCallerOf (asker s.processes p) ring who → on_path s p ring meant ≡ meant who
@@ -24,33 +29,68 @@ asked s p ring who meant is = by (asker s.processes p) is
     by (Process process) e = ap meant (sym e)
     by Nobody e = absurd e
 
-no_reply : (result : Result Reply AllocError) (F : Reply → Type 0) → IsErr result → IfOk result F
-no_reply (Ok reply) F e = absurd (cc)
-no_reply (Err error) F e = tt
+no_answer : (result : Result Answered AllocError) (F : Answered → Type 0) → IsErr result → IfOk result F
+no_answer (Ok answered) F e = absurd (cc)
+no_answer (Err error) F e = tt
 
-refused_so : (result : Result Reply AllocError) (F : Type 0) → F → OnErr result F
-refused_so (Ok reply) F f = tt
-refused_so (Err error) F f = f
+pub on_error : {A : Type 0} (result : Result A AllocError) (F : Type 0) → F → OnErr result F
+on_error (Ok value) F f = tt
+on_error (Err error) F f = f
 
 -- what is done, or refused
-answered : {A : Type 0} (s : Plain) (meant : Result Hierarchy Refusal) (new : Hierarchy) (did : Result A HierError) (result : Result Reply AllocError)
-    → Answers meant s.hierarchy did new → Says did result → IfOk result (λ reply. changed s meant ≡ answer reply (record s { hierarchy = new }))
-answered s meant new (Ok value) result a e = rw (e, a) refl
+answered : (s : Plain) (meant : Result Hierarchy Refusal) (new : Hierarchy) (did : Result (Option PageRun) HierError) (result : Result Answered AllocError)
+    → Answers meant s.hierarchy did new → SaysDone did result → IfOk result (λ a. changed s meant ≡ answer a.reply (record s { hierarchy = new }))
+answered s meant new (Ok run) result a e = rw (e, a) refl
 answered s meant new (Err (given.Refused why)) result a e = rw (e, a.0, a.1) refl
-answered s meant new (Err given.Memory) result a e = no_reply result (λ reply. changed s meant ≡ answer reply (record s { hierarchy = new })) e
+answered s meant new (Err given.Memory) result a e = no_answer result (λ a. changed s meant ≡ answer a.reply (record s { hierarchy = new })) e
 
-pub served : {A : Type 0} (s : Plain) (p ring : ℕ) (who : Caller) (meant : Caller → Result Hierarchy Refusal) (new : Hierarchy) (did : Result A HierError) (result : Result Reply AllocError)
-    → IsCallerOf (asker s.processes p) ring who → Answers (meant who) s.hierarchy did new → Says did result
-    → IfOk result (λ reply. on_path s p ring (λ who. changed s (meant who)) ≡ answer reply (record s { hierarchy = new }))
+pub served : (s : Plain) (p ring : ℕ) (who : Caller) (meant : Caller → Result Hierarchy Refusal) (new : Hierarchy) (did : Result (Option PageRun) HierError)
+    (result : Result Answered AllocError) → IsCallerOf (asker s.processes p) ring who → Answers (meant who) s.hierarchy did new → SaysDone did result
+    → IfOk result (λ a. on_path s p ring (λ who. changed s (meant who)) ≡ answer a.reply (record s { hierarchy = new }))
 served s p ring who meant new did result is a e =
-    subst (λ (given : Answer). IfOk result (λ reply. given ≡ answer reply (record s { hierarchy = new })))
+    subst (λ (given : Answer). IfOk result (λ a. given ≡ answer a.reply (record s { hierarchy = new })))
     (sym (asked s p ring who (λ who. changed s (meant who)) is)) (answered s (meant who) new did result a e)
 
-pub unserved : {A : Type 0} (meant : Result Hierarchy Refusal) (old new : Hierarchy) (did : Result A HierError) (result : Result Reply AllocError)
-    → Answers meant old did new → Says did result → OnErr result (new ≡ old)
-unserved meant old new (Ok value) result a e = rw e tt
+pub unserved : (meant : Result Hierarchy Refusal) (old new : Hierarchy) (did : Result (Option PageRun) HierError) (result : Result Answered AllocError)
+    → Answers meant old did new → SaysDone did result → OnErr result (new ≡ old)
+unserved meant old new (Ok run) result a e = rw e tt
 unserved meant old new (Err (given.Refused why)) result a e = rw e tt
-unserved meant old new (Err given.Memory) result a e = refused_so result (new ≡ old) a
+unserved meant old new (Err given.Memory) result a e = on_error result (new ≡ old) a
+
+-- the run that was given out is the next one, also where the request is refused and none is
+pub served_next : (s : Plain) (meant : Result Hierarchy Refusal) (new : Hierarchy) (did : Result (Option PageRun) HierError) (result : Result Answered AllocError)
+    → Answers meant s.hierarchy did new → IfOk did (IsNext s.hierarchy.pages new.pages) → SaysDone did result
+    → IfOk result (GivesNext s (record s { hierarchy = new }))
+served_next s meant new (Ok run) result a next e = rw e (record { next = next; freed = refl })
+served_next s meant new (Err (given.Refused why)) result a next e = rw e (record { next = ap (λ (h : Hierarchy). h.pages) a.1; freed = refl })
+served_next s meant new (Err given.Memory) result a next e = no_answer result (GivesNext s (record s { hierarchy = new })) e
+
+-- what gives out no page
+pub quiet_answers : (meant : Result Hierarchy Refusal) (old new : Hierarchy) (did : Result (Unit {0}) HierError) → Answers meant old did new
+    → Answers meant old (giving_none did) new
+quiet_answers meant old new (Ok done) a = a
+quiet_answers meant old new (Err (given.Refused why)) a = a
+quiet_answers meant old new (Err given.Memory) a = a
+
+pub quiet_next : (meant : Result Hierarchy Refusal) (old new : Hierarchy) (did : Result (Unit {0}) HierError) → Answers meant old did new
+    → Ends (KeepsPages old) meant → IfOk (giving_none did) (IsNext old.pages new.pages)
+quiet_next meant old new (Ok done) a keeps = keeps new a
+quiet_next meant old new (Err error) a keeps = tt
+
+-- a reply alone
+pub said_answer : (F : Reply → Type 0) (reply : Result Reply AllocError) (result : Result Answered AllocError) → result ≡ said reply → IfOk reply F
+    → IfOk result (λ a. F a.reply)
+said_answer F (Ok reply) result e is = rw e is
+said_answer F (Err error) result e is = rw e tt
+
+pub said_next : (old new : Plain) (reply : Result Reply AllocError) (result : Result Answered AllocError) → result ≡ said reply
+    → new.hierarchy ≡ old.hierarchy → IfOk result (GivesNext old new)
+said_next old new (Ok reply) result e same = rw e (record { next = ap (λ (h : Hierarchy). h.pages) same; freed = refl })
+said_next old new (Err error) result e same = rw e tt
+
+pub said_error : (F : Type 0) (reply : Result Reply AllocError) (result : Result Answered AllocError) → result ≡ said reply → OnErr reply F → OnErr result F
+said_error F (Ok reply) result e is = rw e tt
+said_error F (Err error) result e is = rw e is
 
 -- what follows where an entry was found, and where none was
 pub found_then : {A B : Type 0} (first : Result A Refusal) (rest : A → Result Hierarchy Refusal) (value : A) (old new : Hierarchy) (did : Result B HierError)

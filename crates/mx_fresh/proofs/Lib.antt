@@ -4,3 +4,5 @@ pub mod PageLaws
 pub mod FoldLaws
 pub mod RoomLaws
 pub mod AnswerLaws
+pub mod RunLaws
+pub mod ToldLaws

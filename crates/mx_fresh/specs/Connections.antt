@@ -9,6 +9,6 @@ abbrev pub connected_of : Hierarchy → Result Connection Refusal → Result Con
 connected_of hierarchy (Ok connection) = Ok (record {
   known = connection.known;
   after = connection.after;
-  hierarchy = record hierarchy { pages = record { free = connection.free.items } };
+  hierarchy = record hierarchy { pages = connection.pages };
 })
 connected_of hierarchy (Err why) = Err why

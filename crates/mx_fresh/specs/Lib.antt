@@ -5,3 +5,6 @@ pub mod Sent
 pub mod Connections
 pub mod Meant
 pub mod Outcomes
+pub mod Said
+pub mod Runs
+pub mod Told

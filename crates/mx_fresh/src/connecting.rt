@@ -1,35 +1,41 @@
 //! A segment becomes known to a process, or gets a further name: what `initiate` and `link` have in common.
 
-ghost use Rattle.std.specs.Prelude.{◌≡◌, false, Some, IfOk, IfNone};
+ghost use Rattle.std.specs.Prelude.{◌≡◌, ◌≤◌, true, false, Some, None, IfOk, IfNone, IfSome, OnErr};
 ghost use Rattle.std.specs.Option.{option_copied};
 ghost use Rattle.mx_hier.specs.Linkage.{links_at, linkage_brackets, linkage_brackets_at, page_given};
 ghost use Rattle.mx_hier.specs.Rules.{first_of};
 ghost use Rattle.mx_kst.specs.Initiating.{is_full};
+ghost use Rattle.mx_kst.specs.Sections.{IsWithinPage};
 ghost use Rattle.mx_state.specs.Connecting.{connect_refusals, with_section_page, connect};
+ghost use Rattle.mx_state.specs.NextRun.{IsNext, section_run};
 ghost use Rattle.mx_state.specs.Sections.{has_links, needs_section, section_by, section_made};
 ghost use Rattle.mx_fresh.specs.Connections.{connected_of};
 
 use crate::hierarchy::FreshHierarchy;
 use crate::known::{FreshKnown, Section};
-use crate::pages::{run_given, without_run};
+use crate::pages::PageList;
 use mx_hier::Refusal;
 use mx_kst::Known;
 use mx_name::EntryName;
+use mx_pages::PageRun;
 use mx_sdw::{Brackets, Ring};
 use std::alloc::{AllocError, Global};
 
-/// How a segment is known, what the process knows then, and which pages are free then.
+/// How a segment is known, what the process knows then, which pages are free then, and the run that was given out for its
+/// linkage section, if it gets one.
 #[derive(Drop)]
 pub(crate) struct Connection {
     pub(crate) known: Known,
     pub(crate) after: FreshKnown,
-    pub(crate) free: Vec<bool>,
+    pub(crate) pages: PageList,
+    pub(crate) given: Option<PageRun>,
 }
 
 impl FreshHierarchy {
     /// How many links the object of a uid has.
     fn links_at(&self, uid: u32) -> u16
-        ensures { result ≡ links_at self.now uid }
+        ensures value { result ≡ links_at self.now uid }
+        ensures most { result ≤ 64 }
     {
         match self.object_at(uid) {
             Some(object) => object.links().len() as u16,
@@ -47,34 +53,37 @@ impl FreshHierarchy {
 
     /// The page that is given out next.
     fn page_given(&self) -> Option<u16>
-        ensures { result ≡ page_given self.now }
+        ensures value { result ≡ page_given self.now }
+        ensures last { IfSome result (λ page. page ≤ 1023) }
     {
-        match run_given(self.free.as_slice(), 1) {
+        match self.pages.run_given(1) {
             Some(page) => Some(page as u16),
             None => None,
         }
     }
 
     /// The pages once the next was given out for a linkage section, if there is one.
-    fn pages_with(&self, alloc: Global, section: Option<&Section>) -> Result<Vec<bool>, AllocError>
-        ensures { IfOk result (λ free. record self.now { pages = record { free = free.items } }
+    fn pages_with(&self, alloc: Global, section: Option<&Section>) -> Result<PageList, AllocError>
+        ensures { IfOk result (λ pages. record self.now { pages = pages }
             ≡ with_section_page self.now (option_copied section.entry)) }
     {
         match section {
-            None => copied(alloc, self.free.as_slice()),
-            Some(_) => match run_given(self.free.as_slice(), 1) {
-                Some(first) => without_run(alloc, self.free.as_slice(), first, 1),
-                None => copied(alloc, self.free.as_slice()),
+            None => self.pages.copy(alloc),
+            Some(_) => match self.pages.run_given(1) {
+                Some(first) => self.pages.without_run(alloc, first, 1),
+                None => self.pages.copy(alloc),
             },
         }
     }
-}
 
-fn copied(alloc: Global, free: &[bool]) -> Result<Vec<bool>, AllocError>
-    ensures { IfOk result (λ copy. copy.items ≡ free.now) }
-{
-    let copy = free.to_vec(alloc)?;
-    Ok(copy)
+    /// The page that is given out for a linkage section, if there is one, as a run.
+    fn section_run(&self, section: Option<&Section>) -> Option<PageRun>
+        ensures { result ≡ section_run self.now (option_copied section.entry) }
+    {
+        section?;
+        let first = self.page_given()?;
+        Some(PageRun { first, count: 1 })
+    }
 }
 
 fn linkage_brackets(object: &Brackets) -> Option<Brackets>
@@ -85,14 +94,17 @@ fn linkage_brackets(object: &Brackets) -> Option<Brackets>
 
 /// Whether an object with links needs a linkage section, since the process does not know it already.
 fn needs_section(hierarchy: &FreshHierarchy, known: &FreshKnown, uid: u32) -> bool
-    ensures { result ≡ needs_section hierarchy.now known.now uid }
+    ensures value { result ≡ needs_section hierarchy.now known.now uid }
+    ensures some { result ≡ true → 1 ≤ links_at hierarchy.now uid }
 {
     known.number_of(uid).is_none() && hierarchy.links_at(uid) > 0
 }
 
 /// The linkage section that is made with a segment, if one is.
 fn section_made(hierarchy: &FreshHierarchy, known: &FreshKnown, uid: u32) -> Option<Section>
-    ensures { result ≡ section_made hierarchy.now known.now uid }
+    ensures value { result ≡ section_made hierarchy.now known.now uid }
+    ensures given { IfSome result (λ section. page_given hierarchy.now ≡ Some section.page) }
+    ensures within { IfSome result (λ section. IsWithinPage section.page section.words) }
 {
     if !needs_section(hierarchy, known, uid) {
         return None;
@@ -105,7 +117,9 @@ fn section_made(hierarchy: &FreshHierarchy, known: &FreshKnown, uid: u32) -> Opt
 }
 
 fn section_by(links: u16, brackets: Option<Brackets>, page: Option<u16>) -> Option<Section>
-    ensures { result ≡ section_by links brackets page }
+    ensures value { result ≡ section_by links brackets page }
+    ensures page { IfSome result (λ section. page ≡ Some section.page) }
+    ensures words { IfSome result (λ section. section.words ≡ links) }
 {
     Some(Section {
         page: page?,
@@ -147,18 +161,24 @@ pub(crate) fn connect(
     name: Option<&EntryName>,
     uid: u32,
 ) -> Result<Result<Connection, Refusal>, AllocError>
-    ensures { IfOk result (λ given. connected_of hierarchy.now given
+    ensures answer { IfOk result (λ given. connected_of hierarchy.now given
         ≡ connect hierarchy.now known.now ring (option_copied name.entry) uid) }
+    ensures run { IfOk result (λ given. IfOk given (λ connection.
+        IsNext hierarchy.now.pages connection.pages connection.given)) }
+    ensures told { OnErr result
+        (first_of (connect_refusals hierarchy.now known.now uid ring (option_copied name.entry)) ≡ None) }
 {
     if let Some(why) = connect_refusal(hierarchy, known, uid, ring, name) {
         return Ok(Err(why));
     }
     let section = section_made(hierarchy, known, uid);
-    let free = hierarchy.pages_with(alloc, section.as_ref())?;
-    let given = known.initiated(alloc, uid, ring, name, section.as_ref())?;
+    let given = hierarchy.section_run(section.as_ref());
+    let pages = hierarchy.pages_with(alloc, section.as_ref())?;
+    let initiated = known.initiated(alloc, uid, ring, name, section.as_ref())?;
     Ok(Ok(Connection {
-        known: given.known,
-        after: given.after,
-        free,
+        known: initiated.known,
+        after: initiated.after,
+        pages,
+        given,
     }))
 }

@@ -10,7 +10,7 @@ ghost use Rattle.mx_hier.specs.Opening.{root, opening};
 
 use crate::branches::{Branch, Directory, Form, Segment};
 use crate::lists::BranchList;
-use crate::pages::free_from;
+use crate::pages::PageList;
 use mx_acl::{Acl, AclKind, InitialAcl, Modes};
 use mx_aim::Class;
 use mx_name::{AclId, EntryName, Path, Principal};
@@ -25,7 +25,7 @@ use std::marker::Model;
 pub struct FreshHierarchy {
     pub(crate) root: Directory,
     pub(crate) branches: BranchList,
-    pub(crate) free: Vec<bool>,
+    pub(crate) pages: PageList,
     pub(crate) objects: Vec<(u32, ObjectMap)>,
 }
 
@@ -38,7 +38,7 @@ impl Model for FreshHierarchy {
       root = a.root;
       branches = a.branches.branches;
       next = a.branches.next;
-      pages = record { free = a.free.items };
+      pages = a.pages;
       objects = a.objects.items;
     } };
 }
@@ -49,11 +49,11 @@ impl FreshHierarchy {
         ensures { IfOk result (λ hierarchy. hierarchy ≡ opening first_page) }
     {
         let root = root(alloc)?;
-        let free = free_from(alloc, first_page)?;
+        let pages = PageList::new(alloc, first_page)?;
         Ok(FreshHierarchy {
             root,
             branches: BranchList::new(alloc),
-            free,
+            pages,
             objects: Vec::new(alloc),
         })
     }

@@ -1,20 +1,26 @@
 //! Requests on what a process knows.
 
-ghost use Rattle.std.specs.Prelude.{◌≡◌, ◌≤◌, ◌-◌, Some, length, slice_get, slice_set, vec_len, IfOk, OnErr};
+ghost use Rattle.std.specs.Prelude.{◌≡◌, ◌≤◌, ◌-◌, Some, length, slice_get, slice_set, vec_len, IfOk, IsOk, OnErr};
 ghost use Rattle.std.specs.Option.{option_copied};
 ghost use Rattle.mx_request.specs.declared.requests.Request.TheVariants as ask;
 ghost use Rattle.mx_hier.specs.Initiate.{segment};
 ghost use Rattle.mx_hier.specs.Rules.{onward};
+ghost use Rattle.mx_hier.specs.Walks as walks;
 ghost use Rattle.mx_state.specs.Askers.{caller};
 ghost use Rattle.mx_state.specs.Connecting.{connect};
+ghost use Rattle.mx_state.specs.NextRun.{IsNext};
 ghost use Rattle.mx_state.specs.Plain.{answer};
 ghost use Rattle.mx_state.specs.Requests.{plain};
 ghost use Rattle.mx_state.specs.declared.states.ProcessState.{ProcessState as ProcessValue};
 ghost use Rattle.mx_fresh.specs.Connections.{connected_of};
+ghost use Rattle.mx_fresh.specs.Runs.{GivesNext};
+ghost use Rattle.mx_fresh.specs.Told.{IsResolved, IsUndecided};
 
+use crate::answered::Answered;
 use crate::connecting::{Connection, connect};
 use crate::hierarchy::FreshHierarchy;
 use crate::known::FreshKnown;
+use crate::pages::PageList;
 use crate::processes::{FreshProcess, own_caller, own_process};
 use crate::resolving::resolved;
 use crate::supervisor::Fresh;
@@ -33,24 +39,28 @@ impl Fresh {
         ring: Ring,
         path: &Pathname,
         name: Option<&EntryName>,
-    ) -> Result<Reply, AllocError>
+    ) -> Result<Answered, AllocError>
         requires some { 1 ≤ p }
         requires process { p ≤ length self.old.processes }
         ensures answer { IfOk result (λ given.
-            plain self.old p ring (ask.Initiate path.now (option_copied name.entry)) ≡ answer given self.new) }
+            plain self.old p ring (ask.Initiate path.now (option_copied name.entry)) ≡ answer given.reply self.new) }
+        ensures run { IfOk result (GivesNext self.old self.new) }
         ensures processes { length self.new.processes ≡ length self.old.processes }
         ensures err { OnErr result (self.new ≡ self.old) }
+        ensures told { OnErr result
+            (IsResolved self.old p ring (ask.Initiate path.now (option_copied name.entry))) }
     {
         let process = own_process(self.processes.as_slice(), p);
         let given = initiated(alloc, &self.hierarchy, process, ring, path, name)?;
         match given {
             Ok(connection) => {
                 let known = connection.known;
+                let given = connection.given;
                 learn(&mut self.processes, p, connection.after);
-                give_out(&mut self.hierarchy, connection.free);
-                Ok(Reply::Segno(known))
+                give_out(&mut self.hierarchy, connection.pages);
+                Ok(Answered::giving(Reply::Segno(known), given))
             }
-            Err(why) => Ok(Reply::Refused(why)),
+            Err(why) => Ok(Answered::alone(Reply::Refused(why))),
         }
     }
 
@@ -65,8 +75,10 @@ impl Fresh {
         requires some { 1 ≤ p }
         requires process { p ≤ length self.old.processes }
         ensures answer { IfOk result (λ given. plain self.old p ring (ask.Terminate segno) ≡ answer given self.new) }
+        ensures hierarchy { self.new.hierarchy ≡ self.old.hierarchy }
         ensures processes { length self.new.processes ≡ length self.old.processes }
         ensures err { OnErr result (self.new ≡ self.old) }
+        ensures told { OnErr result (IsUndecided self.old p ring (ask.Terminate segno)) }
     {
         let process = own_process(self.processes.as_slice(), p);
         match process.known.terminated(alloc, segno)? {
@@ -86,29 +98,33 @@ impl Fresh {
         ring: Ring,
         segno: u16,
         word: u16,
-    ) -> Result<Reply, AllocError>
+    ) -> Result<Answered, AllocError>
         requires some { 1 ≤ p }
         requires process { p ≤ length self.old.processes }
-        ensures answer { IfOk result (λ given. plain self.old p ring (ask.Link segno word) ≡ answer given self.new) }
+        ensures answer { IfOk result (λ given. plain self.old p ring (ask.Link segno word) ≡ answer given.reply self.new) }
+        ensures run { IfOk result (GivesNext self.old self.new) }
         ensures processes { length self.new.processes ≡ length self.old.processes }
         ensures err { OnErr result (self.new ≡ self.old) }
+        ensures told { OnErr result (IsUndecided self.old p ring (ask.Link segno word)) }
     {
         let process = own_process(self.processes.as_slice(), p);
         let given = resolved(alloc, &self.hierarchy, process, ring, segno, word)?;
         match given {
             Ok(leading) => {
                 let known = leading.connection.known;
+                let given = leading.connection.given;
                 let word = leading.word;
                 learn(&mut self.processes, p, leading.connection.after);
-                give_out(&mut self.hierarchy, leading.connection.free);
-                Ok(Reply::Linked {
+                give_out(&mut self.hierarchy, leading.connection.pages);
+                let reply = Reply::Linked {
                     segno: known.segno,
                     word,
                     fresh: known.fresh,
                     linkage: known.linkage,
-                })
+                };
+                Ok(Answered::giving(reply, given))
             }
-            Err(reply) => Ok(reply),
+            Err(reply) => Ok(Answered::alone(reply)),
         }
     }
 }
@@ -123,10 +139,10 @@ fn learn(processes: &mut Vec<FreshProcess>, p: u8, known: FreshKnown)
     processes[usize::from(p) - 1].known = known;
 }
 
-fn give_out(hierarchy: &mut FreshHierarchy, free: Vec<bool>)
-    ensures { hierarchy.new ≡ record hierarchy.old { pages = record { free = free.items } } }
+fn give_out(hierarchy: &mut FreshHierarchy, pages: PageList)
+    ensures { hierarchy.new ≡ record hierarchy.old { pages = pages } }
 {
-    hierarchy.free = free;
+    hierarchy.pages = pages;
 }
 
 /// How the segment at a path becomes known to a process, or why not. Nothing changes yet.
@@ -138,9 +154,12 @@ fn initiated(
     path: &Pathname,
     name: Option<&EntryName>,
 ) -> Result<Result<Connection, Refusal>, AllocError>
-    ensures { IfOk result (λ given. connected_of hierarchy.now given
+    ensures answer { IfOk result (λ given. connected_of hierarchy.now given
         ≡ onward (segment hierarchy.now (caller process.now ring) path.now)
         (connect hierarchy.now process.now.known ring (option_copied name.entry))) }
+    ensures run { IfOk result (λ given. IfOk given (λ connection.
+        IsNext hierarchy.now.pages connection.pages connection.given)) }
+    ensures told { OnErr result (IsOk (walks.resolved (caller process.now ring) path.now)) }
 {
     let who = own_caller(process, ring);
     match hierarchy.segment(alloc, &who, path) {

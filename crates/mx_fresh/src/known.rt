@@ -1,6 +1,6 @@
 //! What a process knows: what each number given so far stands for, and its reference names, as lists.
 
-ghost use Rattle.std.specs.Prelude.{◌≡◌, ◌∷◌, ◌++◌, [], ◌≤◌, false, find, map, length, None, ◌+◌, IfOk, is_some, not, ◌==◌, slice_set};
+ghost use Rattle.std.specs.Prelude.{◌≡◌, ◌∷◌, ◌++◌, [], ◌≤◌, false, find, map, length, None, ◌+◌, IfOk, IsSome, OnErr, is_some, not, ◌==◌, slice_set};
 ghost use Rattle.std.specs.Option.{option_copied, option_map};
 ghost use Rattle.std.specs.Map.{lookup};
 ghost use Rattle.mx_name.specs.Names.{same_name};
@@ -177,7 +177,8 @@ impl FreshKnown {
         alloc: Global,
         segno: u16,
     ) -> Result<Option<FreshKnown>, AllocError>
-        ensures { IfOk result (λ known. known ≡ terminate self.now segno) }
+        ensures answer { IfOk result (λ known. known ≡ terminate self.now segno) }
+        ensures told { OnErr result (IsSome (terminate self.now segno)) }
     {
         if !is_branch(lot_of(self.lots.as_slice(), segno)) {
             return Ok(None);

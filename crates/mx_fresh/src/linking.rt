@@ -3,7 +3,7 @@
 ghost use Rattle.std.specs.Prelude.{◌≡◌, IfOk};
 ghost use Rattle.std.specs.Option.{option_copied, option_map};
 ghost use Rattle.mx_hier.specs.Find.{find_at};
-ghost use Rattle.mx_link.specs.Targets.{in_object};
+ghost use Rattle.mx_link.specs.Targets.{in_object, in_segment};
 ghost use Rattle.mx_search.specs.Searching.{answers, first_found};
 ghost use Rattle.mx_state.specs.Askers.{caller};
 ghost use Rattle.mx_state.specs.Linking.{branch_found, initiated_finds, referencing_dir_finds, rule_finds, known_uid, found_uid, found_object, link_at, link_target};
@@ -246,11 +246,23 @@ pub(crate) fn link_target(
         rules,
         &link.segment,
     )?;
+    Ok(in_found(hierarchy, &process.known, found, &link.symbol))
+}
+
+/// The word of a symbol in what was found, if anything was. Takes no memory: each refusal is told.
+fn in_found(
+    hierarchy: &FreshHierarchy,
+    known: &FreshKnown,
+    found: Option<Found>,
+    symbol: &EntryName,
+) -> Result<Target, LinkError>
+    ensures { result ≡ in_segment (found_object hierarchy.now known.now) found symbol.now }
+{
     match found {
         Some(found) => {
-            let object = found_object(hierarchy, &process.known, &found);
-            Ok(in_object(found, object, &link.symbol))
+            let object = found_object(hierarchy, known, &found);
+            in_object(found, object, symbol)
         }
-        None => Ok(Err(LinkError::SegmentNotFound)),
+        None => Err(LinkError::SegmentNotFound),
     }
 }

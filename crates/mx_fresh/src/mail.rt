@@ -1,6 +1,6 @@
 //! The messages that wait for each process, as lists.
 
-ghost use Rattle.std.specs.Prelude.{◌≡◌, ◌≤◌, [], length, vec_len, IfOk, OnOk, OnErr};
+ghost use Rattle.std.specs.Prelude.{◌≡◌, ◌≤◌, [], None, length, vec_len, IfOk, OnOk, OnErr};
 ghost use Rattle.std.specs.List.{list_all};
 ghost use Rattle.std.specs.Option.{option_copied, option_map};
 ghost use Rattle.mx_hier.specs.Rules.{first_of};
@@ -89,6 +89,7 @@ pub(crate) fn send(
     ensures sent { IfOk result (λ given. Sends mail.old.items sender to word given mail.new.items) }
     ensures count { vec_len mail.new ≡ vec_len mail.old }
     ensures err { OnErr result (mail.new.items ≡ mail.old.items) }
+    ensures told { OnErr result (first_of (wakeup_refusals (process_at mail.old.items to)) ≡ None) }
 {
     match wakeup_refusal(process_at(mail.as_slice(), to)) {
         Some(why) => Ok(Err(why)),

@@ -14,19 +14,18 @@ ghost use Rattle.mx_hier.specs.CreateLink.{create_link_at, create_link};
 ghost use Rattle.mx_hier.specs.CreateObject.{create_object};
 ghost use Rattle.mx_hier.specs.CreateSegment.{create_seg};
 ghost use Rattle.mx_hier.specs.InitialAccess.{initial_for};
-ghost use Rattle.mx_hier.specs.MakeSegment.{is_bad_length, reaches_beyond, segment_added, segment_on_pages, make_segment_at, make_segment};
+ghost use Rattle.mx_hier.specs.MakeSegment.{IsRunFor, is_bad_length, reaches_beyond, segment_added, segment_on_pages, make_segment_at, make_segment};
 ghost use Rattle.mx_hier.specs.Making.{last_name, parent_path, place, entry_refusals, making_refusals, added, created_at, first_acl};
 ghost use Rattle.mx_hier.specs.Objects.{with_object};
 ghost use Rattle.mx_hier.specs.Rules.{first_of, onward, Answers, Tells, TellsFirst};
 ghost use Rattle.mx_hier.specs.Walks.{resolved};
 ghost use Rattle.mx_hier.specs.Who.{subject, caller};
-ghost use Rattle.mx_pages.specs.Runs.{pages_for, run_given};
 ghost use Rattle.mx_fresh.specs.Forms.{node_of};
 
 use crate::access::{has_append, say};
 use crate::branches::{Directory, Form, Segment};
 use crate::hierarchy::{FreshHierarchy, count_in, uid_in};
-use crate::pages::{pages_for, run_given, without_run};
+use crate::pages::pages_for;
 use crate::walks::resolved;
 use mx_acl::{Acl, AclKind, InitialAcl, Modes};
 use mx_hier::{HierError, Refusal, Who};
@@ -80,6 +79,7 @@ impl FreshHierarchy {
         d2: Ring,
     ) -> Result<(), HierError>
         ensures answer { Answers (create_dir_at self.old (subject who.now) at.now d1 d2) self.old result self.new }
+        ensures told { TellsFirst (create_dir_at self.old (subject who.now) at.now d1 d2) result }
     {
         if let Some(why) = self.making_refusal(who, at) {
             return Err(HierError::Refused(why));
@@ -111,8 +111,7 @@ impl FreshHierarchy {
     ) -> Result<PageRun, HierError>
         ensures answer { Answers (create_seg self.old (caller who.now) path.now words brackets)
             self.old result self.new }
-        ensures run { IfOk result (λ run. run_given self.old.pages run.count ≡ Some run.first) }
-        ensures count { IfOk result (λ run. run.count ≡ pages_for words) }
+        ensures run { IfOk result (IsRunFor self.old.pages words) }
         ensures told { TellsFirst (resolved (caller who.now) path.now) result }
     {
         self.make_segment(alloc, who, path, words, &brackets, Modes::Rw, None)
@@ -130,8 +129,7 @@ impl FreshHierarchy {
     ) -> Result<PageRun, HierError>
         ensures answer { Answers (create_object self.old (caller who.now) path.now words brackets object.now)
             self.old result self.new }
-        ensures run { IfOk result (λ run. run_given self.old.pages run.count ≡ Some run.first) }
-        ensures count { IfOk result (λ run. run.count ≡ pages_for words) }
+        ensures run { IfOk result (IsRunFor self.old.pages words) }
         ensures told { TellsFirst (resolved (caller who.now) path.now) result }
     {
         self.make_segment(alloc, who, path, words, &brackets, Modes::Re, Some(object))
@@ -151,8 +149,7 @@ impl FreshHierarchy {
         ensures answer { Answers (make_segment self.old (caller who.now) path.now
             (record { words = words; rings = rings.now; modes = modes; object = option_copied object.entry }))
             self.old result self.new }
-        ensures run { IfOk result (λ run. run_given self.old.pages run.count ≡ Some run.first) }
-        ensures count { IfOk result (λ run. run.count ≡ pages_for words) }
+        ensures run { IfOk result (IsRunFor self.old.pages words) }
         ensures told { TellsFirst (resolved (caller who.now) path.now) result }
     {
         match self.placed(alloc, who, path) {
@@ -175,8 +172,9 @@ impl FreshHierarchy {
         ensures answer { Answers (make_segment_at self.old (subject who.now) at.now
             (record { words = words; rings = rings.now; modes = modes; object = option_copied object.entry }))
             self.old result self.new }
-        ensures run { IfOk result (λ run. run_given self.old.pages run.count ≡ Some run.first) }
-        ensures count { IfOk result (λ run. run.count ≡ pages_for words) }
+        ensures run { IfOk result (IsRunFor self.old.pages words) }
+        ensures told { TellsFirst (make_segment_at self.old (subject who.now) at.now
+            (record { words = words; rings = rings.now; modes = modes; object = option_copied object.entry })) result }
     {
         if let Some(why) = self.making_refusal(who, at) {
             return Err(HierError::Refused(why));
@@ -206,11 +204,12 @@ impl FreshHierarchy {
         requires there { IsSome (directory_at self.old at.now.dir) }
         ensures answer { Answers (segment_on_pages self.old (subject who.now) at.now words brackets modes
             (option_copied object.entry)) self.old result self.new }
-        ensures run { IfOk result (λ run. run_given self.old.pages run.count ≡ Some run.first) }
-        ensures count { IfOk result (λ run. run.count ≡ pages_for words) }
+        ensures run { IfOk result (IsRunFor self.old.pages words) }
+        ensures told { TellsFirst (segment_on_pages self.old (subject who.now) at.now words brackets modes
+            (option_copied object.entry)) result }
     {
         let pages = pages_for(words);
-        let Some(page) = run_given(self.free.as_slice(), pages) else {
+        let Some(page) = self.pages.run_given(pages) else {
             return Err(HierError::Refused(Refusal::NoPages));
         };
         let acl = self.first_acl(at.dir, AclKind::Segment, who, modes)?;
@@ -243,13 +242,13 @@ impl FreshHierarchy {
     {
         let pages = pages_for(u32::from(segment.words));
         let first = u32::from(segment.page);
-        let free = without_run(alloc, self.free.as_slice(), first, pages)?;
+        let free = self.pages.without_run(alloc, first, pages)?;
         let uid = self.branches.next();
         let length = self.objects.len();
         add_object(&mut self.objects, uid, object)?;
         match self.branches.add(at.dir, at.name, Form::Segment(segment)) {
             Ok(()) => {
-                self.free = free;
+                self.pages = free;
                 Ok(())
             }
             Err(error) => {
@@ -297,7 +296,8 @@ impl FreshHierarchy {
 
     /// Makes an entry that nothing refuses but what refuses every making.
     fn create_at(&mut self, who: &Who, at: &Place, form: Form) -> Result<(), HierError>
-        ensures { Answers (created_at self.old (subject who.now) at.now (node_of form)) self.old result self.new }
+        ensures answer { Answers (created_at self.old (subject who.now) at.now (node_of form)) self.old result self.new }
+        ensures told { TellsFirst (created_at self.old (subject who.now) at.now (node_of form)) result }
     {
         if let Some(why) = self.making_refusal(who, at) {
             return Err(HierError::Refused(why));

@@ -5,6 +5,7 @@ ghost use Rattle.mx_request.specs.declared.requests.Request.TheVariants as ask;
 ghost use Rattle.mx_state.specs.Messages.{taken_reply};
 ghost use Rattle.mx_state.specs.Plain.{answer};
 ghost use Rattle.mx_state.specs.Requests.{plain};
+ghost use Rattle.mx_fresh.specs.Told.{IsUndecided};
 
 use crate::mail::{end, send, take};
 use crate::processes::own_process;
@@ -26,8 +27,10 @@ impl Fresh {
         requires some { 1 ≤ p }
         requires process { p ≤ length self.old.processes }
         ensures answer { IfOk result (λ given. plain self.old p ring (ask.Wakeup to word) ≡ answer given self.new) }
+        ensures hierarchy { self.new.hierarchy ≡ self.old.hierarchy }
         ensures processes { length self.new.processes ≡ length self.old.processes }
         ensures err { OnErr result (self.new ≡ self.old) }
+        ensures told { OnErr result (IsUndecided self.old p ring (ask.Wakeup to word)) }
     {
         let _process = own_process(self.processes.as_slice(), p);
         match send(&mut self.mail, p, to, word)? {
@@ -42,6 +45,7 @@ impl Fresh {
         requires process { p ≤ length self.old.processes }
         ensures block { plain self.old p ring ask.Block ≡ answer result self.new }
         ensures resume { plain self.old p ring ask.Resume ≡ answer result self.new }
+        ensures hierarchy { self.new.hierarchy ≡ self.old.hierarchy }
         ensures processes { length self.new.processes ≡ length self.old.processes }
     {
         let _process = own_process(self.processes.as_slice(), p);
@@ -54,6 +58,7 @@ impl Fresh {
         requires some { 1 ≤ p }
         requires process { p ≤ length self.old.processes }
         ensures answer { plain self.old p ring ask.Logout ≡ answer result self.new }
+        ensures hierarchy { self.new.hierarchy ≡ self.old.hierarchy }
         ensures processes { length self.new.processes ≡ length self.old.processes }
     {
         let _process = own_process(self.processes.as_slice(), p);

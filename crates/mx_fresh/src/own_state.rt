@@ -4,6 +4,7 @@ ghost use Rattle.std.specs.Prelude.{◌≡◌, ◌≤◌, ◌-◌, Some, length,
 ghost use Rattle.mx_request.specs.declared.requests.Request.TheVariants as ask;
 ghost use Rattle.mx_state.specs.Plain.{answer};
 ghost use Rattle.mx_state.specs.Requests.{plain};
+ghost use Rattle.mx_fresh.specs.Told.{IsResolved};
 ghost use Rattle.mx_state.specs.declared.states.ProcessState.{ProcessState as ProcessValue};
 
 use crate::processes::{FreshProcess, own_caller, own_process};
@@ -27,8 +28,10 @@ impl Fresh {
         requires some { 1 ≤ p }
         requires process { p ≤ length self.old.processes }
         ensures answer { IfOk result (λ given. plain self.old p ring (ask.ChangeWdir path.now) ≡ answer given self.new) }
+        ensures hierarchy { self.new.hierarchy ≡ self.old.hierarchy }
         ensures processes { length self.new.processes ≡ length self.old.processes }
         ensures err { OnErr result (self.new ≡ self.old) }
+        ensures told { OnErr result (IsResolved self.old p ring (ask.ChangeWdir path.now)) }
     {
         let who = own_caller(own_process(self.processes.as_slice(), p), ring);
         let directory = match self.hierarchy.directory(alloc, &who, path) {
@@ -50,6 +53,7 @@ impl Fresh {
         requires some { 1 ≤ p }
         requires process { p ≤ length self.old.processes }
         ensures answer { IfOk result (λ given. plain self.old p ring (ask.SetRules rules.now) ≡ answer given self.new) }
+        ensures hierarchy { self.new.hierarchy ≡ self.old.hierarchy }
         ensures processes { length self.new.processes ≡ length self.old.processes }
         ensures err { OnErr result (self.new ≡ self.old) }
     {

@@ -1,15 +1,76 @@
 //! The pages of memory, as a list that says of each whether it is free.
 
-ghost use Rattle.std.specs.Prelude.{◌≡◌, ◌≤◌, false, if◌then◌else◌, IfOk, IfSome};
+ghost use Rattle.std.specs.Prelude.{◌≡◌, ◌≤◌, ◌+◌, false, if◌then◌else◌, IfOk, IfSome};
 ghost use Rattle.mx_pages.specs.Runs.{is_free, is_in_run, free_from, run_at, run_given, with_run, pages_for};
 
 use std::alloc::{AllocError, Global};
+use std::marker::Model;
 
 /// How many pages there are.
 const PAGES: u32 = 1_024;
 
+/// Of each page whether it is free.
+#[derive(Drop)]
+pub(crate) struct PageList {
+    free: Vec<bool>,
+}
+
+impl Model for PageList {
+    ghost use Rattle.std.specs.Prelude.{◌≡◌, length};
+    ghost use Rattle.mx_pages.specs.Runs.{PageMap};
+
+    ghost Value = { PageMap };
+
+    ghost view = { λ a. record { free = a.free.items } };
+
+    ghost invariant = { λ a. length a.free.items ≡ 1024 };
+}
+
+impl PageList {
+    /// Each page from this one on is free, and no other.
+    pub(crate) fn new(alloc: Global, first: u32) -> Result<PageList, AllocError>
+        ensures { IfOk result (λ pages. pages ≡ free_from first) }
+    {
+        let free = free_from(alloc, first)?;
+        Ok(PageList { free })
+    }
+
+    /// The first page of the run of n pages that is given out next.
+    pub(crate) fn run_given(&self, n: u32) -> Option<u32>
+        requires some { 1 ≤ n }
+        requires few { n ≤ 1024 }
+        ensures value { result ≡ run_given self.now n }
+        ensures within { IfSome result (λ first. first + n ≤ 1024) }
+    {
+        run_given(self.free.as_slice(), n)
+    }
+
+    /// The pages after the run of n pages from `first` on was given out.
+    pub(crate) fn without_run(
+        &self,
+        alloc: Global,
+        first: u32,
+        n: u32,
+    ) -> Result<PageList, AllocError>
+        requires few { n ≤ 1024 }
+        requires low { first ≤ 1024 }
+        ensures { IfOk result (λ after. after ≡ with_run false self.now first n) }
+    {
+        let free = without_run(alloc, self.free.as_slice(), first, n)?;
+        Ok(PageList { free })
+    }
+
+    /// The same pages.
+    pub(crate) fn copy(&self, alloc: Global) -> Result<PageList, AllocError>
+        ensures { IfOk result (λ copy. copy ≡ self.now) }
+    {
+        let free = self.free.as_slice().to_vec(alloc)?;
+        Ok(PageList { free })
+    }
+}
+
 /// Each page from this one on is free, and no other.
-pub(crate) fn free_from(alloc: Global, first: u32) -> Result<Vec<bool>, AllocError>
+fn free_from(alloc: Global, first: u32) -> Result<Vec<bool>, AllocError>
     ensures { IfOk result (λ free. record { free = free.items } ≡ free_from first) }
 {
     let mut free = Vec::new(alloc);
@@ -44,7 +105,7 @@ fn run_at(free: &[bool], n: u32, first: u32) -> bool
 }
 
 /// The first page of the run of n pages that is given out next.
-pub(crate) fn run_given(free: &[bool], n: u32) -> Option<u32>
+fn run_given(free: &[bool], n: u32) -> Option<u32>
     requires few { n ≤ 1024 }
     ensures value { result ≡ run_given (record { free = free.now }) n }
     ensures below { IfSome result (λ first. first ≤ 1023) }
@@ -58,7 +119,7 @@ pub(crate) fn run_given(free: &[bool], n: u32) -> Option<u32>
 }
 
 /// The pages after the run of n pages from `first` on was given out.
-pub(crate) fn without_run(
+fn without_run(
     alloc: Global,
     free: &[bool],
     first: u32,

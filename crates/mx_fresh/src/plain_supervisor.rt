@@ -1,7 +1,8 @@
 //! What both programs under the definitions of the plain supervisor have in common.
 
+use crate::answered::Answered;
 use crate::supervisor::Fresh;
-use mx_request::{Entrant, Reply, Request};
+use mx_request::{Entrant, Request};
 use mx_sdw::{Desc, Ring};
 use mx_state::State;
 use std::alloc::{AllocError, Global};
@@ -9,6 +10,7 @@ use std::alloc::{AllocError, Global};
 /// A plain supervisor: it answers each request, and tells each descriptor, exactly as the definitions say.
 pub trait PlainSupervisor: Drop {
     ghost use Rattle.std.specs.Prelude.{◌≡◌, ◌≤◌, length, IfOk, OnErr};
+    ghost use Rattle.mx_state.specs.Given.{AreGiven, AreFreed};
     ghost use Rattle.mx_state.specs.History.{opening, MayAsk};
     ghost use Rattle.mx_state.specs.Plain.{Plain, answer};
     ghost use Rattle.mx_state.specs.Requests.{plain};
@@ -24,18 +26,20 @@ pub trait PlainSupervisor: Drop {
         requires most { length entrants.now ≤ 15 }
         ensures { IfOk result (λ supervisor. state supervisor ≡ opening version entrants.now) };
 
-    /// Answers the request of process `p` in a ring; process 0 is the initializer, which makes requests on paths alone.
-    /// Want of memory, the only error, changes nothing.
+    /// Answers the request of process `p` in a ring, and says which run of pages it gave out and freed; process 0 is the
+    /// initializer, which makes requests on paths alone. Want of memory, the only error, changes nothing.
     fn apply(
         &mut self,
         alloc: Global,
         p: u8,
         ring: Ring,
         request: &Request,
-    ) -> Result<Reply, AllocError>
+    ) -> Result<Answered, AllocError>
         requires { MayAsk (state self.old) p request.now }
-        ensures answer { IfOk result (λ given.
-            plain (state self.old) p ring request.now ≡ answer given (state self.new)) }
+        ensures answer { IfOk result (λ answered.
+            plain (state self.old) p ring request.now ≡ answer answered.reply (state self.new)) }
+        ensures given { IfOk result (λ answered. AreGiven (state self.old) (state self.new) answered.given) }
+        ensures freed { IfOk result (λ answered. AreFreed (state self.old) (state self.new) answered.freed) }
         ensures processes { length (state self.new).processes ≡ length (state self.old).processes }
         ensures err { OnErr result (state self.new ≡ state self.old) };
 
@@ -59,7 +63,7 @@ impl PlainSupervisor for Fresh {
         p: u8,
         ring: Ring,
         request: &Request,
-    ) -> Result<Reply, AllocError> {
+    ) -> Result<Answered, AllocError> {
         Fresh::apply(self, alloc, p, ring, request)
     }
 
@@ -81,9 +85,13 @@ impl PlainSupervisor for State {
         p: u8,
         ring: Ring,
         request: &Request,
-    ) -> Result<Reply, AllocError> {
+    ) -> Result<Answered, AllocError> {
         let applied = State::apply(self, alloc, p, ring, request)?;
-        Ok(applied.reply)
+        Ok(Answered {
+            reply: applied.reply,
+            given: applied.given,
+            freed: applied.freed,
+        })
     }
 
     fn descriptor(&self, p: u8, segno: u16) -> Desc {

@@ -1,21 +1,33 @@
 //! Replies to requests on the hierarchy.
 
-ghost use Rattle.mx_state.specs.Replies.{Says};
+ghost use Rattle.mx_fresh.specs.Said.{SaysDone, said};
 ghost use Rattle.mx_state.specs.Shown.{shown, without_class};
 ghost use Rattle.std.specs.Prelude.{◌≡◌};
 
+use crate::answered::Answered;
 use mx_hier::{HierError, Status};
+use mx_pages::PageRun;
 use mx_request::{Reply, has_classes};
 use std::alloc::AllocError;
 
-/// The reply where nothing is given back but that it is done, or why it is refused.
-pub(crate) fn done(given: Result<(), HierError>) -> Result<Reply, AllocError>
-    ensures { Says given result }
+/// The answer where a request is done, which gave out this run of pages, or why it is refused.
+pub(crate) fn done(did: Result<Option<PageRun>, HierError>) -> Result<Answered, AllocError>
+    ensures { SaysDone did result }
 {
-    match given {
-        Ok(()) => Ok(Reply::Done),
-        Err(HierError::Refused(why)) => Ok(Reply::Refused(why)),
+    match did {
+        Ok(given) => Ok(Answered::giving(Reply::Done, given)),
+        Err(HierError::Refused(why)) => Ok(Answered::alone(Reply::Refused(why))),
         Err(HierError::Memory) => Err(AllocError),
+    }
+}
+
+/// A reply alone, as an answer.
+pub(crate) fn said(reply: Result<Reply, AllocError>) -> Result<Answered, AllocError>
+    ensures { result ≡ said reply }
+{
+    match reply {
+        Ok(reply) => Ok(Answered::alone(reply)),
+        Err(error) => Err(error),
     }
 }
 

@@ -1,8 +1,11 @@
 //! What a link of a process comes to, before anything changes.
 
-ghost use Rattle.std.specs.Prelude.{◌≡◌, ℕ, Some, Err, IfOk};
+ghost use Rattle.std.specs.Prelude.{◌≡◌, ℕ, Some, None, Err, IfOk, IsOk, IsSome, OnErr};
+ghost use Rattle.mx_hier.specs.Rules.{first_of};
+ghost use Rattle.mx_state.specs.Connecting.{connect_refusals};
 ghost use Rattle.mx_state.specs.Knowing.{free_name, link, link_by, link_to, link_towards};
-ghost use Rattle.mx_state.specs.Linking.{found_uid};
+ghost use Rattle.mx_state.specs.Linking.{found_uid, link_at};
+ghost use Rattle.mx_state.specs.NextRun.{IsNext};
 ghost use Rattle.mx_state.specs.Plain.{Plain, answer};
 ghost use Rattle.mx_state.specs.declared.linking.Link.{Link as LinkValue};
 ghost use Rattle.mx_state.specs.declared.states.ProcessState.{ProcessState as ProcessValue};
@@ -36,9 +39,12 @@ pub(crate) fn resolved(
     segno: u16,
     word: u16,
 ) -> Result<Result<Leading, Reply>, AllocError>
-    ensures { IfOk result (λ given. (s : Plain) (p : ℕ)
+    ensures answer { IfOk result (λ given. (s : Plain) (p : ℕ)
         → link (record s { hierarchy = hierarchy.now }) p ring process.now segno word
         ≡ leading_of (record s { hierarchy = hierarchy.now }) p process.now given) }
+    ensures run { IfOk result (λ given. IfOk given (λ leading.
+        IsNext hierarchy.now.pages leading.connection.pages leading.connection.given)) }
+    ensures told { OnErr result (IsSome (link_at hierarchy.now process.now.known segno word)) }
 {
     match link_at(hierarchy, &process.known, segno, word) {
         Some(link) => resolved_by(alloc, hierarchy, process, ring, &link),
@@ -53,11 +59,33 @@ fn resolved_by(
     ring: Ring,
     link: &Link,
 ) -> Result<Result<Leading, Reply>, AllocError>
-    ensures { IfOk result (λ given. (s : Plain) (p : ℕ)
+    ensures answer { IfOk result (λ given. (s : Plain) (p : ℕ)
         → link_by (record s { hierarchy = hierarchy.now }) p ring process.now (Some link.now)
         ≡ leading_of (record s { hierarchy = hierarchy.now }) p process.now given) }
+    ensures run { IfOk result (λ given. IfOk given (λ leading.
+        IsNext hierarchy.now.pages leading.connection.pages leading.connection.given)) }
 {
-    match link_target(alloc, hierarchy, process, ring, link)? {
+    let to = link_target(alloc, hierarchy, process, ring, link)?;
+    resolved_towards(alloc, hierarchy, process, ring, link, to)
+}
+
+/// The same where it is known to which target the link leads, or why to none, which is then told whatever memory there is.
+fn resolved_towards(
+    alloc: Global,
+    hierarchy: &FreshHierarchy,
+    process: &FreshProcess,
+    ring: Ring,
+    link: &Link,
+    to: Result<Target, LinkError>,
+) -> Result<Result<Leading, Reply>, AllocError>
+    ensures answer { IfOk result (λ given. (s : Plain) (p : ℕ)
+        → link_towards (record s { hierarchy = hierarchy.now }) p ring process.now link.now to
+        ≡ leading_of (record s { hierarchy = hierarchy.now }) p process.now given) }
+    ensures run { IfOk result (λ given. IfOk given (λ leading.
+        IsNext hierarchy.now.pages leading.connection.pages leading.connection.given)) }
+    ensures told { OnErr result (IsOk to) }
+{
+    match to {
         Ok(to) => resolved_to(alloc, hierarchy, process, ring, link, &to),
         Err(error) => Ok(Err(nowhere(error))),
     }
@@ -84,10 +112,15 @@ fn resolved_to(
     link: &Link,
     to: &Target,
 ) -> Result<Result<Leading, Reply>, AllocError>
-    ensures { IfOk result (λ given. (s : Plain) (p : ℕ)
+    ensures answer { IfOk result (λ given. (s : Plain) (p : ℕ)
         → link_to (record s { hierarchy = hierarchy.now }) p ring process.now link.now to.now.word
         (found_uid process.now.known to.now.found)
         ≡ leading_of (record s { hierarchy = hierarchy.now }) p process.now given) }
+    ensures run { IfOk result (λ given. IfOk given (λ leading.
+        IsNext hierarchy.now.pages leading.connection.pages leading.connection.given)) }
+    ensures told { OnErr result ((uid : ℕ) → found_uid process.now.known to.now.found ≡ Some uid
+        → first_of (connect_refusals hierarchy.now process.now.known uid ring
+        (free_name process.now.known ring link.now.segment)) ≡ None) }
 {
     let Some(uid) = found_uid(&process.known, &to.found) else {
         return Ok(Err(Reply::Done));

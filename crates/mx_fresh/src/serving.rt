@@ -1,38 +1,45 @@
 //! Requests on the hierarchy, by their kinds: those that make an entry, and those that change one.
 
-ghost use Rattle.mx_hier.specs.Rules.{onward, Answers};
-ghost use Rattle.mx_hier.specs.Walks.{entry};
+ghost use Rattle.std.specs.Prelude.{◌≡◌, IfOk};
+ghost use Rattle.mx_hier.specs.Rules.{onward, Answers, TellsFirst};
+ghost use Rattle.mx_hier.specs.Walks.{entry, resolved};
 ghost use Rattle.mx_hier.specs.Who.{caller, subject};
 ghost use Rattle.mx_fresh.specs.Meant.{meant_by};
+ghost use Rattle.mx_fresh.specs.Said.{giving_none};
+ghost use Rattle.mx_fresh.specs.Told.{path_found};
 ghost use Rattle.mx_state.specs.Changing.{created, amended_at, altered_at};
+ghost use Rattle.mx_state.specs.NextRun.{IsNext};
 
 use crate::hierarchy::FreshHierarchy;
 use mx_hier::{HierError, Who};
 use mx_name::Pathname;
+use mx_pages::PageRun;
 use mx_request::Request;
 use std::alloc::Global;
 
-/// Makes the entry that one of these requests asks for.
+/// Makes the entry that one of these requests asks for, and says which run of pages it gave out.
 pub(crate) fn create(
     hierarchy: &mut FreshHierarchy,
     alloc: Global,
     who: &Who,
     request: &Request,
-) -> Result<(), HierError>
+) -> Result<Option<PageRun>, HierError>
     ensures answer { Answers (created hierarchy.old (caller who.now) request.now) hierarchy.old result hierarchy.new }
+    ensures run { IfOk result (IsNext hierarchy.old.pages hierarchy.new.pages) }
+    ensures told { TellsFirst (path_found (caller who.now) request.now) result }
 {
     match request {
         Request::CreateDir { path, d1, d2 } => {
             hierarchy.create_dir(alloc, who, path, *d1, *d2)?;
-            Ok(())
+            Ok(None)
         }
         Request::CreateSeg {
             path,
             words,
             brackets,
         } => {
-            hierarchy.create_seg(alloc, who, path, *words, *brackets)?;
-            Ok(())
+            let given = hierarchy.create_seg(alloc, who, path, *words, *brackets)?;
+            Ok(Some(given))
         }
         Request::CreateObject {
             path,
@@ -40,14 +47,14 @@ pub(crate) fn create(
             brackets,
             map,
         } => {
-            hierarchy.create_object(alloc, who, path, *words, *brackets, map)?;
-            Ok(())
+            let given = hierarchy.create_object(alloc, who, path, *words, *brackets, map)?;
+            Ok(Some(given))
         }
         Request::CreateLink { path, target } => {
             hierarchy.create_link(alloc, who, path, target)?;
-            Ok(())
+            Ok(None)
         }
-        _ => Ok(()),
+        _ => Ok(None),
     }
 }
 
@@ -105,12 +112,14 @@ fn amend_along(
     path: &Pathname,
     follow: bool,
     request: &Request,
-) -> Result<(), HierError>
+) -> Result<Option<PageRun>, HierError>
     ensures answer { Answers (onward (entry hierarchy.old (caller who.now) path.now follow)
         (λ uid. amended_at hierarchy.old (subject who.now) uid request.now)) hierarchy.old result hierarchy.new }
+    ensures run { IfOk result (IsNext hierarchy.old.pages hierarchy.new.pages) }
+    ensures told { TellsFirst (resolved (caller who.now) path.now) result }
 {
     match hierarchy.entry(alloc, who, path, follow) {
-        Ok(uid) => amend(hierarchy, who, uid, request),
+        Ok(uid) => quiet(amend(hierarchy, who, uid, request)),
         Err(error) => Err(error),
     }
 }
@@ -122,24 +131,38 @@ fn alter_along(
     path: &Pathname,
     follow: bool,
     request: &Request,
-) -> Result<(), HierError>
+) -> Result<Option<PageRun>, HierError>
     ensures answer { Answers (onward (entry hierarchy.old (caller who.now) path.now follow)
         (λ uid. altered_at hierarchy.old (subject who.now) uid request.now)) hierarchy.old result hierarchy.new }
+    ensures run { IfOk result (IsNext hierarchy.old.pages hierarchy.new.pages) }
+    ensures told { TellsFirst (resolved (caller who.now) path.now) result }
 {
     match hierarchy.entry(alloc, who, path, follow) {
-        Ok(uid) => alter(hierarchy, who, uid, request),
+        Ok(uid) => quiet(alter(hierarchy, who, uid, request)),
         Err(error) => Err(error),
     }
 }
 
-/// Does what a request that changes the hierarchy asks for.
+/// What gives out no page.
+fn quiet(did: Result<(), HierError>) -> Result<Option<PageRun>, HierError>
+    ensures { result ≡ giving_none did }
+{
+    match did {
+        Ok(()) => Ok(None),
+        Err(error) => Err(error),
+    }
+}
+
+/// Does what a request that changes the hierarchy asks for, and says which run of pages it gave out.
 pub(crate) fn change(
     hierarchy: &mut FreshHierarchy,
     alloc: Global,
     who: &Who,
     request: &Request,
-) -> Result<(), HierError>
+) -> Result<Option<PageRun>, HierError>
     ensures answer { Answers (meant_by hierarchy.old (caller who.now) request.now) hierarchy.old result hierarchy.new }
+    ensures run { IfOk result (IsNext hierarchy.old.pages hierarchy.new.pages) }
+    ensures told { TellsFirst (path_found (caller who.now) request.now) result }
 {
     match request {
         Request::CreateDir { .. } => create(hierarchy, alloc, who, request),
@@ -159,6 +182,6 @@ pub(crate) fn change(
             amend_along(hierarchy, alloc, who, path, true, request)
         }
         Request::SetClass { path, .. } => alter_along(hierarchy, alloc, who, path, true, request),
-        _ => Ok(()),
+        _ => Ok(None),
     }
 }

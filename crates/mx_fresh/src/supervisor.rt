@@ -2,6 +2,7 @@
 
 ghost use Rattle.std.specs.Prelude.{◌≡◌, ◌≢◌, ◌≤◌, length, IfOk, OnErr};
 ghost use Rattle.mx_state.specs.Askers.{on_path};
+ghost use Rattle.mx_state.specs.Given.{AreGiven, AreFreed};
 ghost use Rattle.mx_state.specs.History.{opening, MayAsk};
 ghost use Rattle.mx_state.specs.Plain.{answer};
 ghost use Rattle.mx_request.specs.Classes.{class_of};
@@ -10,11 +11,14 @@ ghost use Rattle.mx_request.specs.declared.requests.Request.TheVariants as ask;
 ghost use Rattle.mx_state.specs.Requests.{changed, plain};
 ghost use Rattle.mx_state.specs.Table.{stack_desc, standing_desc, descriptor};
 ghost use Rattle.mx_fresh.specs.Meant.{meant_by};
+ghost use Rattle.mx_fresh.specs.Runs.{GivesNext};
+ghost use Rattle.mx_fresh.specs.Told.{IsResolved, IsUndecided};
 
+use crate::answered::Answered;
 use crate::hierarchy::FreshHierarchy;
 use crate::mail::{Mailbox, all_running};
 use crate::processes::{FreshProcess, caller, fresh_processes, make_initializer, process_at};
-use crate::replies::{done, shown};
+use crate::replies::{done, said, shown};
 use crate::serving::change;
 use mx_hier::HierError;
 use mx_kst::Lot;
@@ -77,23 +81,26 @@ impl Fresh {
         p: u8,
         ring: Ring,
         request: &Request,
-    ) -> Result<Reply, AllocError>
+    ) -> Result<Answered, AllocError>
         requires asker { p ≤ length self.old.processes }
-        ensures answer { IfOk result (λ reply. on_path self.old p ring (λ who.
-            changed self.old (meant_by self.old.hierarchy who request.now)) ≡ answer reply self.new) }
+        ensures answer { IfOk result (λ given. on_path self.old p ring (λ who.
+            changed self.old (meant_by self.old.hierarchy who request.now)) ≡ answer given.reply self.new) }
+        ensures run { IfOk result (GivesNext self.old self.new) }
         ensures processes { length self.new.processes ≡ length self.old.processes }
         ensures err { OnErr result (self.new ≡ self.old) }
+        ensures told { OnErr result (IsResolved self.old p ring request.now) }
     {
         let initializer = make_initializer();
         let root = Path::root(alloc);
         let who = caller(&initializer, &root, self.processes.as_slice(), p, ring);
-        let given = change(&mut self.hierarchy, alloc, &who, request);
-        done(given)
+        let did = change(&mut self.hierarchy, alloc, &who, request);
+        done(did)
     }
 
     fn status(&self, alloc: Global, p: u8, ring: Ring, path: &Pathname) -> Result<Reply, AllocError>
         requires asker { p ≤ length self.now.processes }
-        ensures { IfOk result (λ given. plain self.now p ring (ask.Status path.now) ≡ answer given self.now) }
+        ensures answer { IfOk result (λ given. plain self.now p ring (ask.Status path.now) ≡ answer given self.now) }
+        ensures told { OnErr result (IsResolved self.now p ring (ask.Status path.now)) }
     {
         let initializer = make_initializer();
         let root = Path::root(alloc);
@@ -107,7 +114,8 @@ impl Fresh {
 
     fn list(&self, alloc: Global, p: u8, ring: Ring, path: &Pathname) -> Result<Reply, AllocError>
         requires asker { p ≤ length self.now.processes }
-        ensures { IfOk result (λ given. plain self.now p ring (ask.List path.now) ≡ answer given self.now) }
+        ensures answer { IfOk result (λ given. plain self.now p ring (ask.List path.now) ≡ answer given self.now) }
+        ensures told { OnErr result (IsResolved self.now p ring (ask.List path.now)) }
     {
         let initializer = make_initializer();
         let root = Path::root(alloc);
@@ -127,12 +135,14 @@ impl Fresh {
         p: u8,
         ring: Ring,
         request: &Request,
-    ) -> Result<Reply, AllocError>
+    ) -> Result<Answered, AllocError>
         requires asker { p ≤ length self.old.processes }
         requires class { class_of request.now ≡ OfPath }
-        ensures answer { IfOk result (λ given. plain self.old p ring request.now ≡ answer given self.new) }
+        ensures answer { IfOk result (λ given. plain self.old p ring request.now ≡ answer given.reply self.new) }
+        ensures run { IfOk result (GivesNext self.old self.new) }
         ensures processes { length self.new.processes ≡ length self.old.processes }
         ensures err { OnErr result (self.new ≡ self.old) }
+        ensures told { OnErr result (IsUndecided self.old p ring request.now) }
     {
         match request {
             Request::CreateDir { .. } => self.change(alloc, p, ring, request),
@@ -148,8 +158,8 @@ impl Fresh {
             Request::SetBrackets { .. } => self.change(alloc, p, ring, request),
             Request::SetDirBrackets { .. } => self.change(alloc, p, ring, request),
             Request::SetClass { .. } => self.change(alloc, p, ring, request),
-            Request::Status { path } => self.status(alloc, p, ring, path),
-            Request::List { path } => self.list(alloc, p, ring, path),
+            Request::Status { path } => said(self.status(alloc, p, ring, path)),
+            Request::List { path } => said(self.list(alloc, p, ring, path)),
             Request::ChangeWdir { .. } => unreachable!(),
             Request::SetRules { .. } => unreachable!(),
             Request::Initiate { .. } => unreachable!(),
@@ -168,26 +178,28 @@ impl Fresh {
         p: u8,
         ring: Ring,
         request: &Request,
-    ) -> Result<Reply, AllocError>
+    ) -> Result<Answered, AllocError>
         requires some { 1 ≤ p }
         requires process { p ≤ length self.old.processes }
         requires class { class_of request.now ≢ OfPath }
-        ensures answer { IfOk result (λ given. plain self.old p ring request.now ≡ answer given self.new) }
+        ensures answer { IfOk result (λ given. plain self.old p ring request.now ≡ answer given.reply self.new) }
+        ensures run { IfOk result (GivesNext self.old self.new) }
         ensures processes { length self.new.processes ≡ length self.old.processes }
         ensures err { OnErr result (self.new ≡ self.old) }
+        ensures told { OnErr result (IsUndecided self.old p ring request.now) }
     {
         match request {
-            Request::ChangeWdir { path } => self.change_wdir(alloc, p, ring, path),
-            Request::SetRules { rules } => self.set_rules(p, ring, rules),
+            Request::ChangeWdir { path } => said(self.change_wdir(alloc, p, ring, path)),
+            Request::SetRules { rules } => said(self.set_rules(p, ring, rules)),
             Request::Initiate { path, name } => {
                 self.initiate(alloc, p, ring, path, name.as_ref())
             }
-            Request::Terminate { segno } => self.terminate(alloc, p, ring, *segno),
-            Request::Wakeup { to, word } => self.wakeup(p, ring, *to, *word),
-            Request::Block => Ok(self.block(p, ring)),
+            Request::Terminate { segno } => said(self.terminate(alloc, p, ring, *segno)),
+            Request::Wakeup { to, word } => said(self.wakeup(p, ring, *to, *word)),
+            Request::Block => Ok(Answered::alone(self.block(p, ring))),
             Request::Link { segno, word } => self.link(alloc, p, ring, *segno, *word),
-            Request::Resume => Ok(self.block(p, ring)),
-            Request::Logout => Ok(self.logout(p, ring)),
+            Request::Resume => Ok(Answered::alone(self.block(p, ring))),
+            Request::Logout => Ok(Answered::alone(self.logout(p, ring))),
             Request::CreateDir { .. } => unreachable!(),
             Request::CreateSeg { .. } => unreachable!(),
             Request::CreateObject { .. } => unreachable!(),
@@ -207,18 +219,24 @@ impl Fresh {
     }
 
     /// Answers the request of process `p` in a ring as the definition says; process 0 is the initializer, which makes
-    /// requests on paths alone. A refusal changes nothing, and nor does want of memory, the only error.
+    /// requests on paths alone. The runs of pages are exactly those that were given out and that were freed. A refusal
+    /// changes nothing, and nor does want of memory, the only error. A refusal that is found before memory is taken is
+    /// told whatever memory there is: a path that can't be resolved, a number that is not that of a known segment, a word
+    /// that is not one of a linkage section, and each refusal of a message; `block`, `resume` and `logout` take no memory.
     pub fn apply(
         &mut self,
         alloc: Global,
         p: u8,
         ring: Ring,
         request: &Request,
-    ) -> Result<Reply, AllocError>
+    ) -> Result<Answered, AllocError>
         requires { MayAsk self.old p request.now }
-        ensures answer { IfOk result (λ given. plain self.old p ring request.now ≡ answer given self.new) }
+        ensures answer { IfOk result (λ given. plain self.old p ring request.now ≡ answer given.reply self.new) }
+        ensures given { IfOk result (λ answered. AreGiven self.old self.new answered.given) }
+        ensures freed { IfOk result (λ answered. AreFreed self.old self.new answered.freed) }
         ensures processes { length self.new.processes ≡ length self.old.processes }
         ensures err { OnErr result (self.new ≡ self.old) }
+        ensures told { OnErr result (IsUndecided self.old p ring request.now) }
     {
         match request.class() {
             RequestClass::OfPath => self.serve_path(alloc, p, ring, request),

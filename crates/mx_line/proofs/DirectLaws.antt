@@ -1,6 +1,8 @@
 -- A line whose operand is not indirect makes its own reference first, at its target.
-use Rattle.std.proofs.Common.{◌≡◌, ℕ, List, [], ◌∷◌, ◌++◌, Option, Some, None, refl, sym, ◌∙◌, ap}
-use Rattle.mx_call.specs.Registers.{Registers}
+use Rattle.std.proofs.Common.{◌≡◌, ℕ, max, Bool, true, false, List, [], ◌∷◌, ◌++◌, Option, Some, None, IfSome, IsSome, refl, sym, ◌∙◌, ap}
+use Rattle.std.specs.Option.{option_map}
+use Rattle.std.proofs.Math.Nat.{max-zero}
+use Rattle.mx_call.specs.Registers.{Registers, raised_to}
 use Rattle.mx_core.specs.declared.elements.Element.{Element}
 use Rattle.mx_core.specs.declared.elements.Event.TheVariants.{Seen}
 use Rattle.mx_effring.specs.Chains as chains
@@ -11,38 +13,57 @@ use Rattle.mx_effring.specs.declared.walks.Want.TheVariants as want
 use Rattle.mx_ptr.specs.Pointers.{PointerParts, parts_of}
 use Rattle.mx_script.specs.declared.lines.Line.{Line}
 use Rattle.mx_sdw.specs.Descriptors.{Descriptor}
+use Rattle.mx_transcript.specs.Asking.{attempts}
 use Rattle.mx_transcript.specs.Attempts.{wants, after_seen, along, attempt}
 use Rattle.mx_transcript.specs.Courses.{Judged}
 use Rattle.mx_transcript.specs.Elements.{IsJudged}
 use Rattle.mx_transcript.specs.Next.{Next, Reference, Asks}
-use Rattle.mx_transcript.specs.Operands.{walk_of}
+use Rattle.mx_transcript.specs.Operands.{walk_from, walk_of}
 use Rattle.mx_transcript.specs.Settings.{Setting}
 use Rattle.mx_transcript.specs.Targets.{at_target, after_target}
 use Rattle.mx_transcript.specs.declared.transcripts.Event2.TheVariants.{Core}
+use Rattle.mx_transcript.specs.declared.transcripts.Result2.{Result2}
 use Rattle.mx_upcall.specs.Control.{Control}
-use Rattle.mx_line.proofs.TakenLaws.{Leads, begun_taken, begun_met}
-use Rattle.mx_line.specs.AtWork.{HasSeen, IsMet, IsSaid, IsTaken, beside}
-use Rattle.mx_line.specs.Operands.{direct_target, done_at, first_target}
+use Rattle.mx_line.proofs.TakenLaws.{Leads, begun_taken, begun_met, walking_taken}
+use Rattle.mx_line.specs.AtWork.{EndsAt, HasSeen, IsKnown, IsMet, IsSaid, IsTaken, IsTakenTo, beside, ending, left}
+use Rattle.mx_line.proofs.StandingLaws.{walk_asks}
+use Rattle.mx_line.specs.Operands.{first_want, want_at}
 use Rattle.mx_line.specs.declared.at_work.LineAtWork.{LineAtWork}
 use Rattle.mx_line.specs.declared.at_work.LineAtWork.TheVariants as at
-use Rattle.mx_line.specs.declared.operands.Progress.TheVariants.{Before}
+use Rattle.mx_line.specs.declared.operands.Progress.TheVariants.{Before, Walking}
 
--- the walk that asks for no word
-record HasDirectWalk (g : Registers) (l : Line) (target : PointerParts) : Type 0 where
+-- the walk that asks for this at its beginning
+record HasFirstWalk (g : Registers) (l : Line) (w : Want) : Type 0 where
   pub walk : chains.Operand
   pub is : walk_of g l ≡ Some walk
-  pub done : wanted walk ≡ want.Done target
+  pub asks : wanted walk ≡ w
 
-done_is : (w : Want) (target : PointerParts) → done_at w ≡ Some target → w ≡ want.Done target
-done_is (want.Word segno word ring) target e = absurd cc
-done_is (want.Done other) target e = cc
-
-direct_walk : (g : Registers) (l : Line) (target : PointerParts) → direct_target g l ≡ Some target → HasDirectWalk g l target
-direct_walk g l target e = by_walk (walk_of g l) refl e
+first_walk : (g : Registers) (l : Line) (w : Want) → first_want g l ≡ Some w → HasFirstWalk g l w
+first_walk g l w e = by_walk (walk_of g l) refl e
   where
-    by_walk : (walk : Option chains.Operand) → walk_of g l ≡ walk → first_target walk ≡ Some target → HasDirectWalk g l target
+    one : (a b : Want) → Some a ≡ Some b → a ≡ b
+    one a b e = cc
+
+    by_walk : (walk : Option chains.Operand) → walk_of g l ≡ walk → option_map wanted walk ≡ Some w → HasFirstWalk g l w
     by_walk None is e = absurd cc
-    by_walk (Some walk) is e = record { walk = walk; is = is; done = done_is (wanted walk) target e }
+    by_walk (Some walk) is e = record { walk = walk; is = is; asks = one (wanted walk) w e }
+
+-- a line asks at its beginning for what its walk does
+pub first_asks : (g : Control) (l : Line) (w : Want) → first_want g.registers l ≡ Some w → attempts g l [] ≡ wants g l w
+first_asks g l w e = let f = first_walk g.registers l w e in walk_asks g l f.walk f.is ∙ ap (wants g l) f.asks
+
+-- a place that is said to be what the walk asks for
+pub first_at : (g : Registers) (l : Line) (found : Option PointerParts) (place : PointerParts) → option_map want_at found ≡ first_want g l
+    → found ≡ Some place → first_want g l ≡ Some (want_at place)
+first_at g l found place is e = sym is ∙ ap (option_map want_at) e
+
+-- the place of a walk that has read no word yet
+pub from_place : (g : Registers) (indirect : Bool) (base place : PointerParts)
+    → place ≡ record (raised_to g.ring base) { further = indirect } → wanted (walk_from g indirect base) ≡ want_at place
+from_place g true base place is = ap (λ n. want.Word base.segno base.word n) (ap (max g.ring) (max-zero base.ring)) ∙ ap want_at (sym is)
+from_place g false base place is =
+    ap (λ n. want.Done (record { ring = n; segno = base.segno; word = base.word; further = false }))
+    (ap (max g.ring) (max-zero base.ring)) ∙ ap want_at (sym is)
 
 -- what an event makes of a line at its target
 abbrev pub Tells : Control → Line → PointerParts → Element → Descriptor → LineAtWork → Type 0
@@ -66,14 +87,43 @@ told_leads g l walk target e d after done tells seen asked walked at right =
     rest value = along g l (read_on walk (parts_of value) d.brackets.r1) []
 
 pub direct_taken : (g : Control) (l : Line) (target : PointerParts) (e : Element) (d : Descriptor) (after : LineAtWork)
-    → direct_target g.registers l ≡ Some target → Tells g l target e d after → (setting : Setting) → setting.descriptor e ≡ d
+    → first_want g.registers l ≡ Some (want.Done target) → Tells g l target e d after → (setting : Setting) → setting.descriptor e ≡ d
     → IsTaken g l setting (Core (Seen e)) (at.At Before) after
 direct_taken g l target e d after is tells =
-    let w = direct_walk g.registers l target is in
-    begun_taken g l w.walk e d after w.is (told_leads g l w.walk target e d after w.done tells)
+    let f = first_walk g.registers l (want.Done target) is in
+    begun_taken g l f.walk e d after f.is (told_leads g l f.walk target e d after f.asks tells)
 
 pub direct_met : (g : Control) (l : Line) (target : PointerParts) (e : Element) (d : Descriptor)
-    → direct_target g.registers l ≡ Some target → (m : IsMet g l (at.At Before) e d) → at_target g l target ≡ Asks m.asked
+    → first_want g.registers l ≡ Some (want.Done target) → (m : IsMet g l (at.At Before) e d) → at_target g l target ≡ Asks m.asked
 direct_met g l target e d is m =
-    let w = direct_walk g.registers l target is in
-    sym (ap (wants g l) w.done) ∙ begun_met g l w.walk e d w.is m
+    let f = first_walk g.registers l (want.Done target) is in
+    sym (ap (wants g l) f.asks) ∙ begun_met g l f.walk e d f.is m
+
+-- what is said of the end of a line is told of it
+pub ending_said : (g : Control) (asks : Next) (ends : Option Result2) → asks ≡ ending g ends → IsSaid g asks (left g ends)
+ending_said g asks None e = e
+ending_said g asks (Some ends) e = e
+
+pub left_known : (g : Control) (ends : Option Result2) → IsSome ends → IsKnown (left g ends)
+left_known g None is = absurd cc
+left_known g (Some ends) is = tt
+
+-- a line that ends so at its target ends so by its first reference
+pub ends_taken : (g : Control) (l : Line) (target : PointerParts) (e : Element) (ends : Result2)
+    → first_want g.registers l ≡ Some (want.Done target) → EndsAt l e.outcome ends → IsTakenTo g l e (at.At Before) (left g (Some ends))
+ends_taken g l target e ends is at_end = λ d setting on.
+    direct_taken g l target e d (left g (Some ends)) is (λ asked at right. at_end g target d) setting on
+
+pub walk_ends_taken : (g : Control) (l : Line) (walk : chains.Operand) (target : PointerParts) (e : Element) (ends : Result2)
+    → wanted walk ≡ want.Done target → EndsAt l e.outcome ends
+    → IsTakenTo g l e (at.At (Walking walk)) (left g (Some ends))
+walk_ends_taken g l walk target e ends done at_end = λ d setting on.
+    walking_taken g l walk e d (left g (Some ends)) (told_leads g l walk target e d (left g (Some ends)) done (λ asked at right. at_end g target d))
+    setting on
+
+-- so it is with the end that is found
+pub walk_ends_in : (g : Control) (l : Line) (walk : chains.Operand) (target : PointerParts) (e : Element) (found : Option Result2)
+    → wanted walk ≡ want.Done target → IfSome found (EndsAt l e.outcome)
+    → IfSome found (λ ends. IsTakenTo g l e (at.At (Walking walk)) (left g (Some ends)))
+walk_ends_in g l walk target e None done at_end = tt
+walk_ends_in g l walk target e (Some ends) done at_end = walk_ends_taken g l walk target e ends done at_end

@@ -1,5 +1,5 @@
 -- One process of a list is changed in its place.
-use Rattle.std.proofs.Common.{◌≡◌, ◌⊎◌, inl, inr, ℕ, zero, suc, ◌<◌, ◌+◌, ◌^◌, Bool, IsTrue, IsFalse, List, [], ◌∷◌, ◌++◌, length, Option, Some, refl, sym, ◌∙◌, ap, subst, arith, length-append}
+use Rattle.std.proofs.Common.{◌≡◌, ◌⊎◌, inl, inr, ℕ, zero, suc, ◌<◌, ◌+◌, ◌^◌, Bool, IsTrue, IsFalse, List, [], ◌∷◌, ◌++◌, length, Option, Some, None, IfSome, refl, sym, ◌∙◌, ap, subst, arith, length-append}
 use Rattle.std.specs.List.{slice_get, slice_set, slice_index_or}
 use Rattle.mx_call.specs.Registers.{Registers}
 use Rattle.mx_upcall.specs.Changes.{Fits, keeping, changed}
@@ -21,16 +21,22 @@ use Rattle.mx_core.specs.declared.elements.Event.TheVariants.{Seen}
 use Rattle.mx_sdw.specs.Descriptors.{Descriptor}
 use Rattle.mx_sdw.specs.declared.denials.Denial.{Denial}
 use Rattle.mx_line.proofs.SeatLaws.{set_here}
-use Rattle.mx_line.specs.AtWork.{IsMet}
+use Rattle.mx_line.proofs.StandingLaws.{walking_asks, walking_refers}
+use Rattle.mx_line.specs.AtWork.{IsCome, IsGoodWork, IsMet, IsStorableBy, IsTakenTo, left, reference_in}
+use Rattle.mx_effring.specs.Chains as chains
+use Rattle.mx_effring.specs.Walks.{wanted}
+use Rattle.mx_transcript.specs.Attempts.{wants}
+use Rattle.mx_transcript.specs.Next.{Asks}
 use Rattle.mx_line.specs.Operands.{IsGoodProgress}
 use Rattle.mx_line.specs.declared.asking.Next as asking
-use Rattle.mx_line.specs.Processes.{IsFresh, AreFreshUpTo, IsStill, HasRoom, IsCountable, IsGoodAt, IsMetAt, IsSeen, Takes, Goes, IsAsking, HasAsked, HasMet, HasEnded, HasGoneOn, HasProgress, HasFill, HasRegisters, HasControl, HasGateRoom, HasLines, HasNumber, HasLastDenial, fill_of}
+use Rattle.mx_line.specs.declared.asking.Reference as asked
+use Rattle.mx_line.specs.Processes.{IsFresh, AreFreshUpTo, IsStill, HasRoom, IsCountable, IsGoodAt, IsMetAt, IsSeen, Takes, Goes, IsAsking, HasAsked, HasPlainEnd, HasReferred, IsReferring, HasMet, HasEnded, HasGoneOn, HasProgress, HasFill, HasRegisters, HasControl, HasGateRoom, HasLines, HasNumber, HasLastDenial, fill_of}
 use Rattle.mx_line.specs.declared.steps.Stepped.{Stepped}
 use Rattle.mx_line.specs.declared.fills.Fill.{Fill}
 use Rattle.mx_line.specs.declared.at_work.LineAtWork.{LineAtWork}
 use Rattle.mx_line.specs.declared.at_work.LineAtWork.TheVariants as at
 use Rattle.mx_line.specs.declared.operands.Progress.{Progress}
-use Rattle.mx_line.specs.declared.operands.Progress.TheVariants.{Before, Waiting}
+use Rattle.mx_line.specs.declared.operands.Progress.TheVariants.{Before, Waiting, Walking}
 use Rattle.mx_line.specs.declared.processes.Process.{Process}
 
 get_at : {A : Type 0} (xs : List A) (i : ℕ) (d : A) → i < length xs → slice_get xs i ≡ Some (slice_index_or xs i d)
@@ -114,6 +120,56 @@ seen_so before after middle progress l e d work stepped same come takes goes = r
       (subst (λ (r : Progress). Takes middle l r e d work) come takes);
   goes = goes;
 }
+
+-- a line that ends so where it stands
+pub ends_where : (p : Process) (progress : Progress) (l : Line) (e : Element) (ends : Result2) → p.progress ≡ progress
+    → IsTakenTo p.control l e (at.At progress) (left p.control (Some ends)) → IsGoodWork p.control (left p.control (Some ends))
+    → HasPlainEnd p l e ends
+ends_where p progress l e ends is taken good = record {
+  taken = subst (λ (r : Progress). IsTakenTo p.control l e (at.At r) (left p.control (Some ends))) (sym is) taken;
+  good = good;
+}
+
+pub ends_in : (p : Process) (progress : Progress) (l : Line) (e : Element) (found : Option Result2) → p.progress ≡ progress
+    → IfSome found (λ ends. IsTakenTo p.control l e (at.At progress) (left p.control (Some ends)))
+    → IfSome found (λ ends. IsGoodWork p.control (left p.control (Some ends))) → IfSome found (HasPlainEnd p l e)
+ends_in p progress l e None is taken good = tt
+ends_in p progress l e (Some ends) is taken good = ends_where p progress l e ends is taken good
+
+-- it ended so
+pub ended_plainly : (before after : Process) (l : Line) (e : Element) (d : Descriptor) (ends : Result2) (stepped : Stepped)
+    → HasPlainEnd before l e ends → Goes before (Core (Seen e)) (left before.control (Some ends)) after stepped
+    → IsSeen before l e d after stepped
+ended_plainly before after l e d ends stepped plain goes = record {
+  work = left before.control (Some ends);
+  takes = record { taken = plain.taken d; good = plain.good; nearer = tt };
+  goes = goes;
+}
+
+-- a line that asks for this where its walk stands
+pub walking_referring : (p : Process) (l : Line) (walk : chains.Operand) (r : asked.Reference) → p.progress ≡ Walking walk
+    → wants p.control l (wanted walk) ≡ Asks (reference_in r) → IsStorableBy r.op r.stores → IsReferring p l r
+walking_referring p l walk r is asks storable = record {
+  memory = λ course come. walking_refers p.control l course walk (subst (IsCome p.control l course) is come);
+  says = record {
+    is = λ course come. walking_asks p.control l course walk (subst (IsCome p.control l course) is come) ∙ asks;
+    storable = storable;
+    good = tt;
+    plain = λ course come other free. walking_refers p.control l course walk (subst (IsCome p.control l course) is come);
+  };
+}
+
+pub referring_in : (p : Process) (l : Line) (walk : chains.Operand) (found : Option asked.Reference) → p.progress ≡ Walking walk
+    → IfSome found (λ r. wants p.control l (wanted walk) ≡ Asks (reference_in r))
+    → IfSome found (λ r. IsStorableBy r.op r.stores) → IfSome found (IsReferring p l)
+referring_in p l walk None is asks storable = tt
+referring_in p l walk (Some r) is asks storable = walking_referring p l walk r is asks storable
+
+-- what an element makes of a line, by where it stands
+pub takes_where : (g middle : Control) (l : Line) (before progress : Progress) (e : Element) (d : Descriptor) (work : LineAtWork)
+    → middle ≡ g → before ≡ progress → Takes middle l progress e d work → Takes g l before e d work
+takes_where g middle l before progress e d work same is takes =
+    subst (λ (k : Control). Takes k l before e d work) same (subst (λ (r : Progress). Takes middle l r e d work) (sym is) takes)
 
 pub met_so : (before : Process) (middle : Control) (progress : Progress) (l : Line) (e : Element) (d : Descriptor) → middle ≡ before.control
     → progress ≡ before.progress → IsMet before.control l (at.At before.progress) e d → IsMet middle l (at.At progress) e d
@@ -205,6 +261,10 @@ met_of processes i q l e d h met =
 pub has_asked : (processes : List Process) (i : ℕ) (q : Process) (l : Line) (asks : asking.Next) → i < length processes
     → IsAsking (slice_index_or processes i q) l asks → HasAsked processes i l asks
 has_asked processes i q l asks h says = record { process = slice_index_or processes i q; at = get_at processes i q h; says = says }
+
+pub has_referred : (processes : List Process) (i : ℕ) (q : Process) (l : Line) (r : asked.Reference) → i < length processes
+    → IsReferring (slice_index_or processes i q) l r → HasReferred processes i l r
+has_referred processes i q l r h refers = record { process = slice_index_or processes i q; at = get_at processes i q h; refers = refers }
 
 pub has_met : (processes : List Process) (i : ℕ) (q p : Process) (l : Line) (e : Element) (d : Descriptor) (stepped : Stepped)
     → i < length processes → IsSeen (slice_index_or processes i q) l e d p stepped

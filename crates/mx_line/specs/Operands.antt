@@ -1,5 +1,6 @@
 -- Helpers: how far the line at work has come, and what its operand asks for.
-use Rattle.std.specs.Prelude.{◌≡◌, ℕ, ◌-◌, ◌<◌, ◌≤◌, true, false, List, [], Option, Some, None, length, slice_get}
+use Rattle.std.specs.Prelude.{◌≡◌, ℕ, ◌-◌, ◌<◌, ◌≤◌, true, false, if◌then◌else◌, List, [], Option, Some, length, slice_get}
+use Rattle.std.specs.Option.{option_map}
 use Rattle.mx_call.specs.Registers.{Registers, ArePackable}
 use Rattle.mx_upcall.specs.Control.{Control, with_registers}
 use Rattle.mx_effring.specs.Chains as chains
@@ -81,18 +82,30 @@ pub record IsTarget (g : Registers) (target : PointerParts) : Type 0 where
   pub high : g.ring ≤ target.ring
   pub plain : target.further ≡ false
 
--- the target of a walk that asks for no word
-abbrev pub done_at : Want → Option PointerParts
-done_at (Word segno word ring) = None
-done_at (Done target) = Some target
+-- what a walk asks for that stands at a place, at its effective ring: the word there where the place has the further bit, and
+-- else nothing more
+abbrev pub want_at : PointerParts → Want
+want_at place = if place.further then Word place.segno place.word place.ring else Done place
 
-abbrev pub first_target : Option chains.Operand → Option PointerParts
-first_target None = None
-first_target (Some walk) = done_at (wanted walk)
+-- what the walk of a line asks for at its beginning
+abbrev pub first_want : Registers → Line → Option Want
+first_want g l = option_map wanted (walk_of g l)
 
--- the target of a line whose operand is not indirect: its walk asks for no word
-abbrev pub direct_target : Registers → Line → Option PointerParts
-direct_target g l = first_target (walk_of g l)
+abbrev pub IsGoodWant : Registers → Want → Type 0
+IsGoodWant g (Word segno word ring) = Unit {0}
+IsGoodWant g (Done target) = IsTarget g target
+
+-- a line that makes no reference at its target
+abbrev pub IsAtNoWord : Line → Type 0
+IsAtNoWord (line.Ask request) = Unit {0}
+IsAtNoWord (line.Set word) = Unit {0}
+IsAtNoWord (line.Epp n o) = Unit {0}
+IsAtNoWord (line.Lda o) = ⊥
+IsAtNoWord (line.Sta o) = ⊥
+IsAtNoWord (line.Spri n o) = ⊥
+IsAtNoWord line.Fetch = ⊥
+IsAtNoWord (line.Call o) = ⊥
+IsAtNoWord (line.Return o) = ⊥
 
 -- after all this was seen the line goes on, or has ended
 abbrev pub IsOnward : Control → Line → List Judged → Onward → Type 0

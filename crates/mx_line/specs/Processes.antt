@@ -20,10 +20,12 @@ use Rattle.mx_script.specs.Sessions.{Outline}
 use Rattle.mx_script.specs.declared.lines.Line.{Line}
 use Rattle.mx_sdw.specs.Descriptors.{Descriptor}
 use Rattle.mx_sdw.specs.declared.denials.Denial.{Denial}
-use Rattle.mx_line.specs.AtWork.{IsCome, IsFree, IsGoodNext, IsGoodWork, IsMet, IsNearer, IsPlain, IsStorable, IsTaken, meant}
+use Rattle.mx_line.specs.AtWork.{IsCome, IsFree, IsGoodNext, IsGoodWork, IsMet, IsNearer, IsPlain, IsStorable, IsTaken, IsTakenTo, left, meant}
 use Rattle.mx_line.specs.Fills.{IsNoRequest}
-use Rattle.mx_line.specs.Operands.{IsGoodProgress}
+use Rattle.mx_line.specs.Operands.{IsGoodProgress, IsMemoryLine}
 use Rattle.mx_line.specs.declared.asking.Next as asking
+use Rattle.mx_line.specs.declared.asking.Next.TheVariants as asks
+use Rattle.mx_line.specs.declared.asking.Reference as asked
 use Rattle.mx_transcript.specs.Asking.{next}
 use Rattle.mx_transcript.specs.Courses.{Course}
 use Rattle.mx_line.specs.Seats.{Seat}
@@ -197,6 +199,21 @@ pub record HasAsked (processes : List Process) (i : ℕ) (l : Line) (asks : aski
   pub process : Process
   pub at : slice_get processes i ≡ Some process
   pub says : IsAsking process l asks
+
+-- its line, which refers to memory, asks for this reference
+pub record IsReferring (p : Process) (l : Line) (r : asked.Reference) : Type 0 where
+  pub memory : (course : Course) → IsCome p.control l course p.progress → IsMemoryLine l
+  pub says : IsAsking p l (asks.Asks r)
+
+pub record HasReferred (processes : List Process) (i : ℕ) (l : Line) (r : asked.Reference) : Type 0 where
+  pub process : Process
+  pub at : slice_get processes i ≡ Some process
+  pub refers : IsReferring process l r
+
+-- its line at work ends so by this element, which it has on some descriptor
+pub record HasPlainEnd (p : Process) (l : Line) (e : Element) (ends : Result2) : Type 0 where
+  pub taken : IsTakenTo p.control l e (works.At p.progress) (left p.control (Some ends))
+  pub good : IsGoodWork p.control (left p.control (Some ends))
 
 -- what an element makes of the line at work
 pub record Takes (g : Control) (l : Line) (progress : Progress) (e : Element) (d : Descriptor) (work : LineAtWork) : Type 0 where

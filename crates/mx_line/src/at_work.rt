@@ -1,6 +1,6 @@
 //! The line at work: where a process stands within its line, and what an event that answers makes of it.
 
-ghost use Rattle.std.specs.Prelude.{◌≡◌, ◌-◌, ◌≤◌, ℕ, true, false, List, [], ◌∷◌, ◌++◌, Some, length};
+ghost use Rattle.std.specs.Prelude.{◌≡◌, ◌-◌, ◌≤◌, ℕ, true, false, List, [], ◌∷◌, ◌++◌, Some, IfSome, IsSome, length};
 ghost use Rattle.mx_core.specs.declared.elements.Element.{Element as PlainElement};
 ghost use Rattle.mx_core.specs.declared.elements.Event.TheVariants.{Seen, Missing};
 ghost use Rattle.mx_core.specs.declared.elements.Outcome.TheVariants.{Read as WasRead, Written as WasWritten, Entered as HasEntered};
@@ -28,14 +28,14 @@ ghost use Rattle.mx_transcript.specs.declared.transcripts.Event2.TheVariants.{Co
 ghost use Rattle.mx_upcall.specs.Changes.{changed};
 ghost use Rattle.mx_upcall.specs.Control.{Control as Parts};
 ghost use Rattle.mx_upcall.specs.Soundness.{IsPackableControl};
-ghost use Rattle.mx_line.specs.AtWork.{HasSeen, IsCome, IsFree, IsGoodNext, IsGoodWork, IsKnown, IsMet, IsMover, IsNearer, IsOver, IsPlain, IsReader, IsSaid, IsStorable, IsTaken, IsUnlinked, IsWithin, IsWriter, OneCourseLaw, StandsAt, after_writing, begun, beside, end_of, ended, filling_or, meant, moved_on, standing};
+ghost use Rattle.mx_line.specs.AtWork.{EndsAt, IsTakenTo, ending, left, left_in, HasSeen, IsCome, IsFree, IsGoodNext, IsGoodWork, IsKnown, IsMet, IsMover, IsNearer, IsOver, IsPlain, IsReader, IsSaid, IsStorable, IsTaken, IsUnlinked, IsWithin, IsWriter, OneCourseLaw, StandsAt, after_writing, begun, beside, end_of, ended, filling_or, meant, moved_on, standing};
 ghost use Rattle.mx_line.specs.Fills.{IsNoRequest, IsShort, after_fill, counted, first_fill, steps_to_fill};
 ghost use Rattle.mx_line.specs.Making.{looks};
 ghost use Rattle.mx_line.specs.Operands.{IsGoodProgress, IsGoodWalk, IsMemoryLine, IsSayable, IsTarget};
 ghost use Rattle.mx_line.specs.declared.at_work.LineAtWork.TheVariants.{At, Ended, Nowhere};
-ghost use Rattle.mx_line.specs.declared.operands.Progress.TheVariants.{Before, Waiting};
+ghost use Rattle.mx_line.specs.declared.operands.Progress.TheVariants.{Before, Waiting, Walking};
 
-use crate::asking::{Called, End, Next, begins, direct_target, walk_of, wants};
+use crate::asking::{Called, End, Next, begins, first_target, walk_of, wants};
 use crate::fills::{Behind, Fill, Filled, Snap, first_fill};
 use crate::operands::{Onward, Place, Progress, feed};
 use mx_call::Regs;
@@ -214,7 +214,7 @@ pub(crate) fn first_seen(
     ensures nearer { IsNearer (At Before) result }
     ensures known { IsMet control.now line.now (At Before) element.now desc.now → IsKnown result }
 {
-    match direct_target(line, &control.registers) {
+    match first_target(line, &control.registers) {
         Some(target) => did(line, control, &target, element, desc),
         None => first_led(line, control, element, desc),
     }
@@ -330,58 +330,127 @@ fn did(
 {
     match element.outcome {
         Outcome::Denied(denial) => ended(Result2::Denied(denial), control),
-        Outcome::Read { value, .. } => read(line, control, value),
-        Outcome::Written { .. } => written(line, control),
+        Outcome::Read { value, .. } => left(read(line, value), control),
+        Outcome::Written { .. } => left(written(line), control),
         Outcome::Entered { .. } => entered(line, control, target, desc),
     }
 }
 
-// It read this word.
-fn read(line: &Line, control: &Control, value: Word) -> LineAtWork
-    requires { IsPackableControl control.now }
-    ensures said { (target : PointerParts) (d : Descriptor) (writer stamp : ℕ)
-        → IsSaid control.now (after_target control.now line.now target d (WasRead value writer stamp)) result }
-    ensures good { IsGoodWork control.now result }
-    ensures over { IsOver result }
-    ensures known { IsReader line.now → IsKnown result }
+/// How a line whose operand is not indirect ends by its reference, where that does not move the process; none where its
+/// operand is indirect, and for a call or a return that was granted.
+#[inline(always)]
+pub(crate) fn first_end(line: &Line, control: &Control, element: &Element) -> Option<Result2>
+    requires line { IsSayable line.now }
+    requires packable { IsPackableControl control.now }
+    ensures taken { IfSome result (λ ends. IsTakenTo control.now line.now element.now (At Before) (left control.now (Some ends))) }
+    ensures good { IfSome result (λ ends. IsGoodWork control.now (left control.now (Some ends))) }
+{
+    match first_target(line, &control.registers) {
+        Some(_) => end_at(line, element),
+        None => None,
+    }
+}
+
+/// How a line ends by the reference for which its walk asks, where that neither is to an indirect word nor moves the process.
+pub(crate) fn walked_end(
+    line: &Line,
+    control: &Control,
+    walk: &Walk,
+    element: &Element,
+) -> Option<Result2>
+    requires packable { IsPackableControl control.now }
+    ensures taken { IfSome result (λ ends. IsTakenTo control.now line.now element.now (At (Walking walk.now)) (left control.now (Some ends))) }
+    ensures good { IfSome result (λ ends. IsGoodWork control.now (left control.now (Some ends))) }
+{
+    match walk.want() {
+        Want::Done(_) => end_at(line, element),
+        Want::Word { .. } => None,
+    }
+}
+
+// How a line ends by its reference at its target, where that does not move the process.
+#[inline(always)]
+fn end_at(line: &Line, element: &Element) -> Option<Result2>
+    ensures { IfSome result (EndsAt line.now element.now.outcome) }
+{
+    match element.outcome {
+        Outcome::Denied(denial) => Some(Result2::Denied(denial)),
+        Outcome::Read { value, .. } => read(line, value),
+        Outcome::Written { .. } => written(line),
+        Outcome::Entered { .. } => None,
+    }
+}
+
+// How a line ends that read this word at its target.
+#[inline(always)]
+fn read(line: &Line, value: Word) -> Option<Result2>
+    ensures said { (g : Parts) (target : PointerParts) (d : Descriptor) (writer stamp : ℕ)
+        → after_target g line.now target d (WasRead value writer stamp) ≡ ending g result }
+    ensures known { IsReader line.now → IsSome result }
 {
     match line {
-        Line::Lda { .. } => LineAtWork::Ended(End {
-            ends: Result2::A(value),
-            after: Change::keeping(&Regs {
-                a: value,
-                ..control.registers
-            }),
-        }),
-        Line::Fetch => ended(Result2::Done, control),
+        Line::Lda { .. } => Some(Result2::A(value)),
+        Line::Fetch => Some(Result2::Done),
         Line::Ask(_)
         | Line::Set { .. }
         | Line::Epp { .. }
         | Line::Sta { .. }
         | Line::Spri { .. }
         | Line::Call { .. }
-        | Line::Return { .. } => LineAtWork::Nowhere,
+        | Line::Return { .. } => None,
     }
 }
 
-// It stored its word.
-fn written(line: &Line, control: &Control) -> LineAtWork
-    requires { IsPackableControl control.now }
-    ensures said { (target : PointerParts) (d : Descriptor) (value : ℕ)
-        → IsSaid control.now (after_target control.now line.now target d (WasWritten value)) result }
-    ensures good { IsGoodWork control.now result }
-    ensures over { IsOver result }
-    ensures known { IsWriter line.now → IsKnown result }
+// How a line ends that stored its word at its target.
+#[inline(always)]
+fn written(line: &Line) -> Option<Result2>
+    ensures said { (g : Parts) (target : PointerParts) (d : Descriptor) (value : ℕ)
+        → after_target g line.now target d (WasWritten value) ≡ ending g result }
+    ensures known { IsWriter line.now → IsSome result }
 {
     match line {
-        Line::Sta { .. } | Line::Spri { .. } => ended(Result2::Done, control),
+        Line::Sta { .. } | Line::Spri { .. } => Some(Result2::Done),
         Line::Ask(_)
         | Line::Set { .. }
         | Line::Epp { .. }
         | Line::Lda { .. }
         | Line::Fetch
         | Line::Call { .. }
-        | Line::Return { .. } => LineAtWork::Nowhere,
+        | Line::Return { .. } => None,
+    }
+}
+
+// A line ends so where it is said how, and else has done what no line does.
+fn left(ends: Option<Result2>, control: &Control) -> LineAtWork
+    ensures { result ≡ left control.now ends }
+{
+    match ends {
+        Some(ends) => {
+            let mut registers = control.registers;
+            leave(&mut registers, &ends);
+            LineAtWork::Ended(End {
+                ends,
+                after: Change::keeping(&registers),
+            })
+        }
+        None => LineAtWork::Nowhere,
+    }
+}
+
+/// What the end of a line that does not move the process leaves in the registers: the accumulator has the word that it
+/// read.
+#[inline(always)]
+pub(crate) fn leave(registers: &mut Regs, ends: &Result2)
+    ensures { registers.new ≡ left_in ends.now registers.old }
+{
+    match ends {
+        Result2::A(value) => registers.a = *value,
+        Result2::Done
+        | Result2::Pr { .. }
+        | Result2::Moved { .. }
+        | Result2::Denied(_)
+        | Result2::Refused
+        | Result2::HistoryFull => {}
     }
 }
 

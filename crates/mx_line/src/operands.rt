@@ -12,7 +12,8 @@ ghost use Rattle.mx_transcript.specs.Standing.{IsWalked};
 ghost use Rattle.mx_transcript.specs.declared.transcripts.Result2.TheVariants as results;
 ghost use Rattle.mx_ptr.specs.Pointers.{IsPackable};
 ghost use Rattle.mx_script.specs.Sessions.{is_address};
-ghost use Rattle.mx_line.specs.Operands.{HasBegun, IsGoodWalk, IsTarget, IsOnward, IsGoodOnward, IsCloser, IsRegisterWord, IsSayable, first_target};
+ghost use Rattle.mx_line.specs.Operands.{HasBegun, IsGoodWalk, IsGoodWant, IsTarget, IsOnward, IsGoodOnward, IsCloser, IsRegisterWord, IsSayable, want_at};
+ghost use Rattle.std.specs.Option.{option_map};
 ghost use Rattle.mx_line.specs.declared.operands.Onward.TheVariants.{End};
 
 use crate::fills::Fill;
@@ -66,30 +67,26 @@ pub(crate) fn start(registers: &Regs, operand: &Operand) -> Walk
     Walk::start(registers.ring, base, operand.indirect)
 }
 
-/// The target of an operand that is not indirect, which takes no walk.
+/// The place for which the walk of an operand asks at its beginning.
 #[inline(always)]
-pub(crate) fn direct(registers: &Regs, operand: &Operand) -> Option<Pointer>
+pub(crate) fn place_of(registers: &Regs, operand: &Operand) -> Pointer
     requires address { is_address operand.now ≡ true }
     requires packable { ArePackable registers.now }
-    ensures is { result ≡ first_target (operand_walk registers.now operand.now) }
-    ensures target { IfSome result (IsTarget registers.now) }
+    ensures is { option_map wanted (operand_walk registers.now operand.now) ≡ Some (want_at result) }
+    ensures good { IsGoodWant registers.now (want_at result) }
 {
-    if operand.indirect {
-        None
-    } else {
-        Some(target_at(registers, base_of(registers, operand)))
-    }
+    place_from(registers, base_of(registers, operand), operand.indirect)
 }
 
-/// The target of a walk that begins at a pointer and asks for no word.
+/// The place for which a walk asks that begins at a pointer: a word there, or nothing more.
 #[inline(always)]
-pub(crate) fn target_at(registers: &Regs, base: Pointer) -> Pointer
+pub(crate) fn place_from(registers: &Regs, base: Pointer, indirect: bool) -> Pointer
     requires { IsPackable base }
-    ensures is { first_target (Some (walk_from registers.now false base)) ≡ Some result }
-    ensures target { IsTarget registers.now result }
+    ensures is { wanted (walk_from registers.now indirect base) ≡ want_at result }
+    ensures good { IsGoodWant registers.now (want_at result) }
 {
     Pointer {
-        further: false,
+        further: indirect,
         ..raised_to(registers.ring, base)
     }
 }

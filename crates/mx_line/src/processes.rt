@@ -1,18 +1,19 @@
 //! Processes: their registers and return gates, and what was recorded of them.
 
-ghost use Rattle.std.specs.Prelude.{◌≡◌, ◌<◌, ◌+◌, ◌^◌, true, [], ◌∷◌, ◌++◌, IfOk, IsTrue, IsFalse, OnOk, Some, length};
+ghost use Rattle.std.specs.Prelude.{◌≡◌, ◌<◌, ◌+◌, ◌^◌, true, [], ◌∷◌, ◌++◌, IfOk, IfSome, IsTrue, IsFalse, OnOk, Some, length};
 ghost use Rattle.mx_upcall.specs.Changes.{Fits, keeping, changed};
 ghost use Rattle.mx_upcall.specs.Soundness.{IsPackableControl};
 ghost use Rattle.mx_sdw.specs.Admissible.{IsAdmissible};
 ghost use Rattle.mx_script.specs.Sessions.{IsSession};
-ghost use Rattle.mx_line.specs.AtWork.{IsMet};
+ghost use Rattle.mx_line.specs.AtWork.{IsKnown, IsMet, left_in};
+ghost use Rattle.mx_upcall.specs.Control.{with_registers};
 ghost use Rattle.mx_line.specs.Operands.{IsGoodProgress, IsSayable};
-ghost use Rattle.mx_line.specs.Processes.{AreFresh, IsStill, HasRoom, IsCountable, IsGoodAt, HasGateRoom, HasEnded, HasGoneOn, HasMet, IsSeen, IsMetAt, HasProgress, HasRegisters, HasControl, HasLines, HasNumber, HasLastDenial, HasAsked, IsAsking, HasFill, fill_of, events_in};
+ghost use Rattle.mx_line.specs.Processes.{AreFresh, IsStill, HasRoom, IsCountable, IsGoodAt, HasGateRoom, HasEnded, HasGoneOn, HasMet, IsSeen, IsMetAt, HasProgress, HasRegisters, HasControl, HasLines, HasNumber, HasLastDenial, HasAsked, HasPlainEnd, HasReferred, IsAsking, IsReferring, Takes, HasFill, fill_of, events_in};
 ghost use Rattle.mx_line.specs.declared.at_work.LineAtWork.TheVariants.{At};
 ghost use Rattle.mx_line.specs.declared.operands.Progress.TheVariants.{Before, Waiting};
 
-use crate::asking::Next;
-use crate::at_work::{LineAtWork, next_at};
+use crate::asking::{Next, Reference, first_reference, next_reference};
+use crate::at_work::{LineAtWork, first_end, first_seen, leave, next_at, walked_end};
 use crate::fills::Fill;
 use crate::operands::Progress;
 use crate::steps::Stepped;
@@ -164,6 +165,28 @@ impl Processes {
         is_waiting(&self.items, i)
     }
 
+    /// The reference that the line at work of a process asks for at its beginning, where its operand is not indirect; none
+    /// where the line has begun already, or asks for another thing.
+    pub fn refers(&self, i: usize, line: &Line) -> Option<Reference>
+        requires within { i < length self.now }
+        requires good { IsGoodAt self.now i }
+        requires line { IsSayable line.now }
+        ensures { IfSome result (HasReferred self.now i line.now) }
+    {
+        refers_at(&self.items, i, line)
+    }
+
+    /// The reference that the line at work of a process asks for where it has read some indirect words; none where it has
+    /// read none, or asks for another thing.
+    pub fn refers_on(&self, i: usize, line: &Line) -> Option<Reference>
+        requires within { i < length self.now }
+        requires good { IsGoodAt self.now i }
+        requires line { IsSayable line.now }
+        ensures { IfSome result (HasReferred self.now i line.now) }
+    {
+        refers_on_at(&self.items, i, line)
+    }
+
     /// What the line at work of a process asks for.
     pub fn asks(&self, i: usize, line: &Line) -> Next
         requires within { i < length self.now }
@@ -289,6 +312,24 @@ fn fill_of(progress: &Progress) -> Option<Fill>
     }
 }
 
+fn refers_at(processes: &[Process], i: usize, line: &Line) -> Option<Reference>
+    requires within { i < length processes.now }
+    requires good { IsGoodAt processes.now i }
+    requires line { IsSayable line.now }
+    ensures { IfSome result (HasReferred processes.now i line.now) }
+{
+    processes[i].refers(line)
+}
+
+fn refers_on_at(processes: &[Process], i: usize, line: &Line) -> Option<Reference>
+    requires within { i < length processes.now }
+    requires good { IsGoodAt processes.now i }
+    requires line { IsSayable line.now }
+    ensures { IfSome result (HasReferred processes.now i line.now) }
+{
+    processes[i].refers_on(line)
+}
+
 fn asks_at(processes: &[Process], i: usize, line: &Line) -> Next
     requires within { i < length processes.now }
     requires good { IsGoodAt processes.now i }
@@ -365,6 +406,34 @@ impl Process {
         self.control.registers
     }
 
+    // The reference that its line asks for at its beginning, where its operand is not indirect.
+    #[inline(always)]
+    fn refers(&self, line: &Line) -> Option<Reference>
+        requires packable { IsPackableControl self.now.control }
+        requires line { IsSayable line.now }
+        ensures { IfSome result (IsReferring self.now line.now) }
+    {
+        match &self.progress {
+            Progress::Before => first_reference(line, &self.control),
+            Progress::Walking(_) | Progress::AtLink(_) | Progress::Waiting | Progress::Filling(_) =>
+                None,
+        }
+    }
+
+    // The reference that its line asks for where it has read some indirect words.
+    fn refers_on(&self, line: &Line) -> Option<Reference>
+        requires packable { IsPackableControl self.now.control }
+        requires progress { IsGoodProgress self.now.control.registers self.now.progress }
+        requires line { IsSayable line.now }
+        ensures { IfSome result (IsReferring self.now line.now) }
+    {
+        match &self.progress {
+            Progress::Walking(walk) => next_reference(line, &self.control, walk),
+            Progress::Before | Progress::AtLink(_) | Progress::Waiting | Progress::Filling(_) =>
+                None,
+        }
+    }
+
     /// What its line asks for.
     pub fn asks(&self, line: &Line) -> Next
         requires packable { IsPackableControl self.now.control }
@@ -396,11 +465,23 @@ impl Process {
         ensures idle { self.new.recording.events ≡ [] }
         ensures fresh { self.new.progress ≡ Before }
     {
-        let number = self.number();
         push_if(&mut self.recording, event);
-        self.recording.end_line(number, ends);
+        self.record_end(ends);
         self.control.change(after);
-        self.progress = Progress::Before;
+        self.begin_line();
+    }
+
+    // It stands before its next line; where it stands so already, nothing is written.
+    #[inline(always)]
+    fn begin_line(&mut self)
+        ensures first { self.new.first ≡ self.old.first }
+        ensures control { self.new.control ≡ self.old.control }
+        ensures recording { self.new.recording ≡ self.old.recording }
+        ensures fresh { self.new.progress ≡ Before }
+    {
+        if !self.is_before() {
+            self.progress = Progress::Before;
+        }
     }
 
     // Its line at work has this event, and has come so far.
@@ -417,6 +498,7 @@ impl Process {
     }
 
     // The reference for which its line asks was made.
+    #[inline(always)]
     fn seen(&mut self, line: &Line, element: &Element, desc: &Desc) -> Stepped
         requires event { IsTrue self.old.recording.event_room }
         requires room { IsTrue self.old.recording.line_room }
@@ -428,9 +510,114 @@ impl Process {
         requires met { IsMet self.old.control line.now (At self.old.progress) element.now desc.now }
         ensures { IsSeen self.old line.now element.now desc.now self.new result }
     {
+        match self.plain_end(line, element) {
+            Some(ends) => {
+                self.end_plainly(Event2::Core(Event::Seen(*element)), ends);
+                Stepped::LineDone
+            }
+            None => self.went(line, element, desc),
+        }
+    }
+
+    // How its line ends by its first reference, where its operand is not indirect and that does not move the process.
+    #[inline(always)]
+    fn plain_end(&self, line: &Line, element: &Element) -> Option<Result2>
+        requires packable { IsPackableControl self.now.control }
+        requires line { IsSayable line.now }
+        ensures ends { IfSome result (HasPlainEnd self.now line.now element.now) }
+        ensures before { IfSome result (λ ends. self.now.progress ≡ Before) }
+    {
+        match &self.progress {
+            Progress::Before => first_end(line, &self.control, element),
+            Progress::Walking(_) | Progress::AtLink(_) | Progress::Waiting | Progress::Filling(_) =>
+                None,
+        }
+    }
+
+    // How its line ends by the reference for which its walk asks, where that neither is to an indirect word nor moves the
+    // process.
+    fn walked_end(&self, line: &Line, element: &Element) -> Option<Result2>
+        requires packable { IsPackableControl self.now.control }
+        ensures { IfSome result (HasPlainEnd self.now line.now element.now) }
+    {
+        match &self.progress {
+            Progress::Walking(walk) => walked_end(line, &self.control, walk, element),
+            Progress::Before | Progress::AtLink(_) | Progress::Waiting | Progress::Filling(_) =>
+                None,
+        }
+    }
+
+    // Its line at work ends so with this event; how far it had come stays to be forgotten.
+    #[inline(always)]
+    fn end_plainly(&mut self, event: Event2, ends: Result2)
+        requires event { IsTrue self.old.recording.event_room }
+        requires line { IsTrue self.old.recording.line_room }
+        requires number { self.old.first + length self.old.recording.steps < 2 ^ 32 }
+        ensures first { self.new.first ≡ self.old.first }
+        ensures done { self.new.control ≡ with_registers self.old.control (left_in ends self.old.control.registers) }
+        ensures steps { self.new.recording.steps ≡ self.old.recording.steps
+            ++ (self.old.first + length self.old.recording.steps, self.old.recording.events ++ event ∷ [], ends) ∷ [] }
+        ensures idle { self.new.recording.events ≡ [] }
+        ensures progress { self.new.progress ≡ self.old.progress }
+    {
+        self.recording.push(event);
+        self.record_end(ends);
+        leave(&mut self.control.registers, &ends);
+    }
+
+    // The end of its line at work is recorded under the number of the line.
+    #[inline(always)]
+    fn record_end(&mut self, ends: Result2)
+        requires line { IsTrue self.old.recording.line_room }
+        requires number { self.old.first + length self.old.recording.steps < 2 ^ 32 }
+        ensures first { self.new.first ≡ self.old.first }
+        ensures control { self.new.control ≡ self.old.control }
+        ensures steps { self.new.recording.steps ≡ self.old.recording.steps
+            ++ (self.old.first + length self.old.recording.steps, self.old.recording.events, ends) ∷ [] }
+        ensures idle { self.new.recording.events ≡ [] }
+        ensures progress { self.new.progress ≡ self.old.progress }
+    {
+        let number = self.number();
+        self.recording.end_line(number, ends);
+    }
+
+    // The same, where its line has begun already, reads an indirect word or moves the process.
+    #[inline(never)]
+    fn went(&mut self, line: &Line, element: &Element, desc: &Desc) -> Stepped
+        requires event { IsTrue self.old.recording.event_room }
+        requires room { IsTrue self.old.recording.line_room }
+        requires number { self.old.first + length self.old.recording.steps < 2 ^ 32 }
+        requires packable { IsPackableControl self.old.control }
+        requires progress { IsGoodProgress self.old.control.registers self.old.progress }
+        requires line { IsSayable line.now }
+        requires desc { IsAdmissible desc.now }
+        requires met { IsMet self.old.control line.now (At self.old.progress) element.now desc.now }
+        ensures { IsSeen self.old line.now element.now desc.now self.new result }
+    {
+        match self.walked_end(line, element) {
+            Some(ends) => {
+                self.end_plainly(Event2::Core(Event::Seen(*element)), ends);
+                self.progress = Progress::Before;
+                Stepped::LineDone
+            }
+            None => self.goes(line, element, desc),
+        }
+    }
+
+    // The same by the line at work itself.
+    fn goes(&mut self, line: &Line, element: &Element, desc: &Desc) -> Stepped
+        requires event { IsTrue self.old.recording.event_room }
+        requires room { IsTrue self.old.recording.line_room }
+        requires number { self.old.first + length self.old.recording.steps < 2 ^ 32 }
+        requires packable { IsPackableControl self.old.control }
+        requires progress { IsGoodProgress self.old.control.registers self.old.progress }
+        requires line { IsSayable line.now }
+        requires desc { IsAdmissible desc.now }
+        requires met { IsMet self.old.control line.now (At self.old.progress) element.now desc.now }
+        ensures { IsSeen self.old line.now element.now desc.now self.new result }
+    {
         let event = Event2::Core(Event::Seen(*element));
-        let progress = self.take_progress();
-        match LineAtWork::At(progress).seen(line, &self.control, element, desc) {
+        match self.take_seen(line, element, desc) {
             LineAtWork::At(progress) => {
                 self.go_on(event, progress);
                 Stepped::More
@@ -441,6 +628,34 @@ impl Process {
             }
             LineAtWork::Nowhere => unreachable!(),
         }
+    }
+
+    // Where its line stands after the reference for which it asks; how far it had come is taken out, unless it had not begun.
+    fn take_seen(&mut self, line: &Line, element: &Element, desc: &Desc) -> LineAtWork
+        requires packable { IsPackableControl self.old.control }
+        requires progress { IsGoodProgress self.old.control.registers self.old.progress }
+        requires line { IsSayable line.now }
+        requires desc { IsAdmissible desc.now }
+        requires met { IsMet self.old.control line.now (At self.old.progress) element.now desc.now }
+        ensures takes { Takes self.old.control line.now self.old.progress element.now desc.now result }
+        ensures known { IsKnown result }
+        ensures first { self.new.first ≡ self.old.first }
+        ensures control { self.new.control ≡ self.old.control }
+        ensures recording { self.new.recording ≡ self.old.recording }
+    {
+        if self.is_before() {
+            first_seen(line, &self.control, element, desc)
+        } else {
+            let progress = self.take_progress();
+            LineAtWork::At(progress).seen(line, &self.control, element, desc)
+        }
+    }
+
+    // Whether it stands before its line.
+    fn is_before(&self) -> bool
+        ensures { IsTrue result → self.now.progress ≡ Before }
+    {
+        matches!(self.progress, Progress::Before)
     }
 
     // How far its line has come, taken out.

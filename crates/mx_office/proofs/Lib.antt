@@ -5,5 +5,7 @@ pub mod Locks
 pub mod Serves
 pub mod Announces
 pub mod Missing
+pub mod Wakings
+pub mod Blocks
 pub mod Opens
 pub mod Keeps

@@ -18,7 +18,8 @@ use Rattle.mx_transcript.specs.Settings.{entry_at}
 use Rattle.mx_closing.specs.Views.{marked_in}
 use Rattle.mx_office.specs.Announcing.{Coming, IsAnnounced, announced_view}
 use Rattle.mx_office.specs.Revoking.{IsListed}
-use Rattle.mx_office.specs.Serving.{HasEntered, HasGrown, answer_of, told_to}
+use Rattle.mx_office.specs.Serving.{HasEntered, HasGrown, IsServed, answer_of, told_to}
+use Rattle.mx_office.specs.declared.answers.Answer.{Answer}
 use Rattle.mx_office.specs.declared.answers.Served.{Served}
 use Rattle.mx_ties.specs.Closed.{followed}
 use Rattle.mx_transcript.specs.Misses.{IsChanged}
@@ -97,6 +98,14 @@ module _ (s s' : Supervised) (p ring : ℕ) (request : Request) (number : ℕ)
   grown_journal found at = made.entry
       ∙ ap (λ (e : journaled.Entry). supervised s.session (s.journal ++ e ∷ [])) (sym (entry_found found at))
 
+  -- what is replied in its entry is answered
+  pub served_by : (found : journaled.Entry) → entry_at s'.journal number ≡ Some found → (answer : Answer)
+      → answer ≡ answer_of found.reply → IsServed s p ring request (record { number = number; answer = answer }) s'
+  served_by found at answer is = record {
+    made = made;
+    answered = is ∙ ap (λ (e : journaled.Entry). answer_of e.reply) (entry_found found at);
+  }
+
 -- what its entry leaves a process
 pub entered_by : (x : Outline) (setup : List journaled.Entry) (v : SuperView journaled.Entry)
     (e : Coming journaled.Entry) (ring : ℕ) (request : Request) (served : Served) (o o' : PassValue journaled.Entry)
@@ -137,3 +146,6 @@ same_served a b is = cc
 
 pub same_length : (a b : ℕ) → ◌≡◌ {A = Result Served EnterError} (Err (HistoryFull a)) (Err (HistoryFull b)) → a ≡ b
 same_length a b is = cc
+
+pub same_entered : (a b : Served) → ◌≡◌ {A = Result Served EnterError} (Ok a) (Ok b) → a ≡ b
+same_entered a b is = cc

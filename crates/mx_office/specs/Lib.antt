@@ -1,4 +1,5 @@
 pub mod Announcing
+pub mod Blocking
 pub mod Clearing
 pub mod Holding
 pub mod Locked
@@ -6,3 +7,4 @@ pub mod Ends
 pub mod Serving
 pub mod Revoking
 pub mod Settling
+pub mod Waking

@@ -12,6 +12,8 @@ use Rattle.mx_request.specs.declared.requests.Request.{Request}
 use Rattle.mx_rule.specs.Shown.{all_told}
 use Rattle.mx_script.specs.Sessions.{Outline, limit_of}
 use Rattle.mx_state.specs.declared.journal.Entry as journaled
+use Rattle.mx_sup.specs.Entering.{HasEntered as HasBeenEntered}
+use Rattle.mx_sup.specs.Supervised.{Supervised}
 use Rattle.mx_ties.specs.Closed.{followed}
 use Rattle.mx_ties.specs.Views.{Marked}
 use Rattle.mx_transcript.specs.Misses.{IsChanged}
@@ -36,6 +38,11 @@ answer_of reply.Sent = Other
 answer_of (reply.Message sender word) = Other
 answer_of reply.Nobody = Other
 answer_of reply.Waiting = Waiting
+
+-- the plain supervisor entered it for process p, and what it replied is answered
+pub record IsServed (old : Supervised) (p ring : ℕ) (request : Request) (served : Served) (new : Supervised) : Type 0 where
+  pub made : HasBeenEntered old p ring request served.number new
+  pub answered : served.answer ≡ answer_of made.reply
 
 -- the last settled entry of which a process was told, by number
 abbrev pub told_to : PassValue journaled.Entry → ℕ → ℕ

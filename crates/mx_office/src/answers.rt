@@ -1,7 +1,8 @@
 //! What a process is answered.
 
-ghost use Rattle.std.specs.Prelude.{◌≡◌};
+ghost use Rattle.std.specs.Prelude.{◌≡◌, IsTrue, IsFalse};
 ghost use Rattle.mx_office.specs.Serving.{answer_of};
+ghost use Rattle.mx_office.specs.declared.answers.Answer.TheVariants.{Waiting};
 ghost use Rattle.mx_office.specs.declared.answers.EnterError.TheVariants.{Memory};
 
 use mx_request::Reply;
@@ -31,6 +32,14 @@ pub enum Answer {
 }
 
 impl Answer {
+    /// Whether the process waits for a message.
+    pub fn is_waiting(&self) -> bool
+        ensures yes { IsTrue result → self.now ≡ Waiting }
+        ensures no { IsFalse result → self.now ≡ Waiting → ⊥ }
+    {
+        matches!(self, Answer::Waiting)
+    }
+
     /// What a line asks of this reply.
     pub(crate) fn of(reply: &Reply) -> Answer
         ensures { result ≡ answer_of reply.now }
@@ -66,6 +75,17 @@ impl Answer {
 pub struct Served {
     pub number: u32,
     pub answer: Answer,
+}
+
+/// What became of a `block`.
+#[derive(Clone, Copy, Debug)]
+pub struct Blocked {
+    /// The number of its entry: none exactly where it met the journal at its limit.
+    pub entry: Option<u32>,
+    /// The number of the entry of `resume`: none exactly where `full` is set, or `block` was not answered `waiting`.
+    pub resume: Option<u32>,
+    /// Whether `block`, or after `waiting` the `resume`, met the journal at its limit and was not entered.
+    pub full: bool,
 }
 
 /// Why a request was not entered.

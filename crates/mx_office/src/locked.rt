@@ -1,12 +1,15 @@
 //! What the office keeps under its lock.
 
-ghost use Rattle.std.specs.Prelude.{◌≡◌, ◌+◌, ◌<◌, ℕ, false, true, Ok, Err, IsErr, IsOk, OnErr, OnOk, length};
+ghost use Rattle.std.specs.Prelude.{◌≡◌, ◌+◌, ◌<◌, ◌≤◌, ℕ, false, true, Ok, Err, IsErr, IsFalse, IsOk, IsTrue, OnErr, OnOk, length};
 ghost use Rattle.mx_closing.specs.Closing.{AreOfAll};
+ghost use Rattle.mx_office.specs.Blocking.{IsStuck};
 ghost use Rattle.mx_office.specs.Ends.{HasFinished};
 ghost use Rattle.mx_office.specs.Locked.{IsLocked};
-ghost use Rattle.mx_office.specs.Serving.{HasEntered, HasMetLimit, HasSettled};
+ghost use Rattle.mx_office.specs.Serving.{HasEntered, HasMetLimit, HasSettled, IsServed};
+ghost use Rattle.mx_office.specs.declared.answers.Answer.TheVariants.{Waiting};
 ghost use Rattle.mx_office.specs.declared.answers.EnterError.TheVariants.{HistoryFull, Memory};
 ghost use Rattle.mx_office.specs.declared.answers.Served.{Served as ServedValue};
+ghost use Rattle.mx_request.specs.declared.requests.Request.TheVariants.{Resume};
 ghost use Rattle.mx_script.specs.Sessions.{limit_of};
 
 use crate::answers::{EnterError, Served};
@@ -89,6 +92,8 @@ impl<'a, B: Sitting> Locked<'a, B> {
         ensures over { self.old.stopped ≡ true → result ≡ Err Memory }
         ensures longer { (served : ServedValue) → result ≡ Ok served
             → length self.new.supervised.journal ≡ length self.old.supervised.journal + 1 }
+        ensures served { (served : ServedValue) → result ≡ Ok served → IsServed self.old.supervised
+            pass.old.view.process ring request.now served self.new.supervised }
         ensures still { OnErr result (self.new.supervised ≡ self.old.supervised) }
         ensures stopped { self.new.stopped ≡ self.old.stopped }
     {
@@ -106,6 +111,50 @@ impl<'a, B: Sitting> Locked<'a, B> {
             ring,
             request,
         )
+    }
+
+    /// The `resume` of a process that waited, in one hold of the lock. Condition: nothing keeps it asleep any more. Its
+    /// answer is then not `waiting`.
+    pub(crate) fn resume<R: Wait>(
+        &mut self,
+        rt: &R,
+        alloc: Global,
+        pass: &mut Pass<Entry, B>,
+        shared: &Board<Entry>,
+        ring: Ring,
+    ) -> Result<Served, EnterError>
+        requires fits { shared.now.table_id ≡ B.table }
+        requires layout { shared.now.key.layout ≡ B.layout }
+        requires awake { IsStuck B.session self.old pass.old.view.process → ⊥ }
+        ensures entered { (served : ServedValue) → result ≡ Ok served
+            → HasEntered B.session B.setup ring Resume served pass.old pass.new }
+        ensures given { (served : ServedValue) → result ≡ Ok served → served.answer ≡ Waiting → ⊥ }
+        ensures full { (length : ℕ) → result ≡ Err (HistoryFull length)
+            → HasMetLimit B.session length pass.old pass.new }
+        ensures memory { result ≡ Err Memory → pass.new ≡ pass.old }
+    {
+        self.serve(rt, alloc, pass, shared, ring, &Request::Resume)
+    }
+
+    /// Whether a process that waits has to sleep: the run goes on, the journal has room, and `resume` would be answered
+    /// `waiting`. Of a number that is no process's it says no.
+    pub(crate) fn is_stuck(&self, p: u8) -> bool
+        ensures yes { IsTrue result → IsStuck B.session self.now p }
+        ensures no { IsFalse result → 1 ≤ p → p ≤ B.layout.processes → IsStuck B.session self.now p → ⊥ }
+    {
+        1 <= p
+            && p <= self.chief.layout().processes
+            && !self.stopped
+            && self.supervisor.length() < self.supervisor.limit()
+            && !self.supervisor.ready(p)
+    }
+
+    /// Whether the journal is at its limit.
+    pub(crate) fn is_full(&self) -> bool
+        ensures yes { IsTrue result → length self.now.supervised.journal ≡ limit_of B.session }
+        ensures no { IsFalse result → length self.now.supervised.journal < limit_of B.session }
+    {
+        self.supervisor.length() >= self.supervisor.limit()
     }
 
     /// Settles the word of this number of a process, where it is a fault, and tells the process of all entries, in one hold

@@ -3,7 +3,7 @@
 ghost use Rattle.std.specs.Prelude.{◌≡◌, ◌+◌, ◌≤◌, ◌<◌, ◌≢◌, ℕ, Ok, Err, IfOk, OnErr, length};
 ghost use Rattle.mx_core.specs.Words.{number_of};
 ghost use Rattle.mx_office.specs.Locked.{IsLocked};
-ghost use Rattle.mx_office.specs.Serving.{HasEntered, HasGrown, HasMetLimit, HasSettled, runs_of, told_to};
+ghost use Rattle.mx_office.specs.Serving.{HasEntered, HasGrown, HasMetLimit, HasSettled, IsServed, runs_of, told_to};
 ghost use Rattle.mx_office.specs.declared.answers.EnterError.TheVariants.{HistoryFull, Memory};
 ghost use Rattle.mx_office.specs.declared.answers.Served.{Served as ServedValue};
 ghost use Rattle.mx_rule.specs.Notes.{last_miss, noting_view, reported_view, reporting_view};
@@ -137,6 +137,8 @@ fn enter_below<R: Wait, B: Sitting>(
         → HasEntered B.session B.setup ring request.now served pass.old pass.new }
     ensures longer { (served : ServedValue) → result ≡ Ok served
         → length supervisor.new.journal ≡ length supervisor.old.journal + 1 }
+    ensures served { (served : ServedValue) → result ≡ Ok served → IsServed supervisor.old pass.old.view.process ring
+        request.now served supervisor.new }
     ensures err { OnErr result (pass.new ≡ pass.old) }
     ensures still { OnErr result (supervisor.new ≡ supervisor.old) }
 {
@@ -192,6 +194,8 @@ pub(crate) fn serve<R: Wait, B: Sitting>(
     ensures memory { result ≡ Err Memory → pass.new ≡ pass.old }
     ensures longer { (served : ServedValue) → result ≡ Ok served
         → length supervisor.new.journal ≡ length supervisor.old.journal + 1 }
+    ensures served { (served : ServedValue) → result ≡ Ok served → IsServed supervisor.old pass.old.view.process ring
+        request.now served supervisor.new }
     ensures still { OnErr result (supervisor.new ≡ supervisor.old) }
 {
     let length = supervisor.length();

@@ -1,6 +1,6 @@
 -- A reference that was judged through an associative memory is the reference that a line asked for, judged on the descriptor
 -- beside it.
-use Rattle.std.proofs.Common.{◌≡◌, ℕ, ◌++◌, ◌<◌, ◌^◌, nat_lt, ◌∷◌, [], max, inl, inr, true, false, List, Option, Some, None, Result, Ok, Err, refl, sym, ap, ◌∙◌, subst}
+use Rattle.std.proofs.Common.{◌≡◌, ℕ, ◌++◌, ◌<◌, ◌^◌, nat_lt, ◌∷◌, [], max, inl, inr, true, List, Option, Some, None, Result, refl, sym, ap, ◌∙◌, subst}
 use Rattle.std.specs.Prelude.{IsSome}
 use Rattle.mx_cam.proofs.CamLaws.{recalled_number}
 use Rattle.mx_cam.specs.Cams.{HasJudged}
@@ -15,21 +15,19 @@ use Rattle.mx_core.specs.declared.elements.Outcome.{Outcome}
 use Rattle.mx_core.specs.declared.elements.Outcome.TheVariants as outcome
 use Rattle.mx_core.specs.declared.words.Asked.{Asked}
 use Rattle.mx_core.specs.declared.words.Triple.{Triple}
-use Rattle.mx_desc.specs.Referring.{HasReferred, HasSeen}
 use Rattle.mx_line.specs.AtWork.{IsStorableBy, reference_in}
 use Rattle.mx_line.specs.declared.asking.Reference as asked
 use Rattle.mx_rule.specs.declared.views.PassView.{PassView}
 use Rattle.mx_sdw.specs.Admissible.{IsAdmissible}
 use Rattle.mx_sdw.specs.Descriptors.{Descriptor}
-use Rattle.mx_sdw.specs.Judging.{judgement, cell_of, ring_after}
-use Rattle.mx_sdw.specs.Operations.{reads, fetches, writes, transfers}
+use Rattle.mx_sdw.specs.Judging.{judgement, ring_after}
+use Rattle.mx_sdw.specs.Operations.{writes, transfers}
 use Rattle.mx_sdw.specs.declared.denials.Denial.{Denial}
 use Rattle.mx_sdw.specs.declared.descriptors.Cell.{Cell}
 use Rattle.mx_sdw.specs.declared.operations.Op.{Op}
 use Rattle.mx_sdw.specs.declared.operations.Op.TheVariants as op
 use Rattle.mx_transcript.specs.Elements as plain
 use Rattle.mx_transcript.specs.Elements.{Agrees, Gives, IsJudged}
-use Rattle.mx_transcript.specs.Next.{Reference}
 
 -- what is known of a judged reference, whatever the memory had
 pub record WasJudged {E : Type 0} (n : ℕ) (a : Asked) (value : ℕ) (v : PassView E) (e : Element) (v' : PassView E)
@@ -108,7 +106,7 @@ entered_gives op.Write stores entered ring t is = cc
 entered_gives op.Indirect stores entered ring t is = cc
 entered_gives op.Fetch stores entered ring t is = cc
 
-abbrev asked_by : asked.Reference → Asked
+abbrev pub asked_by : asked.Reference → Asked
 asked_by r = record { op = r.op; ring = r.ring; word = r.word }
 
 -- the write stores what was asked for
@@ -116,8 +114,11 @@ stores_it : (r : asked.Reference) (value written : ℕ) → IsStorableBy r.op r.
     → ((v : ℕ) → r.stores ≡ Some v → value ≡ v) → written ≡ value → r.op ≡ op.Write → r.stores ≡ Some written
 stores_it r value written storable stored is write = by_stores r.stores refl (storable write)
   where
+    none : IsSome {T = ℕ} None → ⊥
+    none e = cc
+
     by_stores : (s : Option ℕ) → r.stores ≡ s → IsSome s → r.stores ≡ Some written
-    by_stores None e some = absurd some
+    by_stores None e some = absurd (none some)
     by_stores (Some v) e some = e ∙ ap Some (sym (is ∙ stored v e))
 
 agrees : (r : asked.Reference) (d : Descriptor) (value : ℕ) (o : Outcome) → IsStorableBy r.op r.stores

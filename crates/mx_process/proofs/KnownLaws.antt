@@ -1,16 +1,14 @@
 -- What a process knows after a step of its pass.
-use Rattle.std.proofs.Common.{◌≡◌, ℕ, ◌++◌, ◌∷◌, [], max, map, List, ◌∙◌, ap, sym, refl}
+use Rattle.std.proofs.Common.{◌≡◌, ℕ, ◌++◌, ◌∷◌, [], max, map, List, ◌∙◌, ap}
 use Rattle.std.proofs.lemmas.List.{map-append}
 use Rattle.mx_closing.specs.Views.{kept_in, marked_in, view_in}
 use Rattle.mx_core.specs.Judging.{stamp_read}
 use Rattle.mx_core.specs.declared.elements.Element.{Element}
-use Rattle.mx_core.specs.declared.elements.Kept.{Kept as Recorded}
 use Rattle.mx_core.specs.declared.elements.Kept.TheVariants as recorded
 use Rattle.mx_core.specs.declared.words.Asked.{Asked}
 use Rattle.mx_desc.specs.Passes.{PassValue}
 use Rattle.mx_desc.specs.Referring.{HasMissed}
 use Rattle.mx_line.specs.AtWork.{beside}
-use Rattle.mx_office.specs.Serving.{told_to}
 use Rattle.mx_rule.specs.Shown.{all_told}
 use Rattle.mx_rule.specs.declared.views.PassView.{PassView}
 use Rattle.mx_state.specs.declared.journal.Entry as journaled

@@ -1,8 +1,7 @@
 -- The place of a process in its script.
-use Rattle.std.proofs.Common.{◌≡◌, ℕ, zero, suc, ◌<◌, ◌≤◌, ◌+◌, ◌-◌, ◌^◌, Bor, List, [], ◌∷◌, ◌++◌, drop, length, length-append, Option, Some, None, refl, sym, ◌∙◌, ap, subst, arith}
+use Rattle.std.proofs.Common.{◌≡◌, ℕ, zero, suc, ◌<◌, ◌≤◌, ◌+◌, ◌-◌, ◌^◌, List, [], ◌∷◌, ◌++◌, drop, length, length-append, Some, refl, sym, ◌∙◌, ap, subst, arith}
 use Rattle.std.specs.List.{slice_get, sum_by}
-use Rattle.mx_line.proofs.ScriptLaws.{all_in, fewer_done, numbered_next, numbered_none, past_end, script_lines, scripts_fit}
-use Rattle.mx_line.proofs.SeatLaws.{left_more}
+use Rattle.mx_line.proofs.ScriptLaws.{all_in, fewer_done, numbered_next, numbered_none, script_lines, scripts_fit}
 use Rattle.mx_line.specs.Operands.{IsSayable}
 use Rattle.mx_script.specs.Sessions.{Outline, IsSession, is_script_line}
 use Rattle.mx_script.specs.declared.lines.Line.{Line}

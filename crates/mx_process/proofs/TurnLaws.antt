@@ -1,22 +1,20 @@
 -- What a turn of an attempt comes to, and one turn after another.
-use Rattle.std.proofs.Common.{◌≡◌, ℕ, suc, ◌+◌, ◌-◌, ◌<◌, ◌≤◌, ◌^◌, max, List, [], ◌∷◌, ◌++◌, length, append_assoc, append-nil, Option, Some, None, refl, sym, ◌∙◌, ap, subst, arith}
+use Rattle.std.proofs.Common.{◌≡◌, ℕ, ◌+◌, ◌<◌, ◌≤◌, ◌^◌, max, List, [], ◌∷◌, ◌++◌, length, append_assoc, append-nil, Some, None, refl, sym, ◌∙◌, ap, subst, arith}
 use Rattle.mx_core.specs.AssociativeMemory.{recalled}
 use Rattle.mx_core.specs.Judging.{stamp_read}
 use Rattle.mx_core.specs.declared.elements.Element.{Element}
 use Rattle.mx_core.specs.declared.elements.Event.TheVariants.{Seen}
 use Rattle.mx_core.specs.declared.elements.Outcome.{Outcome}
 use Rattle.mx_core.specs.declared.elements.Outcome.TheVariants as outcome
-use Rattle.mx_core.specs.declared.words.Triple.{Triple}
 use Rattle.mx_desc.specs.Passes.{PassValue}
 use Rattle.mx_desc.specs.Referring.{HasMissed}
-use Rattle.mx_line.specs.AtWork.{IsCome, IsFree, IsMet, IsNearer, StandsAt, beside, reference_in}
+use Rattle.mx_line.specs.AtWork.{IsCome, IsFree, IsMet, beside, reference_in}
 use Rattle.mx_line.specs.Operands.{IsGoodProgress, steps_in}
 use Rattle.mx_line.specs.Processes.{Takes}
 use Rattle.mx_line.specs.declared.asking.End.{End}
 use Rattle.mx_line.specs.declared.asking.Reference as asked
 use Rattle.mx_line.specs.declared.at_work.LineAtWork.{LineAtWork}
 use Rattle.mx_line.specs.declared.at_work.LineAtWork.TheVariants as works
-use Rattle.mx_line.specs.declared.fills.Fill.{Fill}
 use Rattle.mx_line.specs.declared.operands.Progress.{Progress}
 use Rattle.mx_line.specs.declared.operands.Progress.TheVariants.{Before, Walking, AtLink, Waiting, Filling}
 use Rattle.mx_line.specs.declared.processes.Process.{Process as LineState}
@@ -28,8 +26,7 @@ use Rattle.mx_sdw.specs.Descriptors.{Descriptor}
 use Rattle.mx_state.specs.declared.journal.Entry as journaled
 use Rattle.mx_transcript.specs.Asking.{next}
 use Rattle.mx_transcript.specs.Courses.{Course, Attempt, Answer}
-use Rattle.mx_transcript.specs.Elements.{IsJudged}
-use Rattle.mx_transcript.specs.Next.{Next, Asks, Ends as AsksToEnd}
+use Rattle.mx_transcript.specs.Next.{Ends as AsksToEnd}
 use Rattle.mx_transcript.specs.Scripts.{first_line}
 use Rattle.mx_transcript.specs.declared.transcripts.Event2.{Event2}
 use Rattle.mx_transcript.specs.declared.transcripts.Event2.TheVariants.{Core}
@@ -38,15 +35,13 @@ use Rattle.mx_upcall.specs.Control.{Control}
 use Rattle.mx_upcall.specs.Soundness.{IsPackableControl}
 use Rattle.mx_process.proofs.JudgedLaws.{WasJudged, asked_by, at_floor, is_judged}
 use Rattle.mx_process.proofs.KnownLaws.{seen_known, known_seen, known_missed}
-use Rattle.mx_process.proofs.WorkLaws.{IsNext, line_ended, line_ends, line_goes_on}
+use Rattle.mx_process.proofs.WorkLaws.{IsNext, line_ended, line_ends, line_goes_on, never_fills}
 use Rattle.mx_process.specs.Attempts.{HasAttempted}
-use Rattle.mx_process.specs.Processes.{Known, AsksIn, IsAtWork, IsBefore, IsMissing, at_work, having_done, known_of, left_of, number_in}
-use Rattle.mx_process.specs.Turns.{Ends, GoesOn, HasEnd, HasEvent, HasTaken, HasTurned, Comes, Inside, IsAttempting, IsLinking, IsReferring, IsSameLine, Links, Misses, inside}
+use Rattle.mx_process.specs.Processes.{Known, AsksIn, IsAtWork, IsBefore, known_of, left_of, number_in}
+use Rattle.mx_process.specs.Turns.{Ends, GoesOn, HasEnd, HasTaken, HasTurned, Comes, Inside, IsAttempting, IsReferring, IsSameLine, Misses, inside}
 use Rattle.mx_process.specs.declared.misses.Fast.{Fast}
 use Rattle.mx_process.specs.declared.misses.Fast.TheVariants as fast
-use Rattle.mx_process.specs.declared.misses.Miss.{Miss}
 use Rattle.mx_process.specs.declared.turns.Turn.{Turn}
-use Rattle.mx_process.specs.declared.turns.Turn.TheVariants as turn
 
 -- a line that is at work and has not ended has a step before it
 pub some_steps : (x : Outline) (setup : List journaled.Entry) (state : LineState) (line : Line) (k : Known)
@@ -202,14 +197,8 @@ module _ (x : Outline) (setup : List journaled.Entry) (line : Line) (old new : L
         where
           free_after : (progress : Progress) → Takes old.control line old.progress e j.on.desc (works.At progress) → IsFree progress
           free_after progress takes fill is =
-              not_filling (subst (λ (p : Progress). Takes old.control line old.progress e j.on.desc (works.At p)) is takes)
-            where
-              not_filling : Takes old.control line old.progress e j.on.desc (works.At (Filling fill)) → ⊥
-              not_filling t =
-                  let come = (line_goes_on x setup line old (known_of o) (reference_in r) e j.on.desc floor
-                  (record old { progress = Filling fill; recording = record old.recording { events = old.recording.events ++ Core (Seen e) ∷ [] } }) (Filling fill) next_is t
-                  (record { first = refl; control = refl; steps = refl; events = refl; progress = refl; room = refl })).come in
-                  come.0
+              never_fills x setup line old (known_of o) (reference_in r) e j.on.desc floor next_is fill
+              (subst (λ (p : Progress). Takes old.control line old.progress e j.on.desc (works.At p)) is takes)
       by_work (works.Ended end) takes comes =
           let ended = comes.1 in
           subst (λ (t : Turn). HasTurned x setup line old t (inside new o')) (sym comes.0) (record {

@@ -9,7 +9,9 @@ use Rattle.mx_line.specs.Processes.{Takes}
 use Rattle.mx_line.specs.declared.asking.End.{End}
 use Rattle.mx_line.specs.declared.at_work.LineAtWork.{LineAtWork}
 use Rattle.mx_line.specs.declared.at_work.LineAtWork.TheVariants as works
+use Rattle.mx_line.specs.declared.fills.Fill.{Fill}
 use Rattle.mx_line.specs.declared.operands.Progress.{Progress}
+use Rattle.mx_line.specs.declared.operands.Progress.TheVariants.{Filling}
 use Rattle.mx_line.specs.declared.processes.Process.{Process as LineState}
 use Rattle.mx_script.specs.Sessions.{Outline}
 use Rattle.mx_script.specs.declared.lines.Line.{Line}
@@ -46,7 +48,6 @@ with_events w events = record w { events = events }
 -- a line that ended so: the next one is at work, or none is left
 module _ (x : Outline) (setup : List journaled.Entry) (line : Line) (old new : LineState) (k : Known) (course : Course)
     (events : List Event2) (end : End) where
-
   pub line_ended : 1 ≤ k.process → old.first ≡ first_line x k.process
       → IsWorking x setup k.process (with_events (at_work x k.process old line course) events) k.view k.told
       → next old.control line course ≡ Ends end.ends (changed old.control end.after)
@@ -130,7 +131,7 @@ module _ (x : Outline) (setup : List journaled.Entry) (line : Line) (old : LineS
     pub higher : k.view.floor ≤ floor
     pub stamp : (value writer stamp : ℕ) → e.outcome ≡ Read value writer stamp → stamp ≤ floor
 
-  later_in : IsNext → Course
+  abbrev later_in : IsNext → Course
   later_in n = Attempt (seen_in n.work.course ++ beside e d ∷ [])
 
   working_seen : (n : IsNext) → IsWorking x setup k.process
@@ -142,7 +143,7 @@ module _ (x : Outline) (setup : List journaled.Entry) (line : Line) (old : LineS
       see_law x setup k.process (at_work x k.process old line n.work.course) k.view k.told asked (beside e d) floor
       (λ unspoilt. (n.asks n.work.course n.work.come, n.right)) (omega (arith, point)) (omega (arith, point, higher)) n.stamp n.work.working
 
-  setting : Setting
+  abbrev setting : Setting
   setting = record { process = 0; journal = []; full = false; descriptor = λ other. d }
 
   stands_seen : (n : IsNext) (work : LineAtWork) → Takes old.control line old.progress e d work
@@ -150,6 +151,10 @@ module _ (x : Outline) (setup : List journaled.Entry) (line : Line) (old : LineS
   stands_seen n work takes =
       takes.taken setting refl n.work.course (later_in n) n.work.come
       (inl (record { asked = asked; next = n.asks n.work.course n.work.come; right = n.right; leads = refl }))
+
+  -- no write is due then
+  pub never_fills : IsNext → (fill : Fill) → Takes old.control line old.progress e d (works.At (Filling fill)) → ⊥
+  never_fills n fill takes = (stands_seen n (works.At (Filling fill)) takes).0
 
   -- the line goes on
   pub line_goes_on : (new : LineState) (progress : Progress) → IsNext

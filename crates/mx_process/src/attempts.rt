@@ -1,6 +1,6 @@
 //! An attempt at a line: no memory, no lock, nobody is waited for.
 
-ghost use Rattle.std.specs.Prelude.{◌≡◌, ◌≤◌, ◌<◌, ◌↔◌, ℕ, IsTrue, None, Some};
+ghost use Rattle.std.specs.Prelude.{◌≡◌, ◌≤◌, ◌<◌, ◌↔◌, ℕ, IsFalse, IsTrue, None, Some, slice_get};
 ghost use Rattle.mx_audit.specs.Accounts.{Account, with_denials};
 ghost use Rattle.std.specs.Option.{option_map};
 ghost use Rattle.mx_process.specs.Audited.{as_list};
@@ -8,6 +8,8 @@ ghost use Rattle.mx_core.specs.declared.words.Stage.TheVariants.{Outside, Ready}
 ghost use Rattle.mx_line.specs.AtWork.{IsFree};
 ghost use Rattle.mx_line.specs.Fills.{IsNoRequest};
 ghost use Rattle.mx_line.specs.Operands.{steps_in};
+ghost use Rattle.mx_request.specs.declared.requests.Request.{Request};
+ghost use Rattle.mx_script.specs.declared.lines.Line.TheVariants.{Ask};
 ghost use Rattle.mx_process.specs.Attempts.{HasAttempted, HasDone, HasMissed, IsAtLinkIn, IsAtRequest};
 ghost use Rattle.mx_process.specs.Processes.{HasLine, HasRoom, IsAtLine, known_of};
 ghost use Rattle.mx_process.specs.Turns.{IsAttempting, IsUntold, inside};
@@ -16,7 +18,7 @@ ghost use Rattle.mx_process.specs.declared.misses.Fast.TheVariants.{Done, Journa
 use crate::misses::{Fast, Miss};
 use crate::naming::Attending;
 use crate::processes::Process;
-use crate::turns::{Turn, turn};
+use crate::turns::{Turn, make_turn};
 use mx_audit::{Auditor, Verdict};
 use mx_cam::Cam;
 use mx_desc::Pass;
@@ -53,7 +55,7 @@ fn turns<B: Sitting>(
     if left == 0 {
         unreachable!()
     }
-    match turn(state, pass, cam, shared, line) {
+    match make_turn(state, pass, cam, shared, line) {
         Turn::More => turns(state, pass, cam, shared, line, left - 1),
         Turn::Ended => Fast::Done,
         Turn::Missing(miss) => Fast::Missing {
@@ -115,19 +117,15 @@ impl<'a, B: Attending, A: Auditor> Process<'a, B, A> {
             → IsAtLinkIn B.session segno word ring self.old self.new }
     {
         let line = self.line();
-        match line {
-            Line::Ask(_) => Fast::Journal,
-            Line::Set { .. }
-            | Line::Epp { .. }
-            | Line::Lda { .. }
-            | Line::Sta { .. }
-            | Line::Spri { .. }
-            | Line::Fetch
-            | Line::Call { .. }
-            | Line::Return { .. } => match self.missing {
-                Some(miss) => Fast::Missing { segno: miss.segno, by: miss.by },
-                None => self.attempt(shared, line),
+        if is_request(line) {
+            return Fast::Journal;
+        }
+        match self.missing {
+            Some(miss) => Fast::Missing {
+                segno: miss.segno,
+                by: miss.by,
             },
+            None => self.attempt(shared, line),
         }
     }
 
@@ -165,12 +163,18 @@ impl<'a, B: Attending, A: Auditor> Process<'a, B, A> {
         requires { HasLine B.session self.now }
         ensures { (number : ℕ) × IsAtLine B.session self.now number result.now }
     {
-        let script = self.script;
-        let Some(line) = script.get(self.state.recording.lines()) else {
+        let Some(line) = line_at(self.script, self.state.recording.lines()) else {
             unreachable!()
         };
         line
     }
+}
+
+// A line of a script, counted from 0.
+fn line_at(script: &[Line], place: usize) -> Option<&Line>
+    ensures { option_map (λ line. line.now) result ≡ slice_get script.now place }
+{
+    script.get(place)
 }
 
 // The auditor, if there is one, is told of the denial of a line, if it was denied.
@@ -186,5 +190,23 @@ fn tell<A: Auditor>(auditor: &mut Option<A>, told: Option<(u32, Denial)>)
             },
             None => {}
         }
+    }
+}
+
+// Whether a line is a request.
+fn is_request(line: &Line) -> bool
+    ensures yes { IsTrue result → (request : Request) × (line.now ≡ Ask request) }
+    ensures no { IsFalse result → IsNoRequest line.now }
+{
+    match line {
+        Line::Ask(_) => true,
+        Line::Set { .. } => false,
+        Line::Epp { .. } => false,
+        Line::Lda { .. } => false,
+        Line::Sta { .. } => false,
+        Line::Spri { .. } => false,
+        Line::Fetch => false,
+        Line::Call { .. } => false,
+        Line::Return { .. } => false,
     }
 }

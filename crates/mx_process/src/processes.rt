@@ -69,7 +69,7 @@ impl<'a, B: Attending, A: Auditor> Process<'a, B, A> {
         ensures { IfOk result (λ process. IsNew B.session pass process) }
     {
         let p = pass.process();
-        let script = script_of(session, p);
+        let script = script_at(session.scripts().items(), usize::from(p) - 1);
         Ok(Process {
             script,
             state: LineState {
@@ -131,15 +131,7 @@ impl<'a, B: Attending, A: Auditor> Process<'a, B, A> {
     }
 }
 
-/// The script of a process, counted from 1.
-fn script_of(session: &Session, p: u8) -> &[Line]
-    requires some { 1 ≤ p }
-    requires process { p ≤ length session.now.scripts }
-    ensures { result.now ≡ script_of session.now p }
-{
-    script_at(session.scripts().items(), usize::from(p) - 1)
-}
-
+/// The script of a process, counted from 0.
 fn script_at(scripts: &[Script], i: usize) -> &[Line]
     requires { i < length scripts.now }
     ensures { slice_get scripts.now i ≡ Some result.now }

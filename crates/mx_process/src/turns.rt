@@ -35,7 +35,7 @@ pub(crate) enum Turn {
 }
 
 /// One turn of an attempt at a line that is no request: the reference for which it asks is made, or it ends.
-pub(crate) fn turn<B: Sitting>(
+pub(crate) fn make_turn<B: Sitting>(
     state: &mut LineState,
     pass: &mut Pass<Entry, B>,
     cam: &mut Cam,

@@ -2,3 +2,4 @@ pub mod CommandLaws
 pub mod VerdictLaws
 mod RoomLaws
 mod SpellingLaws
+mod WritingLaws

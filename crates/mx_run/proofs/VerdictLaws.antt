@@ -1,15 +1,21 @@
 -- What a right verdict means for a source that tells its bytes.
-use Rattle.std.proofs.Common.{◌≡◌, ℕ, ◌<◌, ◌≤◌, List, [], length, refl, sym, subst, Option, Some, Result, Ok, Err, IfOk, inl, inr, arith}
+use Rattle.std.proofs.Common.{◌≡◌, ℕ, ◌<◌, ◌≤◌, List, [], ◌∷◌, length, codes, refl, sym, ◌∙◌, subst, Option, Some, Result, Ok, Err, IfOk, OnErr, IsErrOf, inl, inr, arith}
 use Rattle.mx_audit.specs.Accounts.{Account, HaveGrown}
-use Rattle.mx_io.specs.Bytes.{TakesAll, Appends, AppendsPart}
+use Rattle.mx_io.specs.Bytes.{TakesAll, TakesTooMany, Appends, AppendsPart}
+use Rattle.mx_io.specs.declared.reading.ReadError.{ReadError}
+use Rattle.mx_io.specs.declared.reading.ReadError.TheVariants as reading
 use Rattle.mx_run.proofs.CommandLaws.{run_is_no_drill}
 use Rattle.mx_script.specs.FirstBadLine.{IsFirstBad}
 use Rattle.mx_script.specs.SessionTexts.{IsText}
+use Rattle.mx_script.specs.declared.reading.SessionError.{SessionError}
+use Rattle.mx_script.specs.declared.reading.SessionError.TheVariants as session
 use Rattle.mx_run.specs.Commands.{IsRun}
 use Rattle.mx_run.specs.Done.{most_bytes, IsDone, IsDoneBy}
 use Rattle.mx_run.specs.Statuses.{HasPrinted, IsDueStatus}
 use Rattle.mx_run.specs.Verdicts.{IsVerdict, verdict_status, verdict_text}
+use Rattle.mx_run.specs.Unread.{no_session, unread}
 use Rattle.mx_run.specs.declared.verdicts.Unreached.{Unreached}
+use Rattle.mx_run.specs.declared.verdicts.Unreached.TheVariants.{Fault, Memory}
 use Rattle.mx_run.specs.declared.verdicts.Verdict.{Verdict}
 use Rattle.mx_run.specs.declared.verdicts.Verdict.TheVariants.{Ran, Drilled, BadWords, BadLine, TooLong}
 
@@ -92,13 +98,13 @@ done_of words source source' sink sink' accounts accounts' TooLong grown right p
 
 pub front_of : (words : List (List ℕ)) (source source' sink sink' : Option (List ℕ)) (accounts accounts' : List Account) (verdict : Verdict)
     → HaveGrown accounts accounts' → IsVerdict words source source' accounts accounts' verdict
-    → (verdict_status verdict ≡ 0) × AppendsPart sink sink' (verdict_text verdict)
+    → verdict_status verdict ≡ 0 → AppendsPart sink sink' (verdict_text verdict)
     → HasPrinted (AppendsPart sink sink') words source source' accounts accounts' 0
-front_of words source source' sink sink' accounts accounts' verdict grown right front = record {
+front_of words source source' sink sink' accounts accounts' verdict grown right run front = record {
   verdict = verdict;
   right = right;
-  status_is = sym front.0;
-  printed = front.1;
+  status_is = sym run;
+  printed = front;
 }
 
 -- a verdict on the bytes that a source gave is one on the source
@@ -141,3 +147,40 @@ pub of_read_ok : (words : List (List ℕ)) (source source' : Option (List ℕ)) 
 of_read_ok words source source' spelled accounts accounts' (Ok verdict) run takes within right =
     of_read words source source' spelled accounts accounts' verdict run takes within right
 of_read_ok words source source' spelled accounts accounts' (Err why) run takes within right = tt
+
+-- what comes of a source that was not read to its end is right
+pub unread_right : (source source' : Option (List ℕ)) (accounts : List Account) (error : ReadError) (result : Result Verdict Unreached)
+    → result ≡ unread error → (error ≡ reading.TooLong → TakesTooMany 4194304 source source')
+    → IfOk result (IsVerdict (codes "run" ∷ []) source source' accounts accounts)
+unread_right source source' accounts reading.TooLong result is taken =
+    subst (λ (r : Result Verdict Unreached). IfOk r (IsVerdict (codes "run" ∷ []) source source' accounts accounts)) (sym is) (refl, taken refl, refl)
+unread_right source source' accounts reading.Fault result is taken =
+    subst (λ (r : Result Verdict Unreached). IfOk r (IsVerdict (codes "run" ∷ []) source source' accounts accounts)) (sym is) tt
+unread_right source source' accounts reading.Memory result is taken =
+    subst (λ (r : Result Verdict Unreached). IfOk r (IsVerdict (codes "run" ∷ []) source source' accounts accounts)) (sym is) tt
+
+-- and it is a fault exactly where the source failed
+pub unread_fault : (error : ReadError) (result : Result Verdict Unreached) → result ≡ unread error → IsErrOf result Fault → error ≡ reading.Fault
+unread_fault reading.TooLong result is failed = let clash = sym is ∙ failed in absurd (cc)
+unread_fault reading.Fault result is failed = refl
+unread_fault reading.Memory result is failed = let clash = sym is ∙ failed in absurd (cc)
+
+pub fault_unread : (error : ReadError) (result : Result Verdict Unreached) → result ≡ unread error → error ≡ reading.Fault → IsErrOf result Fault
+fault_unread reading.TooLong result is failed = absurd (cc)
+fault_unread reading.Fault result is failed = is
+fault_unread reading.Memory result is failed = absurd (cc)
+
+-- what comes of bytes of which no session was read is right
+pub no_session_right : (bytes : List ℕ) (accounts : List Account) (error : SessionError) (result : Result Verdict Unreached)
+    → result ≡ no_session error → length bytes ≤ 4194304 → ((n : ℕ) → error ≡ session.BadLine n → IsFirstBad bytes n)
+    → IfOk result (IsVerdict (codes "run" ∷ []) (Some bytes) (Some []) accounts accounts)
+no_session_right bytes accounts (session.BadLine number) result is within first =
+    subst (λ (r : Result Verdict Unreached). IfOk r (IsVerdict (codes "run" ∷ []) (Some bytes) (Some []) accounts accounts)) (sym is)
+    (refl, record { spelled = bytes; read = (refl, refl); within = within; first = first number refl }, refl)
+no_session_right bytes accounts session.Memory result is within first =
+    subst (λ (r : Result Verdict Unreached). IfOk r (IsVerdict (codes "run" ∷ []) (Some bytes) (Some []) accounts accounts)) (sym is) tt
+
+-- and the only error is that memory is wanting
+pub no_session_memory : (error : SessionError) (result : Result Verdict Unreached) → result ≡ no_session error → OnErr result (IsErrOf result Memory)
+no_session_memory (session.BadLine number) result is = subst (λ (r : Result Verdict Unreached). OnErr r (IsErrOf r Memory)) (sym is) tt
+no_session_memory session.Memory result is = subst (λ (r : Result Verdict Unreached). OnErr r (IsErrOf r Memory)) (sym is) refl

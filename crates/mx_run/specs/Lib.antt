@@ -4,3 +4,4 @@ pub mod Verdicts
 pub mod Statuses
 -- helpers that only private contracts cite
 pub mod Reading
+pub mod Unread

@@ -1,7 +1,6 @@
 //! What comes of a command.
 
-ghost use Rattle.std.specs.Prelude.{◌≡◌, ◌⊎◌, ℕ, ◌≤◌, true, [], ◌∷◌, ◌++◌, map, length, Some, Ok, IfOk, OnOk, OnErr, IsErrOf, codes};
-ghost use Rattle.std.specs.Fmt.{decimal};
+ghost use Rattle.std.specs.Prelude.{◌≡◌, ◌⊎◌, ℕ, ◌≤◌, true, [], ◌∷◌, map, length, Some, Ok, IfOk, OnOk, OnErr, IsErrOf, codes};
 ghost use Rattle.std.specs.List.{list_all};
 ghost use Rattle.std.specs.String.{string_bytes};
 ghost use Rattle.mx_audit.specs.Accounts.{HaveGrown, HaveRoom};
@@ -13,6 +12,7 @@ ghost use Rattle.mx_script.specs.SessionTexts.{fits, rows_of};
 ghost use Rattle.mx_spelling.specs.Spelling.{IsSpellable};
 ghost use Rattle.mx_transcript.specs.Runs.{IsRunOf};
 ghost use Rattle.mx_run.specs.Commands.{IsRun, IsDrill, IsAccepted};
+ghost use Rattle.mx_run.specs.Unread.{bad_line_text, no_session, unread};
 ghost use Rattle.mx_run.specs.Verdicts.{IsVerdict, verdict_status, verdict_text};
 ghost use Rattle.mx_run.specs.declared.verdicts.Unreached.TheVariants.{Fault, Memory};
 
@@ -125,9 +125,7 @@ impl Verdict {
     {
         match read_all(alloc, source, MOST_BYTES) {
             Ok(bytes) => Verdict::of_bytes(rt, alloc, &bytes, gate, auditors),
-            Err(ReadError::TooLong) => Ok(Verdict::TooLong),
-            Err(ReadError::Fault) => Err(Unreached::Fault),
-            Err(ReadError::Memory) => Err(Unreached::Memory),
+            Err(error) => unread(error),
         }
     }
 
@@ -154,8 +152,7 @@ impl Verdict {
                     transcripts,
                 })
             }
-            Err(SessionError::BadLine(number)) => Ok(Verdict::BadLine(number)),
-            Err(SessionError::Memory) => Err(Unreached::Memory),
+            Err(error) => no_session(error),
         }
     }
 
@@ -171,14 +168,14 @@ impl Verdict {
         }
     }
 
-    /// Writes the text of this verdict. On an error the front of it was written, and of all but a run nothing where memory ran
-    /// out. That words are not accepted is told without taking memory.
+    /// Writes the text of this verdict. On an error the front of it was written. Only the text of a run, or of a drill, takes memory: whatever
+    /// is refused is told.
     pub(crate) fn tell<K: Sink>(&self, alloc: Global, sink: &mut K) -> Result<(), TextError>
         ensures all { OnOk result (Appends (K.out sink.old) (K.out sink.new) (verdict_text self.now)) }
         ensures part { IsErrOf result TextError.Fault → AppendsPart (K.out sink.old) (K.out sink.new) (verdict_text self.now) }
+        ensures run { IsErrOf result TextError.Memory → verdict_status self.now ≡ 0 }
         ensures unwritten { IsErrOf result TextError.Memory → (sink.new ≡ sink.old)
-            ⊎ ((verdict_status self.now ≡ 0) × AppendsPart (K.out sink.old) (K.out sink.new) (verdict_text self.now)) }
-        ensures words { IsErrOf result TextError.Memory → self.now ≡ Verdict.BadWords → ⊥ }
+            ⊎ AppendsPart (K.out sink.old) (K.out sink.new) (verdict_text self.now) }
         ensures cause { IsErrOf result TextError.Fault → Rose (K.faults sink.old) (K.faults sink.new) }
         ensures only { (IsErrOf result TextError.Fault → ⊥) → K.faults sink.new ≡ K.faults sink.old }
     {
@@ -196,10 +193,7 @@ impl Verdict {
                 write(sink, text.items())
             }
             Verdict::BadWords => write(sink, b"bad words\n"),
-            Verdict::BadLine(number) => {
-                let text = bad_line_text(alloc, *number)?;
-                write(sink, &text)
-            }
+            Verdict::BadLine(number) => tell_bad_line(*number, sink),
             Verdict::TooLong => write(sink, b"too long\n"),
         }
     }
@@ -256,12 +250,37 @@ fn write<K: Sink>(sink: &mut K, text: &[u8]) -> Result<(), TextError>
     Ok(())
 }
 
-fn bad_line_text(alloc: Global, number: u32) -> Result<Vec<u8>, AllocError>
-    ensures { IfOk result (λ text. text.items ≡ codes "bad line " ++ decimal number ++ codes "\n") }
+// Writes the number of a bad line. The only error is `Fault`.
+fn tell_bad_line<K: Sink>(number: u32, sink: &mut K) -> Result<(), TextError>
+    ensures all { OnOk result (Appends (K.out sink.old) (K.out sink.new) (bad_line_text number)) }
+    ensures part { IsErrOf result TextError.Fault → AppendsPart (K.out sink.old) (K.out sink.new) (bad_line_text number) }
+    ensures no_memory { IsErrOf result TextError.Memory → ⊥ }
+    ensures cause { IsErrOf result TextError.Fault → Rose (K.faults sink.old) (K.faults sink.new) }
+    ensures only { (IsErrOf result TextError.Fault → ⊥) → K.faults sink.new ≡ K.faults sink.old }
 {
     let mut buffer = Buffer::new();
-    let mut text = Vec::from_slice(alloc, b"bad line ")?;
-    text.extend_from_slice(buffer.format(number).as_bytes())?;
-    text.extend_from_slice(b"\n")?;
-    Ok(text)
+    write(sink, b"bad line ")?;
+    write(sink, buffer.format(number).as_bytes())?;
+    write(sink, b"\n")
+}
+
+// What comes of a source that was not read to its end. Takes no memory: that it has too many bytes is told.
+fn unread(error: ReadError) -> Result<Verdict, Unreached>
+    ensures { result ≡ unread error }
+{
+    match error {
+        ReadError::TooLong => Ok(Verdict::TooLong),
+        ReadError::Fault => Err(Unreached::Fault),
+        ReadError::Memory => Err(Unreached::Memory),
+    }
+}
+
+// What comes of bytes of which no session was read. Takes no memory: each bad line is told.
+fn no_session(error: SessionError) -> Result<Verdict, Unreached>
+    ensures { result ≡ no_session error }
+{
+    match error {
+        SessionError::BadLine(number) => Ok(Verdict::BadLine(number)),
+        SessionError::Memory => Err(Unreached::Memory),
+    }
 }

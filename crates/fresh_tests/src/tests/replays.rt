@@ -1,24 +1,40 @@
-//! The journal is played before both programs.
+//! A journal of 44 requests is played before both programs, as worked out by hand, and with a wrong reply in it.
 
-use super::journal::JOURNAL;
-use super::playing::Played;
-use mx_fresh::Fresh;
-use mx_state::State;
+use super::entrants::entrant;
+use super::journal::{JOURNAL, WRONG};
+use both_supervisors::{Came, play};
 use std::test::Fail;
 
 #[test]
-fn both_reply_the_same_and_tell_the_same_descriptors(rt: HostRuntime) -> Result<(), Fail> {
-    let alloc = rt.alloc();
-    let mut first = Played::<State>::open(alloc)?;
-    let mut second = Played::<Fresh>::open(alloc)?;
-    for (p, ring, line, reply) in JOURNAL {
-        let told = first.ask(alloc, *p, *ring, line)?;
-        let told_again = second.ask(alloc, *p, *ring, line)?;
-        assert_eq!(rt; told.as_slice(), *reply);
-        assert_eq!(rt; told_again.as_slice(), *reply);
-        let descriptors = first.descriptors(alloc)?;
-        let descriptors_again = second.descriptors(alloc)?;
-        assert_eq!(rt; descriptors.as_slice(), descriptors_again.as_slice());
-    }
+fn both_reply_as_told_and_have_the_same_descriptors(rt: HostRuntime) -> Result<(), Fail> {
+    let builder = entrant(b"Builder.SysDaemon.a", b"0:0")?;
+    let jones = entrant(b"Jones.Faculty.a", b"0:0")?;
+    let came = play(rt.alloc(), 3, &[builder, jones], JOURNAL)?;
+    assert_eq!(rt; came, Came::AsTold);
+    Ok(())
+}
+
+#[test]
+fn a_wrong_reply_is_told(rt: HostRuntime) -> Result<(), Fail> {
+    let builder = entrant(b"Builder.SysDaemon.a", b"0:0")?;
+    let jones = entrant(b"Jones.Faculty.a", b"0:0")?;
+    let came = play(rt.alloc(), 3, &[builder, jones], WRONG)?;
+    assert_eq!(rt; came, Came::Otherwise(10));
+    Ok(())
+}
+
+#[test]
+fn an_entry_of_no_process_is_told(rt: HostRuntime) -> Result<(), Fail> {
+    let builder = entrant(b"Builder.SysDaemon.a", b"0:0")?;
+    let came = play(rt.alloc(), 3, &[builder], JOURNAL)?;
+    assert_eq!(rt; came, Came::Otherwise(10));
+    Ok(())
+}
+
+#[test]
+fn a_text_without_a_journal_is_none(rt: HostRuntime) -> Result<(), Fail> {
+    let builder = entrant(b"Builder.SysDaemon.a", b"0:0")?;
+    let came = play(rt.alloc(), 3, &[builder], b"bad line 1\n")?;
+    assert_eq!(rt; came, Came::NoJournal);
     Ok(())
 }

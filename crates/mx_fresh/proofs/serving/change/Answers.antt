@@ -1,40 +1,79 @@
 use Rattle.mx_fresh.proofs.serving.change.Goals as goal
 
-pub returns-in-CreateDir : goal.returns-in-CreateDir
-returns-in-CreateDir c = rw c.in-CreateDir.is (rw c.in-CreateDir.is at c.create.ensures)
+pub returns-in-CreateDir-clause-answer : goal.returns-in-CreateDir-clause-answer
+returns-in-CreateDir-clause-answer c = rw c.in-CreateDir.is (rw c.in-CreateDir.is at c.create.ensures.answer)
 
-pub returns-in-CreateSeg : goal.returns-in-CreateSeg
-returns-in-CreateSeg c = rw c.in-CreateSeg.is (rw c.in-CreateSeg.is at c.create-in-CreateSeg.ensures)
+pub returns-in-CreateDir-clause-told : goal.returns-in-CreateDir-clause-told
+returns-in-CreateDir-clause-told c = rw c.in-CreateDir.is (rw c.in-CreateDir.is at c.create.ensures.told)
 
-pub returns-in-CreateObject : goal.returns-in-CreateObject
-returns-in-CreateObject c = rw c.in-CreateObject.is (rw c.in-CreateObject.is at c.create-in-CreateObject.ensures)
+pub returns-in-CreateSeg-clause-answer : goal.returns-in-CreateSeg-clause-answer
+returns-in-CreateSeg-clause-answer c = rw c.in-CreateSeg.is (rw c.in-CreateSeg.is at c.create-in-CreateSeg.ensures.answer)
 
-pub returns-in-CreateLink : goal.returns-in-CreateLink
-returns-in-CreateLink c = rw c.in-CreateLink.is (rw c.in-CreateLink.is at c.create-in-CreateLink.ensures)
+pub returns-in-CreateSeg-clause-told : goal.returns-in-CreateSeg-clause-told
+returns-in-CreateSeg-clause-told c = rw c.in-CreateSeg.is (rw c.in-CreateSeg.is at c.create-in-CreateSeg.ensures.told)
 
-pub returns-in-Rename : goal.returns-in-Rename
-returns-in-Rename c = rw c.in-Rename.is (rw c.in-Rename.is at c.amend_along.ensures)
+pub returns-in-CreateObject-clause-answer : goal.returns-in-CreateObject-clause-answer
+returns-in-CreateObject-clause-answer c = rw c.in-CreateObject.is (rw c.in-CreateObject.is at c.create-in-CreateObject.ensures.answer)
 
-pub returns-in-Delete : goal.returns-in-Delete
-returns-in-Delete c = rw c.in-Delete.is (rw c.in-Delete.is at c.alter_along.ensures)
+pub returns-in-CreateObject-clause-told : goal.returns-in-CreateObject-clause-told
+returns-in-CreateObject-clause-told c = rw c.in-CreateObject.is (rw c.in-CreateObject.is at c.create-in-CreateObject.ensures.told)
 
-pub returns-in-SetAcl : goal.returns-in-SetAcl
-returns-in-SetAcl c = rw c.in-SetAcl.is (rw c.in-SetAcl.is at c.alter_along-in-SetAcl.ensures)
+pub returns-in-CreateLink-clause-answer : goal.returns-in-CreateLink-clause-answer
+returns-in-CreateLink-clause-answer c = rw c.in-CreateLink.is (rw c.in-CreateLink.is at c.create-in-CreateLink.ensures.answer)
 
-pub returns-in-DelAcl : goal.returns-in-DelAcl
-returns-in-DelAcl c = rw c.in-DelAcl.is (rw c.in-DelAcl.is at c.alter_along-in-DelAcl.ensures)
+pub returns-in-CreateLink-clause-told : goal.returns-in-CreateLink-clause-told
+returns-in-CreateLink-clause-told c = rw c.in-CreateLink.is (rw c.in-CreateLink.is at c.create-in-CreateLink.ensures.told)
 
-pub returns-in-SetIacl : goal.returns-in-SetIacl
-returns-in-SetIacl c = rw c.in-SetIacl.is (rw c.in-SetIacl.is at c.amend_along-in-SetIacl.ensures)
+pub returns-in-Rename-clause-answer : goal.returns-in-Rename-clause-answer
+returns-in-Rename-clause-answer c = rw c.in-Rename.is (rw c.in-Rename.is at c.amend_along.ensures.answer)
 
-pub returns-in-DelIacl : goal.returns-in-DelIacl
-returns-in-DelIacl c = rw c.in-DelIacl.is (rw c.in-DelIacl.is at c.amend_along-in-DelIacl.ensures)
+pub returns-in-Rename-clause-told : goal.returns-in-Rename-clause-told
+returns-in-Rename-clause-told c = rw c.in-Rename.is c.amend_along.ensures.told
 
-pub returns-in-SetBrackets : goal.returns-in-SetBrackets
-returns-in-SetBrackets c = rw c.in-SetBrackets.is (rw c.in-SetBrackets.is at c.alter_along-in-SetBrackets.ensures)
+pub returns-in-Delete-clause-answer : goal.returns-in-Delete-clause-answer
+returns-in-Delete-clause-answer c = rw c.in-Delete.is (rw c.in-Delete.is at c.alter_along.ensures.answer)
 
-pub returns-in-SetDirBrackets : goal.returns-in-SetDirBrackets
-returns-in-SetDirBrackets c = rw c.in-SetDirBrackets.is (rw c.in-SetDirBrackets.is at c.amend_along-in-SetDirBrackets.ensures)
+pub returns-in-Delete-clause-told : goal.returns-in-Delete-clause-told
+returns-in-Delete-clause-told c = rw c.in-Delete.is c.alter_along.ensures.told
 
-pub returns-in-SetClass : goal.returns-in-SetClass
-returns-in-SetClass c = rw c.in-SetClass.is (rw c.in-SetClass.is at c.alter_along-in-SetClass.ensures)
+pub returns-in-SetAcl-clause-answer : goal.returns-in-SetAcl-clause-answer
+returns-in-SetAcl-clause-answer c = rw c.in-SetAcl.is (rw c.in-SetAcl.is at c.alter_along-in-SetAcl.ensures.answer)
+
+pub returns-in-SetAcl-clause-told : goal.returns-in-SetAcl-clause-told
+returns-in-SetAcl-clause-told c = rw c.in-SetAcl.is c.alter_along-in-SetAcl.ensures.told
+
+pub returns-in-DelAcl-clause-answer : goal.returns-in-DelAcl-clause-answer
+returns-in-DelAcl-clause-answer c = rw c.in-DelAcl.is (rw c.in-DelAcl.is at c.alter_along-in-DelAcl.ensures.answer)
+
+pub returns-in-DelAcl-clause-told : goal.returns-in-DelAcl-clause-told
+returns-in-DelAcl-clause-told c = rw c.in-DelAcl.is c.alter_along-in-DelAcl.ensures.told
+
+pub returns-in-SetIacl-clause-answer : goal.returns-in-SetIacl-clause-answer
+returns-in-SetIacl-clause-answer c = rw c.in-SetIacl.is (rw c.in-SetIacl.is at c.amend_along-in-SetIacl.ensures.answer)
+
+pub returns-in-SetIacl-clause-told : goal.returns-in-SetIacl-clause-told
+returns-in-SetIacl-clause-told c = rw c.in-SetIacl.is c.amend_along-in-SetIacl.ensures.told
+
+pub returns-in-DelIacl-clause-answer : goal.returns-in-DelIacl-clause-answer
+returns-in-DelIacl-clause-answer c = rw c.in-DelIacl.is (rw c.in-DelIacl.is at c.amend_along-in-DelIacl.ensures.answer)
+
+pub returns-in-DelIacl-clause-told : goal.returns-in-DelIacl-clause-told
+returns-in-DelIacl-clause-told c = rw c.in-DelIacl.is c.amend_along-in-DelIacl.ensures.told
+
+pub returns-in-SetBrackets-clause-answer : goal.returns-in-SetBrackets-clause-answer
+returns-in-SetBrackets-clause-answer c = rw c.in-SetBrackets.is (rw c.in-SetBrackets.is at c.alter_along-in-SetBrackets.ensures.answer)
+
+pub returns-in-SetBrackets-clause-told : goal.returns-in-SetBrackets-clause-told
+returns-in-SetBrackets-clause-told c = rw c.in-SetBrackets.is c.alter_along-in-SetBrackets.ensures.told
+
+pub returns-in-SetDirBrackets-clause-answer : goal.returns-in-SetDirBrackets-clause-answer
+returns-in-SetDirBrackets-clause-answer c = rw c.in-SetDirBrackets.is (rw c.in-SetDirBrackets.is at c.amend_along-in-SetDirBrackets.ensures.answer)
+
+pub returns-in-SetDirBrackets-clause-told : goal.returns-in-SetDirBrackets-clause-told
+returns-in-SetDirBrackets-clause-told c = rw c.in-SetDirBrackets.is c.amend_along-in-SetDirBrackets.ensures.told
+
+pub returns-in-SetClass-clause-answer : goal.returns-in-SetClass-clause-answer
+returns-in-SetClass-clause-answer c = rw c.in-SetClass.is (rw c.in-SetClass.is at c.alter_along-in-SetClass.ensures.answer)
+
+pub returns-in-SetClass-clause-told : goal.returns-in-SetClass-clause-told
+returns-in-SetClass-clause-told c = rw c.in-SetClass.is c.alter_along-in-SetClass.ensures.told

@@ -7,14 +7,14 @@ use Rattle.mx_rule.specs.declared.views.PassView.{PassView}
 use Rattle.mx_rule.specs.declared.views.SuperView.{SuperView}
 use Rattle.mx_state.specs.declared.journal.Entry as journaled
 use Rattle.mx_office.specs.Announcing.{Coming, IsAnnounced, MayAnnounce, announced_view, coming}
-use Rattle.mx_office.specs.Serving.{HasEntered, runs_of}
+use Rattle.mx_office.specs.Serving.{HasEntered, IsServed, runs_of}
 use Rattle.mx_office.specs.declared.answers.Served.{Served}
 use Rattle.mx_rule.specs.Notes.{noting_view}
 use Rattle.mx_rule.specs.Telling.{AreRightWords}
 use Rattle.mx_transcript.specs.Misses.{IsChanged}
 use Rattle.mx_office.specs.Locked.{IsLocked}
 use Rattle.mx_office.proofs.Locks.{changed_listed, journal_after, length_is, locked_after, locked_as, may_announce}
-use Rattle.mx_office.proofs.Serves.{entered_by, entry_found, grown_journal, longer_by, number_within, same_served}
+use Rattle.mx_office.proofs.Serves.{entered_by, entry_found, grown_journal, longer_by, number_within, same_served, served_by}
 use Rattle.mx_office.proofs.serving.enter_below.Goals as goal
 
 pub entry-entry-requires-clause-most : goal.entry-entry-requires-clause-most
@@ -65,6 +65,16 @@ announce-requires-clause-may g c =
 
 pub returns-clause-longer : goal.returns-clause-longer
 returns-clause-longer g c served same = longer_by _ _ _ _ _ _ c.in_ok-made.ensures.entered
+
+pub returns-clause-served : goal.returns-clause-served
+returns-clause-served g c served same =
+    let s = c.args.supervisor.now in
+    let s' = c.apply.new.supervisor in
+    let answered : Served = record { number = c.in_ok-made.made.came.number; answer = c.of.result } in
+    subst (λ (z : ℕ × Served). IsServed s z.0 c.args.ring c.args.request.now z.1 s')
+    (λ i. (c.process-process.ensures.value i, same_served answered served same i))
+    (served_by s s' c.process-process.result c.args.ring c.args.request.now c.in_ok-made.made.came.number
+    c.in_ok-made.ensures.entered c.entry-entry.result.now c.entry-entry.ensures c.of.result c.of.ensures)
 
 pub returns-clause-locked : goal.returns-clause-locked
 returns-clause-locked g c =

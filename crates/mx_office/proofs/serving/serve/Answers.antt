@@ -1,7 +1,9 @@
-use Rattle.std.proofs.Common.{◌≡◌, ◌<◌, ◌≤◌, length, sym, ap, ◌∙◌, arith, rules}
+use Rattle.std.proofs.Common.{◌≡◌, ◌<◌, ◌≤◌, length, sym, ap, ◌∙◌, subst, arith, rules}
 use Rattle.mx_script.specs.Sessions.{limit_of}
+use Rattle.mx_office.specs.Serving.{IsServed}
+use Rattle.mx_office.specs.declared.answers.Served.{Served}
 use Rattle.mx_office.proofs.Locks.{journal_length}
-use Rattle.mx_office.proofs.Serves.{same_length}
+use Rattle.mx_office.proofs.Serves.{same_entered, same_length}
 use Rattle.mx_office.proofs.serving.serve.Goals as goal
 
 pub returns-then-length-limit-clause-full : goal.returns-then-length-limit-clause-full
@@ -31,3 +33,9 @@ enter_below-requires-clause-below g c =
     let value = c.length-length.ensures.value in
     let most = c.limit.ensures.most in
     let under : c.length-length.result < c.limit.result = search rules in omega arith
+
+pub returns-in-Ok-clause-served : goal.returns-in-Ok-clause-served
+returns-in-Ok-clause-served g c served same =
+    subst (λ (z : Served). IsServed c.args.supervisor.now c.args.pass.now.view.process c.args.ring c.args.request.now z
+    c.enter_below.new.supervisor) (same_entered c.in-Ok.served served same)
+    (c.enter_below.ensures.served c.in-Ok.served c.in-Ok.is)

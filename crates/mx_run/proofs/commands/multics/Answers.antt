@@ -25,7 +25,8 @@ returns-in-Ok-clause-out_of_memory g c = λ one.
     elim (c.in-Err-Memory-tell.ensures.unwritten (ap Err c.in-Err-Memory-tell.field-0-is)) [
       | inl same ↦ inl same
       | inr front ↦ inr (front_of words (g.S.Source.left c.args.source.now) (g.S.Source.left c.reach.new.source)
-          (g.K.Sink.out c.args.sink.now) (g.K.Sink.out c.tell.new.sink) _ _ c.in-Ok.verdict c.in-Ok.ensures.grown c.in-Ok.ensures.right front)
+          (g.K.Sink.out c.args.sink.now) (g.K.Sink.out c.tell.new.sink) _ _ c.in-Ok.verdict c.in-Ok.ensures.grown c.in-Ok.ensures.right
+          (c.in-Err-Memory-tell.ensures.run (ap Err c.in-Err-Memory-tell.field-0-is)) front)
     ]
 
 pub returns-in-Err-Fault-tell-clause-cut_short : goal.returns-in-Err-Fault-tell-clause-cut_short

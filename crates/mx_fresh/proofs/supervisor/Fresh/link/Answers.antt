@@ -21,9 +21,9 @@ returns-in-Ok-clause-answer c =
     let after = slice_set s.processes.items (c.args.p - 1) (record process { known = it.connection.after }) in
     let reply : Reply = Linked it.connection.known.segno it.word it.connection.known.fresh it.connection.known.linkage in
     let place : slice_get s.processes.items (c.args.p - 1) ≡ Some process = rw c.as_slice.ensures.value at c.own_process-process.ensures in
-    subst (λ (t : Plain). plain t c.args.p c.args.ring (ask.Link c.args.segno c.args.word) ≡ answer reply (new c.give_out.new.hierarchy c.learn.new.processes.items)) c.self.view_is
+    rw c.giving.ensures (subst (λ (t : Plain). plain t c.args.p c.args.ring (ask.Link c.args.segno c.args.word) ≡ answer reply (new c.give_out.new.hierarchy c.learn.new.processes.items)) c.self.view_is
     (to_process old c.args.p (c.args.p - 1) process (λ process. link old c.args.p c.args.ring process c.args.segno c.args.word) c.requires.some refl place
-    ∙ c.in_ok-given.ensures old c.args.p
+    ∙ c.in_ok-given.ensures.answer old c.args.p
     ∙ ap (leading_of old c.args.p process) c.in-Ok.is
     ∙ ap (λ h. answer reply (new h after)) (sym c.give_out.ensures)
-    ∙ ap (λ processes. answer reply (new c.give_out.new.hierarchy processes)) (sym (c.learn.ensures.learnt process place)))
+    ∙ ap (λ processes. answer reply (new c.give_out.new.hierarchy processes)) (sym (c.learn.ensures.learnt process place))))

@@ -1,27 +1,19 @@
-use Rattle.std.proofs.Common.{◌∙◌, ap, refl, subst, sym, Err}
+use Rattle.std.proofs.Common.{◌∙◌, ap, Err}
 use Rattle.mx_audit.proofs.AccountLaws.{grown_none}
-use Rattle.mx_script.specs.FirstBadLine.{IsFirstBad}
 use Rattle.mx_run.proofs.RoomLaws.{room_for_text}
+use Rattle.mx_run.proofs.VerdictLaws.{no_session_memory, no_session_right}
 use Rattle.mx_run.proofs.verdicts.Verdict.of_bytes.Goals as goal
 
-pub returns-in-Err-BadLine-clause-right : goal.returns-in-Err-BadLine-clause-right
-returns-in-Err-BadLine-clause-right g c = (
-  refl,
-  record {
-    spelled = c.args.bytes.now;
-    read = (refl, refl);
-    within = c.requires.within;
-    first = subst (IsFirstBad c.args.bytes.now) (sym c.in-Err-BadLine.number-is)
-        (c.read_session.ensures.bad_line c.in-Err-BadLine.number (c.in-Err-BadLine.is ∙ ap Err c.in-Err-BadLine.field-0-is));
-  },
-  refl,
-)
+pub returns-in-Err-clause-right : goal.returns-in-Err-clause-right
+returns-in-Err-clause-right g c =
+    no_session_right c.args.bytes.now _ c.in-Err.error c.no_session.result c.no_session.ensures c.requires.within
+    (λ n is. c.read_session.ensures.bad_line n (c.in-Err.is ∙ ap Err is))
 
-pub returns-in-Err-BadLine-clause-grown : goal.returns-in-Err-BadLine-clause-grown
-returns-in-Err-BadLine-clause-grown g c = grown_none _
+pub returns-in-Err-clause-grown : goal.returns-in-Err-clause-grown
+returns-in-Err-clause-grown g c = grown_none _
 
-pub returns-in-Err-Memory-clause-grown : goal.returns-in-Err-Memory-clause-grown
-returns-in-Err-Memory-clause-grown g c = grown_none _
+pub returns-in-Err-clause-cause : goal.returns-in-Err-clause-cause
+returns-in-Err-clause-cause g c = no_session_memory c.in-Err.error c.no_session.result c.no_session.ensures
 
 -- the text's scripts are short
 pub ran-requires-clause-room : goal.ran-requires-clause-room

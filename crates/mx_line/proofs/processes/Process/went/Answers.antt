@@ -1,0 +1,14 @@
+use Rattle.std.proofs.Common.{refl}
+use Rattle.mx_line.proofs.ProcessLaws.{ended_plainly}
+use Rattle.mx_line.proofs.processes.Process.went.Goals as goal
+
+pub returns-in-Some : goal.returns-in-Some
+returns-in-Some c =
+    ended_plainly c.args.self.now _ c.args.line.now c.args.element.now c.args.desc.now c.in-Some.ends _ c.in-Some.ensures (
+      refl,
+      c.end_plainly.ensures.first,
+      c.end_plainly.ensures.done,
+      c.end_plainly.ensures.steps,
+      c.end_plainly.ensures.idle,
+      refl,
+    )

@@ -1,0 +1,60 @@
+-- The auditor of one process, as lines end.
+use Rattle.std.proofs.Common.{◌≡◌, ℕ, ◌<◌, ◌≤◌, ◌-◌, List, [], ◌∷◌, ◌++◌, length, Option, Some, None, refl, sym, ◌∙◌, ap, subst, arith}
+use Rattle.std.specs.Option.{option_map}
+use Rattle.mx_audit.proofs.AccountLaws.{with_both, with_none}
+use Rattle.mx_audit.specs.Accounts.{Account, with_denials}
+use Rattle.mx_sdw.specs.declared.denials.Denial.{Denial}
+use Rattle.mx_transcript.proofs.DenialLaws.{denials_append, few_denials, last_of}
+use Rattle.mx_transcript.specs.Denials.{denial_of, denials, last_denial}
+use Rattle.mx_transcript.specs.Transcripts.{Step}
+use Rattle.mx_process.specs.Audited.{IsAudited, as_list}
+
+one_line : (step : Step) → denials (step ∷ []) ≡ as_list (denial_of step)
+one_line step = by_denial (denial_of step) refl
+  where
+    by_denial : (told : Option (ℕ × Denial)) → denial_of step ≡ told → denials (step ∷ []) ≡ as_list (denial_of step)
+    by_denial None e = rw e refl
+    by_denial (Some told) e = rw e refl
+
+line_more : (steps : List Step) (step : Step) → denials (steps ++ step ∷ []) ≡ denials steps ++ as_list (denial_of step)
+line_more steps step = denials_append steps (step ∷ []) ∙ ap (λ (l : List (ℕ × Denial)). denials steps ++ l) (one_line step)
+
+abbrev pub told_more : Option (ℕ × Denial) → Account → Account
+told_more told account = with_denials account (as_list told)
+
+-- it has room for the denial of a line that is left
+pub audit_room : (lines : ℕ) (before : Option Account) (steps : List Step) (account : Option Account) → length steps < lines
+    → IsAudited lines before steps account → (a : Account) → account ≡ Some a → 1 ≤ a.room
+audit_room lines before steps None fewer is a e = absurd (cc)
+audit_room lines before steps (Some account) fewer is a e =
+    let same : account ≡ a = cc in
+    let few = few_denials steps in
+    let room : account.room ≡ is.opening.room - length (denials steps) = ap (λ (b : Account). b.room) is.told in
+    let most = is.room in
+    subst (λ (b : Account). 1 ≤ b.room) same (omega (arith, few, room, most, fewer))
+
+-- and was told of it
+pub audited_more : (lines : ℕ) (before : Option Account) (steps : List Step) (step : Step) (account account' : Option Account)
+    → IsAudited lines before steps account → account' ≡ option_map (told_more (last_denial (steps ++ step ∷ []))) account
+    → IsAudited lines before (steps ++ step ∷ []) account'
+audited_more lines before steps step None account' is e = subst (IsAudited lines before (steps ++ step ∷ [])) (sym e) tt
+audited_more lines before steps step (Some account) account' is e =
+    subst (IsAudited lines before (steps ++ step ∷ [])) (sym e) (record {
+      opening = is.opening;
+      had = is.had;
+      room = is.room;
+      told = ap (λ (told : Option (ℕ × Denial)). told_more told account) (last_of steps step)
+          ∙ ap (told_more (denial_of step)) is.told
+          ∙ with_both is.opening (denials steps) (as_list (denial_of step))
+          ∙ ap (with_denials is.opening) (sym (line_more steps step));
+    })
+
+-- before any line
+pub audited_first : (lines : ℕ) (before : Option Account) (steps : List Step) (account : Account) → before ≡ Some account
+    → lines ≤ account.room → steps ≡ [] → IsAudited lines before steps (Some account)
+audited_first lines before steps account had room none = record {
+  opening = account;
+  had = had;
+  room = room;
+  told = sym (with_none account) ∙ ap (λ (l : List Step). with_denials account (denials l)) (sym none);
+}

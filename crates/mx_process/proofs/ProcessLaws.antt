@@ -1,0 +1,319 @@
+-- What a process's type says holds of a new one, and after each of its calls.
+use Rattle.std.proofs.Common.{◌≡◌, ℕ, zero, suc, ◌+◌, ◌-◌, ◌<◌, ◌≤◌, ◌^◌, nat_lt, IsTrue, map, List, [], ◌∷◌, drop, length, Option, Some, None, refl, sym, ◌∙◌, ap, subst, arith}
+use Rattle.std.proofs.lemmas.Bool.Decides.{nat_tests}
+use Rattle.std.specs.List.{slice_get}
+use Rattle.mx_audit.specs.Accounts.{Account}
+use Rattle.mx_call.specs.Loading as start
+use Rattle.mx_closing.specs.Views.{kept_in, marked_in, view_in}
+use Rattle.mx_core.specs.AssociativeMemory.{recalled}
+use Rattle.mx_core.specs.declared.elements.Kept.{Kept as Recorded}
+use Rattle.mx_core.specs.declared.words.Triple.{Triple}
+use Rattle.mx_desc.specs.Passes.{PassValue}
+use Rattle.mx_line.specs.AtWork.{IsCome, IsFree}
+use Rattle.mx_line.specs.Fills.{IsNoRequest}
+use Rattle.mx_line.specs.Operands.{IsGoodProgress}
+use Rattle.mx_line.specs.declared.operands.Progress.{Progress}
+use Rattle.mx_line.specs.declared.operands.Progress.TheVariants.{Before}
+use Rattle.mx_line.specs.declared.processes.Process.{Process as LineState}
+use Rattle.mx_office.specs.Serving.{told_to}
+use Rattle.mx_request.specs.Versions.{most_gates}
+use Rattle.mx_rule.specs.Shown.{all_told}
+use Rattle.mx_rule.specs.declared.views.PassView.{PassView}
+use Rattle.mx_script.specs.Sessions.{Outline, IsSession}
+use Rattle.mx_script.specs.declared.lines.Line.{Line}
+use Rattle.mx_state.specs.declared.journal.Entry as journaled
+use Rattle.mx_ties.proofs.WorkingLaws.{begin_law, idle_law}
+use Rattle.mx_ties.specs.AtWork.{AtWork}
+use Rattle.mx_ties.specs.Views.{View}
+use Rattle.mx_ties.specs.Working.{IsWorking, HasWorked}
+use Rattle.mx_transcript.specs.Asking.{next}
+use Rattle.mx_transcript.specs.Courses.{Attempt}
+use Rattle.mx_transcript.specs.Legal.{setup_entries}
+use Rattle.mx_transcript.specs.Openings.{opening_control}
+use Rattle.mx_transcript.specs.Scripts.{first_line, lines_of}
+use Rattle.mx_transcript.specs.Transcripts.{Step}
+use Rattle.mx_upcall.specs.Control.{Control}
+use Rattle.mx_upcall.specs.Gates.{no_gates}
+use Rattle.mx_upcall.specs.Soundness.{IsPackableControl}
+use Rattle.mx_process.proofs.AuditLaws.{audited_first}
+use Rattle.mx_line.proofs.ScriptLaws.{past_end}
+use Rattle.mx_process.proofs.PlaceLaws.{countable_next, fewer_next, number_next, sayable_next, script_next}
+use Rattle.mx_process.specs.Audited.{IsAudited}
+use Rattle.mx_process.specs.Processes.{Known, ProcessValue, AsksIn, HasLine, IsAtLine, IsAtWork, IsBefore, IsNewPass, IsProcess, IsStill, Stands, having_done, known_of, left_of, number_in, script_of}
+use Rattle.mx_process.specs.Turns.{IsAttempting}
+use Rattle.mx_process.specs.declared.misses.Miss.{Miss}
+
+abbrev pub started : ℕ → Control
+started most = record { registers = start.opening_registers; gates = no_gates most }
+
+pub opening_is : (x : Outline) (p : ℕ) → 1 ≤ p → started (most_gates x.version) ≡ opening_control x p
+opening_is x zero some = absurd (omega (arith, some))
+opening_is x (suc p) some = refl
+
+-- the process of a pass that did nothing yet
+module _ (x : Outline) (setup : List journaled.Entry) (state : LineState) (o : PassValue journaled.Entry) where
+  pub record IsFirst : Type 0 where
+    pub fresh : IsNewPass x o
+    pub some : 1 ≤ o.view.process
+    pub first : state.first ≡ first_line x o.view.process
+    pub control : state.control ≡ opening_control x o.view.process
+    pub steps : state.recording.steps ≡ []
+    pub events : state.recording.events ≡ []
+    pub progress : state.progress ≡ Before
+
+  abbrev begun_view : View
+  begun_view = record { trace = []; history = []; floor = setup_entries x; amount = 0 }
+
+  view_begun : IsFirst → view_in o ≡ begun_view
+  view_begun f = λ i. record {
+    trace = map kept_in (f.fresh.view i).trace;
+    history = marked_in (f.fresh.view i).history;
+    floor = (f.fresh.view i).floor;
+    amount = f.fresh.amount i;
+  }
+
+  same : (n : ℕ) → n ≤ n
+  same n = omega arith
+
+  pub first_stands : IsFirst → Stands x setup state None (left_of x o.view.process state.recording.steps) o
+  first_stands f =
+      subst (λ (steps : List Step). IsBefore x setup state (drop (length steps) (lines_of x o.view.process)) (known_of o)) (sym f.steps)
+      (by_lines (lines_of x o.view.process) refl)
+    where
+      by_lines : (lines : List (ℕ × Line)) → lines_of x o.view.process ≡ lines → IsBefore x setup state lines (known_of o)
+      by_lines [] e =
+          subst (λ (v : View). HasWorked x setup o.view.process state.recording.steps v) (sym (view_begun f))
+          (subst (λ (steps : List Step). HasWorked x setup o.view.process steps begun_view) (sym f.steps)
+          (idle_law x setup o.view.process (setup_entries x) e (same (setup_entries x))))
+      by_lines ((number, line) ∷ left) e =
+          let begun = begin_law x setup o.view.process number line left (setup_entries x) (told_to o) e (same (setup_entries x)) in
+          let at : left_of x o.view.process state.recording.steps ≡ (number, line) ∷ left
+          = ap (left_of x o.view.process) f.steps ∙ e in
+          let numbered : number ≡ number_in state
+          = number_next x o.view.process state.recording.steps f.some number line left at
+          ∙ ap (λ n. n + length state.recording.steps) (sym f.first) in
+          let rest : left ≡ drop (suc (length state.recording.steps)) (lines_of x o.view.process)
+          = tail_of (lines_of x o.view.process) (number, line) left e
+          ∙ ap (λ (steps : List Step). drop (suc (length steps)) (lines_of x o.view.process)) (sym f.steps) in
+          record {
+            course = Attempt [];
+            working = subst (λ (w : AtWork). IsWorking x setup o.view.process w (view_in o) (told_to o)) (λ i. record {
+              steps = sym f.steps i;
+              number = numbered i;
+              line = line;
+              left = rest i;
+              now = sym f.control i;
+              events = sym f.events i;
+              course = Attempt [];
+            }) (subst (λ (v : View). IsWorking x setup o.view.process (record {
+              steps = [];
+              number = number;
+              line = line;
+              left = left;
+              now = opening_control x o.view.process;
+              events = [];
+              course = Attempt [];
+            }) v (told_to o)) (sym (view_begun f)) begun);
+            come = subst (λ (r : Progress). IsCome state.control line (Attempt []) r) (sym f.progress) (refl, tt);
+          }
+        where
+          tail_of : (lines : List (ℕ × Line)) (l : ℕ × Line) (more : List (ℕ × Line)) → lines ≡ l ∷ more → more ≡ drop 1 lines
+          tail_of lines l more e = sym (ap (drop 1) e)
+
+pub first_process : (x : Outline) (setup : List journaled.Entry) (accounts : List Account) (script : List Line) (state : LineState)
+    (o : PassValue journaled.Entry) → IsSession x → IsFirst x setup state o → script ≡ script_of x o.view.process
+    → IsPackableControl state.control
+    → IsProcess x setup accounts script [] (record { state = state; missing = None; pass = o; account = None })
+first_process x setup accounts script state o session f own packable = record {
+  session = session;
+  some = f.some;
+  own = own;
+  same = sym (ap (λ (v : PassView journaled.Entry). v.memory) f.fresh.view);
+  outside = ap (λ (v : PassView journaled.Entry). v.stage) f.fresh.view;
+  first = f.first;
+  packable = packable;
+  good = subst (IsGoodProgress state.control.registers) (sym f.progress) tt;
+  stands = first_stands x setup state o f;
+  audited = tt;
+}
+
+-- with an auditor
+pub attended : (x : Outline) (setup : List journaled.Entry) (accounts : List Account) (script : List Line) (memory : List Triple)
+    (v : ProcessValue) (account : Account) → IsProcess x setup accounts script memory v
+    → slice_get accounts (v.pass.view.process - 1) ≡ Some account → v.state.recording.steps ≡ []
+    → length (script_of x v.pass.view.process) ≤ account.room
+    → IsProcess x setup accounts script memory (record v { account = Some account })
+attended x setup accounts script memory v account is had none room = record {
+  session = is.session;
+  some = is.some;
+  own = is.own;
+  same = is.same;
+  outside = is.outside;
+  first = is.first;
+  packable = is.packable;
+  good = is.good;
+  stands = is.stands;
+  audited = audited_first (length script) (slice_get accounts (v.pass.view.process - 1)) v.state.recording.steps account had
+      (subst (λ (l : List Line). length l ≤ account.room) (sym is.own) room) none;
+}
+
+-- nothing but the room of a process differs
+module _ (x : Outline) (setup : List journaled.Entry) (old new : ProcessValue) (s : IsStill old new) where
+  known_still : known_of new.pass ≡ known_of old.pass
+  known_still = λ i. record {
+    process = (s.view i).process;
+    view = record {
+      trace = map kept_in (s.view i).trace;
+      history = marked_in (s.view i).history;
+      floor = (s.view i).floor;
+      amount = s.amount i;
+    };
+    told = λ n. all_told (s.view i).start (s.view i).told (s.view i).process n;
+  }
+
+  done_still : (trace : List Recorded) → known_of (having_done trace old.pass) ≡ known_of (having_done trace new.pass)
+  done_still trace = λ i. record {
+    process = (sym s.view i).process;
+    view = record {
+      trace = map kept_in trace;
+      history = marked_in (sym s.view i).history;
+      floor = (sym s.view i).floor;
+      amount = sym s.amount i;
+    };
+    told = λ n. all_told (sym s.view i).start (sym s.view i).told (sym s.view i).process n;
+  }
+
+  work_still : (line : Line) (k : Known) → IsAtWork x setup old.state line k → IsAtWork x setup new.state line k
+  work_still line k w = record {
+    course = w.course;
+    working = subst (λ (v : AtWork). IsWorking x setup k.process v k.view k.told) (λ i. record {
+      steps = sym s.steps i;
+      number = sym s.first i + length (sym s.steps i);
+      line = line;
+      left = drop (suc (length (sym s.steps i))) (lines_of x k.process);
+      now = sym s.control i;
+      events = sym s.events i;
+      course = w.course;
+    }) w.working;
+    come = subst (λ (g : Control). IsCome g line w.course new.state.progress) (sym s.control)
+        (subst (λ (r : Progress). IsCome old.state.control line w.course r) (sym s.progress) w.come);
+  }
+
+  before_still : (left : List (ℕ × Line)) (k : Known) → IsBefore x setup old.state left k → IsBefore x setup new.state left k
+  before_still [] k b = subst (λ (steps : List Step). HasWorked x setup k.process steps k.view) (sym s.steps) b
+  before_still (line ∷ left) k b = work_still line.1 k b
+
+  stands_still : (missing : Option Miss) (left : List (ℕ × Line)) → Stands x setup old.state missing left old.pass
+      → Stands x setup new.state missing left new.pass
+  stands_still None left b = subst (IsBefore x setup new.state left) (sym known_still) (before_still left (known_of old.pass) b)
+  stands_still (Some m) [] b = b
+  stands_still (Some m) (line ∷ left) b = record {
+    front = b.front;
+    last = ap (λ (v : PassView journaled.Entry). v.trace) s.view ∙ b.last;
+    news = subst (λ (v : PassView journaled.Entry). all_told v.start v.told v.process m.segno < m.by) (sym s.view) b.news;
+    unknown = ap (λ (v : PassView journaled.Entry). recalled m.segno v.memory) s.view ∙ b.unknown;
+    asks = λ course come. subst (λ (g : Control). AsksIn m.segno (next g line.1 course)) (sym s.control)
+        (b.asks course (subst (λ (g : Control). IsCome g line.1 course old.state.progress) s.control
+        (subst (λ (r : Progress). IsCome new.state.control line.1 course r) s.progress come)));
+    before = subst (IsAtWork x setup new.state line.1) (done_still b.front)
+        (work_still line.1 (known_of (having_done b.front old.pass)) b.before);
+  }
+
+  pub still_process : (accounts : List Account) (script : List Line) (memory : List Triple)
+      → IsProcess x setup accounts script memory old → IsProcess x setup accounts script memory new
+  still_process accounts script memory is = record {
+    session = is.session;
+    some = subst (λ (v : PassView journaled.Entry). 1 ≤ v.process) (sym s.view) is.some;
+    own = is.own ∙ ap (λ (v : PassView journaled.Entry). script_of x v.process) (sym s.view);
+    same = is.same ∙ ap (λ (v : PassView journaled.Entry). v.memory) (sym s.view);
+    outside = ap (λ (v : PassView journaled.Entry). v.stage) s.view ∙ is.outside;
+    first = s.first ∙ is.first ∙ ap (λ (v : PassView journaled.Entry). first_line x v.process) (sym s.view);
+    packable = subst IsPackableControl (sym s.control) is.packable;
+    good = subst (λ (g : Control). IsGoodProgress g.registers new.state.progress) (sym s.control)
+        (subst (λ (r : Progress). IsGoodProgress old.state.control.registers r) (sym s.progress) is.good);
+    stands = subst (λ (m : Option Miss). Stands x setup new.state m (left_of x new.pass.view.process new.state.recording.steps) new.pass)
+        (sym s.missing) (subst (λ (l : List (ℕ × Line)). Stands x setup new.state old.missing l new.pass)
+        (λ i. drop (length (sym s.steps i)) (lines_of x (sym s.view i).process))
+        (stands_still old.missing (left_of x old.pass.view.process old.state.recording.steps) is.stands));
+    audited = subst (λ (a : Option Account). IsAudited (length script) (slice_get accounts (new.pass.view.process - 1))
+        new.state.recording.steps a) (sym s.account) (subst (λ (v : PassView journaled.Entry). IsAudited (length script)
+        (slice_get accounts (v.process - 1)) new.state.recording.steps old.account) (sym s.view)
+        (subst (λ (steps : List Step). IsAudited (length script) (slice_get accounts (old.pass.view.process - 1)) steps old.account)
+        (sym s.steps) is.audited));
+  }
+
+-- where no line is left a process has worked
+pub has_worked : (x : Outline) (setup : List journaled.Entry) (state : LineState) (missing : Option Miss) (left : List (ℕ × Line))
+    (o : PassValue journaled.Entry) → left ≡ [] → Stands x setup state missing left o
+    → HasWorked x setup o.view.process state.recording.steps (view_in o)
+has_worked x setup state None [] o e s = s
+has_worked x setup state (Some m) [] o e s = absurd s
+has_worked x setup state None (line ∷ left) o e s = absurd (cc)
+has_worked x setup state (Some m) (line ∷ left) o e s = absurd (cc)
+
+-- a line that is no request can be attempted
+pub attempting : (x : Outline) (setup : List journaled.Entry) (accounts : List Account) (script : List Line) (memory : List Triple)
+    (v : ProcessValue) (number : ℕ) (line : Line) → IsProcess x setup accounts script memory v → IsAtLine x v number line
+    → IsNoRequest line → IsFree v.state.progress → v.missing ≡ None
+    → IsAttempting x setup v.state line (known_of v.pass)
+attempting x setup accounts script memory v number line is at other free settled = record {
+  sayable = sayable_next x v.pass.view.process v.state.recording.steps is.some number line at.left is.session at.at;
+  other = other;
+  free = free;
+  packable = is.packable;
+  good = is.good;
+  some = is.some;
+  first = is.first;
+  countable = subst (λ n. n + length v.state.recording.steps < 2 ^ 32) (sym is.first)
+      (countable_next x v.pass.view.process v.state.recording.steps is.some number line at.left is.session at.at);
+  work = subst (λ (m : Option Miss). Stands x setup v.state m ((number, line) ∷ at.left) v.pass) settled
+      (subst (λ (l : List (ℕ × Line)). Stands x setup v.state v.missing l v.pass) at.at is.stands);
+}
+
+-- which line is next
+module _ (x : Outline) (setup : List journaled.Entry) (accounts : List Account) (script : List Line) (memory : List Triple)
+    (v : ProcessValue) (n : ℕ) where
+  pub line_next : (line : Line) → IsProcess x setup accounts script memory v → n ≡ length v.state.recording.steps
+      → slice_get script n ≡ Some line → (number : ℕ) × IsAtLine x v number line
+  line_next line is count e = (
+    first_line x v.pass.view.process + length v.state.recording.steps,
+    record {
+      left = drop (suc (length v.state.recording.steps)) (lines_of x v.pass.view.process);
+      at = script_next x v.pass.view.process v.state.recording.steps is.some line
+          (ap (λ (l : List Line). slice_get l (length v.state.recording.steps)) (sym is.own) ∙ ap (slice_get script) (sym count) ∙ e);
+    },
+  )
+
+  fewer : IsProcess x setup accounts script memory v → n ≡ length v.state.recording.steps → HasLine x v → n < length script
+  fewer is count has =
+      let less = fewer_next x v.pass.view.process v.state.recording.steps is.some has.number has.line has.at.left has.at.at in
+      let own = ap (λ (l : List Line). length l) is.own in
+      omega (arith, less, own, count)
+
+  pub no_line : IsProcess x setup accounts script memory v → n ≡ length v.state.recording.steps → slice_get script n ≡ None
+      → HasLine x v → ⊥
+  no_line is count e has =
+      let past = past_end script n e in
+      let less = fewer is count has in
+      absurd (omega (arith, past, less))
+
+  found : (xs : List Line) (k : ℕ) → k < length xs → (line : Line) × (slice_get xs k ≡ Some line)
+  found [] k less = absurd (omega (arith, less))
+  found (y ∷ xs) zero less = (y, refl)
+  found (y ∷ xs) (suc k) less = found xs k (omega (arith, less))
+
+  pub line_left : IsProcess x setup accounts script memory v → n ≡ length v.state.recording.steps
+      → (IsTrue (nat_lt n (length script)) → HasLine x v) × (HasLine x v → IsTrue (nat_lt n (length script)))
+  line_left is count = (λ less. left (below n (length script) less), λ has. above n (length script) (fewer is count has))
+    where
+      below : (a b : ℕ) → IsTrue (nat_lt a b) → a < b
+      below a b e = grind (arith, nat_tests)
+
+      above : (a b : ℕ) → a < b → IsTrue (nat_lt a b)
+      above a b e = grind (arith, nat_tests)
+
+      left : n < length script → HasLine x v
+      left less =
+          let line = found script n less in
+          let next = line_next line.0 is count line.1 in
+          record { number = next.0; line = line.0; at = next.1 }

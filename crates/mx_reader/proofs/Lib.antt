@@ -1,0 +1,10 @@
+pub mod FrontLaws
+pub mod FieldLaws
+pub mod NameLaws
+pub mod ReplyLaws
+pub mod EventLaws
+pub mod EntryLaws
+pub mod RunLines
+pub mod ProgressLaws
+pub mod ReadLaws
+pub mod FirstBadLaws

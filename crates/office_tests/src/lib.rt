@@ -1,0 +1,7 @@
+//! Tests of the office: a whole run; and on threads, who sleeps and who is woken.
+//!
+//! The crate has tests alone. They stand apart from `mx_office`, so that its proofs are not made twice.
+#![tactic(auto)]
+
+#[cfg(test)]
+mod tests;
