@@ -94,14 +94,10 @@ pub record IsShowingCut (words : List (List ℕ)) (source source' sink sink' : O
   pub session : IsSomeSession spelled
   pub lint : words ≡ codes "lint" ∷ [] → AppendsPart sink sink' (codes "good\n")
 
--- what is written where the words are not accepted
-abbrev pub usage : List ℕ
-usage = codes "usage: show lint | lines | picture < SESSION\nlint     good, or the first bad line, what is wrong with it, and a correct line of that kind\nlines    each line of a run of the session, told in words\npicture  the same run as an SVG, for a browser\nstatus: 0 shown, 1 out of memory, 2 other words than these, 3 input failed, 4 output failed, 5 a bad line, 6 more than 4194304 bytes\n"
-
 -- Status 4: a front of what is due was written, and not all of it.
 abbrev pub GainsFront : List (List ℕ) → Option (List ℕ) → Option (List ℕ) → Option (List ℕ) → Option (List ℕ) → Type 0
 GainsFront words source source' sink sink' =
-    ((IsCommand words → ⊥) × AppendsPart sink sink' usage)
+    ((IsCommand words → ⊥) × AppendsPart sink sink' (codes "bad words\n"))
     ⊎ ((TakesTooMany most_bytes source source' × AppendsPart sink sink' (codes "too long\n"))
     ⊎ (IsRefusalCut source source' sink sink' ⊎ IsShowingCut words source source' sink sink'))
 

@@ -5,7 +5,7 @@ ghost use Rattle.std.specs.String.{string_bytes};
 ghost use Rattle.mx_io.specs.Bytes.{Appends, AppendsPart, TakesTooMany};
 ghost use Rattle.mx_io.specs.Faults.{Rose};
 ghost use Rattle.mx_transcript.specs.Runs.{IsRunOf};
-ghost use Rattle.mx_explain.specs.Statuses.{IsCommand, IsShown, IsRefused, IsToldOf, IsCutOffOf, GainsFront, IsStopped, IsDueStatus, usage};
+ghost use Rattle.mx_explain.specs.Statuses.{IsCommand, IsShown, IsRefused, IsToldOf, IsCutOffOf, GainsFront, IsStopped, IsDueStatus};
 ghost use Rattle.mx_explain.specs.Views.{word_of, ShowsOf, Tells, CutsOff, TellsFront};
 
 use mx_io::{ReadError, Sink, Source, read_all, write_all};
@@ -57,7 +57,7 @@ enum View {
 /// |---|---|---|
 /// | 0 | the text is a session's | `good`, the lines, or the drawing |
 /// | 1 | memory ran out | a part of it, or nothing |
-/// | 2 | the words are not accepted; the source is not read | how the program is called |
+/// | 2 | the words are not accepted; the source is not read | `bad words` |
 /// | 3 | the source failed | nothing |
 /// | 4 | the sink failed | a front of what was due |
 /// | 5 | the bytes are no session | the first bad line, explained |
@@ -84,7 +84,6 @@ pub fn show<R: Threads + Wait + Sync, S: Source, K: Sink>(
     ensures refused { (IsCommand (map string_bytes words.now) → ⊥) → (result ≡ 2) ⊎ (result ≡ 4) }
     ensures unread { (IsCommand (map string_bytes words.now) → ⊥) → source.new ≡ source.old }
     ensures bad_words { result ≡ 2 → IsCommand (map string_bytes words.now) → ⊥ }
-    ensures usage { result ≡ 2 → Appends (K.out sink.old) (K.out sink.new) usage }
 
     // At status 1 neither end had failed.
     ensures unfailed { result ≡ 1 → (S.faults source.new ≡ S.faults source.old) × (K.faults sink.new ≡ K.faults sink.old) }
@@ -101,7 +100,7 @@ pub fn show<R: Threads + Wait + Sync, S: Source, K: Sink>(
         → IsStopped result ⊎ IsDueStatus (map string_bytes words.now) spelled result }
 {
     let Some(view) = View::read(words) else {
-        return told(sink, b"usage: show lint | lines | picture < SESSION\nlint     good, or the first bad line, what is wrong with it, and a correct line of that kind\nlines    each line of a run of the session, told in words\npicture  the same run as an SVG, for a browser\nstatus: 0 shown, 1 out of memory, 2 other words than these, 3 input failed, 4 output failed, 5 a bad line, 6 more than 4194304 bytes\n", BAD_WORDS);
+        return told(sink, b"bad words\n", BAD_WORDS);
     };
     match read_all(alloc, source, MOST_BYTES) {
         Ok(bytes) => match view.tell(rt, alloc, &bytes, sink) {

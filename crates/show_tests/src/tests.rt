@@ -34,21 +34,13 @@ const SMALLEST_LINES: &str = "processes: 1; journal entries: 4\n\n\
 const ENDED: &str =
     "line 1: the text ends here; what may come is `multics 1`, `multics 2`, `multics 3` or `multics 4`\n";
 
-const USAGE: &str = "usage: show lint | lines | picture < SESSION\n\
-    lint     good, or the first bad line, what is wrong with it, and a correct line of that kind\n\
-    lines    each line of a run of the session, told in words\n\
-    picture  the same run as an SVG, for a browser\n\
-    status: 0 shown, 1 out of memory, 2 other words than these, 3 input failed, 4 output failed, 5 a bad line, \
-    6 more than 4194304 bytes\n";
-
 const COMMANDS: &[Row] = &[
     ("lint", SMALLEST, false, 4096, 0, "good\n"),
     ("lines", SMALLEST, false, 4096, 0, SMALLEST_LINES),
     ("lint", b"", false, 4096, 5, ENDED),
     ("lines", b"", false, 4096, 5, ENDED),
     ("picture", b"", false, 4096, 5, ENDED),
-    ("run", SMALLEST, false, 4096, 2, USAGE),
-    ("help", SMALLEST, false, 4096, 2, USAGE),
+    ("run", SMALLEST, false, 4096, 2, "bad words\n"),
     ("lines", SMALLEST, true, 4096, 3, ""),
     ("lint", SMALLEST, false, 3, 4, "goo"),
     ("picture", SMALLEST, false, 4, 4, "<svg"),
