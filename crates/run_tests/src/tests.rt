@@ -6,5 +6,6 @@ mod drills;
 mod ends;
 mod logs;
 mod printing;
+mod reading;
 mod scripts;
 mod threads;
