@@ -2,6 +2,7 @@
 
 use crate::findings::{Finding, findings_of};
 use crate::outcome::Outcome;
+use crate::replays::replay_row;
 use crate::rows::{KINDS, Part, parts_of, source_in};
 use crate::showing::shown;
 use session_files::{read, write};
@@ -53,6 +54,68 @@ fn compare_rows<R: Threads + Wait + Sync>(
     Ok(text)
 }
 
+/// Plays the journals of the runs that are stored of an item before both plain supervisors, adds the outcomes, and gives the lines
+/// that say what came of them: none where no run with a journal is stored.
+pub fn replay<R: Files + Alloc<A = Global>>(
+    rt: &R,
+    name: &str,
+    outcomes: &mut Vec<Outcome>,
+) -> io::Result<String> {
+    match read(rt, name, "rows")? {
+        Some(archive) => Ok(replay_rows(rt.alloc(), name, &archive, outcomes)?),
+        None => replay_one(rt, name, outcomes),
+    }
+}
+
+// Plays the journals of the rows of an archive: a line for each that is not as stored, and one for all.
+fn replay_rows(
+    alloc: Global,
+    name: &str,
+    archive: &[u8],
+    outcomes: &mut Vec<Outcome>,
+) -> Result<String, AllocError> {
+    let parts = parts_of(alloc, archive)?;
+    let mut source = None;
+    let mut text = String::new(alloc);
+    let (mut good, mut all) = (0_usize, 0_usize);
+    for row in parts.chunk_by(|part, next| part.row == next.row) {
+        source = source_in(row).or(source);
+        let Some(outcome) = replay_row(alloc, source, row)? else {
+            continue;
+        };
+        all = all.saturating_add(1);
+        if outcome == Outcome::AsStored {
+            good = good.saturating_add(1);
+        } else {
+            let line = format!(in alloc; "{name}, {}: replay {outcome}\n", name_of(row))?;
+            text.push_str(&line)?;
+        }
+        outcomes.push(outcome)?;
+    }
+    if all > 0 {
+        let line = format!(in alloc; "{name}: {good} of {all} replays as stored\n")?;
+        text.push_str(&line)?;
+    }
+    Ok(text)
+}
+
+// Plays the journal of the run that is stored in files of this name.
+fn replay_one<R: Files + Alloc<A = Global>>(
+    rt: &R,
+    name: &str,
+    outcomes: &mut Vec<Outcome>,
+) -> io::Result<String> {
+    let texts = texts_in(rt, name)?;
+    let parts = parts_in(rt.alloc(), name, &texts)?;
+    match replay_row(rt.alloc(), source_in(&parts), &parts)? {
+        Some(outcome) => {
+            outcomes.push(outcome)?;
+            Ok(format!(in rt.alloc(); "{name}: replay {outcome}\n")?)
+        }
+        None => Ok(String::new(rt.alloc())),
+    }
+}
+
 // The name of a row.
 fn name_of<'a>(row: &[Part<'a>]) -> &'a str {
     match row.first() {
@@ -67,15 +130,24 @@ fn compare_one<R: Threads + Wait + Sync + Files + Alloc<A = Global>>(
     name: &str,
     outcomes: &mut Vec<Outcome>,
 ) -> io::Result<String> {
-    let mut texts = Vec::new(rt.alloc());
-    for kind in KINDS {
-        texts.push(read(rt, name, kind)?)?;
-    }
+    let texts = texts_in(rt, name)?;
     let parts = parts_in(rt.alloc(), name, &texts)?;
     let findings = findings_of(rt, rt.alloc(), source_in(&parts), &parts)?;
     add(outcomes, &findings)?;
     let found = told(rt.alloc(), &findings)?;
     Ok(format!(in rt.alloc(); "{name}: {found}\n")?)
+}
+
+// The texts of the files of this name, one a kind, as far as they are there.
+fn texts_in<R: Files + Alloc<A = Global>>(
+    rt: &R,
+    name: &str,
+) -> io::Result<Vec<Option<Vec<u8>>>> {
+    let mut texts = Vec::new(rt.alloc());
+    for kind in KINDS {
+        texts.push(read(rt, name, kind)?)?;
+    }
+    Ok(texts)
 }
 
 // The files of this name, of which these texts are there, one a kind.

@@ -1,7 +1,8 @@
 //! The program: it runs stored sessions and drills, and compares what they print with what is stored. Each word of its command
 //! line names an item of the folder that it is started in: `NAME.rows`, an archive, or else `NAME.session` or `NAME.drill`; what
 //! lies beside says what is compared. A line for each item says what came of it; for an archive also one for each row that was not
-//! as stored. Behind the word `store` it writes the lines and the picture of each session anew instead. Status 0 means that all
+//! as stored. Then the journals of the stored runs are played before both plain supervisors, and a line for each item with such a run
+//! says what came of it. Behind the word `store` it writes the lines and the picture of each session anew instead. Status 0 means that all
 //! were as stored, 1 that something was not, 2 that nothing was named.
 #![tactic(auto)]
 
@@ -11,10 +12,11 @@ mod items;
 mod outcome;
 mod outlines;
 mod repeats;
+mod replays;
 mod rows;
 mod showing;
 
-use items::{compare, store};
+use items::{compare, replay, store};
 use outcome::status_of;
 use std::process::ExitCode;
 use std::{env, io};
@@ -34,13 +36,22 @@ fn main(rt: HostRuntime) -> io::Result<ExitCode> {
         }
     };
     let mut outcomes = Vec::new(rt.alloc());
-    for name in names.skip(if stores { 1 } else { 0 }) {
+    let names = names
+        .skip(if stores { 1 } else { 0 })
+        .collect::<Vec<String>>(rt.alloc())?;
+    for name in &names {
         let told = if stores {
-            store(&rt, &name, &mut outcomes)?
+            store(&rt, name, &mut outcomes)?
         } else {
-            compare(&rt, &name, &mut outcomes)?
+            compare(&rt, name, &mut outcomes)?
         };
         print!(rt; "{told}")?;
+    }
+    if !stores {
+        for name in &names {
+            let told = replay(&rt, name, &mut outcomes)?;
+            print!(rt; "{told}")?;
+        }
     }
     Ok(ExitCode::from(status_of(&outcomes)))
 }
