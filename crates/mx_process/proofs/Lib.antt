@@ -6,3 +6,4 @@ pub mod TurnLaws
 pub mod AuditLaws
 pub mod ProcessLaws
 pub mod AttemptLaws
+pub mod SettleLaws

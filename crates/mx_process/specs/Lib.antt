@@ -4,3 +4,5 @@ pub mod Audited
 -- an attempt at a line, turn by turn
 pub mod Turns
 pub mod Attempts
+-- a miss that is settled
+pub mod Settling

@@ -79,10 +79,10 @@ abbrev pub IsBefore : Outline → List journaled.Entry → LineState → List (�
 IsBefore x setup state [] k = HasWorked x setup k.process state.recording.steps k.view
 IsBefore x setup state (line ∷ left) k = IsAtWork x setup state line.1 k
 
--- what is asked for is a word of this number
+-- what is asked for is a reference to a word of this number
 abbrev pub AsksIn : ℕ → Next → Type 0
 AsksIn segno (Asks r) = r.segno ≡ segno
-AsksIn segno (Fills r) = r.segno ≡ segno
+AsksIn segno (Fills r) = ⊥
 AsksIn segno (Calls ring request) = ⊥
 AsksIn segno (Ends ends after) = ⊥
 AsksIn segno Nowhere = ⊥

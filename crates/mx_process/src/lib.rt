@@ -12,6 +12,7 @@ mod attempts;
 mod misses;
 mod naming;
 mod processes;
+mod settling;
 mod turns;
 
 pub use misses::{Fast, Miss};

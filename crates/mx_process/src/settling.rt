@@ -1,0 +1,58 @@
+//! A miss is settled, and its line begins anew.
+
+ghost use Rattle.std.specs.Prelude.{◌≡◌, ◌≤◌, ◌∷◌, [], IsSome, OnErr, OnOk};
+ghost use Rattle.mx_core.specs.declared.elements.Event.TheVariants.{Missing};
+ghost use Rattle.mx_line.specs.declared.operands.Progress.TheVariants.{Before};
+ghost use Rattle.mx_process.specs.Processes.{IsStill};
+ghost use Rattle.mx_process.specs.Settling.{IsSettled};
+ghost use Rattle.mx_process.specs.Turns.{HasEvent};
+ghost use Rattle.mx_transcript.specs.declared.transcripts.Event2.TheVariants.{Core};
+
+use crate::misses::Miss;
+use crate::naming::Attending;
+use crate::processes::Process;
+use mx_audit::Auditor;
+use mx_line::{Process as LineState, Progress};
+use mx_office::Locked;
+use mx_rule::Board;
+use mx_state::Entry;
+use mx_transcript::{Event, Event2};
+use std::alloc::AllocError;
+
+impl<'a, B: Attending, A: Auditor> Process<'a, B, A> {
+    /// Settles the miss that is to be settled, in one hold of the lock: the process is told of all entries, the transcript
+    /// has the miss, and the line begins anew, with the registers of its start. Condition: a miss is to be settled. Want of
+    /// memory, and the end of the run, change nothing but room.
+    pub fn settle(
+        &mut self,
+        locked: &mut Locked<'_, B>,
+        shared: &Board<Entry>,
+    ) -> Result<(), AllocError>
+        requires fits { shared.now.table_id ≡ B.table }
+        requires layout { shared.now.key.layout ≡ B.layout }
+        requires missing { IsSome self.old.missing }
+        ensures settled { OnOk result (IsSettled self.old self.new) }
+        ensures err { OnErr result (IsStill self.old self.new) }
+    {
+        self.reserve()?;
+        let Some(miss) = self.missing else {
+            unreachable!()
+        };
+        locked.settle_for(&mut self.pass, shared, miss.segno)?;
+        begin_anew(&mut self.state, &miss);
+        self.missing = None;
+        Ok(())
+    }
+}
+
+// The line has missed this, and begins anew.
+fn begin_anew(state: &mut LineState, miss: &Miss)
+    requires { 1 ≤ state.old.recording.spare }
+    ensures { HasEvent state.old (Core (Missing miss.now.segno miss.now.by)) Before state.new }
+{
+    state.recording.keep(Event2::Core(Event::Missing {
+        segno: miss.segno,
+        by: miss.by,
+    }));
+    state.progress = Progress::Before;
+}
