@@ -92,9 +92,11 @@ fn reply_as_told<S: PlainSupervisor, T: PlainSupervisor>(
     let one = first.ask(alloc, entry.process, entry.ring, &request)?;
     let other = second.ask(alloc, entry.process, entry.ring, &request)?;
     match (one, other) {
-        (Some(one), Some(other)) => Ok(is_reply(alloc, &one.reply, entry.reply)?
-            && is_reply(alloc, &other.reply, entry.reply)?
-            && share_runs(&one, &other)),
+        (Some(one), Some(other)) => Ok(
+            is_reply(alloc, &one.reply, entry.reply)?
+                && is_reply(alloc, &other.reply, entry.reply)?
+                && share_runs(&one, &other),
+        ),
         _ => Ok(false),
     }
 }

@@ -119,12 +119,7 @@ fn run_given(free: &[bool], n: u32) -> Option<u32>
 }
 
 /// The pages after the run of n pages from `first` on was given out.
-fn without_run(
-    alloc: Global,
-    free: &[bool],
-    first: u32,
-    n: u32,
-) -> Result<Vec<bool>, AllocError>
+fn without_run(alloc: Global, free: &[bool], first: u32, n: u32) -> Result<Vec<bool>, AllocError>
     requires few { n ≤ 1024 }
     requires low { first ≤ 1024 }
     ensures { IfOk result (λ after. record { free = after.items } ≡ with_run false (record { free = free.now }) first n) }

@@ -139,10 +139,7 @@ fn compare_one<R: Threads + Wait + Sync + Files + Alloc<A = Global>>(
 }
 
 // The texts of the files of this name, one a kind, as far as they are there.
-fn texts_in<R: Files + Alloc<A = Global>>(
-    rt: &R,
-    name: &str,
-) -> io::Result<Vec<Option<Vec<u8>>>> {
+fn texts_in<R: Files + Alloc<A = Global>>(rt: &R, name: &str) -> io::Result<Vec<Option<Vec<u8>>>> {
     let mut texts = Vec::new(rt.alloc());
     for kind in KINDS {
         texts.push(read(rt, name, kind)?)?;

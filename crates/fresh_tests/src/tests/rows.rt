@@ -241,14 +241,20 @@ fn a_link_by_each_rule(rt: HostRuntime) -> Result<(), Fail> {
 fn a_revocation_told_by_a_message(rt: HostRuntime) -> Result<(), Fail> {
     let smith = entrant(b"Smith.Ops.a", b"0:0")?;
     let jones = entrant(b"Jones.Faculty.a", b"0:0")?;
-    assert_eq!(rt; play(rt.alloc(), 1, &[smith, jones], REVOKED)?, Came::AsTold);
+    assert_eq!(rt;
+        play(rt.alloc(), 1, &[smith, jones], REVOKED)?,
+        Came::AsTold
+    );
     Ok(())
 }
 
 #[test]
 fn refusals_in_turn(rt: HostRuntime) -> Result<(), Fail> {
     let jones = entrant(b"Jones.Faculty.a", b"0:0")?;
-    assert_eq!(rt; play(rt.alloc(), 1, &[jones], REFUSED_IN_TURN)?, Came::AsTold);
+    assert_eq!(rt;
+        play(rt.alloc(), 1, &[jones], REFUSED_IN_TURN)?,
+        Came::AsTold
+    );
     Ok(())
 }
 
