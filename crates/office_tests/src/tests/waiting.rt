@@ -207,3 +207,24 @@ fn who_waits_goes_on(rt: HostRuntime) -> Result<(), Fail> {
     }
     Ok(())
 }
+
+// The same, from the text on; nothing where memory was wanting before the two began.
+fn ended<R: Threads + Wait + Sync>(
+    rt: &R,
+    alloc: Global,
+    scene: &Scene,
+) -> Option<(Option<Blocked>, bool)> {
+    let session = read_session(alloc, TEXT).ok()?;
+    run(rt, alloc, &session, scene).ok()
+}
+
+// Whatever memory is refused, both come to an end: who waits goes on by the message, or the run ends.
+#[test]
+fn nobody_is_left_waiting(rt: HostRuntime) -> Result<(), Fail> {
+    let scene = SCENES[1];
+    if let Some((Some(blocked), went)) = ended(&rt, rt.alloc(), &scene) {
+        let ended = Some((blocked.entry, blocked.resume, blocked.full));
+        assert!(rt; went && ended == scene.ended);
+    }
+    Ok(())
+}
