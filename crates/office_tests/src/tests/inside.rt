@@ -267,7 +267,7 @@ fn take_away<R: Wait, B: Sitting>(
     number
 }
 
-// Both at once, each on a thread.
+// Both at once, each on a thread. Where no thread can be had, process 1 goes out before process 4 begins.
 fn meet<R: Threads + Wait + Sync, B: Sitting + Send + Sync>(
     rt: &R,
     alloc: Global,
@@ -276,11 +276,11 @@ fn meet<R: Threads + Wait + Sync, B: Sitting + Send + Sync>(
     fourth: Idle<B>,
     ring: Ring,
     answered: &Mutex<bool>,
-) -> ((bool, Came, Idle<B>), Result<u32, EnterError>) {
+) -> (Result<u32, EnterError>, (bool, Came, Idle<B>)) {
     thread::join(
         rt,
-        move || stay(rt, office, first, ring, answered),
         move || take_away(rt, alloc, office, fourth, ring, answered),
+        move || stay(rt, office, first, ring, answered),
     )
 }
 
@@ -320,7 +320,7 @@ fn play<R: Threads + Wait + Sync, B: Sitting + Send + Sync>(
     let mut first = first.go_in(office.shared());
     let before = first.write(office.shared(), ring);
     let answered = Mutex::new(false);
-    let ((early, wrote, first), number) = meet(rt, alloc, office, first, fourth, ring, &answered);
+    let (number, (early, wrote, first)) = meet(rt, alloc, office, first, fourth, ring, &answered);
     Ok(Told {
         number: number?,
         early,
