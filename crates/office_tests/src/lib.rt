@@ -1,4 +1,4 @@
-//! Tests of the office: a whole run; and on threads, who sleeps and who is woken.
+//! Tests of the office: a whole run; and on threads, who sleeps and who is woken, and for whom an entry waits.
 //!
 //! The crate has tests alone. They stand apart from `mx_office`, so that its proofs are not made twice.
 #![tactic(auto)]

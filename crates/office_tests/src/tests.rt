@@ -1,2 +1,3 @@
+mod inside;
 mod running;
 mod waiting;

@@ -82,14 +82,17 @@ fn wait<R: Wait, B: Sitting>(
     blocked.ok()
 }
 
-// Process 2 asks until it is told of more entries than so many: process 1 waits then.
+// How often process 2 asks whether process 1 waits. Where no thread can be had, process 1 comes after it.
+const LOOKS: u32 = 1_000_000;
+
+// Process 2 asks until it is told of more entries than so many: process 1 waits then. Says no where that never comes.
 fn is_told<R: Wait, B: Sitting>(
     rt: &R,
     office: &Office<'_, B>,
     pass: &mut Pass<Entry, B>,
     length: u32,
 ) -> bool {
-    for _ in rt.forever() {
+    for _ in 0..LOOKS {
         if office.settle_for(rt, pass, 0).is_err() {
             return false;
         }
@@ -98,7 +101,7 @@ fn is_told<R: Wait, B: Sitting>(
         }
         thread::yield_now();
     }
-    unreachable!()
+    false
 }
 
 fn asks<R: Wait, B: Sitting>(
@@ -203,6 +206,27 @@ fn who_waits_goes_on(rt: HostRuntime) -> Result<(), Fail> {
     for scene in SCENES {
         let (blocked, went) = run(&rt, rt.alloc(), &session, &scene)?;
         let ended = blocked.map(|blocked| (blocked.entry, blocked.resume, blocked.full));
+        assert!(rt; went && ended == scene.ended);
+    }
+    Ok(())
+}
+
+// The same, from the text on; nothing where memory was wanting before the two began.
+fn ended<R: Threads + Wait + Sync>(
+    rt: &R,
+    alloc: Global,
+    scene: &Scene,
+) -> Option<(Option<Blocked>, bool)> {
+    let session = read_session(alloc, TEXT).ok()?;
+    run(rt, alloc, &session, scene).ok()
+}
+
+// Whatever memory is refused, both come to an end: who waits goes on by the message, or the run ends.
+#[test]
+fn nobody_is_left_waiting(rt: HostRuntime) -> Result<(), Fail> {
+    let scene = SCENES[1];
+    if let Some((Some(blocked), went)) = ended(&rt, rt.alloc(), &scene) {
+        let ended = Some((blocked.entry, blocked.resume, blocked.full));
         assert!(rt; went && ended == scene.ended);
     }
     Ok(())
