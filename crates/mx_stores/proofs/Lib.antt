@@ -1,0 +1,5 @@
+pub mod LeastLaws
+pub mod Drops
+pub mod StoresFrom
+pub mod SinceLaws
+pub mod UntilLaws

@@ -1,0 +1,9 @@
+//! The read rule decided, where stores are known by entries: when each store is known and superseded is one number.
+//!
+//! A store has a least number at which it is known (`since`) and a least one at which it is superseded (`until`). Neither
+//! falls along the stores of one process, so the first store that a read can stand for is found by a binary search.
+#![tactic(auto)]
+
+mod laws;
+
+pub use laws::{first_law, known_law, since_law, such_law, superseded_law, until_law};
