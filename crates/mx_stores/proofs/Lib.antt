@@ -3,3 +3,4 @@ pub mod Drops
 pub mod StoresFrom
 pub mod SinceLaws
 pub mod UntilLaws
+pub mod SightedLaws

@@ -4,11 +4,11 @@ use Rattle.std.proofs.lemmas.Bool.{eqb-true, leb-true, le-leb}
 use Rattle.mx_reads.specs.Deeds.{CellUse, Deed, Enters, Stores, Loads, Refers, Misses}
 use Rattle.mx_stores.specs.Since.{is_same, stores_from}
 
-both : (a b : Bool) → (a && b) ≡ true → (a ≡ true) × (b ≡ true)
+pub both : (a b : Bool) → (a && b) ≡ true → (a ≡ true) × (b ≡ true)
 both true b h = (refl, h)
 both false b h = absurd cc
 
-of_both : (a b : Bool) → a ≡ true → b ≡ true → (a && b) ≡ true
+pub of_both : (a b : Bool) → a ≡ true → b ≡ true → (a && b) ≡ true
 of_both true b e h = h
 of_both false b e h = absurd cc
 

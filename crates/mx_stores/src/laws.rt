@@ -1,5 +1,6 @@
 //! Laws over the definitions: the numbers of a store say what the read rule says of it.
 
+ghost use Rattle.mx_stores.specs.SightedLaws.{BeyondLaw};
 ghost use Rattle.mx_stores.specs.StoreLaws.{FirstLaw, KnownLaw, SinceLaw, SuchLaw, SupersededLaw, UntilLaw};
 
 /// A store is known from its `since` on, and at no point before.
@@ -30,4 +31,9 @@ pub fn first_law()
 /// Of a process's stores of one value and stamp in a cell, a read can stand for all from some place on.
 pub fn such_law()
     ensures { SuchLaw }
+{}
+
+/// A store of another process is beyond what a process sighted of a cell from one place on.
+pub fn beyond_law()
+    ensures { BeyondLaw }
 {}

@@ -6,4 +6,4 @@
 
 mod laws;
 
-pub use laws::{first_law, known_law, since_law, such_law, superseded_law, until_law};
+pub use laws::{beyond_law, first_law, known_law, since_law, such_law, superseded_law, until_law};
