@@ -4,3 +4,6 @@ pub mod StoresFrom
 pub mod SinceLaws
 pub mod UntilLaws
 pub mod SightedLaws
+pub mod Searches
+pub mod ChoiceLaws
+pub mod Deciding

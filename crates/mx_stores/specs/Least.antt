@@ -1,5 +1,5 @@
 -- A number that may be none, which stands for one beyond all: from when on something holds.
-use Rattle.std.specs.Prelude.{ℕ, zero, suc, ◌≤◌, min, Option, Some, None}
+use Rattle.std.specs.Prelude.{ℕ, zero, suc, ◌≤◌, nat_le, min, Bool, false, Option, Some, None}
 
 abbrev pub least : Option ℕ → Option ℕ → Option ℕ
 least None b = b
@@ -19,3 +19,7 @@ IsBy (Some number) q = number ≤ q
 -- wherever the second is reached, the first is
 abbrev pub IsNoLater : Option ℕ → Option ℕ → Type 0
 IsNoLater a b = (q : ℕ) → IsBy b q → IsBy a q
+
+abbrev pub is_by : Option ℕ → ℕ → Bool
+is_by None q = false
+is_by (Some number) q = nat_le number q

@@ -5,3 +5,6 @@ pub mod Until
 pub mod StoreLaws
 pub mod Sighted
 pub mod SightedLaws
+pub mod Choices
+pub mod ChoiceLaws
+pub mod Deciding

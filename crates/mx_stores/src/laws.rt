@@ -1,5 +1,7 @@
 //! Laws over the definitions: the numbers of a store say what the read rule says of it.
 
+ghost use Rattle.mx_stores.specs.ChoiceLaws.{ChoiceLaw};
+ghost use Rattle.mx_stores.specs.Deciding.{RightReadsLaw, RightToLaw};
 ghost use Rattle.mx_stores.specs.SightedLaws.{BeyondLaw};
 ghost use Rattle.mx_stores.specs.StoreLaws.{FirstLaw, KnownLaw, SinceLaw, SuchLaw, SupersededLaw, UntilLaw};
 
@@ -36,4 +38,20 @@ pub fn such_law()
 /// A store of another process is beyond what a process sighted of a cell from one place on.
 pub fn beyond_law()
     ensures { BeyondLaw }
+{}
+
+/// A read is right exactly where the choice that is made from what its process sighted before is the store that it stands
+/// for.
+pub fn choice_law()
+    ensures { ChoiceLaw }
+{}
+
+/// The reads of a process below a place are right exactly where a choice can be made for each, from those before it.
+pub fn right_to_law()
+    ensures { RightToLaw }
+{}
+
+/// All reads are right exactly where a choice can be made for each read of each process.
+pub fn right_reads_law()
+    ensures { RightReadsLaw }
 {}

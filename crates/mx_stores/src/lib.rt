@@ -6,4 +6,7 @@
 
 mod laws;
 
-pub use laws::{beyond_law, first_law, known_law, since_law, such_law, superseded_law, until_law};
+pub use laws::{
+    beyond_law, choice_law, first_law, known_law, right_reads_law, right_to_law, since_law,
+    such_law, superseded_law, until_law,
+};
