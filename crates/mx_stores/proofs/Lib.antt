@@ -1,0 +1,9 @@
+pub mod LeastLaws
+pub mod Drops
+pub mod StoresFrom
+pub mod SinceLaws
+pub mod UntilLaws
+pub mod SightedLaws
+pub mod Searches
+pub mod ChoiceLaws
+pub mod Deciding

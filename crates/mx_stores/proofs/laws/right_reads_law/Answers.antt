@@ -1,0 +1,5 @@
+use Rattle.mx_stores.proofs.Deciding.{right_reads_law}
+use Rattle.mx_stores.proofs.laws.right_reads_law.Goals as goal
+
+pub returns : goal.returns
+returns c = right_reads_law

@@ -1,0 +1,53 @@
+-- The reads of a process in order: each is decided from the choices made for those before it.
+use Rattle.std.specs.Prelude.{◌≡◌, ◌↔◌, ℕ, zero, suc, ◌<◌, List, [], ◌∷◌, ◌++◌, length, Option, Some, None, IsSome, slice_get, slice_index_or}
+use Rattle.mx_reads.specs.Deeds.{Deed, Deeds, Enters, Stores, Loads, Refers, Misses}
+use Rattle.mx_reads.specs.ReadRule.{Reading, HasRead, IsRightRead, AreRightReads}
+use Rattle.mx_reads.specs.Sightings.{Source}
+use Rattle.mx_stores.specs.Choices.{choice}
+use Rattle.mx_stores.specs.Known.{IsKnown}
+use Rattle.mx_stores.specs.StoreLaws.{AreBelow}
+
+-- the reads of process p below this place are right, for some stores that they stand for
+pub record AreRightTo (done : Deeds) (p here : ℕ) : Type 0 where
+  pub source : Source
+  pub right : (read : Reading) → HasRead done read → read.process ≡ p → read.place < here
+      → IsRightRead done (IsKnown done) source read
+
+-- the stores that one process's deeds stand for, by place
+abbrev pub source_of : List ℕ → Source
+source_of chosen p here = slice_index_or chosen here 0
+
+-- the choice for a deed at the place `here`, 0 where it is no read
+abbrev pub choice_for : Deeds → ℕ → ℕ → ℕ → List ℕ → Option Deed → Option ℕ
+choice_for done count p here chosen None = Some 0
+choice_for done count p here chosen (Some (Enters number)) = Some 0
+choice_for done count p here chosen (Some (Stores cell value point)) = Some 0
+choice_for done count p here chosen (Some (Loads cell value writer stamp point)) = choice done count (source_of chosen)
+    (record { process = p; place = here; cell = cell; value = value; writer = writer; stamp = stamp; point = point })
+choice_for done count p here chosen (Some (Refers point)) = Some 0
+choice_for done count p here chosen (Some (Misses segno by)) = Some 0
+
+abbrev pub with_choice : List ℕ → Option ℕ → Option (List ℕ)
+with_choice chosen None = None
+with_choice chosen (Some place) = Some (chosen ++ place ∷ [])
+
+abbrev pub next_choice : Deeds → ℕ → ℕ → ℕ → Option (List ℕ) → Option (List ℕ)
+next_choice done count p here None = None
+next_choice done count p here (Some chosen) =
+    with_choice chosen (choice_for done count p here chosen (slice_get (done p) here))
+
+-- the choices for the deeds of process p before a place; none where one of its reads is wrong
+abbrev pub choices : Deeds → ℕ → ℕ → ℕ → Option (List ℕ)
+choices done count p zero = Some []
+choices done count p (suc here) = next_choice done count p here (choices done count p here)
+
+-- the reads of a process below a place are right exactly where there is a choice for each
+abbrev pub RightToLaw : Type 0
+RightToLaw = (count : ℕ) (done : Deeds) → AreBelow count done → (p here : ℕ)
+    → AreRightTo done p here ↔ IsSome (choices done count p here)
+
+-- all reads are right exactly where there is a choice for each read of each process
+abbrev pub RightReadsLaw : Type 0
+RightReadsLaw = (count : ℕ) (done : Deeds) → AreBelow count done
+    → AreRightReads done (IsKnown done)
+    ↔ ((p : ℕ) → p < count → IsSome (choices done count p (length (done p))))

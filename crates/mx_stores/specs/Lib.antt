@@ -1,0 +1,10 @@
+pub mod Known
+pub mod Least
+pub mod Since
+pub mod Until
+pub mod StoreLaws
+pub mod Sighted
+pub mod SightedLaws
+pub mod Choices
+pub mod ChoiceLaws
+pub mod Deciding
