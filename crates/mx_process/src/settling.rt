@@ -13,23 +13,16 @@ use crate::naming::Attending;
 use crate::processes::Process;
 use mx_audit::Auditor;
 use mx_line::{Process as LineState, Progress};
-use mx_office::Locked;
-use mx_rule::Board;
-use mx_state::Entry;
+use mx_office::Office;
 use mx_transcript::{Event, Event2};
 use std::alloc::AllocError;
+use std::sync::Wait;
 
 impl<'a, B: Attending, A: Auditor> Process<'a, B, A> {
-    /// Settles the miss that is to be settled, in one hold of the lock: the process is told of all entries, the transcript
-    /// has the miss, and the line begins anew, with the registers of its start. Condition: a miss is to be settled. Want of
-    /// memory, and the end of the run, change nothing but room.
-    pub fn settle(
-        &mut self,
-        locked: &mut Locked<'_, B>,
-        shared: &Board<Entry>,
-    ) -> Result<(), AllocError>
-        requires fits { shared.now.table_id ≡ B.table }
-        requires layout { shared.now.key.layout ≡ B.layout }
+    /// Settles the miss that is to be settled, in one hold of the lock, for which it waits: the process is told of all
+    /// entries, the transcript has the miss, and the line begins anew, with the registers of its start. Condition: a miss
+    /// is to be settled. Want of memory, and the end of the run, change nothing but room.
+    pub fn settle<R: Wait>(&mut self, rt: &R, office: &Office<'_, B>) -> Result<(), AllocError>
         requires missing { IsSome self.old.missing }
         ensures settled { OnOk result (IsSettled self.old self.new) }
         ensures err { OnErr result (IsStill self.old self.new) }
@@ -38,7 +31,7 @@ impl<'a, B: Attending, A: Auditor> Process<'a, B, A> {
         let Some(miss) = self.missing else {
             unreachable!()
         };
-        locked.settle_for(&mut self.pass, shared, miss.segno)?;
+        office.settle_for(rt, &mut self.pass, miss.segno)?;
         begin_anew(&mut self.state, &miss);
         self.missing = None;
         Ok(())
