@@ -26,7 +26,6 @@ use Rattle.mx_ties.proofs.WorkingLaws.{begin_law, idle_law}
 use Rattle.mx_ties.specs.AtWork.{AtWork}
 use Rattle.mx_ties.specs.Views.{View}
 use Rattle.mx_ties.specs.Working.{IsWorking, HasWorked}
-use Rattle.mx_transcript.specs.Asking.{next}
 use Rattle.mx_transcript.specs.Courses.{Attempt}
 use Rattle.mx_transcript.specs.Legal.{setup_entries}
 use Rattle.mx_transcript.specs.Openings.{opening_control}
@@ -39,7 +38,7 @@ use Rattle.mx_process.proofs.AuditLaws.{audited_first}
 use Rattle.mx_line.proofs.ScriptLaws.{past_end}
 use Rattle.mx_process.proofs.PlaceLaws.{countable_next, fewer_next, number_next, sayable_next, script_next}
 use Rattle.mx_process.specs.Audited.{IsAudited}
-use Rattle.mx_process.specs.Processes.{Known, ProcessValue, AsksIn, HasLine, IsAtLine, IsAtWork, IsBefore, IsNewPass, IsProcess, IsStill, Stands, having_done, known_of, left_of, number_in, script_of}
+use Rattle.mx_process.specs.Processes.{Known, ProcessValue, AsksFor, HasLine, IsAtLine, IsAtWork, IsBefore, IsNewPass, IsProcess, IsStill, Stands, having_done, known_of, left_of, number_in, script_of}
 use Rattle.mx_process.specs.Turns.{IsAttempting}
 use Rattle.mx_process.specs.declared.misses.Miss.{Miss}
 
@@ -212,9 +211,8 @@ module _ (x : Outline) (setup : List journaled.Entry) (old new : ProcessValue) (
     last = ap (λ (v : PassView journaled.Entry). v.trace) s.view ∙ b.last;
     news = subst (λ (v : PassView journaled.Entry). all_told v.start v.told v.process m.segno < m.by) (sym s.view) b.news;
     unknown = ap (λ (v : PassView journaled.Entry). recalled m.segno v.memory) s.view ∙ b.unknown;
-    asks = λ course come. subst (λ (g : Control). AsksIn m.segno (next g line.1 course)) (sym s.control)
-        (b.asks course (subst (λ (g : Control). IsCome g line.1 course old.state.progress) s.control
-        (subst (λ (r : Progress). IsCome new.state.control line.1 course r) s.progress come)));
+    asks = subst (λ (g : Control). AsksFor m.segno g line.1 new.state.progress) (sym s.control)
+        (subst (AsksFor m.segno old.state.control line.1) (sym s.progress) b.asks);
     before = subst (IsAtWork x setup new.state line.1) (done_still b.front)
         (work_still line.1 (known_of (having_done b.front old.pass)) b.before);
   }

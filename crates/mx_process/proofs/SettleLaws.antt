@@ -1,5 +1,5 @@
 -- A miss is settled: the line begins anew, and its process keeps what its type says.
-use Rattle.std.proofs.Common.{◌≡◌, ℕ, suc, ◌+◌, ◌-◌, ◌≤◌, map, List, [], ◌∷◌, ◌++◌, drop, length, Option, Some, None, refl, sym, ◌∙◌, ap, subst}
+use Rattle.std.proofs.Common.{◌≡◌, ℕ, ◌-◌, ◌<◌, ◌≤◌, map, List, [], ◌∷◌, ◌++◌, length, Option, Some, None, refl, sym, ◌∙◌, ap, subst}
 use Rattle.std.proofs.lemmas.List.{map-append}
 use Rattle.std.specs.List.{slice_get}
 use Rattle.std.specs.Prelude.{IsSome}
@@ -9,31 +9,37 @@ use Rattle.mx_core.specs.declared.elements.Event.TheVariants.{Missing}
 use Rattle.mx_core.specs.declared.elements.Kept.TheVariants.{Missed as WasMissed}
 use Rattle.mx_core.specs.declared.words.Triple.{Triple}
 use Rattle.mx_desc.specs.Passes.{PassValue}
+use Rattle.mx_call.specs.Registers.{Registers}
+use Rattle.mx_line.proofs.FillLaws.{due_fill}
 use Rattle.mx_line.specs.AtWork.{IsCome}
+use Rattle.mx_line.specs.Fills.{write_of}
+use Rattle.mx_line.specs.declared.fills.Fill.{Fill}
 use Rattle.mx_line.specs.Operands.{IsGoodProgress}
 use Rattle.mx_line.specs.declared.operands.Progress.{Progress}
-use Rattle.mx_line.specs.declared.operands.Progress.TheVariants.{Before}
+use Rattle.mx_line.specs.declared.operands.Progress.TheVariants.{Before, Walking, AtLink, Waiting, Filling}
 use Rattle.mx_line.specs.declared.processes.Process.{Process as LineState}
 use Rattle.mx_office.specs.Serving.{HasSettled, told_to}
 use Rattle.mx_script.specs.Sessions.{Outline}
 use Rattle.mx_script.specs.declared.lines.Line.{Line}
 use Rattle.mx_state.specs.declared.journal.Entry as journaled
-use Rattle.mx_ties.proofs.WorkingLaws.{miss_law}
-use Rattle.mx_ties.specs.AtWork.{AtWork, gone_on}
+use Rattle.mx_ties.proofs.WorkingLaws.{miss_law, missed_fill_law}
+use Rattle.mx_ties.specs.AtWork.{gone_on}
 use Rattle.mx_ties.specs.Views.{Marked, Missed, View}
 use Rattle.mx_ties.specs.Working.{IsWorking}
 use Rattle.mx_transcript.specs.Asking.{next}
-use Rattle.mx_transcript.specs.Courses.{Attempt}
+use Rattle.mx_transcript.specs.Courses.{Course, Attempt, Answer}
 use Rattle.mx_transcript.specs.Next.{Next, Asks, Fills, Calls, Ends, Nowhere}
-use Rattle.mx_transcript.specs.Scripts.{first_line, lines_of}
+use Rattle.mx_transcript.specs.Scripts.{first_line}
 use Rattle.mx_transcript.specs.Transcripts.{Step}
 use Rattle.mx_rule.specs.declared.views.PassView.{PassView}
 use Rattle.mx_transcript.specs.declared.transcripts.Event2.{Event2}
 use Rattle.mx_transcript.specs.declared.transcripts.Event2.TheVariants.{Core}
+use Rattle.mx_process.proofs.WorkLaws.{come_on}
+use Rattle.mx_upcall.specs.Control.{Control}
 use Rattle.mx_upcall.specs.Soundness.{IsPackableControl}
 use Rattle.mx_process.specs.Audited.{IsAudited}
-use Rattle.mx_process.specs.Processes.{ProcessValue, AsksIn, IsAtWork, IsMissing, IsProcess, IsStill, Stands, at_work, having_done, known_of, left_of, script_of}
-use Rattle.mx_process.specs.Settling.{IsSettled}
+use Rattle.mx_process.specs.Processes.{ProcessValue, AsksFor, AsksIn, IsAtWork, IsMissing, IsProcess, IsStill, Stands, at_work, having_done, known_of, left_of, script_of}
+use Rattle.mx_process.specs.Settling.{IsSettled, again}
 use Rattle.mx_process.specs.Turns.{HasEvent}
 use Rattle.mx_process.specs.declared.misses.Miss.{Miss}
 
@@ -49,8 +55,8 @@ missed_view v m more floor = record v {
 module _ (x : Outline) (setup : List journaled.Entry) (state new : LineState) (m : Miss) (line : Line)
     (o o' : PassValue journaled.Entry) where
   pub begins_anew : IsMissing x setup state m line o → HasSettled m.segno o o'
-      → HasEvent state (Core (Missing m.segno m.by)) Before new → IsAtWork x setup new line (known_of o')
-  begins_anew b s has = by_next (next state.control line b.before.course) refl (b.asks b.before.course b.before.come)
+      → HasEvent state (Core (Missing m.segno m.by)) (again state.progress) new → IsAtWork x setup new line (known_of o')
+  begins_anew b s has = by_progress state.progress refl b.asks b.before.come has
     where
       traced : map kept_in o'.view.trace ≡ map kept_in b.front ++ Missed m.segno m.by ∷ []
       traced = ap (map kept_in) (s.grown.trace ∙ b.last) ∙ map-append kept_in b.front (WasMissed m.segno m.by ∷ [])
@@ -58,41 +64,68 @@ module _ (x : Outline) (setup : List journaled.Entry) (state new : LineState) (m
       viewed : view_in o' ≡ missed_view (view_in (having_done b.front o)) m s.grown.more o'.view.floor
       viewed = λ i. record { trace = traced i; history = s.grown.history i; floor = o'.view.floor; amount = s.amount i }
 
-      by_next : (asks : Next) → next state.control line b.before.course ≡ asks → AsksIn m.segno asks
+      -- it has the miss, and stands here
+      on : (course later : Course) (progress : Progress)
+          → IsWorking x setup o.view.process (gone_on (at_work x o.view.process state line course) (Core (Missing m.segno m.by)) later)
+          (missed_view (view_in (having_done b.front o)) m s.grown.more o'.view.floor) (told_to o')
+          → IsCome state.control line later progress → HasEvent state (Core (Missing m.segno m.by)) progress new
           → IsAtWork x setup new line (known_of o')
-      by_next (Asks asked) e is =
-          let missed = miss_law x setup o.view.process (at_work x o.view.process state line b.before.course) (view_in (having_done b.front o)) (told_to (having_done b.front o)) (told_to o')
+      on course later progress working come has =
+          come_on x setup line state new (known_of o') course later (Core (Missing m.segno m.by)) progress
+          (subst (λ q. IsWorking x setup q (gone_on (at_work x q state line course) (Core (Missing m.segno m.by)) later) (view_in o') (told_to o'))
+          (sym s.grown.process) (subst (λ (v : View). IsWorking x setup o.view.process (gone_on (at_work x o.view.process state line course)
+          (Core (Missing m.segno m.by)) later) v (told_to o')) (sym viewed) working)) come has
+
+      by_next : (asks : Next) → next state.control line b.before.course ≡ asks → AsksIn m.segno asks
+          → HasEvent state (Core (Missing m.segno m.by)) Before new → IsAtWork x setup new line (known_of o')
+      by_next (Asks asked) e is has =
+          on b.before.course (Attempt []) Before
+          (miss_law x setup o.view.process (at_work x o.view.process state line b.before.course) (view_in (having_done b.front o)) (told_to (having_done b.front o)) (told_to o')
           asked m.segno m.by o'.view.floor s.grown.more (λ unspoilt. e) b.news (s.floor b.front m.by b.last) s.grown.floor
-          (s.told b.front m.by b.last) s.grown.told b.before.working in
-          let same : gone_on (at_work x o.view.process state line b.before.course) (Core (Missing m.segno m.by)) (Attempt [])
-          ≡ at_work x o'.view.process new line (Attempt [])
-          = λ i. record {
-            steps = sym has.steps i;
-            number = sym has.first i + length (sym has.steps i);
-            line = line;
-            left = drop (suc (length (sym has.steps i))) (lines_of x (sym s.grown.process i));
-            now = sym has.control i;
-            events = sym has.events i;
-            course = Attempt [];
-          } in
-          record {
-            course = Attempt [];
-            working = subst (λ (w : AtWork). IsWorking x setup o'.view.process w (view_in o') (told_to o')) same
-                (subst (λ q. IsWorking x setup q (gone_on (at_work x o.view.process state line b.before.course) (Core (Missing m.segno m.by)) (Attempt [])) (view_in o') (told_to o'))
-                (sym s.grown.process) (subst (λ (v : View). IsWorking x setup o.view.process (gone_on (at_work x o.view.process state line b.before.course)
-                (Core (Missing m.segno m.by)) (Attempt [])) v (told_to o')) (sym viewed) missed));
-            come = subst (λ (r : Progress). IsCome new.control line (Attempt []) r) (sym has.progress) (refl, tt);
-          }
-      by_next (Fills asked) e is = absurd is
-      by_next (Calls ring request) e is = absurd is
-      by_next (Ends ends last) e is = absurd is
-      by_next Nowhere e is = absurd is
+          (s.told b.front m.by b.last) s.grown.told b.before.working) (refl, tt) has
+      by_next (Fills asked) e is has = absurd is
+      by_next (Calls ring request) e is has = absurd is
+      by_next (Ends ends last) e is has = absurd is
+      by_next Nowhere e is has = absurd is
+
+      -- a write that was due is due again
+      by_course : (course : Course) (fill : Fill)
+          → IsWorking x setup o.view.process (at_work x o.view.process state line course) (view_in (having_done b.front o)) (told_to (having_done b.front o))
+          → IsCome state.control line course (Filling fill) → (write_of fill).segno ≡ m.segno
+          → HasEvent state (Core (Missing m.segno m.by)) (Filling fill) new → IsAtWork x setup new line (known_of o')
+      by_course (Attempt seen) fill working come is has = absurd come.0
+      by_course (Answer entry filled) fill working come is has =
+          on (Answer entry filled) (Answer entry filled) (Filling fill)
+          (subst (λ n. IsWorking x setup o.view.process (gone_on (at_work x o.view.process state line (Answer entry filled)) (Core (Missing n m.by)) (Answer entry filled))
+          (missed_view (view_in (having_done b.front o)) (record { segno = n; by = m.by }) s.grown.more o'.view.floor) (told_to o')) is
+          (missed_fill_law x setup o.view.process (at_work x o.view.process state line (Answer entry filled)) entry filled
+          (view_in (having_done b.front o)) (told_to (having_done b.front o)) (told_to o') (write_of fill) m.by o'.view.floor s.grown.more
+          (Answer entry filled) (λ unspoilt. due_fill state.control line entry filled fill come)
+          (subst (λ n. told_to (having_done b.front o) n < m.by) (sym is) b.news) (s.floor b.front m.by b.last) s.grown.floor
+          (subst (λ n. m.by ≤ told_to o' n) (sym is) (s.told b.front m.by b.last)) s.grown.told working)) come has
+
+      by_progress : (progress : Progress) → state.progress ≡ progress → AsksFor m.segno state.control line progress
+          → IsCome state.control line b.before.course progress
+          → HasEvent state (Core (Missing m.segno m.by)) (again progress) new → IsAtWork x setup new line (known_of o')
+      by_progress (Filling fill) e is come has = by_course b.before.course fill b.before.working come is has
+      by_progress Before e is come has = by_next (next state.control line b.before.course) refl (is b.before.course come) has
+      by_progress (Walking walk) e is come has = by_next (next state.control line b.before.course) refl (is b.before.course come) has
+      by_progress (AtLink place) e is come has = by_next (next state.control line b.before.course) refl (is b.before.course come) has
+      by_progress Waiting e is come has = by_next (next state.control line b.before.course) refl (is b.before.course come) has
+
+-- then it has come as far as can be stored
+good_again : (g : Registers) (progress : Progress) → IsGoodProgress g progress → IsGoodProgress g (again progress)
+good_again g (Filling fill) good = good
+good_again g Before good = tt
+good_again g (Walking walk) good = tt
+good_again g (AtLink place) good = tt
+good_again g Waiting good = tt
 
 -- A miss of a process is settled.
 module _ (x : Outline) (setup : List journaled.Entry) (accounts : List Account) (script : List Line) (memory : List Triple)
     (v : ProcessValue) (m : Miss) (state : LineState) (o : PassValue journaled.Entry) where
   pub settled_process : IsProcess x setup accounts script memory v → v.missing ≡ Some m → HasSettled m.segno v.pass o
-      → HasEvent v.state (Core (Missing m.segno m.by)) Before state
+      → HasEvent v.state (Core (Missing m.segno m.by)) (again v.state.progress) state
       → IsProcess x setup accounts script memory (record { state = state; missing = None; pass = o; account = v.account })
   settled_process is e s has =
       let own = sym s.grown.process in record {
@@ -103,7 +136,9 @@ module _ (x : Outline) (setup : List journaled.Entry) (accounts : List Account) 
         outside = s.grown.stage ∙ is.outside;
         first = has.first ∙ is.first ∙ ap (first_line x) own;
         packable = subst IsPackableControl (sym has.control) is.packable;
-        good = subst (IsGoodProgress state.control.registers) (sym has.progress) tt;
+        good = subst (IsGoodProgress state.control.registers) (sym has.progress)
+            (subst (λ (g : Control). IsGoodProgress g.registers (again v.state.progress)) (sym has.control)
+            (good_again v.state.control.registers v.state.progress is.good));
         stands = subst (λ (l : List (ℕ × Line)). Stands x setup state None l o)
             (λ i. left_of x (own i) (sym has.steps i))
             (by_left (left_of x v.pass.view.process v.state.recording.steps)
@@ -118,7 +153,7 @@ module _ (x : Outline) (setup : List journaled.Entry) (accounts : List Account) 
       by_left (line ∷ left) b = begins_anew x setup v.state state m line.1 v.pass o b s has
 
   pub is_settled : (old : ProcessValue) → IsStill old v → IsProcess x setup accounts script memory v → v.missing ≡ Some m
-      → HasSettled m.segno v.pass o → HasEvent v.state (Core (Missing m.segno m.by)) Before state
+      → HasSettled m.segno v.pass o → HasEvent v.state (Core (Missing m.segno m.by)) (again v.state.progress) state
       → IsSettled old (record { state = state; missing = None; pass = o; account = v.account })
   is_settled old still is e s has =
       by_left (left_of x v.pass.view.process v.state.recording.steps)
@@ -134,7 +169,7 @@ module _ (x : Outline) (setup : List journaled.Entry) (accounts : List Account) 
         control = has.control ∙ still.control;
         steps = has.steps ∙ still.steps;
         events = has.events ∙ ap (λ (l : List Event2). l ++ Core (Missing m.segno m.by) ∷ []) still.events;
-        anew = has.progress;
+        anew = has.progress ∙ ap again still.progress;
         trace = s.grown.trace ∙ ap (λ (z : PassView journaled.Entry). z.trace) still.view;
         amount = s.amount ∙ still.amount;
         more = s.grown.more;

@@ -37,7 +37,7 @@ use Rattle.mx_process.proofs.JudgedLaws.{WasJudged, asked_by, at_floor, is_judge
 use Rattle.mx_process.proofs.KnownLaws.{seen_known, known_seen, known_missed}
 use Rattle.mx_process.proofs.WorkLaws.{IsNext, line_ended, line_ends, line_goes_on, never_fills}
 use Rattle.mx_process.specs.Attempts.{HasAttempted}
-use Rattle.mx_process.specs.Processes.{Known, AsksIn, IsAtWork, IsBefore, known_of, left_of, number_in}
+use Rattle.mx_process.specs.Processes.{Known, AsksFor, AsksIn, IsReferringIn, IsAtWork, IsBefore, known_of, left_of, number_in}
 use Rattle.mx_process.specs.Turns.{Ends, GoesOn, HasEnd, HasTaken, HasTurned, Comes, Inside, IsAttempting, IsReferring, IsSameLine, Misses, inside}
 use Rattle.mx_process.specs.declared.misses.Fast.{Fast}
 use Rattle.mx_process.specs.declared.misses.Fast.TheVariants as fast
@@ -227,10 +227,18 @@ module _ (x : Outline) (setup : List journaled.Entry) (line : Line) (old : LineS
       last = ap (λ (v : PassView journaled.Entry). v.trace) m.after;
       news = subst (λ n. n < by) (ap (λ (v : PassView journaled.Entry). all_told v.start v.told v.process r.segno) (sym m.after)) m.news;
       unknown = ap (λ (v : PassView journaled.Entry). recalled r.segno v.memory) m.after ∙ none;
-      asks = λ course come. subst (AsksIn r.segno) (sym (asks.asks course come)) refl;
+      asks = asks_for old.progress refl (λ course come. subst (AsksIn r.segno) (sym (asks.asks course come)) refl);
       before = subst (IsAtWork x setup old line) (sym (known_missed r.segno by o o' m amount)) a.work;
     };
   }
+    where
+      asks_for : (progress : Progress) → old.progress ≡ progress → IsReferringIn r.segno old.control line progress
+          → AsksFor r.segno old.control line progress
+      asks_for Before is in_it = in_it
+      asks_for (Walking walk) is in_it = in_it
+      asks_for (AtLink place) is in_it = in_it
+      asks_for Waiting is in_it = in_it
+      asks_for (Filling fill) is in_it = absurd (a.free fill is)
 
 -- The line asks for its end.
 module _ (x : Outline) (setup : List journaled.Entry) (line : Line) (old new : LineState) (o : PassValue journaled.Entry)

@@ -48,12 +48,14 @@ with_events w events = record w { events = events }
 -- a line that ended so: the next one is at work, or none is left
 module _ (x : Outline) (setup : List journaled.Entry) (line : Line) (old new : LineState) (k : Known) (course : Course)
     (events : List Event2) (end : End) where
-  pub line_ended : 1 ≤ k.process → old.first ≡ first_line x k.process
-      → IsWorking x setup k.process (with_events (at_work x k.process old line course) events) k.view k.told
-      → next old.control line course ≡ Ends end.ends (changed old.control end.after)
-      → HasEnd old events end new
+  abbrev ended_at : AtWork
+  ended_at = with_events (at_work x k.process old line course) events
+
+  -- however it came to its end
+  pub line_over : 1 ≤ k.process → old.first ≡ first_line x k.process → IsWorking x setup k.process ended_at k.view k.told
+      → IsEnding x setup k.process ended_at k.view end.ends (changed old.control end.after) → HasEnd old events end new
       → IsBefore x setup new (left_of x k.process new.recording.steps) k
-  line_ended some first working is ended =
+  line_over some first working ending ended =
       subst (λ (l : List (ℕ × Line)). IsBefore x setup new l k) (sym left_is) (by_left (drop (suc (length old.recording.steps)) (lines_of x k.process)) refl)
     where
       after : Control
@@ -64,18 +66,6 @@ module _ (x : Outline) (setup : List journaled.Entry) (line : Line) (old new : L
 
       left_is : left_of x k.process new.recording.steps ≡ drop (suc (length old.recording.steps)) (lines_of x k.process)
       left_is = ap (left_of x k.process) ended.steps ∙ left_after x k.process old.recording.steps step
-
-      same_end : (asks : Next) → asks ≡ Ends end.ends after → (d : Element → Descriptor)
-          → IsEnd (own_setting x (followed setup k.view.history) k.view.floor k.process d) old.control asks end.ends after
-      same_end asks e d =
-          subst (λ (a : Next). IsEnd (own_setting x (followed setup k.view.history) k.view.floor k.process d) old.control a end.ends after)
-          (sym e) (refl, refl)
-
-      ending : IsEnding x setup k.process (with_events (at_work x k.process old line course) events) k.view end.ends after
-      ending = record {
-        end = λ unspoilt d. same_end (next old.control line course) is d;
-        reached = λ full. absurd (next_never old.control line course after (is ∙ ap (λ (r : Result2). Ends r after) full));
-      }
 
       next_step : (n : ℕ) → n + 1 ≡ suc n
       next_step n = omega arith
@@ -91,9 +81,9 @@ module _ (x : Outline) (setup : List journaled.Entry) (line : Line) (old new : L
           → IsBefore x setup new left k
       by_left [] e =
           subst (λ (steps : List Step). HasWorked x setup k.process steps k.view) (sym ended.steps)
-          (last_law x setup k.process (with_events (at_work x k.process old line course) events) k.view k.told end.ends after e ending working)
+          (last_law x setup k.process ended_at k.view k.told end.ends after e ending working)
       by_left ((number, other) ∷ left) e =
-          let begun = end_law x setup k.process (with_events (at_work x k.process old line course) events) number other left k.view k.told
+          let begun = end_law x setup k.process ended_at number other left k.view k.told
           end.ends after e ending working in
           let numbered : number ≡ number_in new
           = number_next x k.process new.recording.steps some number other left (left_is ∙ e)
@@ -101,7 +91,7 @@ module _ (x : Outline) (setup : List journaled.Entry) (line : Line) (old new : L
           let rest : left ≡ drop (suc (length new.recording.steps)) (lines_of x k.process)
           = sym (ap (λ n. drop (suc n) (lines_of x k.process)) count
           ∙ left_more (suc (length old.recording.steps)) (lines_of x k.process) (number, other) left e) in
-          let same : next_line (with_events (at_work x k.process old line course) events) end.ends after number other left
+          let same : next_line ended_at end.ends after number other left
           ≡ at_work x k.process new other (Attempt [])
           = λ i. record {
             steps = sym ended.steps i;
@@ -117,6 +107,50 @@ module _ (x : Outline) (setup : List journaled.Entry) (line : Line) (old new : L
             working = subst (λ (w : AtWork). IsWorking x setup k.process w k.view k.told) same begun;
             come = subst (λ (r : Progress). IsCome new.control other (Attempt []) r) (sym ended.progress) (refl, tt);
           }
+
+  -- it asks for its end
+  pub line_ended : 1 ≤ k.process → old.first ≡ first_line x k.process → IsWorking x setup k.process ended_at k.view k.told
+      → next old.control line course ≡ Ends end.ends (changed old.control end.after) → HasEnd old events end new
+      → IsBefore x setup new (left_of x k.process new.recording.steps) k
+  line_ended some first working is ended = line_over some first working ending ended
+    where
+      after : Control
+      after = changed old.control end.after
+
+      same_end : (asks : Next) → asks ≡ Ends end.ends after → (d : Element → Descriptor)
+          → IsEnd (own_setting x (followed setup k.view.history) k.view.floor k.process d) old.control asks end.ends after
+      same_end asks e d =
+          subst (λ (a : Next). IsEnd (own_setting x (followed setup k.view.history) k.view.floor k.process d) old.control a end.ends after)
+          (sym e) (refl, refl)
+
+      ending : IsEnding x setup k.process ended_at k.view end.ends after
+      ending = record {
+        end = λ unspoilt d. same_end (next old.control line course) is d;
+        reached = λ full. absurd (next_never old.control line course after (is ∙ ap (λ (r : Result2). Ends r after) full));
+      }
+
+-- a line at work that has one event more, and goes on
+module _ (x : Outline) (setup : List journaled.Entry) (line : Line) (old new : LineState) (k : Known) (course later : Course)
+    (event : Event2) (progress : Progress) where
+  pub come_on : IsWorking x setup k.process (gone_on (at_work x k.process old line course) event later) k.view k.told
+      → IsCome old.control line later progress → HasEvent old event progress new → IsAtWork x setup new line k
+  come_on working come has =
+      let same : gone_on (at_work x k.process old line course) event later ≡ at_work x k.process new line later
+      = λ i. record {
+        steps = sym has.steps i;
+        number = sym has.first i + length (sym has.steps i);
+        line = line;
+        left = drop (suc (length (sym has.steps i))) (lines_of x k.process);
+        now = sym has.control i;
+        events = sym has.events i;
+        course = later;
+      } in
+      record {
+        course = later;
+        working = subst (λ (w : AtWork). IsWorking x setup k.process w k.view k.told) same working;
+        come = subst (λ (g : Control). IsCome g line later new.progress) (sym has.control)
+            (subst (IsCome old.control line later) (sym has.progress) come);
+      }
 
 -- The element for which a line asks, on this descriptor, from the floor on.
 module _ (x : Outline) (setup : List journaled.Entry) (line : Line) (old : LineState) (k : Known) (asked : Reference)
@@ -161,23 +195,8 @@ module _ (x : Outline) (setup : List journaled.Entry) (line : Line) (old : LineS
       → Takes old.control line old.progress e d (works.At progress) → HasEvent old (Core (Seen e)) progress new
       → IsAtWork x setup new line (seen_known k (beside e d) floor)
   line_goes_on new progress n takes has =
-      let same : gone_on (at_work x k.process old line n.work.course) (Core (Seen e)) (later_in n)
-      ≡ at_work x k.process new line (later_in n)
-      = λ i. record {
-        steps = sym has.steps i;
-        number = sym has.first i + length (sym has.steps i);
-        line = line;
-        left = drop (suc (length (sym has.steps i))) (lines_of x k.process);
-        now = sym has.control i;
-        events = sym has.events i;
-        course = later_in n;
-      } in
-      record {
-        course = later_in n;
-        working = subst (λ (w : AtWork). IsWorking x setup k.process w (seen_known k (beside e d) floor).view k.told) same (working_seen n);
-        come = subst (λ (g : Control). IsCome g line (later_in n) new.progress) (sym has.control)
-            (subst (λ (r : Progress). IsCome old.control line (later_in n) r) (sym has.progress) (stands_seen n (works.At progress) takes));
-      }
+      come_on x setup line old new (seen_known k (beside e d) floor) n.work.course (later_in n) (Core (Seen e)) progress
+      (working_seen n) (stands_seen n (works.At progress) takes) has
 
   -- or ends
   pub line_ends : (new : LineState) (end : End) → IsNext → 1 ≤ k.process → old.first ≡ first_line x k.process

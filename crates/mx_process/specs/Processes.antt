@@ -10,7 +10,9 @@ use Rattle.mx_core.specs.declared.words.Triple.{Triple}
 use Rattle.mx_desc.specs.Passes.{PassValue}
 use Rattle.mx_line.specs.AtWork.{IsCome}
 use Rattle.mx_line.specs.Operands.{IsGoodProgress}
-use Rattle.mx_line.specs.declared.operands.Progress.TheVariants.{Before}
+use Rattle.mx_line.specs.Fills.{write_of}
+use Rattle.mx_line.specs.declared.operands.Progress.{Progress}
+use Rattle.mx_line.specs.declared.operands.Progress.TheVariants.{Before, Walking, AtLink, Waiting, Filling}
 use Rattle.mx_line.specs.declared.processes.Process.{Process as LineState}
 use Rattle.mx_office.specs.Serving.{told_to}
 use Rattle.mx_rule.specs.Shown.{fresh_view}
@@ -27,6 +29,7 @@ use Rattle.mx_transcript.specs.Next.{Next, Asks, Fills, Calls, Ends, Nowhere}
 use Rattle.mx_transcript.specs.Openings.{opening_control}
 use Rattle.mx_transcript.specs.Scripts.{first_line, lines_of, script_at}
 use Rattle.mx_transcript.specs.Transcripts.{Step}
+use Rattle.mx_upcall.specs.Control.{Control}
 use Rattle.mx_upcall.specs.Soundness.{IsPackableControl}
 use Rattle.mx_process.specs.Audited.{IsAudited}
 use Rattle.mx_process.specs.declared.misses.Miss.{Miss}
@@ -87,6 +90,17 @@ AsksIn segno (Calls ring request) = ⊥
 AsksIn segno (Ends ends after) = ⊥
 AsksIn segno Nowhere = ⊥
 
+abbrev pub IsReferringIn : ℕ → Control → Line → Progress → Type 0
+IsReferringIn segno g line progress = (course : Course) → IsCome g line course progress → AsksIn segno (next g line course)
+
+-- what a line that has come so far asks for is a word of this number: the write that is due, or a reference
+abbrev pub AsksFor : ℕ → Control → Line → Progress → Type 0
+AsksFor segno g line (Filling fill) = (write_of fill).segno ≡ segno
+AsksFor segno g line Before = IsReferringIn segno g line Before
+AsksFor segno g line (Walking walk) = IsReferringIn segno g line (Walking walk)
+AsksFor segno g line (AtLink place) = IsReferringIn segno g line (AtLink place)
+AsksFor segno g line Waiting = IsReferringIn segno g line Waiting
+
 -- a pass, but that it did only this
 abbrev pub having_done : List Kept → PassValue journaled.Entry → PassValue journaled.Entry
 having_done trace o = record o { view = record o.view { trace = trace } }
@@ -99,8 +113,7 @@ pub record IsMissing (x : Outline) (setup : List journaled.Entry) (state : LineS
   pub last : o.view.trace ≡ front ++ Missed m.segno m.by ∷ []
   pub news : told_to o m.segno < m.by
   pub unknown : recalled m.segno o.view.memory ≡ None
-  pub asks : (course : Course) → IsCome state.control line course state.progress
-      → AsksIn m.segno (next state.control line course)
+  pub asks : AsksFor m.segno state.control line state.progress
   pub before : IsAtWork x setup state line (known_of (having_done front o))
 
 -- before these lines, whether a miss is to be settled or not

@@ -2,9 +2,8 @@
 
 ghost use Rattle.std.specs.Prelude.{◌≡◌, ◌≤◌, ◌∷◌, [], IsSome, OnErr, OnOk};
 ghost use Rattle.mx_core.specs.declared.elements.Event.TheVariants.{Missing};
-ghost use Rattle.mx_line.specs.declared.operands.Progress.TheVariants.{Before};
 ghost use Rattle.mx_process.specs.Processes.{IsStill};
-ghost use Rattle.mx_process.specs.Settling.{IsSettled};
+ghost use Rattle.mx_process.specs.Settling.{IsSettled, again};
 ghost use Rattle.mx_process.specs.Turns.{HasEvent};
 ghost use Rattle.mx_transcript.specs.declared.transcripts.Event2.TheVariants.{Core};
 
@@ -13,23 +12,17 @@ use crate::naming::Attending;
 use crate::processes::Process;
 use mx_audit::Auditor;
 use mx_line::{Process as LineState, Progress};
-use mx_office::Locked;
-use mx_rule::Board;
-use mx_state::Entry;
+use mx_office::Office;
 use mx_transcript::{Event, Event2};
 use std::alloc::AllocError;
+use std::mem;
+use std::sync::Wait;
 
 impl<'a, B: Attending, A: Auditor> Process<'a, B, A> {
-    /// Settles the miss that is to be settled, in one hold of the lock: the process is told of all entries, the transcript
-    /// has the miss, and the line begins anew, with the registers of its start. Condition: a miss is to be settled. Want of
-    /// memory, and the end of the run, change nothing but room.
-    pub fn settle(
-        &mut self,
-        locked: &mut Locked<'_, B>,
-        shared: &Board<Entry>,
-    ) -> Result<(), AllocError>
-        requires fits { shared.now.table_id ≡ B.table }
-        requires layout { shared.now.key.layout ≡ B.layout }
+    /// Settles the miss that is to be settled, in one hold of the lock, for which it waits: the process is told of all
+    /// entries, the transcript has the miss, and the line begins anew, with the registers of its start; but
+    /// a write that was due is due again. Condition: a miss is to be settled. Want of memory, and the end of the run, change nothing but room.
+    pub fn settle<R: Wait>(&mut self, rt: &R, office: &Office<'_, B>) -> Result<(), AllocError>
         requires missing { IsSome self.old.missing }
         ensures settled { OnOk result (IsSettled self.old self.new) }
         ensures err { OnErr result (IsStill self.old self.new) }
@@ -38,21 +31,32 @@ impl<'a, B: Attending, A: Auditor> Process<'a, B, A> {
         let Some(miss) = self.missing else {
             unreachable!()
         };
-        locked.settle_for(&mut self.pass, shared, miss.segno)?;
+        office.settle_for(rt, &mut self.pass, miss.segno)?;
         begin_anew(&mut self.state, &miss);
         self.missing = None;
         Ok(())
     }
 }
 
-// The line has missed this, and begins anew.
+// The line has missed this, and begins anew, or a write is due again.
 fn begin_anew(state: &mut LineState, miss: &Miss)
     requires { 1 ≤ state.old.recording.spare }
-    ensures { HasEvent state.old (Core (Missing miss.now.segno miss.now.by)) Before state.new }
+    ensures { HasEvent state.old (Core (Missing miss.now.segno miss.now.by)) (again state.old.progress) state.new }
 {
     state.recording.keep(Event2::Core(Event::Missing {
         segno: miss.segno,
         by: miss.by,
     }));
-    state.progress = Progress::Before;
+    state.progress = again(mem::replace(&mut state.progress, Progress::Before));
+}
+
+// Where a line stands after a miss.
+fn again(progress: Progress) -> Progress
+    ensures { result ≡ again progress }
+{
+    match progress {
+        Progress::Filling(fill) => Progress::Filling(fill),
+        Progress::Before | Progress::Walking(_) | Progress::AtLink(_) | Progress::Waiting =>
+            Progress::Before,
+    }
 }
