@@ -8,3 +8,4 @@ pub mod SightedLaws
 pub mod Choices
 pub mod ChoiceLaws
 pub mod Deciding
+pub mod Parts
