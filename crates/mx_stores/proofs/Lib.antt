@@ -6,4 +6,4 @@ pub mod UntilLaws
 pub mod SightedLaws
 pub mod Searches
 pub mod ChoiceLaws
-pub mod Deciding
+pub mod ChoicesInOrder

@@ -5,7 +5,10 @@ ghost use Rattle.mx_reads.specs.Deeds.{Enters, Loads, Misses, Refers, Stores};
 ghost use Rattle.mx_stores.specs.Since.{entry_of, is_same, stores_from};
 ghost use Rattle.mx_stores.specs.Choices.{stores_word};
 ghost use Rattle.mx_stores.specs.Parts.{deed_of};
+ghost use Rattle.mx_stores.specs.Reads.{read_of};
+ghost use Rattle.mx_stores.specs.Sighted.{sighted_in};
 
+use crate::choices::Read;
 use std::marker::Model;
 
 /// A cell in one of its uses.
@@ -34,6 +37,25 @@ impl CellUse {
     {
         self.cell == other.cell && self.since == other.since
     }
+}
+
+/// A store that was sighted.
+#[derive(Clone, Copy, Debug)]
+pub struct Sighted {
+    /// Whose it is.
+    pub storer: usize,
+    /// At which place of the storer's deeds.
+    pub store: usize,
+}
+
+impl Model for Sighted {
+    ghost use Rattle.mx_stores.specs.Sighted.{Sighted as SightedValue};
+
+    ghost Value = { SightedValue };
+
+    ghost view = { λ a. record { storer = a.storer; store = a.store } };
+
+    ghost inverse = { λ a. record { storer = a.storer; store = a.store } };
 }
 
 /// What a process did.
@@ -129,6 +151,63 @@ impl Deed {
             } => own.is(cell) && (*word == value && *point == stamp),
             Form::Enters { .. } | Form::Loads { .. } | Form::Refers { .. } | Form::Misses { .. } =>
                 false,
+        }
+    }
+
+    /// What it sights of the cell, as the deed of process `p` at the place `here`, where its read stands for the store at
+    /// `chosen`.
+    pub fn sighted(&self, cell: &CellUse, p: usize, here: usize, chosen: usize) -> Option<Sighted>
+        ensures { result ≡ sighted_in cell.now p here chosen self.now }
+    {
+        match &self.form {
+            Form::Stores { cell: own, .. } => if own.is(cell) {
+                Some(Sighted {
+                    storer: p,
+                    store: here,
+                })
+            } else {
+                None
+            },
+            Form::Loads {
+                cell: own,
+                writer,
+                ..
+            } => {
+                if own.is(cell) && *writer != 0 {
+                    Some(Sighted {
+                        storer: usize::from(*writer),
+                        store: chosen,
+                    })
+                } else {
+                    None
+                }
+            }
+            Form::Enters { .. } | Form::Refers { .. } | Form::Misses { .. } => None,
+        }
+    }
+
+    /// The read that it is, as the deed of process `p` at the place `here`, if it is one.
+    pub fn read(&self, p: usize, here: usize) -> Option<Read>
+        ensures { result ≡ read_of p here self.now }
+    {
+        match &self.form {
+            Form::Loads {
+                cell,
+                value,
+                writer,
+                stamp,
+                point,
+            } => Some(Read {
+                process: p,
+                place: here,
+                cell: *cell,
+                value: *value,
+                writer: *writer,
+                stamp: *stamp,
+                point: *point,
+            }),
+            Form::Enters { .. } | Form::Stores { .. } | Form::Refers { .. } | Form::Misses { .. } =>
+                None,
         }
     }
 }

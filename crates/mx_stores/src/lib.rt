@@ -4,11 +4,14 @@
 //! falls along the stores of one process, so the first store that a read can stand for is found by a binary search.
 #![tactic(auto)]
 
+mod choices;
+mod deciding;
 mod deeds;
 mod laws;
 mod numbers;
 
-pub use deeds::{CellUse, Deed, Form};
+pub use choices::{Read, choice};
+pub use deeds::{CellUse, Deed, Form, Sighted};
 pub use laws::{
     beyond_law, choice_law, first_law, known_law, right_reads_law, right_to_law, since_law,
     such_law, superseded_law, until_law,
