@@ -7,3 +7,4 @@ pub mod SightedLaws
 pub mod Searches
 pub mod ChoiceLaws
 pub mod ChoicesInOrder
+pub mod WholeRuns

@@ -1,8 +1,8 @@
 //! The reads of all processes, decided in order: computed plainly, by going over the deeds each time.
 
-ghost use Rattle.std.specs.Prelude.{◌≡◌, ◌↔◌, ◌<◌, length, IfOk, IsTrue, IsSome, slice_get, option_map};
+ghost use Rattle.std.specs.Prelude.{◌≡◌, ◌↔◌, length, IfOk, IsTrue, is_some, slice_get, option_map};
 ghost use Rattle.mx_reads.specs.ReadRule.{AreRightReads};
-ghost use Rattle.mx_stores.specs.Deciding.{choice_for, choices, source_of};
+ghost use Rattle.mx_stores.specs.Deciding.{are_chosen, choice_for, choices, source_of};
 ghost use Rattle.mx_stores.specs.Known.{IsKnown};
 ghost use Rattle.mx_stores.specs.Parts.{deeds_of};
 
@@ -25,8 +25,8 @@ fn choice_for(parts: &[Sequence<Deed>], p: usize, here: usize, chosen: &[usize])
     }
 }
 
-/// The places of the stores that the deeds of process `p` below a place stand for (0 where they are no reads or nobody's);
-/// none where one of its reads is wrong.
+// The places of the stores that the deeds of process `p` below a place stand for (0 where they are no reads or nobody's);
+// none where one of its reads is wrong.
 fn choices(
     alloc: Global,
     parts: &[Sequence<Deed>],
@@ -48,4 +48,35 @@ fn choices(
             Ok(Some(chosen))
         }
     }
+}
+
+// Whether there is a choice for each read of process `p`.
+fn is_chosen(alloc: Global, parts: &[Sequence<Deed>], p: usize) -> Result<bool, AllocError>
+    ensures { IfOk result (λ right. right ≡ is_some (choices (deeds_of parts.now) (length parts.now) p (length (deeds_of parts.now p)))) }
+{
+    let chosen = choices(alloc, parts, p, part_of(parts, p).len())?;
+    Ok(chosen.is_some())
+}
+
+// Whether there is a choice for each read of the processes below this one.
+fn are_chosen(alloc: Global, parts: &[Sequence<Deed>], end: usize) -> Result<bool, AllocError>
+    ensures { IfOk result (λ right. right ≡ are_chosen (deeds_of parts.now) (length parts.now) end) }
+{
+    if end == 0 {
+        return Ok(true);
+    }
+    Ok(is_chosen(alloc, parts, end - 1)? && are_chosen(alloc, parts, end - 1)?)
+}
+
+/// Whether each read of each process is right, where process 0, 1, .. did what the parts say, each in this order, and a
+/// store is known by the entries of its process after it. It goes over the deeds again and again and calls itself once a
+/// deed: for small runs.
+///
+/// # Errors
+///
+/// Want of memory.
+pub fn are_reads_right(alloc: Global, parts: &[Sequence<Deed>]) -> Result<bool, AllocError>
+    ensures { IfOk result (λ right. IsTrue right ↔ AreRightReads (deeds_of parts.now) (IsKnown (deeds_of parts.now))) }
+{
+    are_chosen(alloc, parts, parts.len())
 }
