@@ -6,4 +6,5 @@ pub mod UntilLaws
 pub mod SightedLaws
 pub mod Searches
 pub mod ChoiceLaws
-pub mod Deciding
+pub mod ChoicesInOrder
+pub mod WholeRuns

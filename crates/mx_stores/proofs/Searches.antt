@@ -128,3 +128,11 @@ kept_told test (Some n) k e = elim (cases_Bool (test n)) [
       (ap (λ (m : ℕ). Some m) same, subst (λ (m : ℕ). test m ≡ true) same t)
   | inr t ↦ none_some k (sym (passes (test n) (Some n) None t) ∙ e)
 ]
+
+pub kept_not : (test : ℕ → Bool) (o : Option ℕ) (k : ℕ) → o ≡ Some k → test k ≡ false → kept test o ≡ None
+kept_not test o k e t = ap (λ (p : Option ℕ). kept test p) e ∙ passes (test k) (Some k) None t
+
+pub first_next : (test : ℕ → Bool) (n end : ℕ) → suc n ≡ end → first_below test n ≡ None → test n ≡ true
+    → first_below test end ≡ Some n
+first_next test n end s none t = subst (λ (m : ℕ). first_below test m ≡ Some n) s
+    (ap (λ (o : Option ℕ). or_next o (if test n then Some n else None)) none ∙ picks (test n) (Some n) None t)

@@ -1,10 +1,11 @@
 -- The reads of a process in order: each is decided from the choices made for those before it.
-use Rattle.std.specs.Prelude.{◌≡◌, ◌↔◌, ℕ, zero, suc, ◌<◌, List, [], ◌∷◌, ◌++◌, length, Option, Some, None, IsSome, slice_get, slice_index_or}
-use Rattle.mx_reads.specs.Deeds.{Deed, Deeds, Enters, Stores, Loads, Refers, Misses}
+use Rattle.std.specs.Prelude.{◌≡◌, ◌↔◌, ℕ, zero, suc, ◌<◌, ◌&&◌, Bool, true, is_some, List, [], ◌∷◌, ◌++◌, length, Option, Some, None, IsSome, slice_get, slice_index_or}
+use Rattle.mx_reads.specs.Deeds.{Deed, Deeds}
 use Rattle.mx_reads.specs.ReadRule.{Reading, HasRead, IsRightRead, AreRightReads}
 use Rattle.mx_reads.specs.Sightings.{Source}
 use Rattle.mx_stores.specs.Choices.{choice}
 use Rattle.mx_stores.specs.Known.{IsKnown}
+use Rattle.mx_stores.specs.Reads.{read_of}
 use Rattle.mx_stores.specs.StoreLaws.{AreBelow}
 
 -- the reads of process p below this place are right, for some stores that they stand for
@@ -17,15 +18,14 @@ pub record AreRightTo (done : Deeds) (p here : ℕ) : Type 0 where
 abbrev pub source_of : List ℕ → Source
 source_of chosen p here = slice_index_or chosen here 0
 
+abbrev pub choice_if : Deeds → ℕ → List ℕ → Option Reading → Option ℕ
+choice_if done count chosen None = Some 0
+choice_if done count chosen (Some read) = choice done count (source_of chosen) read
+
 -- the choice for a deed at the place `here`, 0 where it is no read
 abbrev pub choice_for : Deeds → ℕ → ℕ → ℕ → List ℕ → Option Deed → Option ℕ
 choice_for done count p here chosen None = Some 0
-choice_for done count p here chosen (Some (Enters number)) = Some 0
-choice_for done count p here chosen (Some (Stores cell value point)) = Some 0
-choice_for done count p here chosen (Some (Loads cell value writer stamp point)) = choice done count (source_of chosen)
-    (record { process = p; place = here; cell = cell; value = value; writer = writer; stamp = stamp; point = point })
-choice_for done count p here chosen (Some (Refers point)) = Some 0
-choice_for done count p here chosen (Some (Misses segno by)) = Some 0
+choice_for done count p here chosen (Some deed) = choice_if done count chosen (read_of p here deed)
 
 abbrev pub with_choice : List ℕ → Option ℕ → Option (List ℕ)
 with_choice chosen None = None
@@ -51,3 +51,8 @@ abbrev pub RightReadsLaw : Type 0
 RightReadsLaw = (count : ℕ) (done : Deeds) → AreBelow count done
     → AreRightReads done (IsKnown done)
     ↔ ((p : ℕ) → p < count → IsSome (choices done count p (length (done p))))
+
+-- there is a choice for each read of the processes below this one
+abbrev pub are_chosen : Deeds → ℕ → ℕ → Bool
+are_chosen done count zero = true
+are_chosen done count (suc p) = is_some (choices done count p (length (done p))) && are_chosen done count p

@@ -7,4 +7,6 @@ pub mod Sighted
 pub mod SightedLaws
 pub mod Choices
 pub mod ChoiceLaws
+pub mod Reads
 pub mod Deciding
+pub mod Parts

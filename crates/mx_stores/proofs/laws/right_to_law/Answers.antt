@@ -1,4 +1,4 @@
-use Rattle.mx_stores.proofs.Deciding.{right_to_law}
+use Rattle.mx_stores.proofs.ChoicesInOrder.{right_to_law}
 use Rattle.mx_stores.proofs.laws.right_to_law.Goals as goal
 
 pub returns : goal.returns
