@@ -1,5 +1,5 @@
 -- A write that a reply asks for: its line goes on by it, or ends.
-use Rattle.std.proofs.Common.{◌≡◌, ℕ, suc, ◌+◌, ◌<◌, ◌≤◌, ◌==◌, nat_lt, max, Bool, true, false, if◌then◌else◌, inr, List, [], ◌∷◌, ◌++◌, length, append_assoc, Option, Some, None, Result, refl, sym, ◌∙◌, ap, subst, arith}
+use Rattle.std.proofs.Common.{◌≡◌, ℕ, ◌+◌, ◌<◌, ◌≤◌, ◌==◌, nat_lt, max, Bool, true, false, if◌then◌else◌, inr, List, [], ◌∷◌, ◌++◌, length, append_assoc, Some, None, refl, sym, ◌∙◌, ap, subst, arith}
 use Rattle.mx_core.specs.AssociativeMemory.{recalled}
 use Rattle.mx_core.specs.Judging.{stamp_read}
 use Rattle.mx_core.specs.declared.elements.Element.{Element}
@@ -21,11 +21,9 @@ use Rattle.mx_line.specs.declared.fills.Behind.{Behind}
 use Rattle.mx_line.specs.declared.fills.Behind.TheVariants as behinds
 use Rattle.mx_line.specs.declared.fills.Fill.{Fill}
 use Rattle.mx_line.specs.declared.fills.Fill.TheVariants.{Words, Pointer}
-use Rattle.mx_line.specs.declared.fills.Filled.{Filled}
 use Rattle.mx_line.specs.declared.fills.Filled.TheVariants as filled_to
 use Rattle.mx_line.specs.declared.fills.LinkWords.{LinkWords}
 use Rattle.mx_line.specs.declared.fills.Snap.{Snap}
-use Rattle.mx_line.specs.declared.operands.Progress.{Progress}
 use Rattle.mx_line.specs.declared.operands.Progress.TheVariants.{Before, Walking, AtLink, Waiting, Filling}
 use Rattle.mx_line.specs.declared.processes.Process.{Process as LineState}
 use Rattle.mx_request.specs.Sections.{section_in}
@@ -37,41 +35,36 @@ use Rattle.mx_rule.specs.declared.views.PassView.{PassView}
 use Rattle.mx_script.specs.Sessions.{Outline}
 use Rattle.mx_script.specs.declared.lines.Line.{Line}
 use Rattle.mx_sdw.specs.Descriptors.{Descriptor}
-use Rattle.mx_sdw.specs.Judging.{judgement, ring_after}
 use Rattle.mx_sdw.specs.declared.denials.Denial.{Denial}
-use Rattle.mx_sdw.specs.declared.descriptors.Cell.{Cell}
-use Rattle.mx_sdw.specs.declared.operations.Op.TheVariants as op
 use Rattle.mx_state.specs.declared.journal.Entry as journaled
 use Rattle.mx_ties.proofs.SpoiltLaws.{grows_by, grows_not, spoilt_more, spoilt_now}
 use Rattle.mx_ties.proofs.WorkingLaws.{denied_law, fill_law}
 use Rattle.mx_ties.specs.AtWork.{AtWork, gone_on}
 use Rattle.mx_ties.specs.Spoilt.{IsSpoilt}
-use Rattle.mx_ties.specs.Views.{Referred, View}
+use Rattle.mx_ties.specs.Views.{Referred}
 use Rattle.mx_ties.specs.Working.{IsEnding, IsUnspoilt, IsWorking}
-use Rattle.mx_transcript.specs.Asking.{answered, first_due, next}
+use Rattle.mx_transcript.specs.Asking.{answered, next}
 use Rattle.mx_transcript.specs.Courses.{Course, Attempt, Answer, Judged}
-use Rattle.mx_transcript.specs.Elements.{Agrees, IsJudged}
+use Rattle.mx_transcript.specs.Elements.{IsJudged}
 use Rattle.mx_transcript.specs.Events.{IsEvent}
-use Rattle.mx_transcript.specs.Filling.{due, fill, snapped}
+use Rattle.mx_transcript.specs.Filling.{fill}
 use Rattle.mx_transcript.specs.Next.{Next, Reference, Fills, Ends as AsksToEnd, Nowhere}
-use Rattle.mx_transcript.specs.Scripts.{first_line}
 use Rattle.mx_transcript.specs.Settings.{Setting}
 use Rattle.mx_transcript.specs.Transcripts.{events_of}
 use Rattle.mx_transcript.specs.declared.transcripts.Event2.{Event2}
 use Rattle.mx_transcript.specs.declared.transcripts.Event2.TheVariants.{Core}
 use Rattle.mx_transcript.specs.declared.transcripts.Result2.{Result2}
 use Rattle.mx_transcript.specs.declared.transcripts.Result2.TheVariants as result
-use Rattle.mx_upcall.proofs.ChangeLaws.{kept_all}
 use Rattle.mx_upcall.specs.Changes.{changed}
 use Rattle.mx_upcall.specs.Control.{Control}
 use Rattle.mx_upcall.specs.Soundness.{IsPackableControl}
-use Rattle.mx_process.proofs.JudgedLaws.{WasJudged, asked_by, at_floor, is_judged}
+use Rattle.mx_process.proofs.JudgedLaws.{WasJudged, asked_by, at_floor}
 use Rattle.mx_process.proofs.KnownLaws.{known_missed, known_seen, seen_known}
 use Rattle.mx_process.proofs.TurnLaws.{same_line}
 use Rattle.mx_process.proofs.WorkLaws.{come_on, line_ended, line_over}
-use Rattle.mx_process.specs.Filling.{HasStored, HasWrote, IsDue, IsFitting, IsOnward, IsOnwardAt, IsSince, IsWriting, Leads, MissesWrite, StandsIn, Stores}
-use Rattle.mx_process.specs.Processes.{Known, AsksFor, IsAtWork, IsBefore, at_work, known_of, left_of, number_in}
-use Rattle.mx_process.specs.Turns.{Comes, Ends, HasEnd, HasEvent, Inside, Misses, inside}
+use Rattle.mx_process.specs.Filling.{HasStored, HasWrote, IsOnwardAt, IsSince, IsWriting, Leads, MissesWrite, StandsIn}
+use Rattle.mx_process.specs.Processes.{Known, AsksFor, IsAtWork, IsBefore, at_work, known_of, left_of}
+use Rattle.mx_process.specs.Turns.{Comes, Ends, HasEnd, inside}
 use Rattle.mx_process.specs.declared.turns.Turn.{Turn}
 use Rattle.mx_process.specs.declared.turns.Turn.TheVariants as turn
 

@@ -1,6 +1,5 @@
 -- What a process's type says holds after a write that a reply asks for.
-use Rattle.std.proofs.Common.{◌≡◌, ℕ, ◌+◌, ◌<◌, ◌^◌, List, [], ◌∷◌, length, Option, Some, None, refl, sym, ◌∙◌, ap, subst}
-use Rattle.std.specs.Option.{option_map}
+use Rattle.std.proofs.Common.{◌≡◌, ℕ, ◌+◌, ◌<◌, ◌^◌, List, [], ◌∷◌, length, Option, None, sym, ◌∙◌, ap, subst}
 use Rattle.mx_audit.specs.Accounts.{Account}
 use Rattle.mx_core.specs.declared.elements.Event.TheVariants.{Seen}
 use Rattle.mx_core.specs.declared.words.Triple.{Triple}
@@ -14,16 +13,14 @@ use Rattle.mx_script.specs.declared.lines.Line.{Line}
 use Rattle.mx_state.specs.declared.journal.Entry as journaled
 use Rattle.mx_transcript.specs.declared.transcripts.Event2.{Event2}
 use Rattle.mx_transcript.specs.declared.transcripts.Event2.TheVariants.{Core}
-use Rattle.mx_upcall.specs.Control.{Control}
 use Rattle.mx_upcall.specs.Soundness.{IsPackableControl}
 use Rattle.mx_process.proofs.AttemptLaws.{IsOut, going_process}
 use Rattle.mx_process.proofs.PlaceLaws.{countable_next, sayable_next}
-use Rattle.mx_process.specs.Filling.{CameTo, HasWritten, HasWrote, IsDue, IsOnwardAt, IsWriting, StandsIn, Stores}
+use Rattle.mx_process.specs.Filling.{CameTo, HasWritten, HasWrote, IsDue, IsOnwardAt, IsWriting, StandsIn}
 use Rattle.mx_process.specs.Processes.{ProcessValue, IsAtLine, IsAtWork, IsProcess, Stands, known_of}
 use Rattle.mx_process.specs.Turns.{Comes, Ends, Inside, IsSameLine, IsUntold, inside}
 use Rattle.mx_process.specs.declared.filling.Wrote.TheVariants as wrote
 use Rattle.mx_process.specs.declared.misses.Miss.{Miss}
-use Rattle.mx_process.specs.declared.turns.Turn.{Turn}
 use Rattle.mx_process.specs.declared.turns.Turn.TheVariants as turn
 
 -- A write of a process is due, and can be made.

@@ -4,7 +4,7 @@ use Rattle.mx_core.specs.declared.elements.Element.{Element}
 use Rattle.mx_core.specs.declared.elements.Event.TheVariants.{Seen}
 use Rattle.mx_core.specs.declared.elements.Outcome.{Outcome}
 use Rattle.mx_core.specs.declared.elements.Outcome.TheVariants as outcome
-use Rattle.mx_line.specs.AtWork.{IsCome, StandsAt, beside, ended}
+use Rattle.mx_line.specs.AtWork.{StandsAt, beside, ended}
 use Rattle.mx_line.specs.Fills.{IsFilling, write_of}
 use Rattle.mx_line.specs.Operands.{IsGoodProgress, IsSayable}
 use Rattle.mx_line.specs.declared.at_work.LineAtWork.{LineAtWork}

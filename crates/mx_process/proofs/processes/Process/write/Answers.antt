@@ -3,7 +3,7 @@ use Rattle.std.specs.Option.{option_map}
 use Rattle.mx_sdw.specs.declared.denials.Denial.{Denial}
 use Rattle.mx_process.proofs.AttemptLaws.{done_process, has_room}
 use Rattle.mx_process.proofs.AuditLaws.{told_more}
-use Rattle.mx_process.proofs.WrittenLaws.{ends_by, write_begins, written_done, written_more, written_process}
+use Rattle.mx_process.proofs.WrittenLaws.{ends_by, write_begins}
 use Rattle.mx_process.specs.Processes.{IsProcess, ProcessValue}
 use Rattle.mx_process.specs.Turns.{inside}
 use Rattle.mx_process.specs.declared.misses.Miss.{Miss}
