@@ -26,7 +26,7 @@ use Rattle.mx_process.proofs.ProcessLaws.{attempting}
 use Rattle.mx_process.proofs.TurnLaws.{same_line}
 use Rattle.mx_process.specs.Attempts.{HasAttempted, HasDone, HasMissed, IsAtLinkIn}
 use Rattle.mx_process.specs.Audited.{IsAudited}
-use Rattle.mx_process.specs.Processes.{ProcessValue, IsAtLine, IsProcess, Stands, known_of, left_of, script_of}
+use Rattle.mx_process.specs.Processes.{ProcessValue, IsAtLine, IsAtWork, IsProcess, Stands, known_of, left_of, script_of}
 use Rattle.mx_process.specs.Turns.{Ends, IsAttempting, IsSameLine, IsUntold, Links, Misses, inside}
 use Rattle.mx_process.specs.declared.misses.Fast.{Fast}
 use Rattle.mx_process.specs.declared.misses.Fast.TheVariants as fast
@@ -174,14 +174,22 @@ module _ (x : Outline) (setup : List journaled.Entry) (accounts : List Account) 
     untold = untold;
   }
 
+  -- the line goes on
+  pub going_process : (out : IsOut) → IsSameLine old.state state → IsPackableControl state.control
+      → IsGoodProgress state.control.registers state.progress → (number : ℕ) → IsAtLine x old number line
+      → IsAtWork x setup state line (known_of o)
+      → IsProcess x setup accounts script memory' (value_of None old.account)
+  going_process out same packable good number at work =
+      made out None old.account same.first packable good
+      (subst (λ (l : List (ℕ × Line)). Stands x setup state None l o) (sym (left_is out.untold same ∙ at.at)) work)
+      (still_audited out same)
+
   -- a link is to be snapped
   pub linking_process : (out : IsOut) (place : Place) (number : ℕ) → IsAtLine x old number line
       → Links x setup line old.state place (inside state o)
       → IsProcess x setup accounts script memory' (value_of None old.account)
   linking_process out place number at e =
-      made out None old.account e.same.first e.attempting.packable e.attempting.good
-      (subst (λ (l : List (ℕ × Line)). Stands x setup state None l o) (sym (left_is out.untold e.same ∙ at.at)) e.attempting.work)
-      (still_audited out e.same)
+      going_process out e.same e.attempting.packable e.attempting.good number at e.attempting.work
 
   pub is_linking : (segno word ring number : ℕ) → IsAtLine x old number line
       → Links x setup line old.state (record { segno = segno; word = word; ring = ring }) (inside state o) → IsUntold old.pass o

@@ -7,3 +7,5 @@ pub mod AuditLaws
 pub mod ProcessLaws
 pub mod AttemptLaws
 pub mod SettleLaws
+pub mod FillingLaws
+pub mod WrittenLaws

@@ -6,3 +6,5 @@ pub mod Turns
 pub mod Attempts
 -- a miss that is settled
 pub mod Settling
+-- a write that a reply asks for
+pub mod Filling

@@ -159,7 +159,7 @@ impl<'a, B: Attending, A: Auditor> Process<'a, B, A> {
     }
 
     // The present line.
-    fn line(&self) -> &'a Line
+    pub(crate) fn line(&self) -> &'a Line
         requires { HasLine B.session self.now }
         ensures { (number : ℕ) × IsAtLine B.session self.now number result.now }
     {
@@ -178,7 +178,7 @@ fn line_at(script: &[Line], place: usize) -> Option<&Line>
 }
 
 // The auditor, if there is one, is told of the denial of a line, if it was denied.
-fn tell<A: Auditor>(auditor: &mut Option<A>, told: Option<(u32, Denial)>)
+pub(crate) fn tell<A: Auditor>(auditor: &mut Option<A>, told: Option<(u32, Denial)>)
     requires { (account : Account) → option_map A.account auditor.old ≡ Some account → 1 ≤ account.room }
     ensures { option_map A.account auditor.new
         ≡ option_map (λ account. with_denials account (as_list told)) (option_map A.account auditor.old) }

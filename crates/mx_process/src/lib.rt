@@ -9,12 +9,14 @@
 #![tactic(auto)]
 
 mod attempts;
+mod filling;
 mod misses;
 mod naming;
 mod processes;
 mod settling;
 mod turns;
 
+pub use filling::Wrote;
 pub use misses::{Fast, Miss};
 pub use naming::Attending;
 pub use processes::Process;

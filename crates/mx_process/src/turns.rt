@@ -129,7 +129,7 @@ fn refer<B: Sitting>(
 }
 
 // What a write stores; a read stores nothing.
-fn value_of(stores: Option<Word>) -> Word
+pub(crate) fn value_of(stores: Option<Word>) -> Word
     ensures { (value : ℕ) → stores ≡ Some value → result ≡ value }
 {
     match stores {
@@ -139,7 +139,7 @@ fn value_of(stores: Option<Word>) -> Word
 }
 
 // A word that was read has 36 bits.
-fn words_are_short(element: &Element)
+pub(crate) fn words_are_short(element: &Element)
     ensures { (value writer stamp : ℕ) → element.now.outcome ≡ Read value writer stamp → value < 2 ^ 36 }
 {
     match element.outcome {
@@ -181,7 +181,7 @@ fn take(state: &mut LineState, line: &Line, element: &Element, desc: &Desc) -> T
 }
 
 // The line at work ends.
-fn end_line(state: &mut LineState, end: &End)
+pub(crate) fn end_line(state: &mut LineState, end: &End)
     requires room { IsTrue state.old.recording.line_room }
     requires number { number_in state.old < 2 ^ 32 }
     requires fits { Fits state.old.control.gates end.now.after.gates }
