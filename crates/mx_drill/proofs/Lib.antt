@@ -3,3 +3,4 @@ pub mod DrillLaws
 pub mod SessionLaws
 pub mod CountLaws
 pub mod WritingLaws
+pub mod NumberLaws

@@ -1,4 +1,5 @@
 pub mod Drills
+pub mod Numbers
 pub mod Summaries
 -- helpers that only private contracts cite
 pub mod Counting

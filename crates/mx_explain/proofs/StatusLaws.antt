@@ -1,105 +1,245 @@
--- What is due on a word, of a text and of too many bytes.
-use Rattle.std.proofs.Common.{◌≡◌, ◌⊎◌, ℕ, ◌≤◌, ◌<◌, List, [], ◌∷◌, length, codes, Option, Some, inl, inr, refl, sym, ◌∙◌, subst, arith}
-use Rattle.mx_io.specs.Bytes.{TakesAll, TakesTooMany}
+-- What is due on the words, of a text and of too many bytes.
+use Rattle.std.proofs.Common.{◌≡◌, ◌⊎◌, ℕ, ◌≤◌, ◌<◌, false, Result, IfOk, List, [], ◌∷◌, length, codes, Option, Some, inl, inr, refl, sym, ◌∙◌, subst, arith}
+use Rattle.std.specs.Prelude.{nat_eq}
+use Rattle.std.specs.Cmp.Lexicographic.{pointwise}
+use Rattle.mx_commands.proofs.WordLaws.{clash}
+use Rattle.mx_drill.specs.Drills.{drill_session}
+use Rattle.mx_script.specs.SessionTexts.{session_text}
+use Rattle.mx_io.specs.Bytes.{TakesAll, TakesTooMany, Appends, AppendsPart}
 use Rattle.mx_script.specs.Sessions.{Outline}
-use Rattle.mx_explain.specs.Statuses.{IsCommand, Shows, IsShown, IsRefused, GainsFront, IsStopped, IsDueStatus}
-use Rattle.mx_explain.specs.Views.{word_of, ShowsOf, Tells, TellsFront}
-use Rattle.mx_explain.specs.declared.commands.View.{View}
-use Rattle.mx_explain.specs.declared.commands.View.TheVariants.{Lint, Lines, Picture}
+use Rattle.mx_commands.specs.Commands.{IsNothing, IsTurns, IsOneNumber, IsNamed, IsLint, IsLines, IsPicture, IsPlain, IsDrill, IsHelp, IsShowing, IsReading, IsAnswered, IsCommand}
+use Rattle.mx_commands.specs.PlainTexts.{plain_text}
+use Rattle.mx_explain.specs.Statuses.{Shows, IsShown, IsPrintedPlain, IsDone, IsRefused, GainsFront, GainsFrontOfSource, IsStopped, IsDueStatus}
+use Rattle.mx_commands.specs.Readings.{TakesTurns, IsAsked, IsReadSo}
+use Rattle.mx_explain.specs.Views.{ShowsOf, TellsSession, Tells, TellsFrontOfSession, TellsFront}
+use Rattle.mx_commands.specs.declared.words.Turns.{Turns}
+use Rattle.mx_commands.specs.declared.words.Turns.TheVariants.{Threads, Chosen, Named}
+use Rattle.mx_commands.specs.declared.words.View.{View}
+use Rattle.mx_commands.specs.declared.words.View.TheVariants.{Lint, Lines, Picture}
+use Rattle.mx_commands.specs.declared.words.Reading.{Reading}
+use Rattle.mx_commands.specs.declared.words.Reading.TheVariants.{Session, Plain}
 
--- an accepted word is one of a command
-pub command_of : (view : View) (words : List (List ℕ)) → words ≡ word_of view ∷ [] → IsCommand words
-command_of Lint words e = inl e
-command_of Lines words e = inr (inl e)
-command_of Picture words e = inr (inr e)
+-- words that ask for turns are such
+turns_of : (turns : Turns) (words : List (List ℕ)) → TakesTurns turns words → IsTurns words
+turns_of Threads words e = inl e
+turns_of (Chosen number) words e = inr (inl (number, e))
+turns_of (Named order) words e = inr (inr e.1)
 
-shows_of : (view : View) (words : List (List ℕ)) (x : Outline) (sink sink' : Option (List ℕ)) → words ≡ word_of view ∷ []
+lines_of : (turns : Turns) (words : List (List ℕ)) → IsNamed (codes "lines") (TakesTurns turns) words → IsLines words
+lines_of turns [] e = absurd e
+lines_of turns (word ∷ words) e = (e.0, turns_of turns words e.1)
+
+picture_of : (turns : Turns) (words : List (List ℕ)) → IsNamed (codes "picture") (TakesTurns turns) words → IsPicture words
+picture_of turns [] e = absurd e
+picture_of turns (word ∷ words) e = (e.0, turns_of turns words e.1)
+
+showing_of : (view : View) (words : List (List ℕ)) → IsAsked view words → IsShowing words
+showing_of Lint words e = inl e
+showing_of (Lines turns) words e = inr (inl (lines_of turns words e))
+showing_of (Picture turns) words e = inr (inr (picture_of turns words e))
+
+pub reading_of : (reading : Reading) (words : List (List ℕ)) → IsReadSo reading words → IsReading words
+reading_of (Session view) words e = inl (showing_of view words e)
+reading_of Plain words e = inr e
+
+-- words have one name
+two_names : (P Q : List (List ℕ) → Type 0) (a b : List ℕ) (words : List (List ℕ)) → false ≡ pointwise nat_eq a b → IsNamed a P words
+    → IsNamed b Q words → ⊥
+two_names P Q a b [] other e f = absurd e
+two_names P Q a b (word ∷ words) other e f = clash a b word other e.0 f.0
+
+showing_or_plain : (words : List (List ℕ)) → IsShowing words → IsPlain words → ⊥
+showing_or_plain words (inl e) f = two_names IsNothing IsNothing (codes "lint") (codes "plain") words refl e f
+showing_or_plain words (inr (inl e)) f = two_names IsTurns IsNothing (codes "lines") (codes "plain") words refl e f
+showing_or_plain words (inr (inr e)) f = two_names IsTurns IsNothing (codes "picture") (codes "plain") words refl e f
+
+reading_or_drill : (words : List (List ℕ)) (number : ℕ) → IsReading words → IsDrill words number → ⊥
+reading_or_drill words number (inl (inl e)) f =
+    two_names IsNothing (λ rest. IsOneNumber rest number) (codes "lint") (codes "drill") words refl e f
+reading_or_drill words number (inl (inr (inl e))) f =
+    two_names IsTurns (λ rest. IsOneNumber rest number) (codes "lines") (codes "drill") words refl e f
+reading_or_drill words number (inl (inr (inr e))) f =
+    two_names IsTurns (λ rest. IsOneNumber rest number) (codes "picture") (codes "drill") words refl e f
+reading_or_drill words number (inr e) f =
+    two_names IsNothing (λ rest. IsOneNumber rest number) (codes "plain") (codes "drill") words refl e f
+
+reading_or_help : (words : List (List ℕ)) → IsReading words → IsHelp words → ⊥
+reading_or_help words (inl (inl e)) f = two_names IsNothing IsNothing (codes "lint") (codes "help") words refl e f
+reading_or_help words (inl (inr (inl e))) f = two_names IsTurns IsNothing (codes "lines") (codes "help") words refl e f
+reading_or_help words (inl (inr (inr e))) f = two_names IsTurns IsNothing (codes "picture") (codes "help") words refl e f
+reading_or_help words (inr e) f = two_names IsNothing IsNothing (codes "plain") (codes "help") words refl e f
+
+pub reading_or_answered : (words : List (List ℕ)) → IsReading words → IsAnswered words → ⊥
+reading_or_answered words e (inl f) = reading_or_drill words f.0 e f.1
+reading_or_answered words e (inr f) = reading_or_help words e f
+
+shows_of : (view : View) (words : List (List ℕ)) (x : Outline) (sink sink' : Option (List ℕ)) → IsAsked view words
     → ShowsOf view x sink sink' → Shows words x sink sink'
 shows_of Lint words x sink sink' e shown = inl (e, shown)
-shows_of Lines words x sink sink' e shown = inr (inl (e, shown))
-shows_of Picture words x sink sink' e shown = inr (inr (e, shown))
+shows_of (Lines turns) words x sink sink' e shown = inr (inl (lines_of turns words e, shown))
+shows_of (Picture turns) words x sink sink' e shown = inr (inr (picture_of turns words e, shown))
 
-is_lint : (view : View) (words : List (List ℕ)) → words ≡ word_of view ∷ [] → words ≡ codes "lint" ∷ [] → view ≡ Lint
+is_lint : (view : View) (words : List (List ℕ)) → IsAsked view words → IsLint words → view ≡ Lint
 is_lint Lint words e f = refl
-is_lint Lines words e f = let same : codes "lines" ∷ [] ≡ codes "lint" ∷ [] = sym e ∙ f in absurd (cc)
-is_lint Picture words e f = let same : codes "picture" ∷ [] ≡ codes "lint" ∷ [] = sym e ∙ f in absurd (cc)
+is_lint (Lines turns) words e f =
+    absurd (two_names (TakesTurns turns) IsNothing (codes "lines") (codes "lint") words refl e f)
+is_lint (Picture turns) words e f =
+    absurd (two_names (TakesTurns turns) IsNothing (codes "picture") (codes "lint") words refl e f)
 
 none : {A : Type 0} (a b : ℕ) → a < b → a ≡ b → A
 none a b less e = absurd (omega (arith, less, e))
 
--- what was shown of a session
-pub shown_at : (view : View) (words : List (List ℕ)) (spelled : List ℕ) (source source' sink sink' : Option (List ℕ)) (status : ℕ)
-    → words ≡ word_of view ∷ [] → TakesAll source source' spelled → length spelled ≤ 4194304
-    → Tells view spelled sink sink' status → status ≡ 0 → IsShown words source source' sink sink'
-shown_at view words spelled source source' sink sink' status e taken within (inl told) zero = record {
+-- what was told of the source
+pub done_at : (reading : Reading) (words : List (List ℕ)) (spelled : List ℕ) (source source' sink sink' : Option (List ℕ)) (status : ℕ)
+    → IsReadSo reading words → TakesAll source source' spelled → length spelled ≤ 4194304
+    → Tells reading spelled sink sink' status → status ≡ 0 → IsDone words source source' sink sink'
+done_at (Session view) words spelled source source' sink sink' status e taken within (inl told) zero = inl (record {
   spelled = spelled;
   read = record { taken = taken; within = within };
   session = told.1.session;
   text = told.1.text;
   shown = shows_of view words told.1.session sink sink' e told.1.shown;
-}
-shown_at view words spelled source source' sink sink' status e taken within (inr told) zero = none 0 5 (omega arith) (sym zero ∙ told.0)
+})
+done_at (Session view) words spelled source source' sink sink' status e taken within (inr told) zero = none 0 5 (omega arith) (sym zero ∙ told.0)
+done_at Plain words spelled source source' sink sink' status e taken within told zero = inr (inl (record {
+  asked = e;
+  spelled = spelled;
+  read = record { taken = taken; within = within };
+  printed = told.1;
+}))
 
 -- what was told of a text that is no session's
-pub refused_at : (view : View) (spelled : List ℕ) (source source' sink sink' : Option (List ℕ)) (status : ℕ) → TakesAll source source' spelled
-    → length spelled ≤ 4194304 → Tells view spelled sink sink' status → status ≡ 5 → IsRefused source source' sink sink'
-refused_at view spelled source source' sink sink' status taken within (inl told) five = none 0 5 (omega arith) (sym told.0 ∙ five)
-refused_at view spelled source source' sink sink' status taken within (inr told) five = record {
+pub refused_at : (reading : Reading) (spelled : List ℕ) (source source' sink sink' : Option (List ℕ)) (status : ℕ) → TakesAll source source' spelled
+    → length spelled ≤ 4194304 → Tells reading spelled sink sink' status → status ≡ 5 → IsRefused source source' sink sink'
+refused_at (Session view) spelled source source' sink sink' status taken within (inl told) five = none 0 5 (omega arith) (sym told.0 ∙ five)
+refused_at (Session view) spelled source source' sink sink' status taken within (inr told) five = record {
   spelled = spelled;
   read = record { taken = taken; within = within };
   bad = told.1;
 }
+refused_at Plain spelled source source' sink sink' status taken within told five = none 0 5 (omega arith) (sym told.0 ∙ five)
 
 -- the status that is due of a text
-pub due_of_text : (view : View) (words : List (List ℕ)) (spelled bytes : List ℕ) (source source' sink sink' : Option (List ℕ)) (status : ℕ)
-    → words ≡ word_of view ∷ [] → TakesAll source source' bytes → length bytes ≤ 4194304 → Tells view bytes sink sink' status
+due_of_session : (view : View) (words : List (List ℕ)) (bytes : List ℕ) (sink sink' : Option (List ℕ)) (status : ℕ)
+    → IsAsked view words → length bytes ≤ 4194304 → TellsSession view bytes sink sink' status → IsDueStatus words bytes status
+due_of_session view words bytes sink sink' status e within (inl shown) = record {
+  bad_words = λ other. absurd (other (inl (inl (showing_of view words e))));
+  answered = λ asked. absurd (reading_or_answered words (inl (showing_of view words e)) asked);
+  session = λ asked few some. shown.0;
+  no_session = λ asked few no. absurd (no (shown.1.session, shown.1.text));
+  plain = λ asked few. absurd (showing_or_plain words (showing_of view words e) asked);
+  too_long = λ asked more. absurd (omega (arith, more, within));
+}
+due_of_session view words bytes sink sink' status e within (inr bad) = record {
+  bad_words = λ other. absurd (other (inl (inl (showing_of view words e))));
+  answered = λ asked. absurd (reading_or_answered words (inl (showing_of view words e)) asked);
+  session = λ asked few some. absurd (bad.1.first.no_session some);
+  no_session = λ asked few no. bad.0;
+  plain = λ asked few. absurd (showing_or_plain words (showing_of view words e) asked);
+  too_long = λ asked more. absurd (omega (arith, more, within));
+}
+
+due_of_reading : (reading : Reading) (words : List (List ℕ)) (bytes : List ℕ) (sink sink' : Option (List ℕ)) (status : ℕ)
+    → IsReadSo reading words → length bytes ≤ 4194304 → Tells reading bytes sink sink' status → IsDueStatus words bytes status
+due_of_reading (Session view) words bytes sink sink' status e within told = due_of_session view words bytes sink sink' status e within told
+due_of_reading Plain words bytes sink sink' status e within told = record {
+  bad_words = λ other. absurd (other (inl (inr e)));
+  answered = λ asked. absurd (reading_or_answered words (inr e) asked);
+  session = λ asked few some. absurd (showing_or_plain words asked e);
+  no_session = λ asked few no. absurd (showing_or_plain words asked e);
+  plain = λ asked few. told.0;
+  too_long = λ asked more. absurd (omega (arith, more, within));
+}
+
+pub due_of_text : (reading : Reading) (words : List (List ℕ)) (spelled bytes : List ℕ) (source source' sink sink' : Option (List ℕ)) (status : ℕ)
+    → IsReadSo reading words → TakesAll source source' bytes → length bytes ≤ 4194304 → Tells reading bytes sink sink' status
     → source ≡ Some spelled → IsStopped status ⊎ IsDueStatus words spelled status
-due_of_text view words spelled bytes source source' sink sink' status e taken within told is =
+due_of_text reading words spelled bytes source source' sink sink' status e taken within told is =
     let all : TakesAll (Some spelled) source' bytes = subst (λ (o : Option (List ℕ)). TakesAll o source' bytes) is taken in
     let Q : List ℕ → Type 0 = λ l. IsStopped status ⊎ IsDueStatus words l status in
-    subst Q (sym all.0) (inr (by_told told))
-  where
-    by_told : Tells view bytes sink sink' status → IsDueStatus words bytes status
-    by_told (inl shown) = record {
-      bad_words = λ other. absurd (other (command_of view words e));
-      session = λ command few some. shown.0;
-      no_session = λ command few no. absurd (no (shown.1.session, shown.1.text));
-      too_long = λ command more. absurd (omega (arith, more, within));
-    }
-    by_told (inr bad) = record {
-      bad_words = λ other. absurd (other (command_of view words e));
-      session = λ command few some. absurd (bad.1.first.no_session some);
-      no_session = λ command few no. bad.0;
-      too_long = λ command more. absurd (omega (arith, more, within));
-    }
+    subst Q (sym all.0) (inr (due_of_reading reading words bytes sink sink' status e within told))
 
 -- a front of what is due of a text
-pub front_of_text : (view : View) (words : List (List ℕ)) (spelled : List ℕ) (source source' sink sink' : Option (List ℕ))
-    → words ≡ word_of view ∷ [] → TakesAll source source' spelled → length spelled ≤ 4194304 → TellsFront view spelled sink sink'
-    → GainsFront words source source' sink sink'
-front_of_text view words spelled source source' sink sink' e taken within (inl cut) = inr (inr (inr (record {
+front_of_reading : (reading : Reading) (words : List (List ℕ)) (spelled : List ℕ) (source source' sink sink' : Option (List ℕ))
+    → IsReadSo reading words → TakesAll source source' spelled → length spelled ≤ 4194304 → TellsFront reading spelled sink sink'
+    → GainsFrontOfSource words source source' sink sink'
+front_of_reading (Session view) words spelled source source' sink sink' e taken within (inl cut) = inr (inr (inl (record {
+  asked = showing_of view words e;
   spelled = spelled;
   read = record { taken = taken; within = within };
   session = cut.0;
   lint = λ f. cut.1 (is_lint view words e f);
 })))
-front_of_text view words spelled source source' sink sink' e taken within (inr cut) = inr (inr (inl (record {
+front_of_reading (Session view) words spelled source source' sink sink' e taken within (inr cut) = inr (inl (record {
   spelled = spelled;
   read = record { taken = taken; within = within };
   bad = cut;
+}))
+front_of_reading Plain words spelled source source' sink sink' e taken within cut = inr (inr (inr (record {
+  asked = e;
+  spelled = spelled;
+  read = record { taken = taken; within = within };
+  part = cut;
 })))
 
+pub front_of_text : (reading : Reading) (words : List (List ℕ)) (spelled : List ℕ) (source source' sink sink' : Option (List ℕ))
+    → IsReadSo reading words → TakesAll source source' spelled → length spelled ≤ 4194304 → TellsFront reading spelled sink sink'
+    → GainsFront words source source' sink sink'
+front_of_text reading words spelled source source' sink sink' e taken within cut =
+    inl (reading_of reading words e, front_of_reading reading words spelled source source' sink sink' e taken within cut)
+
 -- the status that is due of too many bytes
-pub due_too_long : (view : View) (words : List (List ℕ)) (spelled : List ℕ) (source source' : Option (List ℕ)) (status : ℕ)
-    → words ≡ word_of view ∷ [] → TakesTooMany 4194304 source source' → (status ≡ 6) ⊎ (status ≡ 4) → source ≡ Some spelled
+pub due_too_long : (reading : Reading) (words : List (List ℕ)) (spelled : List ℕ) (source source' : Option (List ℕ)) (status : ℕ)
+    → IsReadSo reading words → TakesTooMany 4194304 source source' → (status ≡ 6) ⊎ (status ≡ 4) → source ≡ Some spelled
     → IsStopped status ⊎ IsDueStatus words spelled status
-due_too_long view words spelled source source' status e taken (inr four) is = inl (inr (inr four))
-due_too_long view words spelled source source' status e taken (inl six) is =
+due_too_long reading words spelled source source' status e taken (inr four) is = inl (inr (inr four))
+due_too_long reading words spelled source source' status e taken (inl six) is =
     let all : TakesTooMany 4194304 (Some spelled) source' = subst (λ (o : Option (List ℕ)). TakesTooMany 4194304 o source') is taken in
     let more : 4194304 < length spelled = all.0 in
     inr (record {
-      bad_words = λ other. absurd (other (command_of view words e));
-      session = λ command few some. absurd (omega (arith, more, few));
-      no_session = λ command few no. absurd (omega (arith, more, few));
-      too_long = λ command beyond. six;
+      bad_words = λ other. absurd (other (inl (reading_of reading words e)));
+      answered = λ asked. absurd (reading_or_answered words (reading_of reading words e) asked);
+      session = λ asked few some. absurd (omega (arith, more, few));
+      no_session = λ asked few no. absurd (omega (arith, more, few));
+      plain = λ asked few. absurd (omega (arith, more, few));
+      too_long = λ asked beyond. six;
     })
+
+-- the status that is due where no source is read
+pub due_answered : (words : List (List ℕ)) (spelled : List ℕ) (status : ℕ) → IsAnswered words → (status ≡ 0) ⊎ (status ≡ 4)
+    → IsStopped status ⊎ IsDueStatus words spelled status
+due_answered words spelled status e (inr four) = inl (inr (inr four))
+due_answered words spelled status e (inl zero) = inr (record {
+  bad_words = λ other. absurd (other (inr e));
+  answered = λ asked. zero;
+  session = λ asked few some. absurd (reading_or_answered words (inl asked) e);
+  no_session = λ asked few no. absurd (reading_or_answered words (inl asked) e);
+  plain = λ asked few. absurd (reading_or_answered words (inr asked) e);
+  too_long = λ asked more. absurd (reading_or_answered words asked e);
+})
+
+-- and where the words are bad
+pub due_bad : (words : List (List ℕ)) (spelled : List ℕ) (status : ℕ) → (IsCommand words → ⊥) → (status ≡ 2) ⊎ (status ≡ 4)
+    → IsStopped status ⊎ IsDueStatus words spelled status
+due_bad words spelled status bad (inr four) = inl (inr (inr four))
+due_bad words spelled status bad (inl two) = inr (record {
+  bad_words = λ other. two;
+  answered = λ asked. absurd (bad (inr asked));
+  session = λ asked few some. absurd (bad (inl (inl asked)));
+  no_session = λ asked few no. absurd (bad (inl (inl asked)));
+  plain = λ asked few. absurd (bad (inl (inr asked)));
+  too_long = λ asked more. absurd (bad (inl asked));
+})
+
+-- the text of a session that is known
+pub text_of : {E : Type 0} (told : Result (List ℕ) E) (x y : Outline) → x ≡ y → IfOk told (λ text. text ≡ session_text x)
+    → IfOk told (λ text. text ≡ session_text y)
+text_of told x y e is = let P : Outline → Type 0 = λ o. IfOk told (λ text. text ≡ session_text o) in subst P e is
+
+-- a front of the text of a drill's session
+pub drill_front : (words : List (List ℕ)) (number : ℕ) (source source' sink sink' : Option (List ℕ)) (text told : List ℕ)
+    → IsDrill words number × (number ≤ 999999) → told ≡ text → text ≡ session_text (drill_session number) → AppendsPart sink sink' told
+    → GainsFront words source source' sink sink'
+drill_front words number source source' sink sink' text told asked same is part =
+    let P : List ℕ → Type 0 = λ t. AppendsPart sink sink' t in
+    inr (inr (inl (record { number = number; asked = asked.0; part = subst P (same ∙ is) part })))

@@ -1,5 +1,9 @@
 -- What the statuses of the top call mean. A source's bytes and a sink's are spoken of where they are told.
-use Rattle.std.specs.Prelude.{◌≡◌, ◌⊎◌, ℕ, ◌≤◌, ◌<◌, List, [], ◌∷◌, length, Option, codes}
+use Rattle.std.specs.Prelude.{◌≡◌, ◌⊎◌, ℕ, ◌≤◌, ◌<◌, List, length, Option, codes}
+use Rattle.mx_drill.specs.Drills.{drill_session}
+use Rattle.mx_commands.specs.Commands.{IsLint, IsLines, IsPicture, IsPlain, IsDrill, IsHelp, IsShowing, IsReading, IsAnswered, IsCommand}
+use Rattle.mx_commands.specs.PlainTexts.{plain_text}
+use Rattle.mx_commands.specs.Usage.{usage, refusal}
 use Rattle.mx_io.specs.Bytes.{TakesAll, TakesTooMany, Appends, AppendsPart}
 use Rattle.mx_transcript.specs.Runs.{IsRunOf}
 use Rattle.mx_transcript.specs.Transcripts.{Step}
@@ -7,13 +11,9 @@ use Rattle.mx_lint.specs.Diagnoses.{IsAbout}
 use Rattle.mx_picture.specs.Drawings.{GainsDrawing}
 use Rattle.mx_script.specs.FirstBadLine.{IsFirstBad}
 use Rattle.mx_script.specs.Sessions.{Outline}
-use Rattle.mx_script.specs.SessionTexts.{IsText, IsSomeSession}
+use Rattle.mx_script.specs.SessionTexts.{IsText, IsSomeSession, session_text}
 use Rattle.mx_show.specs.Lines.{GainsLines}
 use Rattle.mx_state.specs.declared.journal.Entry as journaled
-
--- the words of a command
-abbrev pub IsCommand : List (List ℕ) → Type 0
-IsCommand words = (words ≡ codes "lint" ∷ []) ⊎ ((words ≡ codes "lines" ∷ []) ⊎ (words ≡ codes "picture" ∷ []))
 
 -- at most so many bytes are read
 abbrev pub most_bytes : ℕ
@@ -41,16 +41,36 @@ pub record IsDrawnRun (x : Outline) (sink sink' : Option (List ℕ)) : Type 0 wh
 -- what a command shows of a session: that it is one, its run line by line, or drawn
 abbrev pub Shows : List (List ℕ) → Outline → Option (List ℕ) → Option (List ℕ) → Type 0
 Shows words x sink sink' =
-    ((words ≡ codes "lint" ∷ []) × Appends sink sink' (codes "good\n"))
-    ⊎ (((words ≡ codes "lines" ∷ []) × IsToldRun x sink sink') ⊎ ((words ≡ codes "picture" ∷ []) × IsDrawnRun x sink sink'))
+    (IsLint words × Appends sink sink' (codes "good\n"))
+    ⊎ ((IsLines words × IsToldRun x sink sink') ⊎ (IsPicture words × IsDrawnRun x sink sink'))
 
--- status 0: the source held the text of a session, and this was shown of it
+-- under `lint`, `lines` and `picture`: the source held the text of a session, and this was shown of it
 pub record IsShown (words : List (List ℕ)) (source source' sink sink' : Option (List ℕ)) : Type 0 where
   pub spelled : List ℕ
   pub read : IsRead source source' spelled
   pub session : Outline
   pub text : IsText spelled session
   pub shown : Shows words session sink sink'
+
+-- under `plain`: the source held a text, and the sink gained it without its titles
+pub record IsPrintedPlain (words : List (List ℕ)) (source source' sink sink' : Option (List ℕ)) : Type 0 where
+  pub asked : IsPlain words
+  pub spelled : List ℕ
+  pub read : IsRead source source' spelled
+  pub printed : Appends sink sink' (plain_text spelled)
+
+-- under `drill N`: the sink gained the text of the session of that number
+pub record IsPrintedDrill (words : List (List ℕ)) (sink sink' : Option (List ℕ)) : Type 0 where
+  pub number : ℕ
+  pub asked : IsDrill words number
+  pub printed : Appends sink sink' (session_text (drill_session number))
+
+-- status 0
+abbrev pub IsDone : List (List ℕ) → Option (List ℕ) → Option (List ℕ) → Option (List ℕ) → Option (List ℕ) → Type 0
+IsDone words source source' sink sink' =
+    IsShown words source source' sink sink'
+    ⊎ (IsPrintedPlain words source source' sink sink'
+    ⊎ (IsPrintedDrill words sink sink' ⊎ (IsHelp words × Appends sink sink' usage)))
 
 -- the sink gained words about this line
 pub record IsToldOf (sink sink' : Option (List ℕ)) (number : ℕ) : Type 0 where
@@ -89,17 +109,41 @@ pub record IsRefusalCut (source source' sink sink' : Option (List ℕ)) : Type 0
 
 -- the source held the text of a session; under `lint` the sink gained a front of what is due
 pub record IsShowingCut (words : List (List ℕ)) (source source' sink sink' : Option (List ℕ)) : Type 0 where
+  pub asked : IsShowing words
   pub spelled : List ℕ
   pub read : IsRead source source' spelled
   pub session : IsSomeSession spelled
-  pub lint : words ≡ codes "lint" ∷ [] → AppendsPart sink sink' (codes "good\n")
+  pub lint : IsLint words → AppendsPart sink sink' (codes "good\n")
+
+-- the source held a text, and the sink gained a front of what is left of it
+pub record IsPlainCut (words : List (List ℕ)) (source source' sink sink' : Option (List ℕ)) : Type 0 where
+  pub asked : IsPlain words
+  pub spelled : List ℕ
+  pub read : IsRead source source' spelled
+  pub part : AppendsPart sink sink' (plain_text spelled)
+
+-- the sink gained a front of the text of the session of that number
+pub record IsDrillCut (words : List (List ℕ)) (sink sink' : Option (List ℕ)) : Type 0 where
+  pub number : ℕ
+  pub asked : IsDrill words number
+  pub part : AppendsPart sink sink' (session_text (drill_session number))
+
+-- a front of what is due of the source
+abbrev pub GainsFrontOfSource : List (List ℕ) → Option (List ℕ) → Option (List ℕ) → Option (List ℕ) → Option (List ℕ) → Type 0
+GainsFrontOfSource words source source' sink sink' =
+    (TakesTooMany most_bytes source source' × AppendsPart sink sink' (codes "too long\n"))
+    ⊎ (IsRefusalCut source source' sink sink' ⊎ (IsShowingCut words source source' sink sink' ⊎ IsPlainCut words source source' sink sink'))
+
+-- a front of what is due on the words alone
+abbrev pub GainsFrontOfAnswer : List (List ℕ) → Option (List ℕ) → Option (List ℕ) → Type 0
+GainsFrontOfAnswer words sink sink' =
+    ((IsCommand words → ⊥) × AppendsPart sink sink' refusal)
+    ⊎ (IsDrillCut words sink sink' ⊎ (IsHelp words × AppendsPart sink sink' usage))
 
 -- Status 4: a front of what is due was written, and not all of it.
 abbrev pub GainsFront : List (List ℕ) → Option (List ℕ) → Option (List ℕ) → Option (List ℕ) → Option (List ℕ) → Type 0
 GainsFront words source source' sink sink' =
-    ((IsCommand words → ⊥) × AppendsPart sink sink' (codes "bad words\n"))
-    ⊎ ((TakesTooMany most_bytes source source' × AppendsPart sink sink' (codes "too long\n"))
-    ⊎ (IsRefusalCut source source' sink sink' ⊎ IsShowingCut words source source' sink sink'))
+    (IsReading words × GainsFrontOfSource words source source' sink sink') ⊎ GainsFrontOfAnswer words sink sink'
 
 -- Statuses 1, 3 and 4: memory ran out, or the source or the sink failed.
 abbrev pub IsStopped : ℕ → Type 0
@@ -108,6 +152,8 @@ IsStopped status = (status ≡ 1) ⊎ ((status ≡ 3) ⊎ (status ≡ 4))
 -- The status that the words of a command and the bytes of its source ask for.
 pub record IsDueStatus (words : List (List ℕ)) (spelled : List ℕ) (status : ℕ) : Type 0 where
   pub bad_words : (IsCommand words → ⊥) → status ≡ 2
-  pub session : IsCommand words → length spelled ≤ most_bytes → IsSomeSession spelled → status ≡ 0
-  pub no_session : IsCommand words → length spelled ≤ most_bytes → (IsSomeSession spelled → ⊥) → status ≡ 5
-  pub too_long : IsCommand words → most_bytes < length spelled → status ≡ 6
+  pub answered : IsAnswered words → status ≡ 0
+  pub session : IsShowing words → length spelled ≤ most_bytes → IsSomeSession spelled → status ≡ 0
+  pub no_session : IsShowing words → length spelled ≤ most_bytes → (IsSomeSession spelled → ⊥) → status ≡ 5
+  pub plain : IsPlain words → length spelled ≤ most_bytes → status ≡ 0
+  pub too_long : IsReading words → most_bytes < length spelled → status ≡ 6

@@ -1,17 +1,27 @@
 //! The top call: what the program does with the words of its command line.
 
-ghost use Rattle.std.specs.Prelude.{◌≡◌, ◌≢◌, ◌⊎◌, ◌≤◌, ◌∷◌, ℕ, List, [], length, map, Some, IfSome, IfNone, IfOk, OnOk, IsErrOf, codes};
+ghost use Rattle.std.specs.Prelude.{◌≡◌, ◌≢◌, ◌⊎◌, ◌≤◌, ℕ, List, length, map, Some, IfOk, OnOk, IsErrOf, codes};
 ghost use Rattle.std.specs.String.{string_bytes};
+ghost use Rattle.mx_drill.specs.Drills.{drill_session};
 ghost use Rattle.mx_io.specs.Bytes.{Appends, AppendsPart, TakesTooMany};
 ghost use Rattle.mx_io.specs.Faults.{Rose};
+ghost use Rattle.mx_script.specs.SessionTexts.{session_text};
 ghost use Rattle.mx_transcript.specs.Runs.{IsRunOf};
-ghost use Rattle.mx_explain.specs.Statuses.{IsCommand, IsShown, IsRefused, IsToldOf, IsCutOffOf, GainsFront, IsStopped, IsDueStatus};
-ghost use Rattle.mx_explain.specs.Views.{word_of, ShowsOf, Tells, CutsOff, TellsFront};
+ghost use Rattle.mx_commands.specs.Commands.{IsReading, IsAnswered, IsCommand};
+ghost use Rattle.mx_commands.specs.PlainTexts.{plain_text};
+ghost use Rattle.mx_explain.specs.Statuses.{IsDone, IsRefused, IsToldOf, IsCutOffOf, GainsFront, IsStopped, IsDueStatus};
+ghost use Rattle.mx_commands.specs.Usage.{usage, refusal};
+ghost use Rattle.mx_explain.specs.Views.{ShowsOf, TellsSession, Tells, CutsOff, TellsFrontOfSession, TellsFront};
 
+use mx_commands::{
+    Command, Reading, Turns, View, chosen_order, named_order, plain_text, refusal, usage,
+};
+use mx_drill::{session_of, session_text};
 use mx_io::{ReadError, Sink, Source, read_all, write_all};
 use mx_lint::{Diagnosis, Finding, lint};
+use mx_list::Bytes;
 use mx_picture::show_picture;
-use mx_proc::{NoGate, run};
+use mx_proc::{NoGate, run, run_in_order};
 use mx_script::Session;
 use mx_show::{ShowError, show_lines};
 use mx_state::Journal;
@@ -41,23 +51,19 @@ const BAD_LINE: u8 = 5;
 /// The status of a text that is too long.
 const TOO_LONG: u8 = 6;
 
-/// What is shown of a session.
-#[derive(Clone, Copy)]
-enum View {
-    Lint,
-    Lines,
-    Picture,
-}
-
-/// Does what the one word of the command line asks for, and answers the status with which the program is to end. The source is
-/// read to its end as the text of a session. `lint` says that it is one, or explains the first bad line; `lines` runs the session
-/// and shows line by line what it came to; `picture` draws the same run. The call may wait for the threads of the run.
+/// Does what the words of the command line ask for, and answers the status with which the program is to end. `lint`, `lines` and
+/// `picture` read the source to its end as the text of a session: `lint` says that it is one, or explains the first bad line; `lines`
+/// runs the session and shows line by line what it came to; `picture` draws the same run. Behind `lines` and `picture` may stand
+/// 1 to 4,096 process numbers, or `seed N`, which chooses as many: the lines of the processes are then made in that order, on one
+/// thread. Else each process has a thread of its own. `plain` reads the source to its end and prints it without the lines that begin
+/// with `#`; `drill N`, with N of 1 to 6 decimal digits, prints the session of that drill, and `help` how to use the program. The call
+/// may wait for the threads of a run.
 ///
 /// | Status | Comes | Written |
 /// |---|---|---|
-/// | 0 | the text is a session's | `good`, the lines, or the drawing |
+/// | 0 | the text is a session's, or is not to be one, or none is read | `good`, the lines, the drawing, or what is printed |
 /// | 1 | memory ran out | a part of it, or nothing |
-/// | 2 | the words are not accepted; the source is not read | `bad words` |
+/// | 2 | the words are not accepted; the source is not read | `bad words`, and how to use the program |
 /// | 3 | the source failed | nothing |
 /// | 4 | the sink failed | a front of what was due |
 /// | 5 | the bytes are no session | the first bad line, explained |
@@ -69,9 +75,9 @@ pub fn show<R: Threads + Wait + Sync, S: Source, K: Sink>(
     source: &mut S,
     sink: &mut K,
 ) -> u8
-    // Status 0: the source was read to its end, its bytes are the text of a session, and what is due was shown of it: `good`, or a
-    // legal run line by line, or one drawn.
-    ensures done { result ≡ 0 → IsShown (map string_bytes words.now) (S.left source.old) (S.left source.new) (K.out sink.old) (K.out sink.new) }
+    // Status 0: what the words ask for was written. Where the source is read, it was read to its end, and its bytes are the text of a
+    // session, of which `good`, or a legal run line by line, or one drawn was shown; or the text was printed without its titles.
+    ensures done { result ≡ 0 → IsDone (map string_bytes words.now) (S.left source.old) (S.left source.new) (K.out sink.old) (K.out sink.new) }
 
     // Status 5: its bytes are the text of none, and the line that is named is the first bad one.
     ensures bad_line { result ≡ 5 → IsRefused (S.left source.old) (S.left source.new) (K.out sink.old) (K.out sink.new) }
@@ -80,10 +86,14 @@ pub fn show<R: Threads + Wait + Sync, S: Source, K: Sink>(
     ensures too_long { result ≡ 6 → TakesTooMany 4194304 (S.left source.old) (S.left source.new) }
     ensures too_long_told { result ≡ 6 → Appends (K.out sink.old) (K.out sink.new) (codes "too long\n") }
 
-    // Status 2, or a failing sink, where the words are not accepted; the source is not touched.
+    // Status 2, or a failing sink, where the words are not accepted. They are told to be bad, and how to use the program.
     ensures refused { (IsCommand (map string_bytes words.now) → ⊥) → (result ≡ 2) ⊎ (result ≡ 4) }
-    ensures unread { (IsCommand (map string_bytes words.now) → ⊥) → source.new ≡ source.old }
     ensures bad_words { result ≡ 2 → IsCommand (map string_bytes words.now) → ⊥ }
+    ensures usage { result ≡ 2 → Appends (K.out sink.old) (K.out sink.new) refusal }
+
+    // The source is touched only by the commands that read it. Those that do not want memory and the sink alone.
+    ensures unread { (IsReading (map string_bytes words.now) → ⊥) → source.new ≡ source.old }
+    ensures answered { IsAnswered (map string_bytes words.now) → (result ≡ 0) ⊎ ((result ≡ 1) ⊎ (result ≡ 4)) }
 
     // At status 1 neither end had failed.
     ensures unfailed { result ≡ 1 → (S.faults source.new ≡ S.faults source.old) × (K.faults sink.new ≡ K.faults sink.old) }
@@ -99,18 +109,23 @@ pub fn show<R: Threads + Wait + Sync, S: Source, K: Sink>(
     ensures due { (spelled : List ℕ) → S.left source.old ≡ Some spelled
         → IsStopped result ⊎ IsDueStatus (map string_bytes words.now) spelled result }
 {
-    let Some(view) = View::read(words) else {
-        return told(sink, b"bad words\n", BAD_WORDS);
-    };
-    match read_all(alloc, source, MOST_BYTES) {
-        Ok(bytes) => match view.tell(rt, alloc, &bytes, sink) {
-            Ok(status) => status,
-            Err(ShowError::Fault) => SINK_FAULT,
-            Err(ShowError::Memory) => OUT_OF_MEMORY,
+    match Command::read(words) {
+        Command::Read(reading) => match read_all(alloc, source, MOST_BYTES) {
+            Ok(bytes) => match tell(reading, rt, alloc, &bytes, sink) {
+                Ok(status) => status,
+                Err(ShowError::Fault) => SINK_FAULT,
+                Err(ShowError::Memory) => OUT_OF_MEMORY,
+            },
+            Err(ReadError::TooLong) => told(sink, b"too long\n", TOO_LONG),
+            Err(ReadError::Fault) => SOURCE_FAULT,
+            Err(ReadError::Memory) => OUT_OF_MEMORY,
         },
-        Err(ReadError::TooLong) => told(sink, b"too long\n", TOO_LONG),
-        Err(ReadError::Fault) => SOURCE_FAULT,
-        Err(ReadError::Memory) => OUT_OF_MEMORY,
+        Command::Drill(number) => match drill_text(alloc, number) {
+            Ok(text) => told(sink, text.items(), 0),
+            Err(AllocError) => OUT_OF_MEMORY,
+        },
+        Command::Help => told(sink, usage(), 0),
+        Command::Other => told(sink, refusal(), BAD_WORDS),
     }
 }
 
@@ -128,88 +143,123 @@ fn told<K: Sink>(sink: &mut K, text: &[u8], status: u8) -> u8
     }
 }
 
-impl View {
-    // What these words ask for, none where they are not accepted.
-    fn read(words: &[String]) -> Option<View>
-        ensures none { IfNone result (IsCommand (map string_bytes words.now) → ⊥) }
-        ensures view { IfSome result (λ view. map string_bytes words.now ≡ word_of view ∷ []) }
-    {
-        let [word] = words else {
-            return None;
-        };
-        match word.as_str() {
-            "lint" => Some(View::Lint),
-            "lines" => Some(View::Lines),
-            "picture" => Some(View::Picture),
-            _ => None,
-        }
-    }
+// The text of the session of this drill.
+fn drill_text(alloc: Global, number: u32) -> Result<Bytes, AllocError>
+    requires { number ≤ 999999 }
+    ensures { IfOk result (λ text. text ≡ session_text (drill_session number)) }
+{
+    let session = session_of(alloc, number)?;
+    session_text(alloc, &session)
+}
 
-    // Tells of a text, and answers the status: 0 where it is a session's, 5 where it is not.
-    fn tell<R: Threads + Wait + Sync, K: Sink>(
-        self,
-        rt: &R,
-        alloc: Global,
-        bytes: &[u8],
-        sink: &mut K,
-    ) -> Result<u8, ShowError>
-        requires { length bytes.now ≤ 4194304 }
-        ensures told { IfOk result (Tells self bytes.now (K.out sink.old) (K.out sink.new)) }
-        ensures front { IsErrOf result ShowError.Fault → TellsFront self bytes.now (K.out sink.old) (K.out sink.new) }
-        ensures cause { IsErrOf result ShowError.Fault → Rose (K.faults sink.old) (K.faults sink.new) }
-        ensures only { (IsErrOf result ShowError.Fault → ⊥) → K.faults sink.new ≡ K.faults sink.old }
-    {
-        match lint(alloc, bytes)? {
-            Finding::Bad(diagnosis) => {
-                tell_bad_line(alloc, &diagnosis, sink)?;
-                Ok(BAD_LINE)
-            }
-            Finding::Good(session) => {
-                self.show(rt, alloc, &session, sink)?;
-                Ok(0)
-            }
-        }
+// Tells of a text, and answers the status: 0, and 5 where it is to be a session's and is none.
+fn tell<R: Threads + Wait + Sync, K: Sink>(
+    reading: Reading<'_>,
+    rt: &R,
+    alloc: Global,
+    bytes: &[u8],
+    sink: &mut K,
+) -> Result<u8, ShowError>
+    requires { length bytes.now ≤ 4194304 }
+    ensures told { IfOk result (Tells reading.entry bytes.now (K.out sink.old) (K.out sink.new)) }
+    ensures front { IsErrOf result ShowError.Fault → TellsFront reading.entry bytes.now (K.out sink.old) (K.out sink.new) }
+    ensures cause { IsErrOf result ShowError.Fault → Rose (K.faults sink.old) (K.faults sink.new) }
+    ensures only { (IsErrOf result ShowError.Fault → ⊥) → K.faults sink.new ≡ K.faults sink.old }
+{
+    match reading {
+        Reading::Session(view) => tell_session(view, rt, alloc, bytes, sink),
+        Reading::Plain => print_plain(alloc, bytes, sink),
     }
+}
 
-    // Shows a session.
-    fn show<R: Threads + Wait + Sync, K: Sink>(
-        self,
-        rt: &R,
-        alloc: Global,
-        session: &Session,
-        sink: &mut K,
-    ) -> Result<(), ShowError>
-        ensures shown { OnOk result (ShowsOf self session.now (K.out sink.old) (K.out sink.new)) }
-        ensures front { IsErrOf result ShowError.Fault → CutsOff self (K.out sink.old) (K.out sink.new) }
-        ensures cause { IsErrOf result ShowError.Fault → Rose (K.faults sink.old) (K.faults sink.new) }
-        ensures only { (IsErrOf result ShowError.Fault → ⊥) → K.faults sink.new ≡ K.faults sink.old }
-    {
-        match self {
-            View::Lint => {
-                write_all(sink, b"good\n")?;
-                Ok(())
-            }
-            View::Lines => {
-                let (journal, transcripts) = run_alone(rt, alloc, session)?;
-                show_lines(alloc, session, &journal, &transcripts, sink)
-            }
-            View::Picture => {
-                let (journal, transcripts) = run_alone(rt, alloc, session)?;
-                show_picture(alloc, session, &journal, &transcripts, sink)
-            }
+// Prints a text without its titles.
+fn print_plain<K: Sink>(alloc: Global, bytes: &[u8], sink: &mut K) -> Result<u8, ShowError>
+    ensures told { IfOk result (λ status. (status ≡ 0) × Appends (K.out sink.old) (K.out sink.new) (plain_text bytes.now)) }
+    ensures front { IsErrOf result ShowError.Fault → AppendsPart (K.out sink.old) (K.out sink.new) (plain_text bytes.now) }
+    ensures cause { IsErrOf result ShowError.Fault → Rose (K.faults sink.old) (K.faults sink.new) }
+    ensures only { (IsErrOf result ShowError.Fault → ⊥) → K.faults sink.new ≡ K.faults sink.old }
+{
+    let text = plain_text(alloc, bytes)?;
+    write_all(sink, &text)?;
+    Ok(0)
+}
+
+// Tells of a text as a session, and answers the status: 0 where it is one's, 5 where it is not.
+fn tell_session<R: Threads + Wait + Sync, K: Sink>(
+    view: View<'_>,
+    rt: &R,
+    alloc: Global,
+    bytes: &[u8],
+    sink: &mut K,
+) -> Result<u8, ShowError>
+    requires { length bytes.now ≤ 4194304 }
+    ensures told { IfOk result (TellsSession view.entry bytes.now (K.out sink.old) (K.out sink.new)) }
+    ensures front { IsErrOf result ShowError.Fault → TellsFrontOfSession view.entry bytes.now (K.out sink.old) (K.out sink.new) }
+    ensures cause { IsErrOf result ShowError.Fault → Rose (K.faults sink.old) (K.faults sink.new) }
+    ensures only { (IsErrOf result ShowError.Fault → ⊥) → K.faults sink.new ≡ K.faults sink.old }
+{
+    match lint(alloc, bytes)? {
+        Finding::Bad(diagnosis) => {
+            tell_bad_line(alloc, &diagnosis, sink)?;
+            Ok(BAD_LINE)
+        }
+        Finding::Good(session) => {
+            show_session(view, rt, alloc, &session, sink)?;
+            Ok(0)
         }
     }
 }
 
-// Runs a session with no gate and no auditors.
+// Shows a session.
+fn show_session<R: Threads + Wait + Sync, K: Sink>(
+    view: View<'_>,
+    rt: &R,
+    alloc: Global,
+    session: &Session,
+    sink: &mut K,
+) -> Result<(), ShowError>
+    ensures shown { OnOk result (ShowsOf view.entry session.now (K.out sink.old) (K.out sink.new)) }
+    ensures front { IsErrOf result ShowError.Fault → CutsOff view.entry (K.out sink.old) (K.out sink.new) }
+    ensures cause { IsErrOf result ShowError.Fault → Rose (K.faults sink.old) (K.faults sink.new) }
+    ensures only { (IsErrOf result ShowError.Fault → ⊥) → K.faults sink.new ≡ K.faults sink.old }
+{
+    match view {
+        View::Lint => {
+            write_all(sink, b"good\n")?;
+            Ok(())
+        }
+        View::Lines(turns) => {
+            let (journal, transcripts) = run_alone(turns, rt, alloc, session)?;
+            show_lines(alloc, session, &journal, &transcripts, sink)
+        }
+        View::Picture(turns) => {
+            let (journal, transcripts) = run_alone(turns, rt, alloc, session)?;
+            show_picture(alloc, session, &journal, &transcripts, sink)
+        }
+    }
+}
+
+// Runs a session with no gate and no auditors, its processes taking turns so.
 fn run_alone<R: Threads + Wait + Sync>(
+    turns: Turns<'_>,
     rt: &R,
     alloc: Global,
     session: &Session,
 ) -> Result<(Journal, Transcripts), AllocError>
     ensures { IfOk result (λ ran. IsRunOf session.now ran.0 ran.1) }
 {
-    run(rt, alloc, session, &NoGate, &mut Vec::new(alloc))
+    let mut nobody = Vec::new(alloc);
+    match turns {
+        Turns::Threads => run(rt, alloc, session, &NoGate, &mut nobody),
+        Turns::Chosen(number) => {
+            let order = chosen_order(alloc, session, number)?;
+            run_in_order(rt, alloc, session, &order, &NoGate, &mut nobody)
+        }
+        Turns::Named(words) => {
+            let order = named_order(alloc, words)?;
+            run_in_order(rt, alloc, session, &order, &NoGate, &mut nobody)
+        }
+    }
 }
 
 // Explains the first bad line.

@@ -2,6 +2,7 @@ pub mod Answering
 pub mod Settles
 pub mod Comings
 pub mod Locks
+pub mod Replies
 pub mod Serves
 pub mod Announces
 pub mod Missing

@@ -10,13 +10,15 @@ use Rattle.mx_rule.specs.declared.views.NoteView.{NoteView}
 use Rattle.mx_rule.specs.declared.views.PassView.{PassView}
 use Rattle.mx_rule.specs.declared.views.SuperView.{SuperView}
 use Rattle.mx_script.specs.Sessions.{Outline}
+use Rattle.mx_state.specs.Told.{IsLinkedWithin}
 use Rattle.mx_state.specs.declared.journal.Entry as journaled
 use Rattle.mx_sup.specs.Entering.{HasEntered as HasBeenEntered}
-use Rattle.mx_sup.specs.Supervised.{Supervised, supervised}
+use Rattle.mx_sup.specs.Supervised.{Supervised, state_of, supervised}
 use Rattle.mx_ties.specs.Views.{Marked}
 use Rattle.mx_transcript.specs.Settings.{entry_at}
 use Rattle.mx_closing.specs.Views.{marked_in}
 use Rattle.mx_office.specs.Announcing.{Coming, IsAnnounced, announced_view}
+use Rattle.mx_office.specs.Replies.{IsReplyFor}
 use Rattle.mx_office.specs.Revoking.{IsListed}
 use Rattle.mx_office.specs.Serving.{HasEntered, HasGrown, IsServed, answer_of, told_to}
 use Rattle.mx_office.specs.declared.answers.Answer.{Answer}
@@ -28,6 +30,7 @@ use Rattle.mx_office.specs.declared.answers.EnterError.{EnterError}
 use Rattle.mx_office.specs.declared.answers.EnterError.TheVariants.{HistoryFull}
 use Rattle.std.specs.declared.alloc.AllocError.{AllocError}
 use Rattle.mx_office.proofs.Locks.{append_one, marked_length, marked_of}
+use Rattle.mx_office.proofs.Replies.{fits}
 
 append_none : {X : Type 0} (xs : List X) → xs ++ [] ≡ xs
 append_none [] = refl
@@ -98,6 +101,16 @@ module _ (s s' : Supervised) (p ring : ℕ) (request : Request) (number : ℕ)
   grown_journal found at = made.entry
       ∙ ap (λ (e : journaled.Entry). supervised s.session (s.journal ++ e ∷ [])) (sym (entry_found found at))
 
+  -- what is replied in its entry is a reply to the request, and names a place within bounds
+  pub fits_found : 1 ≤ p → (found : journaled.Entry) → entry_at s'.journal number ≡ Some found
+      → IsReplyFor request found.reply
+  fits_found some found at = subst (λ (e : journaled.Entry). IsReplyFor request e.reply) (sym (entry_found found at))
+      (fits (state_of s) p ring request some made.right.maker.0 made.reply made.right.reply)
+
+  pub linked_found : (found : journaled.Entry) → entry_at s'.journal number ≡ Some found → IsLinkedWithin found.reply
+  linked_found found at =
+      subst (λ (e : journaled.Entry). IsLinkedWithin e.reply) (sym (entry_found found at)) made.linked
+
   -- what is replied in its entry is answered
   pub served_by : (found : journaled.Entry) → entry_at s'.journal number ≡ Some found → (answer : Answer)
       → answer ≡ answer_of found.reply → IsServed s p ring request (record { number = number; answer = answer }) s'
@@ -112,11 +125,12 @@ pub entered_by : (x : Outline) (setup : List journaled.Entry) (v : SuperView jou
     → IsAnnounced e v o.view o'.view → o'.spare ≡ o.spare → o'.amount ≡ o.amount + 1
     → v.start ≡ length setup → v.start + length v.history ≡ v.length → served.number ≡ v.length + 1
     → e.entry ≡ record { process = o.view.process; ring = ring; request = request; reply = e.entry.reply }
+    → IsLinkedWithin e.entry.reply → IsReplyFor request e.entry.reply
     → served.answer ≡ answer_of e.entry.reply
     → ((n : ℕ) → IsChanged x (followed setup (marked_in v.history ++ record { entry = e.entry; mark = length o.view.trace } ∷ []))
     o.view.process n served.number → IsListed e.changes o.view.process n)
     → HasEntered x setup ring request served o o'
-entered_by x setup v e ring request served o o' told spare amount start counted number mine answer listed =
+entered_by x setup v e ring request served o o' told spare amount start counted number mine linked replied answer listed =
     let whole : marked_in o'.view.history
     ≡ marked_in v.history ++ record { entry = e.entry; mark = length o.view.trace } ∷ [] = ap marked_in told.history in
     record {
@@ -129,6 +143,8 @@ entered_by x setup v e ring request served o o' told spare amount start counted 
           (sym (marked_length v.history))
           ∙ slice_last (marked_in v.history) (record { entry = e.entry; mark = length o.view.trace });
       entry = mine;
+      linked = linked;
+      fits = replied;
       answered = answer;
       mark = refl;
       above = (let a = told.above in omega arith);

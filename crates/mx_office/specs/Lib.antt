@@ -5,6 +5,8 @@ pub mod Holding
 pub mod Locked
 pub mod Ends
 pub mod Serving
+pub mod Replies
 pub mod Revoking
 pub mod Settling
+pub mod Turning
 pub mod Waking

@@ -11,12 +11,14 @@ use Rattle.mx_request.specs.declared.replies.Reply.TheVariants as reply
 use Rattle.mx_request.specs.declared.requests.Request.{Request}
 use Rattle.mx_rule.specs.Shown.{all_told}
 use Rattle.mx_script.specs.Sessions.{Outline, limit_of}
+use Rattle.mx_state.specs.Told.{IsLinkedWithin}
 use Rattle.mx_state.specs.declared.journal.Entry as journaled
 use Rattle.mx_sup.specs.Entering.{HasEntered as HasBeenEntered}
 use Rattle.mx_sup.specs.Supervised.{Supervised}
 use Rattle.mx_ties.specs.Closed.{followed}
 use Rattle.mx_ties.specs.Views.{Marked}
 use Rattle.mx_transcript.specs.Misses.{IsChanged}
+use Rattle.mx_office.specs.Replies.{IsReplyFor}
 use Rattle.mx_office.specs.declared.answers.Answer.{Answer}
 use Rattle.mx_office.specs.declared.answers.Answer.TheVariants.{Refused, Known, Linked, Waiting, Other}
 use Rattle.mx_office.specs.declared.answers.Served.{Served}
@@ -62,8 +64,9 @@ pub record HasGrown (o o' : PassValue journaled.Entry) : Type 0 where
   pub spare : o'.spare ≡ o.spare
 
 -- The process made this request: the history that it was told of has the entry, with its reply, at its place, and with a
--- mark that counts what the process did. The number is above the floor that it had, which then has reached it; of each
--- own pair that the entry changed the process knows it settled. The share counts one entry more.
+-- mark that counts what the process did. The reply is one to this request, and a place to which a link leads is one that a
+-- pointer can name. The number is above the floor that it had, which then has reached it; of each own pair that the entry
+-- changed the process knows it settled. The share counts one entry more.
 pub record HasEntered (x : Outline) (setup : List journaled.Entry) (ring : ℕ) (request : Request) (served : Served)
     (o o' : PassValue journaled.Entry) : Type 0 where
   pub grown : HasGrown o o'
@@ -73,6 +76,8 @@ pub record HasEntered (x : Outline) (setup : List journaled.Entry) (ring : ℕ) 
   pub at : slice_get (marked_in o'.view.history) place ≡ Some marked
   pub entry : marked.entry
       ≡ record { process = o.view.process; ring = ring; request = request; reply = marked.entry.reply }
+  pub linked : IsLinkedWithin marked.entry.reply
+  pub fits : IsReplyFor request marked.entry.reply
   pub answered : served.answer ≡ answer_of marked.entry.reply
   pub mark : marked.mark ≡ length o.view.trace
   pub above : o.view.floor < served.number

@@ -79,13 +79,27 @@ pub struct Served {
 
 /// What became of a `block`.
 #[derive(Clone, Copy, Debug)]
-pub struct Blocked {
-    /// The number of its entry: none exactly where it met the journal at its limit.
-    pub entry: Option<u32>,
-    /// The number of the entry of `resume`: none exactly where `full` is set, or `block` was not answered `waiting`.
-    pub resume: Option<u32>,
-    /// Whether `block`, or after `waiting` the `resume`, met the journal at its limit and was not entered.
-    pub full: bool,
+pub enum Blocked {
+    /// It met the journal at its limit, and was not entered.
+    Shut,
+    /// It was entered, and answered with something else than `waiting`.
+    Answered(Served),
+    /// It was entered under this number, and answered `waiting`; then `resume` was entered, and answered so.
+    Resumed { entry: u32, resume: Served },
+    /// It was entered under this number, and answered `waiting`; then the journal was at its limit, and `resume` was not
+    /// entered.
+    CutShort { entry: u32 },
+}
+
+/// Why a `block` came to no end: memory was wanting, or the run is to end.
+#[derive(Clone, Copy, Debug, PartialEq, Eq, Error)]
+pub enum BlockError {
+    /// Nothing was entered.
+    #[error("out of memory")]
+    Memory,
+    /// It was entered under this number, and answered `waiting`.
+    #[error("out of memory, after the process was told to wait")]
+    Waiting { entry: u32 },
 }
 
 /// Why a request was not entered.

@@ -1,10 +1,11 @@
 //! A process that asks for a message sleeps until there is one, or nobody who could send one.
 
-ghost use Rattle.std.specs.Prelude.{◌≡◌, ◌⊎◌, ◌≤◌, IfOk, OnErr};
+ghost use Rattle.std.specs.Prelude.{◌≡◌, ◌≤◌, ℕ, Err, IfOk};
 ghost use Rattle.std.specs.Sync.Mutex.{mutex_guard_value};
 ghost use Rattle.mx_office.specs.Blocking.{HasBlocked, HasWaited, IsStuck};
+ghost use Rattle.mx_office.specs.declared.answers.BlockError.TheVariants as blocking;
 
-use crate::answers::{Blocked, EnterError};
+use crate::answers::{BlockError, Blocked, EnterError};
 use crate::locked::Locked;
 use crate::naming::Sitting;
 use crate::offices::Office;
@@ -13,23 +14,25 @@ use mx_desc::Pass;
 use mx_request::Request;
 use mx_sdw::Ring;
 use mx_state::Entry;
-use std::alloc::{AllocError, Global};
+use std::alloc::Global;
 use std::sync::{MutexGuard, Wait};
 
 impl<'a, B: Sitting> Office<'a, B> {
     /// The `block` of a process. Where it is answered `waiting` the process sleeps, with the lock given back, until
     /// `resume` would be answered otherwise or the journal is full, and then makes that `resume` in the same hold in which
     /// it woke. Each of the two is an entry as `enter` makes it. The error comes where memory was wanting or the run is to
-    /// end: the process is as it was, or was told to wait.
+    /// end: `Memory` where the process is as it was, and `Waiting` where it was told to wait.
     pub fn block<R: Wait>(
         &self,
         rt: &R,
         alloc: Global,
         pass: &mut Pass<Entry, B>,
         ring: Ring,
-    ) -> Result<Blocked, AllocError>
+    ) -> Result<Blocked, BlockError>
         ensures blocked { IfOk result (λ blocked. HasBlocked B.session B.setup ring blocked pass.old pass.new) }
-        ensures err { OnErr result ((pass.new ≡ pass.old) ⊎ HasWaited B.session B.setup ring pass.old pass.new) }
+        ensures memory { result ≡ Err blocking.Memory → pass.new ≡ pass.old }
+        ensures waiting { (entry : ℕ) → result ≡ Err (blocking.Waiting entry)
+            → HasWaited B.session B.setup ring entry pass.old pass.new }
     {
         let p = pass.process();
         let mut locked = self.lock.lock(rt);
@@ -37,40 +40,22 @@ impl<'a, B: Sitting> Office<'a, B> {
             Ok(served) if served.answer.is_waiting() => served.number,
             Ok(served) => {
                 self.let_go(locked, &Request::Block);
-                return Ok(Blocked {
-                    entry: Some(served.number),
-                    resume: None,
-                    full: false,
-                });
+                return Ok(Blocked::Answered(served));
             }
-            Err(EnterError::HistoryFull { .. }) => {
-                return Ok(Blocked {
-                    entry: None,
-                    resume: None,
-                    full: true,
-                });
-            }
-            Err(EnterError::Memory) => return Err(AllocError),
+            Err(EnterError::HistoryFull { .. }) => return Ok(Blocked::Shut),
+            Err(EnterError::Memory) => return Err(BlockError::Memory),
         };
         // The entry may have filled the journal.
         self.bells
             .ring(Woken::by(&Request::Block, locked.is_full()));
         let mut locked = self.sleep(rt, locked, p);
         match locked.resume(rt, alloc, pass, self.shared(), ring) {
-            Ok(served) => {
+            Ok(resume) => {
                 self.let_go(locked, &Request::Resume);
-                Ok(Blocked {
-                    entry: Some(entry),
-                    resume: Some(served.number),
-                    full: false,
-                })
+                Ok(Blocked::Resumed { entry, resume })
             }
-            Err(EnterError::HistoryFull { .. }) => Ok(Blocked {
-                entry: Some(entry),
-                resume: None,
-                full: true,
-            }),
-            Err(EnterError::Memory) => Err(AllocError),
+            Err(EnterError::HistoryFull { .. }) => Ok(Blocked::CutShort { entry }),
+            Err(EnterError::Memory) => Err(BlockError::Waiting { entry }),
         }
     }
     // Sleeps at the bell of a process until nothing keeps it asleep: it looks whenever it is woken, with the lock held.

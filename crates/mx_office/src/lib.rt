@@ -21,10 +21,11 @@ mod opening;
 mod revoking;
 mod serving;
 mod settling;
+mod turning;
 mod waking;
 
 pub use announcing::announce;
-pub use answers::{Answer, Blocked, EnterError, Served};
+pub use answers::{Answer, BlockError, Blocked, EnterError, Served};
 pub use clearing::clear_pages;
 pub use locked::Locked;
 pub use naming::Sitting;

@@ -1,4 +1,4 @@
-//! Who is woken: each process that sleeps has a bell of its own.
+//! Who is woken: each process that sleeps has a bell of its own, and a thread that sleeps for several has a common one.
 
 ghost use Rattle.std.specs.Prelude.{◌≡◌, true};
 ghost use Rattle.mx_office.specs.Waking.{WakesAll, woken_by};
@@ -64,8 +64,8 @@ impl Woken {
     }
 }
 
-/// The bells of the processes: that of a process is at its number. They take no memory, and to ring one at which nobody
-/// sleeps costs a count.
+/// The bells of the processes: that of a process is at its number. At 0, which is no process's number, is the common bell,
+/// which rings whenever another does. They take no memory, and to ring one at which nobody sleeps costs a count.
 #[derive(Drop)]
 pub(crate) struct Bells {
     bells: [Condvar; 16],
@@ -100,11 +100,19 @@ impl Bells {
         &self.bells[usize::from(p % 16)]
     }
 
-    /// Wakes those who sleep at the bells of these.
+    /// The bell of a thread that sleeps for several processes.
+    pub(crate) fn common(&self) -> &Condvar {
+        &self.bells[0]
+    }
+
+    /// Wakes those who sleep at the bells of these, and at the common bell where there are any of these.
     pub(crate) fn ring(&self, woken: Woken) {
         match woken {
             Woken::Nobody => {}
-            Woken::One(p) => self.of(p).notify_all(),
+            Woken::One(p) => {
+                self.of(p).notify_all();
+                self.common().notify_all();
+            }
             Woken::All => {
                 for bell in &self.bells {
                     bell.notify_all();

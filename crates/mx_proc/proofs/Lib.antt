@@ -1,4 +1,4 @@
-pub mod AwakeLaws
-pub mod RoundLaws
+pub mod PlaceLaws
+pub mod RowLaws
+pub mod SeatLaws
 pub mod EndLaws
-mod AuditLaws

@@ -1,8 +1,8 @@
 -- what auditors are told
 pub mod Auditors
--- a bench: passed on
-pub use Rattle.mx_bench.specs.Stepping
--- rounds of steps, who was seen at its end, and what auditors were told so far
-pub mod Rounds
+-- the processes of a run in a row, and what they leave
+pub mod Rows
+pub mod Leaving
 pub mod Ending
-pub mod Auditing
+-- auditors that are given to processes
+pub mod Seating

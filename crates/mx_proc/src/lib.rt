@@ -1,24 +1,21 @@
-//! Running a session: its processes on one bench, each on a thread of its own.
+//! Running a session: its processes at the shared words, each on a thread of its own, or all in turn on one.
 //!
-//! [`run`] puts a bench with its auditors ([`AuditedBench`]: each was told what its process was denied so far) behind the
-//! lock of a [`Hall`], where each process works on a thread of its own and tells a [`Gate`] of each line before it begins.
-//! Its type says that what comes out is a bench of the session that a [`Naming`] names, and [`AllEnds`] that every process
-//! was seen with no line left; so the journal and the transcripts that it hands out are a legal run. Stands on `mx_bench`
-//! (the bench, which makes one step of any process), `mx_audit` (auditors) and `mx_transcript` (the rules of a run).
+//! [`run`] prepares the session and opens its office, gives each process its auditor, and has each do its lines on a thread
+//! of its own; [`run_in_order`] has them take turns on this thread, in a chosen order. What all have left then makes a legal
+//! run: each process knows that its own lines are right by what it was told of, and the office closes the run with the
+//! passes of all. Each auditor was told what the transcript of its process says, and all are put back in their order. Stands
+//! on `mx_process` (a process with its pass), `mx_office` (the lock, and who keeps the journal), `mx_closing` (both ends of a
+//! run) and `mx_ties` (why the run is legal).
 #![tactic(auto)]
 
-mod audited;
-mod ends;
-mod gates;
-mod halls;
-mod naming;
+mod ending;
+mod lists;
 mod running;
+mod seating;
+mod sleepers;
+mod starting;
+mod threads;
 mod turns;
 
-pub use audited::AuditedBench;
-pub use ends::{AllEnds, Ends};
-pub use gates::{Gate, NoGate};
-pub use halls::Hall;
-pub use mx_bench::{Bench, Contents, Stepped};
-pub use naming::Naming;
-pub use running::run;
+pub use mx_process::{Gate, NoGate};
+pub use running::{run, run_in_order};

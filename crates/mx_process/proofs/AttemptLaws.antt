@@ -14,19 +14,20 @@ use Rattle.mx_rule.specs.Entering.{connected_view, entered_view, left_view}
 use Rattle.mx_script.specs.Sessions.{Outline}
 use Rattle.mx_script.specs.declared.lines.Line.{Line}
 use Rattle.mx_state.specs.declared.journal.Entry as journaled
+use Rattle.mx_sdw.specs.declared.denials.Denial.{Denial}
 use Rattle.mx_transcript.specs.Denials.{last_denial}
 use Rattle.mx_transcript.specs.Scripts.{first_line}
 use Rattle.mx_transcript.specs.Transcripts.{Step}
 use Rattle.mx_upcall.specs.Soundness.{IsPackableControl}
 use Rattle.mx_line.specs.AtWork.{IsFree}
 use Rattle.mx_line.specs.Fills.{IsNoRequest}
-use Rattle.mx_process.proofs.AuditLaws.{audit_room, audited_more, told_more}
+use Rattle.mx_process.proofs.AuditLaws.{audit_room, audited_more, still_attended, told_more}
 use Rattle.mx_process.proofs.PlaceLaws.{fewer_next}
-use Rattle.mx_process.proofs.ProcessLaws.{attempting}
+use Rattle.mx_process.proofs.ProcessLaws.{attempting, fitting_before}
 use Rattle.mx_process.proofs.TurnLaws.{same_line}
 use Rattle.mx_process.specs.Attempts.{HasAttempted, HasDone, HasMissed, IsAtLinkIn}
 use Rattle.mx_process.specs.Audited.{IsAudited}
-use Rattle.mx_process.specs.Processes.{ProcessValue, IsAtLine, IsAtWork, IsProcess, Stands, known_of, left_of, script_of}
+use Rattle.mx_process.specs.Processes.{ProcessValue, IsAtLine, IsAtWork, IsFittingAt, IsProcess, Stands, known_of, left_of, script_of}
 use Rattle.mx_process.specs.Turns.{Ends, IsAttempting, IsSameLine, IsUntold, Links, Misses, inside}
 use Rattle.mx_process.specs.declared.misses.Fast.{Fast}
 use Rattle.mx_process.specs.declared.misses.Fast.TheVariants as fast
@@ -73,6 +74,7 @@ module _ (x : Outline) (setup : List journaled.Entry) (line : Line) (old state :
   came_out (fast.Missing segno by) m = record {
     same = m.same;
     good = m.good;
+    fitting = m.fitting;
     missing = record {
       front = m.missing.front;
       last = m.missing.last;
@@ -105,11 +107,11 @@ module _ (x : Outline) (setup : List journaled.Entry) (accounts : List Account) 
   value_of missing account = record { state = state; missing = missing; pass = o; account = account }
 
   made : (out : IsOut) (missing : Option Miss) (account : Option Account) → state.first ≡ old.state.first
-      → IsPackableControl state.control → IsGoodProgress state.control.registers state.progress
+      → IsPackableControl state.control → IsGoodProgress state.control.registers state.progress → IsFittingAt state.progress
       → Stands x setup state missing (left_of x o.view.process state.recording.steps) o
       → IsAudited (length script) (slice_get accounts (old.pass.view.process - 1)) state.recording.steps account
       → IsProcess x setup accounts script memory' (value_of missing account)
-  made out missing account first packable good stands audited =
+  made out missing account first packable good fitting stands audited =
       let own = sym out.untold.process in record {
         session = out.is.session;
         some = subst (λ p. 1 ≤ p) own out.is.some;
@@ -119,6 +121,7 @@ module _ (x : Outline) (setup : List journaled.Entry) (accounts : List Account) 
         first = first ∙ out.is.first ∙ ap (first_line x) own;
         packable = packable;
         good = good;
+        fitting = fitting;
         stands = stands;
         audited = subst (λ p. IsAudited (length script) (slice_get accounts (p - 1)) state.recording.steps account) own audited;
       }
@@ -128,20 +131,22 @@ module _ (x : Outline) (setup : List journaled.Entry) (accounts : List Account) 
       → account ≡ option_map (told_more (last_denial state.recording.steps)) old.account
       → IsProcess x setup accounts script memory' (value_of None account)
   done_process out account e told =
-      made out None account e.first e.packable (subst (IsGoodProgress state.control.registers) (sym e.fresh) tt) e.before
+      made out None account e.first e.packable (subst (IsGoodProgress state.control.registers) (sym e.fresh) tt)
+      (subst IsFittingAt (sym e.fresh) fitting_before) e.before
       (subst (λ (steps : List Step). IsAudited (length script) (slice_get accounts (old.pass.view.process - 1)) steps account) (sym e.steps)
       (audited_more (length script) (slice_get accounts (old.pass.view.process - 1)) old.state.recording.steps _ old.account account
       out.is.audited (told ∙ ap (λ (steps : List Step). option_map (told_more (last_denial steps)) old.account) e.steps)))
 
-  pub has_done : (account : Option Account) → Ends x setup old.state (inside state o) → IsUntold old.pass o
-      → HasDone old (value_of None account)
-  has_done account e untold = record {
+  pub has_done : (told : Option (ℕ × Denial)) (account : Option Account) → Ends x setup old.state (inside state o)
+      → account ≡ option_map (told_more told) old.account → IsUntold old.pass o → HasDone old (value_of None account)
+  has_done told account e more untold = record {
     more = e.more;
     ends = e.ends;
     steps = e.steps;
     idle = e.idle;
     fresh = e.fresh;
     settled = refl;
+    attended = still_attended told old.account account more;
     untold = untold;
   }
 
@@ -160,7 +165,7 @@ module _ (x : Outline) (setup : List journaled.Entry) (accounts : List Account) 
   pub missed_process : (out : IsOut) (m : Miss) (number : ℕ) → IsAtLine x old number line → Misses x setup line old.state m (inside state o)
       → IsProcess x setup accounts script memory' (value_of (Some m) old.account)
   missed_process out m number at e =
-      made out (Some m) old.account e.same.first (subst IsPackableControl (sym e.same.control) out.is.packable) e.good
+      made out (Some m) old.account e.same.first (subst IsPackableControl (sym e.same.control) out.is.packable) e.good e.fitting
       (subst (λ (l : List (ℕ × Line)). Stands x setup state (Some m) l o) (sym (left_is out.untold e.same ∙ at.at)) e.missing)
       (still_audited out e.same)
 
@@ -176,11 +181,12 @@ module _ (x : Outline) (setup : List journaled.Entry) (accounts : List Account) 
 
   -- the line goes on
   pub going_process : (out : IsOut) → IsSameLine old.state state → IsPackableControl state.control
-      → IsGoodProgress state.control.registers state.progress → (number : ℕ) → IsAtLine x old number line
+      → IsGoodProgress state.control.registers state.progress → IsFittingAt state.progress
+      → (number : ℕ) → IsAtLine x old number line
       → IsAtWork x setup state line (known_of o)
       → IsProcess x setup accounts script memory' (value_of None old.account)
-  going_process out same packable good number at work =
-      made out None old.account same.first packable good
+  going_process out same packable good fitting number at work =
+      made out None old.account same.first packable good fitting
       (subst (λ (l : List (ℕ × Line)). Stands x setup state None l o) (sym (left_is out.untold same ∙ at.at)) work)
       (still_audited out same)
 
@@ -189,7 +195,8 @@ module _ (x : Outline) (setup : List journaled.Entry) (accounts : List Account) 
       → Links x setup line old.state place (inside state o)
       → IsProcess x setup accounts script memory' (value_of None old.account)
   linking_process out place number at e =
-      going_process out e.same e.attempting.packable e.attempting.good number at e.attempting.work
+      going_process out e.same e.attempting.packable e.attempting.good
+      (λ fill due. absurd (e.attempting.free fill due)) number at e.attempting.work
 
   pub is_linking : (segno word ring number : ℕ) → IsAtLine x old number line
       → Links x setup line old.state (record { segno = segno; word = word; ring = ring }) (inside state o) → IsUntold old.pass o

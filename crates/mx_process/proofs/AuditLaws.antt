@@ -1,12 +1,15 @@
 -- The auditor of one process, as lines end.
-use Rattle.std.proofs.Common.{◌≡◌, ℕ, ◌<◌, ◌≤◌, ◌-◌, List, [], ◌∷◌, ◌++◌, length, Option, Some, None, refl, sym, ◌∙◌, ap, subst, arith}
-use Rattle.std.specs.Option.{option_map}
+use Rattle.std.proofs.Common.{◌≡◌, ◌↔◌, ℕ, ◌<◌, ◌≤◌, ◌-◌, List, [], ◌∷◌, ◌++◌, length, Option, Some, None, refl, sym, ◌∙◌, ap, subst, arith}
+use Rattle.std.specs.Option.{IsSome, option_map}
 use Rattle.mx_audit.proofs.AccountLaws.{with_both, with_none}
 use Rattle.mx_audit.specs.Accounts.{Account, with_denials}
 use Rattle.mx_sdw.specs.declared.denials.Denial.{Denial}
 use Rattle.mx_transcript.proofs.DenialLaws.{denials_append, few_denials, last_of}
-use Rattle.mx_transcript.specs.Denials.{denial_of, denials, last_denial}
+use Rattle.mx_transcript.specs.Denials.{denial_of, denials, denied_with, last_denial}
 use Rattle.mx_transcript.specs.Transcripts.{Step}
+use Rattle.mx_transcript.specs.declared.transcripts.Event2.{Event2}
+use Rattle.mx_transcript.specs.declared.transcripts.Result2.{Result2}
+use Rattle.mx_transcript.specs.declared.transcripts.Result2.TheVariants as result
 use Rattle.mx_process.specs.Audited.{IsAudited, as_list}
 
 one_line : (step : Step) → denials (step ∷ []) ≡ as_list (denial_of step)
@@ -58,3 +61,34 @@ audited_first lines before steps account had room none = record {
   room = room;
   told = sym (with_none account) ∙ ap (λ (l : List Step). with_denials account (denials l)) (sym none);
 }
+
+-- who is told has an auditor still
+pub still_attended : (told : Option (ℕ × Denial)) (account account' : Option Account)
+    → account' ≡ option_map (told_more told) account → IsSome account ↔ IsSome account'
+still_attended told account account' e = subst (λ (a : Option Account). IsSome account ↔ IsSome a) (sym e) (by_account account)
+  where
+    by_account : (a : Option Account) → IsSome a ↔ IsSome (option_map (told_more told) a)
+    by_account None = (λ some. some, λ some. some)
+    by_account (Some one) = (λ some. refl, λ some. refl)
+
+-- a line that was not denied tells it nothing
+undenied_none : (number : ℕ) (ends : Result2) → ((denial : Denial) → ends ≡ result.Denied denial → ⊥) → denied_with number ends ≡ None
+undenied_none number result.Done never = refl
+undenied_none number (result.A value) never = refl
+undenied_none number (result.Pr n pointer) never = refl
+undenied_none number (result.Moved ring procedure) never = refl
+undenied_none number (result.Denied denial) never = absurd (never denial refl)
+undenied_none number result.Refused never = refl
+undenied_none number result.HistoryFull never = refl
+
+none_more : (account : Option Account) → account ≡ option_map (told_more None) account
+none_more None = refl
+none_more (Some account) = ap Some (sym (with_none account))
+
+pub audited_still : (lines : ℕ) (before : Option Account) (steps : List Step) (number : ℕ) (events : List Event2) (ends : Result2)
+    (account : Option Account) → ((denial : Denial) → ends ≡ result.Denied denial → ⊥) → IsAudited lines before steps account
+    → IsAudited lines before (steps ++ (number, events, ends) ∷ []) account
+audited_still lines before steps number events ends account never is =
+    audited_more lines before steps (number, events, ends) account account is
+    (none_more account ∙ ap (λ (told : Option (ℕ × Denial)). option_map (told_more told) account)
+    (sym (last_of steps (number, events, ends) ∙ undenied_none number ends never)))

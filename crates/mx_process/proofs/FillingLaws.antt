@@ -63,7 +63,7 @@ use Rattle.mx_process.proofs.KnownLaws.{known_missed, known_seen, seen_known}
 use Rattle.mx_process.proofs.TurnLaws.{same_line}
 use Rattle.mx_process.proofs.WorkLaws.{come_on, line_ended, line_over}
 use Rattle.mx_process.specs.Filling.{HasStored, HasWrote, IsOnwardAt, IsSince, IsWriting, Leads, MissesWrite, StandsIn}
-use Rattle.mx_process.specs.Processes.{Known, AsksFor, IsAtWork, IsBefore, at_work, known_of, left_of}
+use Rattle.mx_process.specs.Processes.{Known, AsksFor, IsAtWork, IsBefore, IsFitting, at_work, known_of, left_of}
 use Rattle.mx_process.specs.Turns.{Comes, Ends, HasEnd, inside}
 use Rattle.mx_process.specs.declared.turns.Turn.{Turn}
 use Rattle.mx_process.specs.declared.turns.Turn.TheVariants as turn
@@ -412,6 +412,7 @@ module _ (x : Outline) (setup : List journaled.Entry) (line : Line) (old : LineS
     misses = record {
       same = same_line old;
       good = a.good;
+      fitting = λ fill due. subst IsFitting (same_fill a.due.fill fill (sym a.due.is ∙ due)) a.due.fitting;
       missing = record {
         front = o.view.trace;
         last = ap (λ (v : PassView journaled.Entry). v.trace) m.after;
@@ -423,6 +424,9 @@ module _ (x : Outline) (setup : List journaled.Entry) (line : Line) (old : LineS
     };
     due = refl;
   }
+    where
+      same_fill : (a b : Fill) → Filling a ≡ Filling b → a ≡ b
+      same_fill a b e = cc
 
 -- going in and out changes nothing of it
 pub writing_entered : (x : Outline) (setup : List journaled.Entry) (state : LineState) (line : Line) (cleared : ℕ)
@@ -457,6 +461,7 @@ module _ (x : Outline) (setup : List journaled.Entry) (line : Line) (old state :
     misses = record {
       same = s.misses.same;
       good = s.misses.good;
+      fitting = s.misses.fitting;
       missing = record {
         front = s.misses.missing.front;
         last = s.misses.missing.last;

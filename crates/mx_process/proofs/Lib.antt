@@ -9,3 +9,7 @@ pub mod AttemptLaws
 pub mod SettleLaws
 pub mod FillingLaws
 pub mod WrittenLaws
+pub mod AnswerLaws
+pub mod EntryLaws
+pub mod CallLaws
+pub mod LegLaws

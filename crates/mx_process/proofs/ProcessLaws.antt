@@ -13,7 +13,7 @@ use Rattle.mx_line.specs.AtWork.{IsCome, IsFree}
 use Rattle.mx_line.specs.Fills.{IsNoRequest}
 use Rattle.mx_line.specs.Operands.{IsGoodProgress}
 use Rattle.mx_line.specs.declared.operands.Progress.{Progress}
-use Rattle.mx_line.specs.declared.operands.Progress.TheVariants.{Before}
+use Rattle.mx_line.specs.declared.operands.Progress.TheVariants.{Before, Filling}
 use Rattle.mx_line.specs.declared.processes.Process.{Process as LineState}
 use Rattle.mx_office.specs.Serving.{told_to}
 use Rattle.mx_request.specs.Versions.{most_gates}
@@ -38,7 +38,7 @@ use Rattle.mx_process.proofs.AuditLaws.{audited_first}
 use Rattle.mx_line.proofs.ScriptLaws.{past_end}
 use Rattle.mx_process.proofs.PlaceLaws.{countable_next, fewer_next, number_next, sayable_next, script_next}
 use Rattle.mx_process.specs.Audited.{IsAudited}
-use Rattle.mx_process.specs.Processes.{Known, ProcessValue, AsksFor, HasLine, IsAtLine, IsAtWork, IsBefore, IsNewPass, IsProcess, IsStill, Stands, having_done, known_of, left_of, number_in, script_of}
+use Rattle.mx_process.specs.Processes.{Known, ProcessValue, AsksFor, HasLine, IsAtLine, IsAtWork, IsBefore, IsFittingAt, IsNewPass, IsProcess, IsStill, Stands, having_done, known_of, left_of, number_in, script_of}
 use Rattle.mx_process.specs.Turns.{IsAttempting}
 use Rattle.mx_process.specs.declared.misses.Miss.{Miss}
 
@@ -48,6 +48,13 @@ started most = record { registers = start.opening_registers; gates = no_gates mo
 pub opening_is : (x : Outline) (p : ℕ) → 1 ≤ p → started (most_gates x.version) ≡ opening_control x p
 opening_is x zero some = absurd (omega (arith, some))
 opening_is x (suc p) some = refl
+
+-- before a line no write is due
+pub fitting_before : IsFittingAt Before
+fitting_before fill due = absurd (apart due)
+  where
+    apart : Before ≡ Filling fill → ⊥
+    apart e = cc
 
 -- the process of a pass that did nothing yet
 module _ (x : Outline) (setup : List journaled.Entry) (state : LineState) (o : PassValue journaled.Entry) where
@@ -132,6 +139,7 @@ first_process x setup accounts script state o session f own packable = record {
   first = f.first;
   packable = packable;
   good = subst (IsGoodProgress state.control.registers) (sym f.progress) tt;
+  fitting = subst IsFittingAt (sym f.progress) fitting_before;
   stands = first_stands x setup state o f;
   audited = tt;
 }
@@ -151,6 +159,7 @@ attended x setup accounts script memory v account is had none room = record {
   first = is.first;
   packable = is.packable;
   good = is.good;
+  fitting = is.fitting;
   stands = is.stands;
   audited = audited_first (length script) (slice_get accounts (v.pass.view.process - 1)) v.state.recording.steps account had
       (subst (λ (l : List Line). length l ≤ account.room) (sym is.own) room) none;
@@ -229,6 +238,7 @@ module _ (x : Outline) (setup : List journaled.Entry) (old new : ProcessValue) (
     packable = subst IsPackableControl (sym s.control) is.packable;
     good = subst (λ (g : Control). IsGoodProgress g.registers new.state.progress) (sym s.control)
         (subst (λ (r : Progress). IsGoodProgress old.state.control.registers r) (sym s.progress) is.good);
+    fitting = subst IsFittingAt (sym s.progress) is.fitting;
     stands = subst (λ (m : Option Miss). Stands x setup new.state m (left_of x new.pass.view.process new.state.recording.steps) new.pass)
         (sym s.missing) (subst (λ (l : List (ℕ × Line)). Stands x setup new.state old.missing l new.pass)
         (λ i. drop (length (sym s.steps i)) (lines_of x (sym s.view i).process))

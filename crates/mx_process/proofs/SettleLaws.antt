@@ -34,11 +34,12 @@ use Rattle.mx_transcript.specs.Transcripts.{Step}
 use Rattle.mx_rule.specs.declared.views.PassView.{PassView}
 use Rattle.mx_transcript.specs.declared.transcripts.Event2.{Event2}
 use Rattle.mx_transcript.specs.declared.transcripts.Event2.TheVariants.{Core}
+use Rattle.mx_process.proofs.ProcessLaws.{fitting_before}
 use Rattle.mx_process.proofs.WorkLaws.{come_on}
 use Rattle.mx_upcall.specs.Control.{Control}
 use Rattle.mx_upcall.specs.Soundness.{IsPackableControl}
 use Rattle.mx_process.specs.Audited.{IsAudited}
-use Rattle.mx_process.specs.Processes.{ProcessValue, AsksFor, AsksIn, IsAtWork, IsMissing, IsProcess, IsStill, Stands, at_work, having_done, known_of, left_of, script_of}
+use Rattle.mx_process.specs.Processes.{ProcessValue, AsksFor, AsksIn, IsAtWork, IsFittingAt, IsMissing, IsProcess, IsStill, Stands, at_work, having_done, known_of, left_of, script_of}
 use Rattle.mx_process.specs.Settling.{IsSettled, again}
 use Rattle.mx_process.specs.Turns.{HasEvent}
 use Rattle.mx_process.specs.declared.misses.Miss.{Miss}
@@ -121,6 +122,13 @@ good_again g (Walking walk) good = tt
 good_again g (AtLink place) good = tt
 good_again g Waiting good = tt
 
+fitting_again : (progress : Progress) → IsFittingAt progress → IsFittingAt (again progress)
+fitting_again (Filling fill) fitting = fitting
+fitting_again Before fitting = fitting
+fitting_again (Walking walk) fitting = fitting_before
+fitting_again (AtLink place) fitting = fitting_before
+fitting_again Waiting fitting = fitting_before
+
 -- A miss of a process is settled.
 module _ (x : Outline) (setup : List journaled.Entry) (accounts : List Account) (script : List Line) (memory : List Triple)
     (v : ProcessValue) (m : Miss) (state : LineState) (o : PassValue journaled.Entry) where
@@ -139,6 +147,7 @@ module _ (x : Outline) (setup : List journaled.Entry) (accounts : List Account) 
         good = subst (IsGoodProgress state.control.registers) (sym has.progress)
             (subst (λ (g : Control). IsGoodProgress g.registers (again v.state.progress)) (sym has.control)
             (good_again v.state.control.registers v.state.progress is.good));
+        fitting = subst IsFittingAt (sym has.progress) (fitting_again v.state.progress is.fitting);
         stands = subst (λ (l : List (ℕ × Line)). Stands x setup state None l o)
             (λ i. left_of x (own i) (sym has.steps i))
             (by_left (left_of x v.pass.view.process v.state.recording.steps)
@@ -166,10 +175,12 @@ module _ (x : Outline) (setup : List journaled.Entry) (accounts : List Account) 
         miss = m;
         pending = sym still.missing ∙ e;
         settled = refl;
+        first = has.first ∙ still.first;
         control = has.control ∙ still.control;
         steps = has.steps ∙ still.steps;
         events = has.events ∙ ap (λ (l : List Event2). l ++ Core (Missing m.segno m.by) ∷ []) still.events;
         anew = has.progress ∙ ap again still.progress;
+        process = s.grown.process ∙ ap (λ (z : PassView journaled.Entry). z.process) still.view;
         trace = s.grown.trace ∙ ap (λ (z : PassView journaled.Entry). z.trace) still.view;
         amount = s.amount ∙ still.amount;
         more = s.grown.more;

@@ -96,6 +96,7 @@ module _ (x : Outline) (setup : List journaled.Entry) (line : Line) (old : LineS
   goes_then (fast.Missing segno by) g m = record {
     same = same_line_on old between.state new.state g.same m.same;
     good = m.good;
+    fitting = m.fitting;
     missing = m.missing;
   }
   goes_then (fast.Link segno word ring) g l = record {
@@ -222,6 +223,7 @@ module _ (x : Outline) (setup : List journaled.Entry) (line : Line) (old : LineS
   turned_missing a asks m none amount = record {
     same = same_line old;
     good = a.good;
+    fitting = λ fill due. absurd (a.free fill due);
     missing = record {
       front = o.view.trace;
       last = ap (λ (v : PassView journaled.Entry). v.trace) m.after;

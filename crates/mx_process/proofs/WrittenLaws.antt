@@ -1,23 +1,30 @@
 -- What a process's type says holds after a write that a reply asks for.
 use Rattle.std.proofs.Common.{◌≡◌, ℕ, ◌+◌, ◌<◌, ◌^◌, List, [], ◌∷◌, length, Option, None, sym, ◌∙◌, ap, subst}
+use Rattle.std.specs.Option.{option_map}
 use Rattle.mx_audit.specs.Accounts.{Account}
 use Rattle.mx_core.specs.declared.elements.Event.TheVariants.{Seen}
 use Rattle.mx_core.specs.declared.words.Triple.{Triple}
 use Rattle.mx_desc.specs.Passes.{PassValue}
+use Rattle.mx_line.specs.declared.fills.Fill.{Fill}
+use Rattle.mx_line.specs.declared.operands.Progress.{Progress}
+use Rattle.mx_line.specs.declared.operands.Progress.TheVariants.{Before, Walking, AtLink, Waiting, Filling}
 use Rattle.mx_line.specs.declared.at_work.LineAtWork.{LineAtWork}
 use Rattle.mx_line.specs.declared.at_work.LineAtWork.TheVariants as works
 use Rattle.mx_line.specs.declared.processes.Process.{Process as LineState}
 use Rattle.mx_line.specs.Operands.{IsGoodProgress}
 use Rattle.mx_script.specs.Sessions.{Outline}
 use Rattle.mx_script.specs.declared.lines.Line.{Line}
+use Rattle.mx_sdw.specs.declared.denials.Denial.{Denial}
 use Rattle.mx_state.specs.declared.journal.Entry as journaled
 use Rattle.mx_transcript.specs.declared.transcripts.Event2.{Event2}
 use Rattle.mx_transcript.specs.declared.transcripts.Event2.TheVariants.{Core}
 use Rattle.mx_upcall.specs.Soundness.{IsPackableControl}
 use Rattle.mx_process.proofs.AttemptLaws.{IsOut, going_process}
+use Rattle.mx_process.proofs.AuditLaws.{still_attended, told_more}
+use Rattle.mx_process.proofs.ProcessLaws.{fitting_before}
 use Rattle.mx_process.proofs.PlaceLaws.{countable_next, sayable_next}
-use Rattle.mx_process.specs.Filling.{CameTo, HasWritten, HasWrote, IsDue, IsOnwardAt, IsWriting, StandsIn}
-use Rattle.mx_process.specs.Processes.{ProcessValue, IsAtLine, IsAtWork, IsProcess, Stands, known_of}
+use Rattle.mx_process.specs.Filling.{CameTo, HasWritten, HasWrote, IsDue, IsOnward, IsOnwardAt, IsWriting, StandsIn}
+use Rattle.mx_process.specs.Processes.{ProcessValue, IsAtLine, IsAtWork, IsFitting, IsFittingAt, IsProcess, Stands, known_of}
 use Rattle.mx_process.specs.Turns.{Comes, Ends, Inside, IsSameLine, IsUntold, inside}
 use Rattle.mx_process.specs.declared.filling.Wrote.TheVariants as wrote
 use Rattle.mx_process.specs.declared.misses.Miss.{Miss}
@@ -46,6 +53,17 @@ module _ (x : Outline) (setup : List journaled.Entry) (accounts : List Account) 
             (subst (λ (l : List (ℕ × Line)). Stands x setup v.state v.missing l v.pass) next.at is.stands);
       }
 
+-- after a write that goes on it is known what follows the next
+onward_fits : (progress : Progress) → IsOnward progress → IsFittingAt progress
+onward_fits Before onward = fitting_before
+onward_fits (Filling fill) onward = λ other due. subst IsFitting (same_fill fill other due) onward
+  where
+    same_fill : (a b : Fill) → Filling a ≡ Filling b → a ≡ b
+    same_fill a b e = cc
+onward_fits (Walking walk) onward = absurd onward
+onward_fits (AtLink place) onward = absurd onward
+onward_fits Waiting onward = absurd onward
+
 -- a line that ended, or goes on
 module _ (x : Outline) (setup : List journaled.Entry) (line : Line) (old : LineState) (new : Inside) where
   pub ends_by : HasWrote x setup line old turn.Ended new → Ends x setup old new
@@ -64,13 +82,14 @@ module _ (x : Outline) (setup : List journaled.Entry) (line : Line) (old : LineS
     pub same : IsSameLine old new.state
     pub work : IsAtWork x setup new.state line (known_of new.pass)
     pub good : IsGoodProgress new.state.control.registers new.state.progress
+    pub fitting : IsFittingAt new.state.progress
 
   goes_on_by : HasWrote x setup line old turn.More new → GoesOnBy
-  goes_on_by s = by_work s.stored.work s.stored.comes s.stands
+  goes_on_by s = by_work s.stored.work s.stored.comes s.stored.onward s.stands
     where
-      by_work : (work : LineAtWork) → Comes old (Core (Seen s.element)) work turn.More new.state → StandsIn x setup line old work new
-          → GoesOnBy
-      by_work (works.At progress) comes stands = record {
+      by_work : (work : LineAtWork) → Comes old (Core (Seen s.element)) work turn.More new.state → IsOnwardAt work
+          → StandsIn x setup line old work new → GoesOnBy
+      by_work (works.At progress) comes onward stands = record {
         same = record {
           first = comes.1.first;
           control = comes.1.control;
@@ -81,12 +100,13 @@ module _ (x : Outline) (setup : List journaled.Entry) (line : Line) (old : LineS
         };
         work = stands.0;
         good = stands.1;
+        fitting = subst IsFittingAt (sym comes.1.progress) (onward_fits progress onward);
       }
-      by_work (works.Ended end) comes stands = absurd (apart comes.0)
+      by_work (works.Ended end) comes onward stands = absurd (apart comes.0)
         where
           apart : turn.More ≡ turn.Ended → ⊥
           apart e = cc
-      by_work works.Nowhere comes stands = absurd comes
+      by_work works.Nowhere comes onward stands = absurd comes
 
 -- what is told of it
 came_more : (old new : LineState) (event : Event2) (work : LineAtWork) → Comes old event work turn.More new → IsOnwardAt work
@@ -126,7 +146,7 @@ module _ (x : Outline) (setup : List journaled.Entry) (accounts : List Account) 
       let goes = goes_on_by x setup line old.state (inside state o) s in
       subst (λ (m : Option Miss). IsProcess x setup accounts script memory' (record { state = state; missing = m; pass = o; account = old.account }))
       (sym none) (going_process x setup accounts script memory memory' old state o line out goes.same
-      (subst IsPackableControl (sym goes.same.control) out.is.packable) goes.good there.0 there.1 goes.work)
+      (subst IsPackableControl (sym goes.same.control) out.is.packable) goes.good goes.fitting there.0 there.1 goes.work)
 
   pub written_more : HasWrote x setup line old.state turn.More (inside state o) → IsUntold old.pass o
       → HasWritten x w wrote.More (value_of old.account)
@@ -144,12 +164,14 @@ module _ (x : Outline) (setup : List journaled.Entry) (accounts : List Account) 
         leads = s.stored.leads;
         goes = came_more old.state state (Core (Seen s.element)) s.stored.work s.stored.comes s.stored.onward;
         settled = none;
+        attended = (λ some. some, λ some. some);
         untold = untold;
       })
 
-  pub written_done : (account : Option Account) → HasWrote x setup line old.state turn.Ended (inside state o) → IsUntold old.pass o
-      → HasWritten x w wrote.Done (value_of account)
-  written_done account s untold =
+  pub written_done : (told : Option (ℕ × Denial)) (account : Option Account)
+      → HasWrote x setup line old.state turn.Ended (inside state o) → account ≡ option_map (told_more told) old.account
+      → IsUntold old.pass o → HasWritten x w wrote.Done (value_of account)
+  written_done told account s more untold =
       subst (λ (z : ProcessValue). HasWritten x z wrote.Done (value_of account)) view (record {
         number = there.0;
         line = line;
@@ -163,5 +185,6 @@ module _ (x : Outline) (setup : List journaled.Entry) (accounts : List Account) 
         leads = s.stored.leads;
         goes = came_done old.state state (Core (Seen s.element)) s.stored.work s.stored.comes;
         settled = none;
+        attended = still_attended told old.account account more;
         untold = untold;
       })

@@ -1,5 +1,5 @@
 -- What an attempt at a line comes to.
-use Rattle.std.specs.Prelude.{◌≡◌, ℕ, ◌∷◌, [], ◌++◌, List, None, Some}
+use Rattle.std.specs.Prelude.{◌≡◌, ◌↔◌, ℕ, ◌∷◌, [], ◌++◌, List, IsSome, None, Some}
 use Rattle.mx_core.specs.AssociativeMemory.{recalled}
 use Rattle.mx_line.specs.declared.operands.Progress.TheVariants.{Before}
 use Rattle.mx_line.specs.declared.processes.Process.{Process as LineState}
@@ -39,6 +39,7 @@ pub record HasDone (old new : ProcessValue) : Type 0 where
   pub idle : new.state.recording.events ≡ []
   pub fresh : new.state.progress ≡ Before
   pub settled : new.missing ≡ None
+  pub attended : IsSome old.account ↔ IsSome new.account
   pub untold : IsUntold old.pass new.pass
 
 -- A reference of the line missed, of whose number the pass's memory has nothing. The miss is kept until it is settled.

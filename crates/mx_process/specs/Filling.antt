@@ -1,5 +1,5 @@
 -- A write that a reply asks for, as its process makes it.
-use Rattle.std.specs.Prelude.{◌≡◌, ℕ, ◌<◌, ◌≤◌, ◌^◌, List, [], ◌∷◌, ◌++◌, None}
+use Rattle.std.specs.Prelude.{◌≡◌, ◌↔◌, ℕ, ◌<◌, ◌≤◌, ◌^◌, List, [], ◌∷◌, ◌++◌, IsSome, None}
 use Rattle.mx_core.specs.declared.elements.Element.{Element}
 use Rattle.mx_core.specs.declared.elements.Event.TheVariants.{Seen}
 use Rattle.mx_core.specs.declared.elements.Outcome.{Outcome}
@@ -9,9 +9,7 @@ use Rattle.mx_line.specs.Fills.{IsFilling, write_of}
 use Rattle.mx_line.specs.Operands.{IsGoodProgress, IsSayable}
 use Rattle.mx_line.specs.declared.at_work.LineAtWork.{LineAtWork}
 use Rattle.mx_line.specs.declared.at_work.LineAtWork.TheVariants as works
-use Rattle.mx_line.specs.declared.fills.Behind.TheVariants as behinds
 use Rattle.mx_line.specs.declared.fills.Fill.{Fill}
-use Rattle.mx_line.specs.declared.fills.Fill.TheVariants.{Words, Pointer}
 use Rattle.mx_line.specs.declared.operands.Progress.{Progress}
 use Rattle.mx_line.specs.declared.operands.Progress.TheVariants.{Before, Walking, AtLink, Waiting, Filling}
 use Rattle.mx_line.specs.declared.processes.Process.{Process as LineState}
@@ -27,18 +25,13 @@ use Rattle.mx_transcript.specs.declared.transcripts.Event2.TheVariants.{Core}
 use Rattle.mx_transcript.specs.declared.transcripts.Result2.TheVariants as result
 use Rattle.mx_upcall.specs.Control.{Control}
 use Rattle.mx_upcall.specs.Soundness.{IsPackableControl}
-use Rattle.mx_process.specs.Processes.{Known, ProcessValue, IsAtLine, IsAtWork, known_of, number_in}
+use Rattle.mx_process.specs.Processes.{Known, ProcessValue, IsAtLine, IsAtWork, IsFitting, known_of, number_in}
 use Rattle.mx_process.specs.Turns.{Comes, Ends, HasEnd, HasEvent, Inside, IsUntold, Misses}
 use Rattle.mx_process.specs.declared.filling.Wrote.{Wrote}
 use Rattle.mx_process.specs.declared.filling.Wrote.TheVariants as wrote
 use Rattle.mx_process.specs.declared.misses.Miss.{Miss}
 use Rattle.mx_process.specs.declared.turns.Turn.{Turn}
 use Rattle.mx_process.specs.declared.turns.Turn.TheVariants as turn
-
--- what follows the link words of a section is known
-abbrev pub IsFitting : Fill → Type 0
-IsFitting (Words words) = words.behind ≡ behinds.Nowhere → ⊥
-IsFitting (Pointer snap) = Unit {0}
 
 -- a write is due
 pub record IsDue (progress : Progress) : Type 0 where
@@ -142,4 +135,5 @@ pub record HasWritten (x : Outline) (old : ProcessValue) (came : Wrote) (new : P
   pub leads : Leads old.state.control line fill element desc element.outcome work
   pub goes : CameTo old.state (Core (Seen element)) work came new.state
   pub settled : new.missing ≡ None
+  pub attended : IsSome old.account ↔ IsSome new.account
   pub untold : IsUntold old.pass new.pass

@@ -8,3 +8,7 @@ pub mod Attempts
 pub mod Settling
 -- a write that a reply asks for
 pub mod Filling
+-- a call at the office
+pub mod Entries
+-- a line by all that it takes
+pub mod Lines

@@ -11,6 +11,9 @@ use Rattle.mx_desc.specs.Passes.{PassValue}
 use Rattle.mx_line.specs.AtWork.{IsCome}
 use Rattle.mx_line.specs.Operands.{IsGoodProgress}
 use Rattle.mx_line.specs.Fills.{write_of}
+use Rattle.mx_line.specs.declared.fills.Behind.TheVariants.{Nowhere as Unknown}
+use Rattle.mx_line.specs.declared.fills.Fill.{Fill}
+use Rattle.mx_line.specs.declared.fills.Fill.TheVariants.{Words, Pointer}
 use Rattle.mx_line.specs.declared.operands.Progress.{Progress}
 use Rattle.mx_line.specs.declared.operands.Progress.TheVariants.{Before, Walking, AtLink, Waiting, Filling}
 use Rattle.mx_line.specs.declared.processes.Process.{Process as LineState}
@@ -101,6 +104,15 @@ AsksFor segno g line (Walking walk) = IsReferringIn segno g line (Walking walk)
 AsksFor segno g line (AtLink place) = IsReferringIn segno g line (AtLink place)
 AsksFor segno g line Waiting = IsReferringIn segno g line Waiting
 
+-- what follows the link words of a section is known
+abbrev pub IsFitting : Fill → Type 0
+IsFitting (Words words) = words.behind ≡ Unknown → ⊥
+IsFitting (Pointer snap) = Unit {0}
+
+-- so it is of the write that is due, if one is
+abbrev pub IsFittingAt : Progress → Type 0
+IsFittingAt progress = (fill : Fill) → progress ≡ Filling fill → IsFitting fill
+
 -- a pass, but that it did only this
 abbrev pub having_done : List Kept → PassValue journaled.Entry → PassValue journaled.Entry
 having_done trace o = record o { view = record o.view { trace = trace } }
@@ -128,7 +140,7 @@ abbrev pub script_of : Outline → ℕ → List Line
 script_of x p = script_at x.scripts (p - 1)
 
 -- What a process's type says. It is one of the session, and this is its script. It is outside, and the memory that it keeps
--- is that of its pass. What was recorded of its lines is tied to its pass. Its auditor, if it has one, had one of these accounts
+-- is that of its pass. Where a write is due it is known what follows. What was recorded of its lines is tied to its pass. Its auditor, if it has one, had one of these accounts
 -- and was told of its denials.
 pub record IsProcess (x : Outline) (setup : List journaled.Entry) (accounts : List Account) (script : List Line)
     (memory : List Triple) (v : ProcessValue) : Type 0 where
@@ -140,6 +152,7 @@ pub record IsProcess (x : Outline) (setup : List journaled.Entry) (accounts : Li
   pub first : v.state.first ≡ first_line x v.pass.view.process
   pub packable : IsPackableControl v.state.control
   pub good : IsGoodProgress v.state.control.registers v.state.progress
+  pub fitting : IsFittingAt v.state.progress
   pub stands : Stands x setup v.state v.missing (left_of x v.pass.view.process v.state.recording.steps) v.pass
   pub audited : IsAudited (length script) (slice_get accounts (v.pass.view.process - 1)) v.state.recording.steps v.account
 

@@ -25,10 +25,12 @@ pub record IsSettled (old new : ProcessValue) : Type 0 where
   pub miss : Miss
   pub pending : old.missing ≡ Some miss
   pub settled : new.missing ≡ None
+  pub first : new.state.first ≡ old.state.first
   pub control : new.state.control ≡ old.state.control
   pub steps : new.state.recording.steps ≡ old.state.recording.steps
   pub events : new.state.recording.events ≡ old.state.recording.events ++ Core (Missing miss.segno miss.by) ∷ []
   pub anew : new.state.progress ≡ again old.state.progress
+  pub process : new.pass.view.process ≡ old.pass.view.process
   pub trace : new.pass.view.trace ≡ old.pass.view.trace
   pub amount : new.pass.amount ≡ old.pass.amount
   pub more : List Marked

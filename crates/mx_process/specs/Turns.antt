@@ -32,7 +32,7 @@ use Rattle.mx_transcript.specs.declared.transcripts.Event2.TheVariants.{Core}
 use Rattle.mx_transcript.specs.declared.transcripts.Result2.{Result2}
 use Rattle.mx_upcall.specs.Changes.{changed}
 use Rattle.mx_upcall.specs.Soundness.{IsPackableControl}
-use Rattle.mx_process.specs.Processes.{Known, IsAtWork, IsBefore, IsMissing, known_of, left_of, number_in}
+use Rattle.mx_process.specs.Processes.{Known, IsAtWork, IsBefore, IsFittingAt, IsMissing, known_of, left_of, number_in}
 use Rattle.mx_process.specs.declared.misses.Miss.{Miss}
 use Rattle.mx_process.specs.declared.turns.Turn.{Turn}
 use Rattle.mx_process.specs.declared.turns.Turn.TheVariants as turn
@@ -141,6 +141,7 @@ pub record Misses (x : Outline) (setup : List journaled.Entry) (line : Line) (ol
     (new : Inside) : Type 0 where
   pub same : IsSameLine old new.state
   pub good : IsGoodProgress new.state.control.registers new.state.progress
+  pub fitting : IsFittingAt new.state.progress
   pub missing : IsMissing x setup new.state m line new.pass
 
 -- A link is to be snapped.

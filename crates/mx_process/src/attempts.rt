@@ -116,7 +116,7 @@ impl<'a, B: Attending, A: Auditor> Process<'a, B, A> {
         ensures link { (segno word ring : ℕ) → result ≡ Link segno word ring
             → IsAtLinkIn B.session segno word ring self.old self.new }
     {
-        let line = self.line();
+        let line = self.present();
         if is_request(line) {
             return Fast::Journal;
         }
@@ -159,7 +159,7 @@ impl<'a, B: Attending, A: Auditor> Process<'a, B, A> {
     }
 
     // The present line.
-    pub(crate) fn line(&self) -> &'a Line
+    pub(crate) fn present(&self) -> &'a Line
         requires { HasLine B.session self.now }
         ensures { (number : ℕ) × IsAtLine B.session self.now number result.now }
     {

@@ -11,8 +11,8 @@ ghost use Rattle.mx_sdw.specs.Admissible.{IsAdmissible};
 ghost use Rattle.mx_transcript.specs.Elements.{IsJudged};
 ghost use Rattle.mx_upcall.specs.Soundness.{IsPackableControl};
 ghost use Rattle.mx_process.specs.Attempts.{HasMissed};
-ghost use Rattle.mx_process.specs.Filling.{HasStored, HasWritten, HasWrote, IsDue, IsFitting, IsOnwardAt, IsSince, IsWriting, Leads};
-ghost use Rattle.mx_process.specs.Processes.{HasLine, HasRoom, IsAtLine, known_of, number_in};
+ghost use Rattle.mx_process.specs.Filling.{HasStored, HasWritten, HasWrote, IsDue, IsOnwardAt, IsSince, IsWriting, Leads};
+ghost use Rattle.mx_process.specs.Processes.{HasLine, HasRoom, IsAtLine, IsFitting, known_of, number_in};
 ghost use Rattle.mx_process.specs.Turns.{IsUntold, inside};
 ghost use Rattle.mx_process.specs.declared.filling.Wrote.TheVariants.{Done, Missing, More};
 
@@ -60,7 +60,7 @@ impl<'a, B: Attending, A: Auditor> Process<'a, B, A> {
         ensures missing { (segno by : ℕ) → result ≡ Missing segno by → HasMissed segno by self.old self.new }
         ensures due { (segno by : ℕ) → result ≡ Missing segno by → self.new.state.progress ≡ self.old.state.progress }
     {
-        let line = self.line();
+        let line = self.present();
         match self.missing {
             Some(miss) => Wrote::Missing {
                 segno: miss.segno,

@@ -9,7 +9,11 @@
 #![tactic(auto)]
 
 mod attempts;
+mod entries;
 mod filling;
+mod gates;
+mod legs;
+mod lines;
 mod misses;
 mod naming;
 mod processes;
@@ -17,6 +21,8 @@ mod settling;
 mod turns;
 
 pub use filling::Wrote;
+pub use gates::{Gate, NoGate};
+pub use lines::Turned;
 pub use misses::{Fast, Miss};
 pub use naming::Attending;
 pub use processes::Process;

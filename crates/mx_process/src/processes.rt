@@ -1,6 +1,7 @@
 //! A process: its place in its script, what was recorded of its lines, and what it did at the shared words.
 
 ghost use Rattle.std.specs.Prelude.{◌≡◌, ◌≤◌, ◌<◌, ◌-◌, ◌↔◌, [], None, Some, IfOk, OnOk, IsTrue, length, slice_get};
+ghost use Rattle.std.specs.Option.{option_map};
 ghost use Rattle.mx_core.specs.declared.words.Stage.TheVariants.{Outside};
 ghost use Rattle.mx_closing.specs.Views.{view_in};
 ghost use Rattle.mx_process.specs.Audited.{IsAudited};
@@ -113,6 +114,15 @@ impl<'a, B: Attending, A: Auditor> Process<'a, B, A> {
         self.state.recording.lines() < self.script.len()
     }
 
+    /// What its type says of its auditor, if it has one: it was told of each denial of the process so far, beyond what it had
+    /// been told before the run.
+    pub fn tells_its_auditor(&self)
+        ensures { IsAudited (length (script_of B.session self.now.pass.view.process))
+            (slice_get B.accounts (self.now.pass.view.process - 1)) self.now.state.recording.steps self.now.account }
+    {
+        let _ = &self.auditor;
+    }
+
     /// The transcript, the pass and the auditor, where all lines are done. Takes no memory.
     pub fn finish(self) -> (Transcript, Pass<Entry, B>, Option<A>)
         requires { left_of B.session self.pass.view.process self.state.recording.steps ≡ [] }
@@ -120,6 +130,7 @@ impl<'a, B: Attending, A: Auditor> Process<'a, B, A> {
         ensures pass { result.1 ≡ self.entry.pass }
         ensures outside { result.1.view.stage ≡ Outside }
         ensures steps { result.0 ≡ self.entry.state.recording.steps }
+        ensures auditor { option_map A.account result.2 ≡ self.entry.account }
     {
         let Process {
             state,

@@ -1,5 +1,5 @@
 pub mod CommandLaws
 pub mod VerdictLaws
 mod RoomLaws
-mod SpellingLaws
+pub mod SpellingLaws
 mod WritingLaws

@@ -1,13 +1,8 @@
 -- Helpers: what the words of a command line are read as.
 use Rattle.std.specs.Prelude.{ℕ, ◌≤◌, List, Option, None, Some}
-use Rattle.mx_run.specs.Commands.{IsRun, IsNumber, IsDrill, IsAccepted}
+use Rattle.mx_run.specs.Commands.{IsRun, IsDrill, IsAccepted}
 use Rattle.mx_run.specs.declared.words.Command.{Command}
 use Rattle.mx_run.specs.declared.words.Command.TheVariants.{Run, Drill, Other}
-
--- the number that digits spell, or that there is none
-abbrev pub IsNumberOf : List ℕ → Option ℕ → Type 0
-IsNumberOf digits None = (number : ℕ) → IsNumber digits number → ⊥
-IsNumberOf digits (Some number) = IsNumber digits number
 
 -- the drill that words ask for, or that they ask for none
 abbrev pub IsDrillOf : List (List ℕ) → Option ℕ → Type 0

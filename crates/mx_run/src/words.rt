@@ -1,14 +1,11 @@
 //! The words of a command line.
 
-ghost use Rattle.std.specs.Prelude.{◌≡◌, ◌≤◌, ◌↔◌, map, Some, IfSome, IsTrue, true};
-ghost use Rattle.std.specs.Char.{is_ascii_digit};
-ghost use Rattle.std.specs.List.{list_all};
+ghost use Rattle.std.specs.Prelude.{◌≤◌, ◌↔◌, map, IfSome, IsTrue};
 ghost use Rattle.std.specs.String.{string_bytes};
 ghost use Rattle.mx_run.specs.Commands.{IsRun};
-ghost use Rattle.mx_run.specs.Reading.{IsNumberOf, IsDrillOf, IsCommand};
+ghost use Rattle.mx_run.specs.Reading.{IsDrillOf, IsCommand};
 
-/// The greatest number of digits of a drill's number.
-const MOST_DIGITS: usize = 6;
+use mx_drill::read_number;
 
 /// What the words of a command line ask for.
 #[derive(Clone, Copy, Debug, PartialEq, Eq)]
@@ -52,29 +49,7 @@ fn drill(words: &[String]) -> Option<u32>
     ensures most { IfSome result (λ n. n ≤ 999999) }
 {
     match words {
-        [word, digits] if word.as_str() == "drill" => number(digits.as_str()),
+        [word, digits] if word.as_str() == "drill" => read_number(digits.as_str()),
         _ => None,
     }
-}
-
-// The number that 1 to 6 decimal digits spell; it may begin with zeros.
-fn number(digits: &str) -> Option<u32>
-    ensures value { IsNumberOf digits.now result }
-    ensures most { IfSome result (λ n. n ≤ 999999) }
-{
-    if digits.len() <= MOST_DIGITS && are_digits(digits.as_bytes()) {
-        digits.parse().ok()
-    } else {
-        None
-    }
-}
-
-fn are_digits(text: &[u8]) -> bool
-    ensures { result ≡ list_all is_ascii_digit text.now }
-{
-    text.iter().all(
-        |byte: &u8| -> bool
-            ensures { result ≡ is_ascii_digit byte.now }
-        { byte.is_ascii_digit() },
-    )
 }

@@ -46,7 +46,7 @@ abbrev pub IsCallFitting : Next → Type 0
 IsCallFitting (Calls ring request) = IsFitting request
 IsCallFitting other = Unit {0}
 
-grammar_fits : (request : Request) → fits_request request ≡ true → IsFitting request
+pub grammar_fits : (request : Request) → fits_request request ≡ true → IsFitting request
 grammar_fits (ask.Link segno word) e = tt
 grammar_fits request e = e
 

@@ -1,10 +1,10 @@
 -- Replies and descriptors of a legal run are within the bounds: each state that its journal leads to can be spelled. And so its whole run is.
-use Rattle.std.proofs.Common.{◌≡◌, ℕ, zero, suc, ◌+◌, true, List, [], ◌∷◌, ◌++◌, length, map, take, Some, is_none, refl, ap, subst, ◌∙◌, arith, slice_get}
+use Rattle.std.proofs.Common.{◌≡◌, ℕ, zero, suc, ◌+◌, true, Bool, ◌&&◌, List, [], ◌∷◌, ◌++◌, length, map, take, Some, is_none, refl, ap, subst, ◌∙◌, arith, slice_get}
 use Rattle.std.specs.List.{All, list_all}
 use Rattle.std.proofs.lemmas.List.Elements.{All-nil, All-cons}
 use Rattle.mx_name.specs.Principals.{components_fault}
 use Rattle.mx_request.proofs.StepLaws.{both, both_hold}
-use Rattle.mx_request.specs.RequestTexts.{is_class}
+use Rattle.mx_request.specs.RequestTexts.{fits_request, is_class, is_ring}
 use Rattle.mx_request.specs.declared.entrants.Entrant.{Entrant}
 use Rattle.mx_script.specs.SessionTexts.{fits, process_rows, rows_of, setup_rows}
 use Rattle.mx_script.specs.Sessions.{IsSession, Outline}
@@ -20,12 +20,14 @@ use Rattle.mx_transcript.specs.Openings.{opening_control}
 use Rattle.mx_transcript.specs.Scripts.{lines_of}
 use Rattle.mx_transcript.specs.Transcripts.{Step, events_of, part}
 use Rattle.mx_transcript.specs.declared.transcripts.Event2.TheVariants.{Entry}
-use Rattle.mx_spelling.specs.Laws.{SpellableLaw}
-use Rattle.mx_spelling.proofs.CallBounds.{IsFittingEntry, IsFittingEvent, done_fitting}
+use Rattle.mx_spelling.specs.Laws.{ReplyLaw, SpellableLaw}
+use Rattle.mx_spelling.specs.Spelling.{bounds_reply, fits_entry, is_process}
+use Rattle.mx_spelling.proofs.CallBounds.{IsFittingEntry, IsFittingEvent, done_fitting, grammar_fits}
 use Rattle.mx_spelling.proofs.DescriptorBounds.{descriptor_low}
 use Rattle.mx_spelling.proofs.ReplyBounds.{IsSaid}
 use Rattle.mx_spelling.proofs.RequestBounds.{IsFitting, IsSpelledAnswer, answer_spelled}
 use Rattle.mx_spelling.proofs.RunBounds.{AreBounded, bounded_run, is_said, listed, named_at, part_within, same_entry}
+use Rattle.mx_spelling.proofs.SaidReplies.{reply_fits}
 use Rattle.mx_spelling.proofs.SessionBounds.{parts_fit, session_low}
 use Rattle.mx_spelling.proofs.StateBounds.{IsSpelled, IsSpelledEntrant, opening_spelled}
 use Rattle.mx_spelling.proofs.WalkBounds.{at_place}
@@ -72,14 +74,14 @@ entrants_fit (entrant ∷ entrants) (script ∷ scripts) same e =
     All-cons IsSpelledEntrant entrant entrants own.1
     (entrants_fit entrants scripts (omega (arith, same)) (parts_fit (map row.Line script) (process_rows entrants scripts) f.1).1)
 
+begins : (x : Outline) → IsSession x → list_all fits (rows_of x) ≡ true → IsSpelled (opening_of x)
+begins x session text =
+    let f = parts_fit (setup_rows x.version x.history x.setup ++ process_rows x.principals x.scripts) (row.End ∷ []) text in
+    let g = parts_fit (setup_rows x.version x.history x.setup) (process_rows x.principals x.scripts) f.0 in
+    opening_spelled x.version x.principals session.most (entrants_fit x.principals x.scripts session.scripts g.1)
+
 module _ (x : Outline) (journal : List journaled.Entry) (transcripts : List (List Step)) (session : IsSession x)
     (text : list_all fits (rows_of x) ≡ true) (legal : IsLegal x journal transcripts) where
-  begins : IsSpelled (opening_of x)
-  begins =
-      let f = parts_fit (setup_rows x.version x.history x.setup ++ process_rows x.principals x.scripts) (row.End ∷ []) text in
-      let g = parts_fit (setup_rows x.version x.history x.setup) (process_rows x.principals x.scripts) f.0 in
-      opening_spelled x.version x.principals session.most (entrants_fit x.principals x.scripts session.scripts g.1)
-
   -- each entry is named by an event of its process, and so its request is one that a line enters
   named_entry : (place : ℕ) (entry : journaled.Entry) → slice_get journal place ≡ Some entry
       → IsFittingEntry (setting_of x journal entry.process) (1 + place)
@@ -102,7 +104,7 @@ module _ (x : Outline) (journal : List journaled.Entry) (transcripts : List (Lis
 
   journal_bounded : AreBounded x journal
   journal_bounded =
-      let history = history_spelled (opening_of x) journal begins entry_fitting legal.right in
+      let history = history_spelled (opening_of x) journal (begins x session text) entry_fitting legal.right in
       record {
         replies = history.replies;
         descriptors = λ p e. descriptor_low (replay (opening_of x) (take e.point journal)) p e.segno (history.states e.point);
@@ -111,3 +113,25 @@ module _ (x : Outline) (journal : List journaled.Entry) (transcripts : List (Lis
 pub spellable_law : SpellableLaw
 spellable_law x journal transcripts session text legal =
     bounded_run x journal transcripts session text (journal_bounded x journal transcripts session text legal) legal
+
+-- after entries that can be spelled a state can be, and so can what it answers
+entry_request : (entry : journaled.Entry) → fits_entry entry ≡ true → fits_request entry.request ≡ true
+entry_request entry e =
+    let replied : Bool = bounds_reply entry.reply in
+    let f = both (is_process entry.process) (is_ring entry.ring && (fits_request entry.request && replied)) e in
+    let g = both (is_ring entry.ring) (fits_request entry.request && replied) f.1 in
+    (both (fits_request entry.request) replied g.1).0
+
+state_spelled : (s : Plain) (journal : List journaled.Entry) → IsSpelled s → list_all fits_entry journal ≡ true
+    → IsSpelled (replay s journal)
+state_spelled s [] is e = is
+state_spelled s (entry ∷ journal) is e =
+    let f = both (fits_entry entry) (list_all fits_entry journal) e in
+    let here = answer_spelled s entry.process entry.ring is entry.request (grammar_fits entry.request (entry_request entry f.0)) in
+    state_spelled (plain s entry.process entry.ring entry.request).state journal here.state f.1
+
+pub reply_law : ReplyLaw
+reply_law x journal p ring request session text fit asks =
+    let s : Plain = replay (opening_of x) journal in
+    let is = state_spelled (opening_of x) journal (begins x session text) fit in
+    reply_fits (plain s p ring request).reply (answer_spelled s p ring is request (grammar_fits request asks)).said

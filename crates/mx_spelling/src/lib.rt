@@ -6,4 +6,4 @@
 
 mod laws;
 
-pub use laws::each_legal_run_is_spellable;
+pub use laws::{each_legal_run_is_spellable, each_reply_is_spellable};

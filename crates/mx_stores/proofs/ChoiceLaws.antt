@@ -37,7 +37,7 @@ clash : (b : Bool) → b ≡ true → not b ≡ true → ⊥
 clash true e f = absurd cc
 clash false e f = absurd cc
 
-word_told : (cell : CellUse) (value stamp : ℕ) (o : Option Deed) → is_deed (stores_word cell value stamp) o ≡ true
+pub word_told : (cell : CellUse) (value stamp : ℕ) (o : Option Deed) → is_deed (stores_word cell value stamp) o ≡ true
     → o ≡ Some (Stores cell value stamp)
 word_told cell value stamp None e = absurd cc
 word_told cell value stamp (Some (Enters number)) e = absurd cc
@@ -59,17 +59,17 @@ word_test cell value stamp o e = ap (λ (d : Option Deed). is_deed (stores_word 
     (of_both (value == value) (stamp == stamp) (equal_test value value refl) (equal_test stamp stamp refl))
 
 -- a store in the cell, whatever it stored
-record IsStored (cell : CellUse) (o : Option Deed) : Type 0 where
+pub record IsStored (cell : CellUse) (o : Option Deed) : Type 0 where
   pub value : ℕ
   pub point : ℕ
   pub stored : o ≡ Some (Stores cell value point)
 
-stored_told : (cell : CellUse) (o : Option Deed) → is_deed (stores_from cell 0) o ≡ true → IsStored cell o
+pub stored_told : (cell : CellUse) (o : Option Deed) → is_deed (stores_from cell 0) o ≡ true → IsStored cell o
 stored_told cell None e = absurd cc
 stored_told cell (Some deed) e = let s = told_store cell 0 deed e in
     record { value = s.value; point = s.point; stored = ap (λ (d : Deed). Some d) s.store }
 
-stored_test : (cell : CellUse) (value point : ℕ) (o : Option Deed) → o ≡ Some (Stores cell value point)
+pub stored_test : (cell : CellUse) (value point : ℕ) (o : Option Deed) → o ≡ Some (Stores cell value point)
     → is_deed (stores_from cell 0) o ≡ true
 stored_test cell value point o e = ap (λ (d : Option Deed). is_deed (stores_from cell 0) d) e
     ∙ test_store cell 0 value point (omega arith)

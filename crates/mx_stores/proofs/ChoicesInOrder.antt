@@ -16,24 +16,24 @@ use Rattle.mx_stores.specs.StoreLaws.{AreBelow}
 use Rattle.mx_stores.proofs.ChoiceLaws.{choice_law}
 use Rattle.mx_stores.proofs.SightedLaws.{none_some, some_same, passes, equal_test}
 
-index_kept : (xs : List ℕ) (x i : ℕ) → i < length xs → slice_index_or (xs ++ x ∷ []) i 0 ≡ slice_index_or xs i 0
+pub index_kept : (xs : List ℕ) (x i : ℕ) → i < length xs → slice_index_or (xs ++ x ∷ []) i 0 ≡ slice_index_or xs i 0
 index_kept [] x i l = absurd (omega arith)
 index_kept (y ∷ xs) x zero l = refl
 index_kept (y ∷ xs) x (suc i) l = index_kept xs x i (omega arith)
 
-index_last : (xs : List ℕ) (x : ℕ) → slice_index_or (xs ++ x ∷ []) (length xs) 0 ≡ x
+pub index_last : (xs : List ℕ) (x : ℕ) → slice_index_or (xs ++ x ∷ []) (length xs) 0 ≡ x
 index_last [] x = refl
 index_last (y ∷ xs) x = index_last xs x
 
-length_with : (xs : List ℕ) (x : ℕ) → length (xs ++ x ∷ []) ≡ length xs + 1
+pub length_with : (xs : List ℕ) (x : ℕ) → length (xs ++ x ∷ []) ≡ length xs + 1
 length_with xs x = length-append xs (x ∷ [])
 
 module _ (done : Deeds) (p : ℕ) where
   -- before a place two sources lead to the same sightings
-  abbrev Agree : Source → Source → ℕ → Type 0
+  abbrev pub Agree : Source → Source → ℕ → Type 0
   Agree s t here = (i : ℕ) → i < here → (cell : CellUse) → sighted_at done s p cell i ≡ sighted_at done t p cell i
 
-  latest_agrees : (s t : Source) (cell : CellUse) (here : ℕ) → Agree s t here
+  pub latest_agrees : (s t : Source) (cell : CellUse) (here : ℕ) → Agree s t here
       → latest done s p cell here ≡ latest done t p cell here
   latest_agrees s t cell zero a = refl
   latest_agrees s t cell (suc here) a =
@@ -41,7 +41,7 @@ module _ (done : Deeds) (p : ℕ) where
       ∙ ap (λ (o : Option Sighted). or_earlier (sighted_at done t p cell here) o)
       (latest_agrees s t cell here (λ i l. a i (omega arith)))
 
-  after_agrees : (s t : Source) (cell : CellUse) (w here : ℕ) → Agree s t here
+  pub after_agrees : (s t : Source) (cell : CellUse) (w here : ℕ) → Agree s t here
       → after_all done s p cell w here ≡ after_all done t p cell w here
   after_agrees s t cell w zero a = refl
   after_agrees s t cell w (suc here) a =
@@ -55,7 +55,7 @@ module _ (done : Deeds) (p : ℕ) where
       ap (λ (o : Option Sighted). floor_after w o (after_all done s p cell w here)) (latest_agrees s t cell here a)
       ∙ ap (λ (n : ℕ). floor_after w (latest done t p cell here) n) (after_agrees s t cell w here a)
 
-  equal_agree : (s t : Source) (here : ℕ) → ((i : ℕ) → i < here → s p i ≡ t p i) → Agree s t here
+  pub equal_agree : (s t : Source) (here : ℕ) → ((i : ℕ) → i < here → s p i ≡ t p i) → Agree s t here
   equal_agree s t here e i l cell =
       ap (λ (n : ℕ). option_and_then (λ deed. sighted_in cell p i n deed) (slice_get (done p) i)) (e i l)
 

@@ -8,3 +8,6 @@ pub mod Searches
 pub mod ChoiceLaws
 pub mod ChoicesInOrder
 pub mod WholeRuns
+mod Tables
+mod Finds
+mod Choosing

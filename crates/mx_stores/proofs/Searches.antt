@@ -8,11 +8,11 @@ pub record IsFound (test : ℕ → Bool) (n k : ℕ) : Type 0 where
   pub below : k < n
   pub passes : test k ≡ true
 
-clash : (b : Bool) {A : Type 0} → b ≡ true → b ≡ false → A
+pub clash : (b : Bool) {A : Type 0} → b ≡ true → b ≡ false → A
 clash true e f = absurd cc
 clash false e f = absurd cc
 
-first_none : (test : ℕ → Bool) (n : ℕ) → ((i : ℕ) → i < n → test i ≡ true → ⊥) → first_below test n ≡ None
+pub first_none : (test : ℕ → Bool) (n : ℕ) → ((i : ℕ) → i < n → test i ≡ true → ⊥) → first_below test n ≡ None
 first_none test zero none = refl
 first_none test (suc n) none = elim (cases_Bool (test n)) [
   | inl e ↦ absurd (none n (omega arith) e)
@@ -132,7 +132,9 @@ kept_told test (Some n) k e = elim (cases_Bool (test n)) [
 pub kept_not : (test : ℕ → Bool) (o : Option ℕ) (k : ℕ) → o ≡ Some k → test k ≡ false → kept test o ≡ None
 kept_not test o k e t = ap (λ (p : Option ℕ). kept test p) e ∙ passes (test k) (Some k) None t
 
-pub first_next : (test : ℕ → Bool) (n end : ℕ) → suc n ≡ end → first_below test n ≡ None → test n ≡ true
-    → first_below test end ≡ Some n
-first_next test n end s none t = subst (λ (m : ℕ). first_below test m ≡ Some n) s
-    (ap (λ (o : Option ℕ). or_next o (if test n then Some n else None)) none ∙ picks (test n) (Some n) None t)
+pub last_none : (test : ℕ → Bool) (n : ℕ) → ((i : ℕ) → i < n → test i ≡ true → ⊥) → last_below test n ≡ None
+last_none test zero none = refl
+last_none test (suc n) none = elim (cases_Bool (test n)) [
+  | inl e ↦ absurd (none n (omega arith) e)
+  | inr e ↦ passes (test n) (Some n) (last_below test n) e ∙ last_none test n (λ i l. none i (omega arith))
+]

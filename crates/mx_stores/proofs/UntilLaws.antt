@@ -16,7 +16,7 @@ use Rattle.mx_stores.proofs.SinceLaws.{dropped_later, known_law, since_law}
 use Rattle.mx_stores.proofs.StoresFrom.{told_store, test_store}
 
 -- a store in the cell among these deeds, with a point from this one on, known at q
-record HasStoreBy (cell : CellUse) (from : ℕ) (deeds : List Deed) (q : ℕ) : Type 0 where
+pub record HasStoreBy (cell : CellUse) (from : ℕ) (deeds : List Deed) (q : ℕ) : Type 0 where
   pub at : ℕ
   pub value : ℕ
   pub point : ℕ
@@ -58,7 +58,7 @@ stores_told cell from value point deed e l =
     ap (λ (d : Deed). stores_from cell from d) (same_deed deed (Stores cell value point) e)
     ∙ test_store cell from value point l
 
-least_since_by : (cell : CellUse) (from : ℕ) (deeds : List Deed) (at value point q : ℕ)
+pub least_since_by : (cell : CellUse) (from : ℕ) (deeds : List Deed) (at value point q : ℕ)
     → slice_get deeds at ≡ Some (Stores cell value point) → from ≤ point → IsBy (since deeds at) q
     → IsBy (least_since cell from deeds) q
 least_since_by cell from [] at value point q e l h = absurd (nothing_stored cell value point e)
@@ -70,7 +70,7 @@ least_since_by cell from (deed ∷ deeds) (suc at) value point q e l h =
     let own : Option ℕ = if stores_from cell from deed then least_entry deeds else None in
     least_right own (least_since cell from deeds) q (least_since_by cell from deeds at value point q e l h)
 
-by_least_since : (cell : CellUse) (from : ℕ) (deeds : List Deed) (q : ℕ) → IsBy (least_since cell from deeds) q
+pub by_least_since : (cell : CellUse) (from : ℕ) (deeds : List Deed) (q : ℕ) → IsBy (least_since cell from deeds) q
     → HasStoreBy cell from deeds q
 by_least_since cell from [] q h = absurd h
 by_least_since cell from (deed ∷ deeds) q h =
@@ -119,7 +119,7 @@ back_in n cell from deeds q s =
     }
 
 -- the later stores of a process: of a place by the first of them
-replaced_from : (cell : CellUse) (deeds : List Deed) (place at value point q : ℕ) → place < at
+pub replaced_from : (cell : CellUse) (deeds : List Deed) (place at value point q : ℕ) → place < at
     → slice_get deeds at ≡ Some (Stores cell value point) → IsBy (since deeds at) q
     → IsBy (replaced cell (drop (suc place) deeds)) q
 replaced_from cell deeds place at value point q l e h =
@@ -131,7 +131,7 @@ replaced_from cell deeds place at value point q l e h =
     (subst (λ (ds : List Deed). IsBy (least_entry ds) q)
     (ap (λ (n : ℕ). drop n deeds) next ∙ sym (drop_dropped (suc place) (suc (at - suc place)) deeds)) h)
 
-record IsReplaced (cell : CellUse) (deeds : List Deed) (place q : ℕ) : Type 0 where
+pub record IsReplaced (cell : CellUse) (deeds : List Deed) (place q : ℕ) : Type 0 where
   pub at : ℕ
   pub value : ℕ
   pub point : ℕ
@@ -139,7 +139,7 @@ record IsReplaced (cell : CellUse) (deeds : List Deed) (place q : ℕ) : Type 0 
   pub stored : slice_get deeds at ≡ Some (Stores cell value point)
   pub by : IsBy (since deeds at) q
 
-is_replaced : (cell : CellUse) (deeds : List Deed) (place q : ℕ) → IsBy (replaced cell (drop (suc place) deeds)) q
+pub is_replaced : (cell : CellUse) (deeds : List Deed) (place q : ℕ) → IsBy (replaced cell (drop (suc place) deeds)) q
     → IsReplaced cell deeds place q
 is_replaced cell deeds place q h =
     let s : HasStoreBy cell 0 (drop (suc place) deeds) q = by_replaced cell (drop (suc place) deeds) q h in

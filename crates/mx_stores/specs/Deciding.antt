@@ -1,5 +1,5 @@
 -- The reads of a process in order: each is decided from the choices made for those before it.
-use Rattle.std.specs.Prelude.{◌≡◌, ◌↔◌, ℕ, zero, suc, ◌<◌, ◌&&◌, Bool, true, is_some, List, [], ◌∷◌, ◌++◌, length, Option, Some, None, IsSome, slice_get, slice_index_or}
+use Rattle.std.specs.Prelude.{◌≡◌, ◌↔◌, ℕ, zero, suc, ◌<◌, List, [], ◌∷◌, ◌++◌, length, Option, Some, None, IsSome, slice_get, slice_index_or}
 use Rattle.mx_reads.specs.Deeds.{Deed, Deeds}
 use Rattle.mx_reads.specs.ReadRule.{Reading, HasRead, IsRightRead, AreRightReads}
 use Rattle.mx_reads.specs.Sightings.{Source}
@@ -52,7 +52,8 @@ RightReadsLaw = (count : ℕ) (done : Deeds) → AreBelow count done
     → AreRightReads done (IsKnown done)
     ↔ ((p : ℕ) → p < count → IsSome (choices done count p (length (done p))))
 
--- there is a choice for each read of the processes below this one
-abbrev pub are_chosen : Deeds → ℕ → ℕ → Bool
-are_chosen done count zero = true
-are_chosen done count (suc p) = is_some (choices done count p (length (done p))) && are_chosen done count p
+-- the first place where there is no choice
+pub record IsWrong (done : Deeds) (count p place : ℕ) : Type 0 where
+  pub within : place < length (done p)
+  pub chosen : IsSome (choices done count p place)
+  pub wrong : choices done count p (suc place) ≡ None

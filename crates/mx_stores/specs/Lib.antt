@@ -9,4 +9,8 @@ pub mod Choices
 pub mod ChoiceLaws
 pub mod Reads
 pub mod Deciding
+pub mod Breach
 pub mod Parts
+pub mod Tables
+pub mod Sights
+pub mod SightedTables

@@ -1,14 +1,16 @@
 //! Deeds: what a process did that the read rule looks at.
 
-ghost use Rattle.std.specs.Prelude.{◌≡◌};
+ghost use Rattle.std.specs.Prelude.{◌≡◌, ◌<◌, MatchOption};
 ghost use Rattle.mx_reads.specs.Deeds.{Enters, Loads, Misses, Refers, Stores};
-ghost use Rattle.mx_stores.specs.Since.{entry_of, is_same, stores_from};
-ghost use Rattle.mx_stores.specs.Choices.{stores_word};
+ghost use Rattle.mx_stores.specs.Since.{entry_of, is_same};
 ghost use Rattle.mx_stores.specs.Parts.{deed_of};
 ghost use Rattle.mx_stores.specs.Reads.{read_of};
 ghost use Rattle.mx_stores.specs.Sighted.{sighted_in};
+ghost use Rattle.mx_stores.specs.Sights.{sighted_of};
+ghost use Rattle.mx_reads.specs.Deeds.{CellUse as CellUseValue};
+ghost use Rattle.mx_stores.specs.Tables.{IsNoStore, IsStoreHere, number_of};
 
-use crate::choices::Read;
+use crate::stores::{Store, level_of, order_of};
 use std::marker::Model;
 
 /// A cell in one of its uses.
@@ -31,21 +33,29 @@ impl Model for CellUse {
 }
 
 impl CellUse {
-    // Whether it is this cell in this use.
-    fn is(&self, other: &CellUse) -> bool
+    /// Whether it is this cell in this use.
+    pub(crate) fn is(&self, other: &CellUse) -> bool
         ensures { result ≡ is_same self.now other.now }
     {
         self.cell == other.cell && self.since == other.since
+    }
+
+    /// Its number among all cells in all uses.
+    pub(crate) fn number(&self) -> u64
+        ensures number { result ≡ number_of self.now }
+        ensures fits { self.now.since < 4294967296 }
+    {
+        u64::from(self.cell) * 4_294_967_296 + u64::from(self.since)
     }
 }
 
 /// A store that was sighted.
 #[derive(Clone, Copy, Debug)]
-pub struct Sighted {
+pub(crate) struct Sighted {
     /// Whose it is.
-    pub storer: usize,
+    pub(crate) storer: usize,
     /// At which place of the storer's deeds.
-    pub store: usize,
+    pub(crate) store: usize,
 }
 
 impl Model for Sighted {
@@ -56,6 +66,42 @@ impl Model for Sighted {
     ghost view = { λ a. record { storer = a.storer; store = a.store } };
 
     ghost inverse = { λ a. record { storer = a.storer; store = a.store } };
+}
+
+/// A read of a process.
+#[derive(Clone, Copy, Debug)]
+pub struct Read {
+    /// Whose it is.
+    pub process: usize,
+    /// At which place of the process's deeds.
+    pub place: usize,
+    /// The cell.
+    pub cell: CellUse,
+    /// The value that it gave.
+    pub value: u64,
+    /// Who stored that (0: nobody).
+    pub writer: u8,
+    /// That store's stamp.
+    pub stamp: u32,
+    /// The read's point.
+    pub point: u32,
+}
+
+impl Model for Read {
+    ghost use Rattle.mx_reads.specs.ReadRule.{Reading};
+
+    ghost Value = { Reading };
+
+    ghost view = { λ a. record { process = a.process; place = a.place; cell = a.cell; value = a.value; writer = a.writer; stamp = a.stamp; point = a.point } };
+
+    ghost inverse = { λ a. record { process = a.process; place = a.place; cell = a.cell; value = a.value; writer = a.writer; stamp = a.stamp; point = a.point } };
+}
+
+/// A cell and the store that was sighted of it.
+#[derive(Clone, Copy, Debug)]
+pub(crate) struct Sight {
+    pub(crate) cell: CellUse,
+    pub(crate) sighted: Sighted,
 }
 
 /// What a process did.
@@ -124,65 +170,49 @@ impl Deed {
         }
     }
 
-    /// Whether it is a store in the cell with a point from this one on.
-    pub fn stores_from(&self, cell: &CellUse, from: u32) -> bool
-        ensures { result ≡ stores_from cell.now from self.now }
+    /// What it sights, as the deed of process `p` at the place `here`, where its read stands for the store at `chosen`.
+    pub(crate) fn sight(&self, p: usize, here: usize, chosen: usize) -> Option<Sight>
+        ensures { (cell : CellUseValue) → sighted_in cell p here chosen self.now ≡ sighted_of cell result }
     {
         match &self.form {
-            Form::Stores {
-                cell: own,
-                point,
-                ..
-            } => own.is(cell) && from <= *point,
-            Form::Enters { .. } | Form::Loads { .. } | Form::Refers { .. } | Form::Misses { .. } =>
-                false,
-        }
-    }
-
-    /// Whether it is a store of this value in the cell with this stamp.
-    pub fn stores_word(&self, cell: &CellUse, value: u64, stamp: u32) -> bool
-        ensures { result ≡ stores_word cell.now value stamp self.now }
-    {
-        match &self.form {
-            Form::Stores {
-                cell: own,
-                value: word,
-                point,
-            } => own.is(cell) && (*word == value && *point == stamp),
-            Form::Enters { .. } | Form::Loads { .. } | Form::Refers { .. } | Form::Misses { .. } =>
-                false,
-        }
-    }
-
-    /// What it sights of the cell, as the deed of process `p` at the place `here`, where its read stands for the store at
-    /// `chosen`.
-    pub fn sighted(&self, cell: &CellUse, p: usize, here: usize, chosen: usize) -> Option<Sighted>
-        ensures { result ≡ sighted_in cell.now p here chosen self.now }
-    {
-        match &self.form {
-            Form::Stores { cell: own, .. } => if own.is(cell) {
-                Some(Sighted {
+            Form::Stores { cell, .. } => Some(Sight {
+                cell: *cell,
+                sighted: Sighted {
                     storer: p,
                     store: here,
-                })
-            } else {
+                },
+            }),
+            Form::Loads { cell, writer, .. } => if *writer == 0 {
                 None
-            },
-            Form::Loads {
-                cell: own,
-                writer,
-                ..
-            } => {
-                if own.is(cell) && *writer != 0 {
-                    Some(Sighted {
+            } else {
+                Some(Sight {
+                    cell: *cell,
+                    sighted: Sighted {
                         storer: usize::from(*writer),
                         store: chosen,
-                    })
-                } else {
-                    None
-                }
-            }
+                    },
+                })
+            },
             Form::Enters { .. } | Form::Refers { .. } | Form::Misses { .. } => None,
+        }
+    }
+
+    /// The store that it is, at the place `place`, if it is one. It is known from `since` on.
+    pub(crate) fn store(&self, place: usize, since: Option<u32>) -> Option<Store>
+        ensures { MatchOption result (IsNoStore self.now) (IsStoreHere self.now place since) }
+    {
+        match &self.form {
+            Form::Stores { cell, value, point } => Some(Store {
+                cell: *cell,
+                place,
+                value: *value,
+                point: *point,
+                since,
+                order: order_of(cell, place),
+                level: level_of(cell, *point),
+            }),
+            Form::Enters { .. } | Form::Loads { .. } | Form::Refers { .. } | Form::Misses { .. } =>
+                None,
         }
     }
 

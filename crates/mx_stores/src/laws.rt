@@ -1,5 +1,6 @@
 //! Laws over the definitions: the numbers of a store say what the read rule says of it.
 
+ghost use Rattle.mx_stores.specs.Breach.{OneBreachLaw};
 ghost use Rattle.mx_stores.specs.ChoiceLaws.{ChoiceLaw};
 ghost use Rattle.mx_stores.specs.Deciding.{RightReadsLaw, RightToLaw};
 ghost use Rattle.mx_stores.specs.SightedLaws.{BeyondLaw};
@@ -54,4 +55,9 @@ pub fn right_to_law()
 /// All reads are right exactly where a choice can be made for each read of each process.
 pub fn right_reads_law()
     ensures { RightReadsLaw }
+{}
+
+/// The first deed at which the read rule fails is one.
+pub fn one_breach_law()
+    ensures { OneBreachLaw }
 {}

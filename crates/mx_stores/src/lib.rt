@@ -1,23 +1,27 @@
-//! The read rule decided, where stores are known by entries. [`are_reads_right`] says exactly whether the reads of all
-//! processes are right. It computes plainly, for small runs.
+//! The read rule decided, where stores are known by entries. [`first_breach`] names exactly the first deed at which the rule
+//! fails, and [`are_reads_right`] says exactly whether it fails nowhere, for n deeds in n log n steps for each process.
 //!
 //! A store is known from one number on (`since`) and superseded from one on (`until`), and laws say that neither falls
-//! along the stores of one process: so the first store that a read can stand for can be found by a binary search. What a
-//! process has sighted of a cell is one place, from which on a store is beyond that. The store that a read stands for is
-//! then chosen from those that the reads before it stand for, and no other choice is right.
+//! along the stores of one process. The stores of each process stand in a table, in order of cells and within each cell in
+//! order, with the greatest point up to each: so the first with a point from one on, the next and the last before a place
+//! are found by binary searches. What a process has sighted of a cell is one place, from which on a store is beyond that.
+//! The store that a read stands for is the first from there that will do, and no other choice is right; since that place
+//! never falls, a process goes over each other's stores in a cell once.
 #![tactic(auto)]
 
-mod choices;
 mod deciding;
 mod deeds;
 mod laws;
 mod numbers;
+mod reader;
+mod sightings;
+mod stores;
+#[cfg(test)]
+mod tests;
 
-pub use choices::{Read, choice};
-pub use deciding::are_reads_right;
-pub use deeds::{CellUse, Deed, Form, Sighted};
+pub use deciding::{Breach, are_reads_right, first_breach};
+pub use deeds::{CellUse, Deed, Form, Read};
 pub use laws::{
-    beyond_law, choice_law, first_law, known_law, right_reads_law, right_to_law, since_law,
-    such_law, superseded_law, until_law,
+    beyond_law, choice_law, first_law, known_law, one_breach_law, right_reads_law, right_to_law,
+    since_law, such_law, superseded_law, until_law,
 };
-pub use numbers::{first, is_by, part_of, since, until};

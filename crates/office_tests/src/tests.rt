@@ -1,3 +1,4 @@
 mod inside;
 mod running;
+mod turning;
 mod waiting;

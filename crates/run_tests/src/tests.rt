@@ -5,6 +5,7 @@ mod calls;
 mod drills;
 mod ends;
 mod logs;
+mod orders;
 mod printing;
 mod reading;
 mod scripts;

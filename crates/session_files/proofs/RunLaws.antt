@@ -10,7 +10,6 @@ use Rattle.mx_run.specs.Statuses.{IsDueStatus}
 use Rattle.mx_script.specs.Sessions.{Outline}
 use Rattle.mx_script.specs.SessionTexts.{IsText}
 use Rattle.session_files.specs.Runs.{IsRunOf, IsPrintedOf, IsSummaryOf, IsEnded, IsDrillEnded, IsEndedBy}
-use Rattle.session_files.specs.declared.orders.InOrder.{InOrder}
 use Rattle.session_files.specs.declared.runs.Ended.{Ended}
 use Rattle.session_files.specs.declared.runs.Ended.TheVariants.{Ran, Otherwise}
 
@@ -115,10 +114,11 @@ drill_ended_of words number text (Ok (Ran printed)) are told = summary_of words 
 drill_ended_of words number text (Ok (Otherwise status printed)) are told = told.0
 drill_ended_of words number text (Err error) are told = told
 
--- what came of a session in an order
-pub in_order_of : {E : Type 0} (text : List ℕ) (session : Outline) (r : Result (Option InOrder) E) → length text ≤ 4194304
-    → IsText text session → IfOk r (λ told. IfSome told (λ ran. IsPrintedOf session ran.printed.items))
-    → IfOk r (λ told. IfSome told (λ ran. IsRunOf text ran.printed.items))
-in_order_of text session (Ok (Some ran)) within spelled told = printed_of text ran.printed.items session within spelled told
-in_order_of text session (Ok None) within spelled told = told
-in_order_of text session (Err error) within spelled told = told
+-- what a session prints in an order
+pub in_order_of : {E V : Type 0} (items : V → List ℕ) (text : List ℕ) (session : Outline) (r : Result (Option V) E)
+    → length text ≤ 4194304 → IsText text session
+    → IfOk r (λ told. IfSome told (λ printed. IsPrintedOf session (items printed)))
+    → IfOk r (λ told. IfSome told (λ printed. IsRunOf text (items printed)))
+in_order_of items text session (Ok (Some printed)) within spelled told = printed_of text (items printed) session within spelled told
+in_order_of items text session (Ok None) within spelled told = told
+in_order_of items text session (Err error) within spelled told = told

@@ -2,7 +2,7 @@
 
 use crate::outcome::{
     Outcome, drill_and_compare, order_and_compare, refuse_and_compare, run_and_compare,
-    show_and_compare, steps_and_compare,
+    show_and_compare,
 };
 use crate::repeats::{Compared, has_several_processes, repeat};
 use crate::rows::{Part, is_strange, text_of};
@@ -73,16 +73,22 @@ fn find_in_session<R: Threads + Wait + Sync>(
     findings: &mut Vec<Finding>,
 ) -> Result<(), AllocError> {
     match text_of(parts, "order") {
-        Some(order) => find_in_order(alloc, session, order, parts, findings)?,
+        Some(order) => find_in_order(rt, alloc, session, order, parts, findings)?,
         None => find_in_run(rt, alloc, session, parts, findings)?,
     }
     if let Some(stored) = text_of(parts, "shared") {
         let outcome = repeat(rt, alloc, session, stored, Compared::Outline)?;
         findings.push(found("shared", outcome))?;
     }
-    for (kind, word) in [("lint", "lint"), ("lines", "lines"), ("svg", "picture")] {
+    let order = text_of(parts, "order").unwrap_or(b"");
+    let shown: [(&str, &str, &[u8]); 3] = [
+        ("lint", "lint", b""),
+        ("lines", "lines", order),
+        ("svg", "picture", order),
+    ];
+    for (kind, word, order) in shown {
         if let Some(stored) = text_of(parts, kind) {
-            let outcome = show_and_compare(rt, alloc, word, session, stored)?;
+            let outcome = show_and_compare(rt, alloc, word, order, session, stored)?;
             findings.push(found(kind, outcome))?;
         }
     }
@@ -116,8 +122,9 @@ fn find_in_run<R: Threads + Wait + Sync>(
     Ok(())
 }
 
-// What came of a run in an order, and of the order's steps.
-fn find_in_order(
+// What came of the run in an order, which is stored as a run, or as one of those that the session has.
+fn find_in_order<R: Wait>(
+    rt: &R,
     alloc: Global,
     session: &[u8],
     order: &[u8],
@@ -128,13 +135,9 @@ fn find_in_order(
         findings.push(found("order", Outcome::NoOrder))?;
         return Ok(());
     };
-    if let Some(run) = text_of(parts, "run") {
-        let outcome = order_and_compare(alloc, session, &order, run)?;
+    if let Some(run) = text_of(parts, "run").or(text_of(parts, "shared")) {
+        let outcome = order_and_compare(rt, alloc, session, &order, run)?;
         findings.push(found("order", outcome))?;
-    }
-    if let Some(steps) = text_of(parts, "steps") {
-        let outcome = steps_and_compare(alloc, session, &order, steps)?;
-        findings.push(found("steps", outcome))?;
     }
     Ok(())
 }

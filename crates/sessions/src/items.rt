@@ -166,7 +166,8 @@ fn part<'a>(row: &'a str, kind: &'a str, text: &'a [u8]) -> Part<'a> {
     Part { row, kind, text }
 }
 
-/// Writes the lines and the picture of a session, as they are shown now, and gives a line that says so.
+/// Writes the lines and the picture of a session, as they are shown now, in its stored order where it has one, and gives a line that
+/// says so.
 pub fn store<R: Threads + Wait + Sync + Files + Alloc<A = Global>>(
     rt: &R,
     name: &str,
@@ -176,8 +177,13 @@ pub fn store<R: Threads + Wait + Sync + Files + Alloc<A = Global>>(
         outcomes.push(Outcome::NotFound)?;
         return Ok(format!(in rt.alloc(); "{name}: not found\n")?);
     };
+    let order = read(rt, name, "order")?;
+    let order = match &order {
+        Some(order) => order.as_slice(),
+        None => &[],
+    };
     for (word, kind) in [("lines", "lines"), ("picture", "svg")] {
-        let sink = shown(rt, rt.alloc(), word, &session)?;
+        let sink = shown(rt, rt.alloc(), word, order, &session)?;
         write(rt, name, kind, sink.bytes())?;
     }
     outcomes.push(Outcome::AsStored)?;

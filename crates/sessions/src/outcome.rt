@@ -96,8 +96,9 @@ pub fn run_beside<R: Threads + Wait + Sync>(
     }
 }
 
-/// Runs the session of this text in this order of steps, and compares what it prints with the stored run.
-pub fn order_and_compare(
+/// Runs the session of this text with the processes' lines in this order, and compares what it prints with the stored run.
+pub fn order_and_compare<R: Wait>(
+    rt: &R,
     alloc: Global,
     session: &[u8],
     order: &[u8],
@@ -105,21 +106,8 @@ pub fn order_and_compare(
 ) -> Result<Outcome, AllocError>
     ensures as_stored { IfOk result (λ outcome. outcome ≡ Outcome.AsStored → IsRunOf session.now stored.now) }
 {
-    match run_in_order(alloc, session, order, ROOM)? {
-        Some(ran) => Ok(compared(&ran.printed, stored)),
-        None => Ok(Outcome::NoOrder),
-    }
-}
-
-/// Runs the session of this text in this order of steps, and compares what each of them comes to with what is stored.
-pub fn steps_and_compare(
-    alloc: Global,
-    session: &[u8],
-    order: &[u8],
-    stored: &[u8],
-) -> Result<Outcome, AllocError> {
-    match run_in_order(alloc, session, order, ROOM)? {
-        Some(ran) => Ok(compared(&ran.steps, stored)),
+    match run_in_order(rt, alloc, session, order, ROOM)? {
+        Some(printed) => Ok(compared(&printed, stored)),
         None => Ok(Outcome::NoOrder),
     }
 }
@@ -163,15 +151,16 @@ pub fn drill_and_compare<R: Threads + Wait + Sync>(
     }
 }
 
-/// Compares what `show` writes of this text on this word with what is stored.
+/// Compares what `show` writes of this text on this word, in this order or in none, with what is stored.
 pub fn show_and_compare<R: Threads + Wait + Sync>(
     rt: &R,
     alloc: Global,
     word: &str,
+    order: &[u8],
     session: &[u8],
     stored: &[u8],
 ) -> Result<Outcome, AllocError> {
-    let sink = shown(rt, alloc, word, session)?;
+    let sink = shown(rt, alloc, word, order, session)?;
     Ok(compared(sink.bytes(), stored))
 }
 

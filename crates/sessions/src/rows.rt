@@ -4,9 +4,8 @@ use std::alloc::{AllocError, Global};
 use std::str;
 
 /// The kinds of stored files.
-pub const KINDS: [&str; 11] = [
-    "session", "drill", "run", "status", "shared", "order", "steps", "lint", "lines", "svg",
-    "about",
+pub const KINDS: [&str; 10] = [
+    "session", "drill", "run", "status", "shared", "order", "lint", "lines", "svg", "about",
 ];
 
 /// A stored file: the row that it is of, its kind, and its text.

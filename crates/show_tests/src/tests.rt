@@ -9,9 +9,16 @@ use std::sync::Wait;
 use std::test::Fail;
 use std::thread::Threads;
 
-// A word and a text, whether the source fails at its first call, the room of the sink; and the status that comes, with what is
-// written.
-type Row = (&'static str, &'static [u8], bool, usize, u8, &'static str);
+// Words and a text, whether the source fails at its first call, the room of the sink; and the status that comes, with the parts of
+// what is written.
+type Row = (
+    &'static str,
+    &'static [u8],
+    bool,
+    usize,
+    u8,
+    &'static [&'static str],
+);
 
 const SMALLEST: &[u8] =
     b"multics 1\ncreate_seg >a 64 1 4 4\nset_acl >a Jones.Faculty.a rw\nprocess Jones.Faculty.a\n\
@@ -34,16 +41,65 @@ const SMALLEST_LINES: &str = "processes: 1; journal entries: 4\n\n\
 const ENDED: &str =
     "line 1: the text ends here; what may come is `multics 1`, `multics 2`, `multics 3` or `multics 4`\n";
 
+const USAGE: &str = "Usage: show COMMAND < SESSION\n\
+    \x20 lint             the first bad line of the text, and what is wrong with it\n\
+    \x20 lines [TURNS]    runs the session, and tells each line of the run in words\n\
+    \x20 picture [TURNS]  runs the session, and draws the run as an SVG\n\
+    \x20 plain            the text without the lines that begin with #\n\
+    \x20 drill N          the session of drill N, 1 to 6 digits; nothing is read\n\
+    \x20 help             this text; nothing is read\n\
+    TURNS: who makes the next line, as 2 1 1 2, and then all in turn; or seed N, an\n\
+    order that N chooses; without it each process runs on a thread of its own.\n\
+    Example: show lines 2 1 1 2 < FILE\n\
+    Status: 0 written, 1 out of memory, 2 bad words, 3 input failed, 4 output failed,\n\
+    5 no session, 6 more than 4,194,304 bytes\n";
+
+const BAD: &[&str] = &["bad words\n", USAGE];
+
+const TITLED: &[u8] = b"# A title\nmultics 1\n#\n # not one\n\nend#\n#";
+
 const COMMANDS: &[Row] = &[
-    ("lint", SMALLEST, false, 4096, 0, "good\n"),
-    ("lines", SMALLEST, false, 4096, 0, SMALLEST_LINES),
-    ("lint", b"", false, 4096, 5, ENDED),
-    ("lines", b"", false, 4096, 5, ENDED),
-    ("picture", b"", false, 4096, 5, ENDED),
-    ("run", SMALLEST, false, 4096, 2, "bad words\n"),
-    ("lines", SMALLEST, true, 4096, 3, ""),
-    ("lint", SMALLEST, false, 3, 4, "goo"),
-    ("picture", SMALLEST, false, 4, 4, "<svg"),
+    ("lint", SMALLEST, false, 4096, 0, &["good\n"]),
+    ("lines", SMALLEST, false, 4096, 0, &[SMALLEST_LINES]),
+    ("lines 1 15 1", SMALLEST, false, 4096, 0, &[SMALLEST_LINES]),
+    (
+        "lines seed 000007",
+        SMALLEST,
+        false,
+        4096,
+        0,
+        &[SMALLEST_LINES],
+    ),
+    ("lint", b"", false, 4096, 5, &[ENDED]),
+    ("lines", b"", false, 4096, 5, &[ENDED]),
+    ("picture", b"", false, 4096, 5, &[ENDED]),
+    ("picture 2", b"", false, 4096, 5, &[ENDED]),
+    ("run", SMALLEST, true, 4096, 2, BAD),
+    ("lines 0", SMALLEST, true, 4096, 2, BAD),
+    ("lines 16", SMALLEST, true, 4096, 2, BAD),
+    ("lines 1 02", SMALLEST, true, 4096, 2, BAD),
+    ("picture seed", SMALLEST, true, 4096, 2, BAD),
+    ("picture seed 1234567", SMALLEST, true, 4096, 2, BAD),
+    ("lint 1", SMALLEST, true, 4096, 2, BAD),
+    ("drill x", SMALLEST, true, 4096, 2, BAD),
+    ("help 1", SMALLEST, true, 12, 4, &["bad words\nUs"]),
+    ("help", b"", true, 4096, 0, &[USAGE]),
+    ("help", b"", true, 3, 4, &["Usa"]),
+    (
+        "plain",
+        TITLED,
+        false,
+        4096,
+        0,
+        &["multics 1\n # not one\n\nend#\n"],
+    ),
+    ("plain", b"#", false, 4096, 0, &[""]),
+    ("plain", TITLED, true, 4096, 3, &[""]),
+    ("plain", TITLED, false, 5, 4, &["multi"]),
+    ("drill 7", b"", true, 9, 4, &["multics 1"]),
+    ("lines", SMALLEST, true, 4096, 3, &[""]),
+    ("lint", SMALLEST, false, 3, 4, &["goo"]),
+    ("picture", SMALLEST, false, 4, 4, &["<svg"]),
 ];
 
 #[test]
@@ -64,12 +120,72 @@ fn comes_so<R: Threads + Wait + Sync>(
     alloc: Global,
     row: &Row,
 ) -> Result<bool, AllocError> {
-    let (word, text, fails, room, wanted, told) = *row;
-    let words = [String::from_str(alloc, word)?];
+    let (line, text, fails, room, wanted, parts) = *row;
+    let words = words(alloc, line)?;
     let mut source = source(alloc, text, fails)?;
     let mut sink = sink(alloc, room)?;
     let status = show(rt, alloc, &words, &mut source, &mut sink);
-    Ok(status == wanted && sink.bytes() == told.as_bytes())
+    Ok(status == wanted && is_made_of(sink.bytes(), parts))
+}
+
+// The words of a line.
+fn words(alloc: Global, line: &str) -> Result<Vec<String>, AllocError> {
+    let mut words = Vec::new(alloc);
+    for word in line.split(' ') {
+        words.push(String::from_str(alloc, word)?)?;
+    }
+    Ok(words)
+}
+
+// Whether the bytes are these parts, one after another.
+fn is_made_of(bytes: &[u8], parts: &[&str]) -> bool {
+    let mut rest = bytes;
+    for part in parts {
+        match rest.strip_prefix(part.as_bytes()) {
+            Some(others) => rest = others,
+            None => return false,
+        }
+    }
+    rest.is_empty()
+}
+
+#[test]
+fn each_drill_is_printed_whole(rt: HostRuntime) -> Result<(), Fail> {
+    let mut wrong = None;
+    for line in DRILLS {
+        if !is_session(&rt, rt.alloc(), line)? {
+            wrong = Some(*line);
+        }
+    }
+    assert_eq!(rt; wrong, None);
+    Ok(())
+}
+
+const DRILLS: &[&str] = &["drill 0", "drill 41", "drill 999999"];
+
+// Whether `lint` takes what these words print.
+fn is_session<R: Threads + Wait + Sync>(
+    rt: &R,
+    alloc: Global,
+    line: &str,
+) -> Result<bool, AllocError> {
+    let mut printed = sink(alloc, 65_536)?;
+    let status = show(
+        rt,
+        alloc,
+        &words(alloc, line)?,
+        &mut source(alloc, b"", true)?,
+        &mut printed,
+    );
+    let mut told = sink(alloc, 65_536)?;
+    let linted = show(
+        rt,
+        alloc,
+        &words(alloc, "lint")?,
+        &mut source(alloc, printed.bytes(), false)?,
+        &mut told,
+    );
+    Ok(status == 0 && linted == 0)
 }
 
 fn source(alloc: Global, text: &[u8], fails: bool) -> Result<MemorySource, AllocError> {

@@ -82,6 +82,16 @@ fn wait<R: Wait, B: Sitting>(
     blocked.ok()
 }
 
+// The numbers of its entries, and whether it met the journal at its limit.
+fn entries(blocked: &Blocked) -> (Option<u32>, Option<u32>, bool) {
+    match blocked {
+        Blocked::Shut => (None, None, true),
+        Blocked::Answered(served) => (Some(served.number), None, false),
+        Blocked::Resumed { entry, resume } => (Some(*entry), Some(resume.number), false),
+        Blocked::CutShort { entry } => (Some(*entry), None, true),
+    }
+}
+
 // How often process 2 asks whether process 1 waits. Where no thread can be had, process 1 comes after it.
 const LOOKS: u32 = 1_000_000;
 
@@ -205,7 +215,7 @@ fn who_waits_goes_on(rt: HostRuntime) -> Result<(), Fail> {
     let session = read_session(rt.alloc(), TEXT)?;
     for scene in SCENES {
         let (blocked, went) = run(&rt, rt.alloc(), &session, &scene)?;
-        let ended = blocked.map(|blocked| (blocked.entry, blocked.resume, blocked.full));
+        let ended = blocked.map(|blocked| entries(&blocked));
         assert!(rt; went && ended == scene.ended);
     }
     Ok(())
@@ -226,7 +236,7 @@ fn ended<R: Threads + Wait + Sync>(
 fn nobody_is_left_waiting(rt: HostRuntime) -> Result<(), Fail> {
     let scene = SCENES[1];
     if let Some((Some(blocked), went)) = ended(&rt, rt.alloc(), &scene) {
-        let ended = Some((blocked.entry, blocked.resume, blocked.full));
+        let ended = Some(entries(&blocked));
         assert!(rt; went && ended == scene.ended);
     }
     Ok(())

@@ -14,7 +14,7 @@ use Rattle.mx_rule.specs.Telling.{AreRightWords}
 use Rattle.mx_transcript.specs.Misses.{IsChanged}
 use Rattle.mx_office.specs.Locked.{IsLocked}
 use Rattle.mx_office.proofs.Locks.{changed_listed, journal_after, length_is, locked_after, locked_as, may_announce}
-use Rattle.mx_office.proofs.Serves.{entered_by, entry_found, grown_journal, longer_by, number_within, same_served, served_by}
+use Rattle.mx_office.proofs.Serves.{entered_by, entry_found, fits_found, grown_journal, linked_found, longer_by, number_within, same_served, served_by}
 use Rattle.mx_office.proofs.serving.enter_below.Goals as goal
 
 pub entry-entry-requires-clause-most : goal.entry-entry-requires-clause-most
@@ -171,6 +171,9 @@ returns-clause-entered g c served same =
       request = c.args.request.now;
       reply = (ap (λ (z : journaled.Entry). z.reply) (sym mine_is)) i;
     }))
+    (linked_found s s' c.process-process.result c.args.ring c.args.request.now came.number made found c.entry-entry.ensures)
+    (fits_found s s' c.process-process.result c.args.ring c.args.request.now came.number made c.process-process.ensures.low
+    found c.entry-entry.ensures)
     c.of.ensures
     (λ n changed. changed_listed x g.B.Sitting.setup g.B.Naming.layout s s' w c.args.book.now.total l found c.in_ok-made.made.came
     c.in_ok-made.ensures.came

@@ -3,7 +3,8 @@ use Rattle.mx_line.specs.Fills.{write_of}
 use Rattle.mx_line.specs.declared.fills.Fill.{Fill}
 use Rattle.mx_transcript.specs.Elements.{IsJudged}
 use Rattle.mx_process.proofs.FillingLaws.{made_leads, onward_at, pointer_leads}
-use Rattle.mx_process.specs.Filling.{IsFitting, IsSince, Leads}
+use Rattle.mx_process.specs.Filling.{IsSince, Leads}
+use Rattle.mx_process.specs.Processes.{IsFitting}
 use Rattle.mx_process.proofs.filling.made.Goals as goal
 
 pub returns-in-Words-clause-leads : goal.returns-in-Words-clause-leads

@@ -3,13 +3,8 @@ use Rattle.mx_office.specs.Blocking.{IsStuck}
 use Rattle.mx_office.specs.Holding.{LockedValue}
 use Rattle.mx_office.specs.declared.answers.Answer.TheVariants.{Waiting}
 use Rattle.mx_office.specs.declared.answers.EnterError.TheVariants.{HistoryFull}
-use Rattle.mx_office.proofs.Blocks.{answered_by, cut_by, err_as, resumed_by, waited_by}
+use Rattle.mx_office.proofs.Blocks.{cut_by, err_as, resumed_by, waited_by}
 use Rattle.mx_office.proofs.offices.Office.block.Goals as goal
-
-pub returns-in-Ok-2-clause-blocked : goal.returns-in-Ok-2-clause-blocked
-returns-in-Ok-2-clause-blocked g c =
-    answered_by g.B.Sitting.session g.B.Sitting.setup c.args.ring c.args.pass.now c.in-Ok.served c.serve.new.pass
-    (c.serve.ensures.entered c.in-Ok.served c.in-Ok.is) (search rules)
 
 pub resume-requires-clause-awake : goal.resume-requires-clause-awake
 resume-requires-clause-awake g c = λ stuck.
@@ -21,9 +16,9 @@ pub returns-in-Ok-resume-clause-blocked : goal.returns-in-Ok-resume-clause-block
 returns-in-Ok-resume-clause-blocked g c =
     let waits : c.in-Ok.served.answer ≡ Waiting = search rules in
     resumed_by g.B.Sitting.session g.B.Sitting.setup c.args.ring c.args.pass.now c.in-Ok.served c.serve.new.pass
-    (c.serve.ensures.entered c.in-Ok.served c.in-Ok.is) waits c.in-Ok-resume.served c.resume.new.pass
-    (c.resume.ensures.entered c.in-Ok-resume.served c.in-Ok-resume.is)
-    (c.resume.ensures.given c.in-Ok-resume.served c.in-Ok-resume.is)
+    (c.serve.ensures.entered c.in-Ok.served c.in-Ok.is) waits c.in-Ok-resume.resume c.resume.new.pass
+    (c.resume.ensures.entered c.in-Ok-resume.resume c.in-Ok-resume.is)
+    (c.resume.ensures.given c.in-Ok-resume.resume c.in-Ok-resume.is)
 
 pub returns-in-Err-HistoryFull-resume-clause-blocked : goal.returns-in-Err-HistoryFull-resume-clause-blocked
 returns-in-Err-HistoryFull-resume-clause-blocked g c =
@@ -34,10 +29,3 @@ returns-in-Err-HistoryFull-resume-clause-blocked g c =
     (err_as c.resume.result c.in-Err-HistoryFull-resume.field-0
     (HistoryFull c.in-Err-HistoryFull-resume.field-0-0) c.in-Err-HistoryFull-resume.is
     c.in-Err-HistoryFull-resume.field-0-is))
-
-pub returns-clause-err : goal.returns-clause-err
-returns-clause-err g c =
-    let waits : c.in-Ok.served.answer ≡ Waiting = search rules in
-    waited_by g.B.Sitting.session g.B.Sitting.setup c.args.ring c.args.pass.now c.in-Ok.served c.serve.new.pass
-    (c.serve.ensures.entered c.in-Ok.served c.in-Ok.is) waits c.resume.new.pass
-    (search rules)

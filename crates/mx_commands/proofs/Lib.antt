@@ -1,0 +1,3 @@
+pub mod OrderLaws
+pub mod PlainLaws
+pub mod WordLaws

@@ -1,0 +1,6 @@
+pub mod Commands
+pub mod Usage
+pub mod PlainTexts
+pub mod Orders
+-- helpers that only private contracts cite
+pub mod Readings

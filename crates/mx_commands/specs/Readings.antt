@@ -1,0 +1,45 @@
+-- Helpers that private contracts cite: what words are read as.
+use Rattle.std.specs.Prelude.{◌≡◌, ℕ, ◌≤◌, true, List, map, Option, None, Some, codes}
+use Rattle.std.specs.String.{string_bytes}
+use Rattle.mx_commands.specs.Commands.{is_order, IsNothing, IsOneNumber, IsNamed, IsSeed, IsLint, IsPlain, IsDrill, IsHelp, IsCommand}
+use Rattle.mx_commands.specs.declared.words.Turns.{Turns}
+use Rattle.mx_commands.specs.declared.words.Turns.TheVariants.{Threads, Chosen, Named}
+use Rattle.mx_commands.specs.declared.words.View.{View}
+use Rattle.mx_commands.specs.declared.words.View.TheVariants.{Lint, Lines, Picture}
+use Rattle.mx_commands.specs.declared.words.Reading.{Reading}
+use Rattle.mx_commands.specs.declared.words.Reading.TheVariants.{Session, Plain}
+use Rattle.mx_commands.specs.declared.words.Command.{Command}
+use Rattle.mx_commands.specs.declared.words.Command.TheVariants.{Read, Drill, Help, Other}
+
+-- the number that words are, or that they are none
+abbrev pub IsOneNumberOf : List (List ℕ) → Option ℕ → Type 0
+IsOneNumberOf words None = (number : ℕ) → IsOneNumber words number → ⊥
+IsOneNumberOf words (Some number) = IsOneNumber words number
+
+abbrev pub IsSeedOf : List (List ℕ) → Option ℕ → Type 0
+IsSeedOf words None = (number : ℕ) → IsSeed words number → ⊥
+IsSeedOf words (Some number) = IsSeed words number
+
+-- these words ask for such turns
+abbrev pub TakesTurns : Turns → List (List ℕ) → Type 0
+TakesTurns Threads words = IsNothing words
+TakesTurns (Chosen number) words = IsSeed words number
+TakesTurns (Named order) words = (map string_bytes order.now ≡ words) × (is_order words ≡ true)
+
+-- these words ask for such a view
+abbrev pub IsAsked : View → List (List ℕ) → Type 0
+IsAsked Lint words = IsLint words
+IsAsked (Lines turns) words = IsNamed (codes "lines") (TakesTurns turns) words
+IsAsked (Picture turns) words = IsNamed (codes "picture") (TakesTurns turns) words
+
+-- these words ask for the source to be read so
+abbrev pub IsReadSo : Reading → List (List ℕ) → Type 0
+IsReadSo (Session view) words = IsAsked view words
+IsReadSo Plain words = IsPlain words
+
+-- what words ask for
+abbrev pub IsMeant : List (List ℕ) → Command → Type 0
+IsMeant words (Read reading) = IsReadSo reading words
+IsMeant words (Drill number) = IsDrill words number × (number ≤ 999999)
+IsMeant words Help = IsHelp words
+IsMeant words Other = IsCommand words → ⊥

@@ -1,0 +1,180 @@
+//! The words of a command line.
+
+ghost use Rattle.std.specs.Prelude.{◌≡◌, ◌≢◌, ◌≤◌, [], ◌∷◌, map, is_some, MatchOption, IfSome, IfNone, codes};
+ghost use Rattle.std.specs.List.{list_all};
+ghost use Rattle.std.specs.String.{string_bytes};
+ghost use Rattle.mx_commands.specs.Commands.{process_of, is_order, IsTurns};
+ghost use Rattle.mx_commands.specs.Readings.{IsMeant, IsOneNumberOf, IsSeedOf, TakesTurns};
+
+use crate::orders::process_of;
+use mx_drill::read_number;
+
+/// The most processes of an order.
+const MOST_TURNS: usize = 4096;
+
+/// How the processes of a run take turns.
+#[derive(Clone, Copy)]
+pub enum Turns<'a> {
+    /// As the threads come, one for each process.
+    Threads,
+    /// In the order that this number chooses.
+    Chosen(u32),
+    /// In the order of the processes that these words name.
+    Named(&'a [String]),
+}
+
+/// What is shown of a session.
+#[derive(Clone, Copy)]
+pub enum View<'a> {
+    /// That it is one.
+    Lint,
+    /// Its run, line by line.
+    Lines(Turns<'a>),
+    /// Its run, drawn.
+    Picture(Turns<'a>),
+}
+
+/// As what the source is read.
+#[derive(Clone, Copy)]
+pub enum Reading<'a> {
+    /// As a session, of which this is shown.
+    Session(View<'a>),
+    /// As a text, which is printed without its titles.
+    Plain,
+}
+
+/// What the words of a command line ask for.
+#[derive(Clone, Copy)]
+pub enum Command<'a> {
+    /// The source is read so.
+    Read(Reading<'a>),
+    /// The session of the drill of this number is printed.
+    Drill(u32),
+    /// How to use the program is printed.
+    Help,
+    /// The words are not accepted.
+    Other,
+}
+
+impl<'a> Command<'a> {
+    /// What these words ask for. Takes no memory.
+    pub fn read(words: &'a [String]) -> Command<'a>
+        ensures { IsMeant (map string_bytes words.now) result }
+    {
+        match first_word(words) {
+            Some((name, rest)) => Command::named(name, rest),
+            None => Command::Other,
+        }
+    }
+
+    // What a name and the words after it ask for.
+    fn named(name: &str, rest: &'a [String]) -> Command<'a>
+        ensures { IsMeant (name.now ∷ map string_bytes rest.now) result }
+    {
+        match name {
+            "lines" => match Turns::read(rest) {
+                Some(turns) => Command::Read(Reading::Session(View::Lines(turns))),
+                None => Command::Other,
+            },
+            "picture" => match Turns::read(rest) {
+                Some(turns) => Command::Read(Reading::Session(View::Picture(turns))),
+                None => Command::Other,
+            },
+            "drill" => match one_number(rest) {
+                Some(number) => Command::Drill(number),
+                None => Command::Other,
+            },
+            _ => {
+                if rest.is_empty() {
+                    Command::alone(name)
+                } else {
+                    Command::Other
+                }
+            }
+        }
+    }
+
+    // What a word asks for that stands alone, and that no other may follow or must.
+    fn alone(name: &str) -> Command<'a>
+        requires lines { name.now ≢ codes "lines" }
+        requires picture { name.now ≢ codes "picture" }
+        ensures { IsMeant (name.now ∷ []) result }
+    {
+        match name {
+            "lint" => Command::Read(Reading::Session(View::Lint)),
+            "plain" => Command::Read(Reading::Plain),
+            "help" => Command::Help,
+            _ => Command::Other,
+        }
+    }
+}
+
+// The first word, and those after it.
+fn first_word(words: &[String]) -> Option<(&str, &[String])>
+    ensures { MatchOption result (map string_bytes words.now ≡ []) (λ p. map string_bytes words.now ≡ p.0.now ∷ map string_bytes p.1.now) }
+{
+    match words.split_first() {
+        Some((name, rest)) => Some((name.as_str(), rest)),
+        None => None,
+    }
+}
+
+impl<'a> Turns<'a> {
+    // How the processes are to take turns, none where these words do not say it.
+    fn read(words: &'a [String]) -> Option<Turns<'a>>
+        ensures turns { IfSome result (λ turns. TakesTurns turns (map string_bytes words.now)) }
+        ensures none { IfNone result (IsTurns (map string_bytes words.now) → ⊥) }
+    {
+        if words.is_empty() {
+            return Some(Turns::Threads);
+        }
+        if let Some(number) = seed(words) {
+            return Some(Turns::Chosen(number));
+        }
+        if is_order(words) {
+            Some(Turns::Named(words))
+        } else {
+            None
+        }
+    }
+}
+
+// The number of `seed N`.
+fn seed(words: &[String]) -> Option<u32>
+    ensures { IsSeedOf (map string_bytes words.now) result }
+{
+    match first_word(words) {
+        Some((name, rest)) if name == "seed" => one_number(rest),
+        _ => None,
+    }
+}
+
+// The number that is the one word.
+fn one_number(words: &[String]) -> Option<u32>
+    ensures value { IsOneNumberOf (map string_bytes words.now) result }
+    ensures most { IfSome result (λ n. n ≤ 999999) }
+{
+    match words {
+        [digits] => read_number(digits.as_str()),
+        _ => None,
+    }
+}
+
+// Whether these words are an order.
+fn is_order(words: &[String]) -> bool
+    ensures { result ≡ is_order (map string_bytes words.now) }
+{
+    !words.is_empty() && words.len() <= MOST_TURNS && are_processes(words)
+}
+
+// Whether each of these words names a process.
+fn are_processes(words: &[String]) -> bool
+    ensures { result ≡ list_all (λ word. is_some (process_of word)) (map string_bytes words.now) }
+{
+    for word in words {
+        if process_of(word.as_str()).is_none() {
+            return false;
+        }
+    }
+    true
+}

@@ -1,0 +1,32 @@
+-- What the processes of a run leave: their transcripts, their passes and their auditors.
+use Rattle.std.specs.Prelude.{◌≡◌, ◌-◌, ℕ, List, [], ◌∷◌, ◌++◌, Some, length, option_to_list, slice_get}
+use Rattle.mx_audit.specs.Accounts.{Account}
+use Rattle.mx_closing.specs.Views.{view_in}
+use Rattle.mx_desc.specs.Passes.{PassValue}
+use Rattle.mx_process.specs.Audited.{IsAudited}
+use Rattle.mx_process.specs.Processes.{ProcessValue, script_of}
+use Rattle.mx_script.specs.Sessions.{Outline}
+use Rattle.mx_state.specs.declared.journal.Entry as journaled
+use Rattle.mx_ties.specs.Working.{HasWorked}
+use Rattle.mx_transcript.specs.Transcripts.{Step}
+
+abbrev pub steps_in : ProcessValue → List Step
+steps_in v = v.state.recording.steps
+
+abbrev pub pass_in : ProcessValue → PassValue journaled.Entry
+pass_in v = v.pass
+
+-- the accounts of the auditors that processes have, in their order
+abbrev pub accounts_in : List ProcessValue → List Account
+accounts_in [] = []
+accounts_in (v ∷ row) = option_to_list v.account ++ accounts_in row
+
+-- each auditor was told what its process was denied
+abbrev pub AreAudited : Outline → List Account → List ProcessValue → Type 0
+AreAudited x accounts row = (place : ℕ) (v : ProcessValue) → slice_get row place ≡ Some v
+    → IsAudited (length (script_of x v.pass.view.process)) (slice_get accounts (v.pass.view.process - 1)) (steps_in v) v.account
+
+-- each has worked
+abbrev pub HaveWorked : Outline → List journaled.Entry → List ProcessValue → Type 0
+HaveWorked x setup row = (place : ℕ) (v : ProcessValue) → slice_get row place ≡ Some v
+    → HasWorked x setup v.pass.view.process (steps_in v) (view_in v.pass)

@@ -1,0 +1,204 @@
+//! The lines of a process, by all that they take.
+
+ghost use Rattle.std.specs.Prelude.{◌≡◌, ◌↔◌, ◌⊎◌, Ok, IfOk, IfSome, IsNone, IsSome, IsTrue, OnErr, OnOk};
+ghost use Rattle.std.specs.Option.{option_map};
+ghost use Rattle.mx_line.specs.declared.operands.Progress.TheVariants.{Waiting};
+ghost use Rattle.mx_process.specs.Lines.{HasEnded, HasGoneOn, HasNoLine, HasTurnedTo, IsAtBlock, IsAwake, IsOwn};
+ghost use Rattle.mx_process.specs.Processes.{HasLine, IsAtLine};
+ghost use Rattle.mx_process.specs.declared.lines.Turned.TheVariants.{Done, Waits};
+ghost use Rattle.mx_script.specs.declared.lines.Line.{Line};
+
+use crate::entries::Answered;
+use crate::gates::Gate;
+use crate::legs::Leg;
+use crate::naming::Attending;
+use crate::processes::Process;
+use mx_audit::Auditor;
+use mx_line::Progress;
+use mx_office::Office;
+use mx_request::Request;
+use std::alloc::{AllocError, Global};
+use std::sync::Wait;
+
+/// What a turn of a process came to.
+#[derive(Clone, Copy, Debug, PartialEq, Eq)]
+pub enum Turned {
+    /// Its line was done.
+    Done,
+    /// Its line is a `block` that waits for a message: it goes on with a later turn.
+    Waits,
+}
+
+impl<'a, B: Attending, A: Auditor> Process<'a, B, A> {
+    /// Does the next line: attempts, and what they ask for, until it ends. References take no lock; a request, a link that
+    /// is to be snapped and a miss that is to be settled wait for it, and a `block` sleeps until there is a message, or
+    /// nobody who could send one. Conditions: a line is left, and it does not wait. The only error is want of memory, or
+    /// that the run is to end; no line has ended then.
+    pub fn line<R: Wait>(
+        &mut self,
+        rt: &R,
+        alloc: Global,
+        office: &Office<'_, B>,
+    ) -> Result<(), AllocError>
+        requires left { HasLine B.session self.old }
+        requires awake { IsAwake self.old }
+        ensures ended { OnOk result (HasEnded self.old self.new) }
+        ensures err { OnErr result (HasGoneOn self.old self.new) }
+    {
+        for _ in rt.forever() {
+            match self.leg(rt, alloc, office)? {
+                Leg::More => {}
+                Leg::Done => return Ok(()),
+                Leg::Blocks => return self.block(rt, alloc, office),
+                Leg::Waits => unreachable!(),
+            }
+        }
+        unreachable!()
+    }
+
+    /// Does the next line, as [`Process::line`] does, but does not sleep: where it is a `block` that has to wait it says so, and
+    /// the same line goes on with the next turn. Condition: a line is left. The only error is want of memory, or that the
+    /// run is to end; no line has ended then.
+    pub fn turn<R: Wait>(
+        &mut self,
+        rt: &R,
+        alloc: Global,
+        office: &Office<'_, B>,
+    ) -> Result<Turned, AllocError>
+        requires left { HasLine B.session self.old }
+        ensures ended { result ≡ Ok Done → HasEnded self.old self.new }
+        ensures waits { result ≡ Ok Waits → HasGoneOn self.old self.new × (self.new.state.progress ≡ Waiting) }
+        ensures err { OnErr result (HasGoneOn self.old self.new) }
+    {
+        for _ in rt.forever() {
+            if let Some(turned) = self.turn_leg(rt, alloc, office)? {
+                return Ok(turned);
+            }
+        }
+        unreachable!()
+    }
+
+    // A leg of a turn, and what the turn came to, where it is over.
+    fn turn_leg<R: Wait>(
+        &mut self,
+        rt: &R,
+        alloc: Global,
+        office: &Office<'_, B>,
+    ) -> Result<Option<Turned>, AllocError>
+        requires left { HasLine B.session self.old }
+        ensures came { IfOk result (λ turned. HasTurnedTo self.old turned self.new) }
+        ensures err { OnErr result (HasGoneOn self.old self.new) }
+    {
+        match self.leg(rt, alloc, office)? {
+            Leg::More => Ok(None),
+            Leg::Done => Ok(Some(Turned::Done)),
+            Leg::Blocks => self.turn_block(rt, alloc, office),
+            Leg::Waits => self.turn_resume(rt, alloc, office),
+        }
+    }
+
+    // A `block` that does not sleep.
+    fn turn_block<R: Wait>(
+        &mut self,
+        rt: &R,
+        alloc: Global,
+        office: &Office<'_, B>,
+    ) -> Result<Option<Turned>, AllocError>
+        requires block { IsAtBlock B.session self.old }
+        ensures came { IfOk result (λ turned. HasTurnedTo self.old turned self.new) }
+        ensures err { OnErr result (HasGoneOn self.old self.new) }
+    {
+        let ring = self.state.control.registers.ring;
+        match self.call(rt, alloc, office, ring, &Request::Block)? {
+            Answered::More => Ok(None),
+            Answered::Done => Ok(Some(Turned::Done)),
+        }
+    }
+
+    // The `resume` of a process that was told to wait, if it may be made.
+    fn turn_resume<R: Wait>(
+        &mut self,
+        rt: &R,
+        alloc: Global,
+        office: &Office<'_, B>,
+    ) -> Result<Option<Turned>, AllocError>
+        requires waiting { self.old.state.progress ≡ Waiting }
+        requires left { HasLine B.session self.old }
+        ensures came { IfOk result (λ turned. HasTurnedTo self.old turned self.new) }
+        ensures err { OnErr result (HasGoneOn self.old self.new) }
+    {
+        match self.try_resume(rt, alloc, office)? {
+            Turned::Done => Ok(Some(Turned::Done)),
+            Turned::Waits => Ok(Some(Turned::Waits)),
+        }
+    }
+
+    /// Does all lines that are left. The gate is told of each before it begins. Condition: it does not wait. The only error is
+    /// want of memory, or that the run is to end: then the run is to end for all.
+    pub fn run<R: Wait, G: Gate>(
+        &mut self,
+        rt: &R,
+        alloc: Global,
+        office: &Office<'_, B>,
+        gate: &G,
+    ) -> Result<(), AllocError>
+        requires awake { IsAwake self.old }
+        ensures ended { OnOk result (HasNoLine B.session self.new) }
+        ensures own { IsOwn self.old self.new }
+    {
+        while let Some(number) = self.beginning() {
+            gate.pass(u32::from(self.number()), number);
+            if let Err(error) = self.line(rt, alloc, office) {
+                office.stop(rt);
+                return Err(error);
+            }
+        }
+        Ok(())
+    }
+
+    /// The process's number, from 1 on.
+    pub fn number(&self) -> u8
+        ensures { result ≡ self.now.pass.view.process }
+    {
+        self.pass.process()
+    }
+
+    /// The number in the session text of the line that is about to begin: none where no line is left, and where the process
+    /// waits in a line that it has begun.
+    pub fn beginning(&self) -> Option<u32>
+        ensures some { IfSome result (λ number. (line : Line) × IsAtLine B.session self.now number line) }
+        ensures awake { IsSome result → IsAwake self.now }
+        ensures none { IsNone result → HasNoLine B.session self.now ⊎ (self.now.state.progress ≡ Waiting) }
+    {
+        if !self.has_line() {
+            return None;
+        }
+        if self.waits() {
+            return None;
+        }
+        Some(self.next_number())
+    }
+
+    // Whether a `block` of it waits for a message.
+    fn waits(&self) -> bool
+        ensures { IsTrue result ↔ (self.now.state.progress ≡ Waiting) }
+    {
+        matches!(self.state.progress, Progress::Waiting)
+    }
+
+    // The number in the session text of the next line.
+    fn next_number(&self) -> u32
+        requires { HasLine B.session self.now }
+        ensures { (line : Line) × IsAtLine B.session self.now result line }
+    {
+        self.state.first + self.state.recording.lines() as u32
+    }
+
+    /// The auditor, where the run is given up. Takes no memory.
+    pub fn dismiss(self) -> Option<A>
+        ensures { option_map A.account result ≡ self.entry.account }
+    {
+        let Process { auditor, .. } = self;
+        auditor
+    }
+}
