@@ -164,6 +164,8 @@ impl<'a> World<'a> {
             return None;
         }
         let reply = self.supervisor.answer(p, ring, request);
+        let freed = self.supervisor.freed();
+        self.cells[64 * freed.start..64 * freed.end].fill(0);
         self.journal.push(Entry { process: p as u8, ring, asked, reply });
         events.push(Event::Entry(self.journal.len() as u32));
         self.journal.last().map(|entry| &entry.reply)

@@ -2,6 +2,7 @@
 
 use crate::session::{AclId, Brackets, Class, Modes, Name, ObjectMap, Pathname, Request, Rule, Session};
 use std::collections::{BTreeMap, HashMap, VecDeque};
+use std::ops::Range;
 use std::sync::Arc;
 
 pub const PAGES: usize = 1_024;
@@ -149,6 +150,8 @@ pub struct Supervisor {
     version: u8,
     branches: Vec<Branch>,
     free: [bool; PAGES],
+    /// The pages that the last request freed.
+    freed: Range<usize>,
     processes: Vec<Own>,
 }
 
@@ -228,13 +231,20 @@ impl Supervisor {
             version: session.version,
             branches: vec![Branch { holder: 0, acl: Acl(vec![(daemons, S | M | A)]), kind: Kind::Directory(root) }],
             free,
+            freed: 0..0,
             processes,
         }
     }
 
     /// Answers a request of process `p` in a ring.
     pub fn answer(&mut self, p: usize, ring: u8, request: &Request) -> Reply {
+        self.freed = 0..0;
         self.try_answer(p, ring, request).unwrap_or_else(Reply::Refused)
+    }
+
+    /// The pages that the last request freed.
+    pub fn freed(&self) -> Range<usize> {
+        self.freed.clone()
     }
 
     /// Whether a process that waits would be told something else than to wait.
@@ -417,6 +427,12 @@ impl Supervisor {
         self.free[first..first + count].fill(false);
     }
 
+    fn free_pages(&mut self, first: u16, words: u16) {
+        let first = usize::from(first);
+        self.freed = first..first + usize::from(words).div_ceil(64);
+        self.free[self.freed.clone()].fill(true);
+    }
+
     fn make_segment(
         &mut self,
         p: usize,
@@ -497,16 +513,19 @@ impl Supervisor {
                 if uid == 0 {
                     return Err(INCORRECT_ACCESS);
                 }
-                let map = match &self.branches[uid].kind {
+                let (map, pages) = match &self.branches[uid].kind {
                     Kind::Directory(directory) if !directory.entries.is_empty() => return Err(DIR_NOT_EMPTY),
-                    Kind::Segment(segment) => segment.map.clone(),
-                    _ => None,
+                    Kind::Segment(segment) => (segment.map.clone(), Some((segment.page, segment.words))),
+                    _ => (None, None),
                 };
                 let names = resolved(who.base, path)?;
                 let holder = self.branches[uid].holder;
                 self.branches[uid].kind = Kind::Gone(map);
                 if let Kind::Directory(directory) = &mut self.branches[holder].kind {
                     directory.entries.remove(&names[names.len() - 1]);
+                }
+                if let Some((page, words)) = pages {
+                    self.free_pages(page, words);
                 }
             }
             Request::SetAcl(path, id, modes) => {
@@ -609,13 +628,14 @@ impl Supervisor {
                 let Some(Lot::Branch(uid)) = own.lots.get(place).copied() else { return Err(UNKNOWN_SEGNO) };
                 own.lots[place] = Lot::Free;
                 own.numbers.remove(&uid);
-                if let Some(Lot::Linkage { object, .. }) = own.lots.get(place + 1) {
-                    if *object == uid {
-                        own.lots[place + 1] = Lot::Free;
-                    }
-                }
                 for names in &mut own.names {
                     names.retain(|_, other| other != segno);
+                }
+                if let Some(Lot::Linkage { object, page, words, .. }) = own.lots.get(place + 1).copied() {
+                    if object == uid {
+                        own.lots[place + 1] = Lot::Free;
+                        self.free_pages(page, words);
+                    }
                 }
             }
             Request::Link(segno, word) => return self.link(p, ring, *segno, *word),

@@ -4,8 +4,6 @@ use Rattle.std.specs.Prelude.{IsTrue}
 use Rattle.std.specs.List.{slice_get}
 use Rattle.std.specs.Option.{option_map}
 use Rattle.std.proofs.lemmas.Option.{slice_get-map, slice_get_within}
-use Rattle.mx_core.proofs.Access.{true_false}
-use Rattle.mx_core.proofs.Uses.{same_use}
 use Rattle.mx_core.specs.Pages.{covers, use_at}
 use Rattle.mx_core.specs.Deeds.{deed_of, front}
 use Rattle.mx_core.specs.RightWords.{IsWord}
@@ -16,6 +14,7 @@ use Rattle.mx_core.specs.declared.words.DescriptorWord.TheVariants.{Valid, Fault
 use Rattle.mx_desc.specs.Passes.{PassValue}
 use Rattle.mx_reads.specs.Deeds.{Deeds}
 use Rattle.mx_reads.specs.ReadRule.{Fronts, known_by, AreRightReads}
+use Rattle.mx_pages.specs.Runs.{page_count}
 use Rattle.mx_request.specs.declared.requests.Request.{Request}
 use Rattle.mx_rule.specs.Ending.{IsRightEnd}
 use Rattle.mx_rule.specs.Shown.{office_of, given_of, entries_of}
@@ -31,9 +30,12 @@ use Rattle.mx_ties.specs.Uses.{renamed}
 use Rattle.mx_ties.specs.Views.{Marked, View, deed_kept}
 use Rattle.mx_ties.proofs.JournalLists.{by_cases, followed_length}
 use Rattle.mx_transcript.specs.Legal.{Call, call_of, setup_call, setup_entries}
-use Rattle.mx_closing.proofs.Deeds.{deeds_same, in_use, uses_apart}
+use Rattle.mx_transcript.specs.Uses.{given_by, use_of}
+use Rattle.mx_closing.proofs.Covering.{covers_within}
+use Rattle.mx_closing.proofs.Deeds.{deeds_same}
 use Rattle.mx_closing.proofs.Histories.{marked_append, marked_length, front_is}
 use Rattle.mx_closing.proofs.Renaming.{reads_from}
+use Rattle.mx_closing.proofs.Uses.{in_use, swapped, swapped_use, uses_apart}
 use Rattle.mx_closing.proofs.PassLists.{IsFound, found, has_pass, no_pass, all_amounts, referred, missed}
 use Rattle.mx_closing.specs.Closing.{AreBack, ClosingLaw}
 use Rattle.mx_closing.specs.Keeping.{KeepsJournal}
@@ -199,26 +201,39 @@ module _ (x : Outline) (setup : List journaled.Entry) (v : SuperView journaled.E
             );
       }
 
-  -- the use of each page from the first reference to it on
-  abbrev since_of : ℕ → ℕ
-  since_of page = use_at v.start given page v.length
+  -- which pages entries gave out, by the journal, and the use of each page at the start
+  abbrev mine : ℕ → ℕ → Bool
+  mine = given_by x journal
+
+  abbrev base : ℕ → ℕ
+  base page = use_at 0 mine page v.start
+
+  given_same : (page : ℕ) → page < page_count → (q : ℕ) → v.start ≤ q → q < v.length
+      → given (suc q) page ≡ mine (suc q) page
+  given_same page within q low under =
+      let next : suc q ≡ q + 1 = omega (arith) in
+      ap (λ (n : ℕ). given n page) next
+      ∙ keeps.given q page low under within
+      ∙ sym (ap (λ (n : ℕ). mine n page) next)
 
   used : (p : ℕ) → 1 ≤ p → p ≤ length x.principals → (floor : ℕ) → floor ≤ v.length → (q n page : ℕ) → v.start ≤ q
-      → q ≤ floor → IsTrue (covers ((office_of v).table q p n) page) → use_at v.start given page q ≡ since_of page
+      → q ≤ floor → IsTrue (covers ((office_of v).table q p n) page)
+      → swapped (base page) (use_at 0 mine page q) ≡ use_at v.start given page q
   used p some most floor within q n page low high covered =
-      same_use v.start given page q v.length (omega (arith, within, high)) (λ before begun after under h.
-      true_false (subst IsTrue
-      (keeps.one_use q (suc before) p n page low (omega (arith, after)) (omega (arith, under)) some most covered)
-      h))
+      let under : q ≤ v.length = omega (arith, within, high) in
+      swapped_use v.start v.length page given mine
+      (given_same page (covers_within ((office_of v).table q p n) page (keeps.admissible q p n low under some most) covered))
+      q low under
 
   -- what each did, as the views show it and as the seats have it
   abbrev IsSameTrace : ℕ → Type 0
   IsSameTrace p =
-      map (renamed (in_use since_of)) (traces (views_in passes) p) ≡ map (deed_of v.start given) (ending.trace p)
+      map (renamed (in_use base)) (traces (use_of x journal) (views_in passes) p)
+      ≡ map (deed_of v.start given) (ending.trace p)
 
   idle_same : (p : ℕ) → ending.trace p ≡ [] → views_in passes p ≡ idle_view → IsSameTrace p
   idle_same p idle is =
-      ap (λ (w : View). map (renamed (in_use since_of)) (map deed_kept w.trace)) is
+      ap (λ (w : View). map (renamed (in_use base)) (map (deed_kept (use_of x journal)) w.trace)) is
       ∙ ap (map (deed_of v.start given)) (sym idle)
 
   trace_same : (p : ℕ) → IsSameTrace p
@@ -229,8 +244,8 @@ module _ (x : Outline) (setup : List journaled.Entry) (v : SuperView journaled.E
       let u : PassView journaled.Entry = is.pass.view in
       let within = floor_within u is.there in
       let all = journal_length in
-      ap (λ (w : View). map (renamed (in_use since_of)) (map deed_kept w.trace)) is.seen
-      ∙ deeds_same v.start u.floor given since_of (λ q n. (office_of v).table q p n)
+      ap (λ (w : View). map (renamed (in_use base)) (map (deed_kept (use_of x journal)) w.trace)) is.seen
+      ∙ deeds_same v.start u.floor given mine base (λ q n. (office_of v).table q p n)
       (used p some most u.floor (omega (arith, within, all))) u.trace (good p u is.there is.own).elements
       ∙ ap (map (deed_of v.start given)) (sym (ending.shown is.there.place u is.there.at))
       ∙ ap (λ (o : ℕ). map (deed_of v.start given) (ending.trace o)) is.own)
@@ -247,8 +262,8 @@ module _ (x : Outline) (setup : List journaled.Entry) (v : SuperView journaled.E
   abbrev deeds_done : Deeds
   deeds_done p = map (deed_of v.start given) (ending.trace p)
 
-  reads : AreRightReads (traces (views_in passes)) (known_by (front_after (length setup) history))
-  reads = reads_from (in_use since_of) (uses_apart since_of) (traces (views_in passes)) deeds_done
+  reads : AreRightReads (traces (use_of x journal) (views_in passes)) (known_by (front_after (length setup) history))
+  reads = reads_from (in_use base) (uses_apart base) (traces (use_of x journal) (views_in passes)) deeds_done
       (front_after (length setup) history) trace_same
       (subst (λ (known : Fronts). AreRightReads deeds_done (known_by known)) (λ i u q. front_same u q i) ending.reads)
 

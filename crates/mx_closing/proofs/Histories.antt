@@ -1,4 +1,4 @@
--- Laws of histories: as marked entries, the fronts that their marks give, and uses where no page is given out.
+-- Laws of histories: as marked entries, and the fronts that their marks give.
 use Rattle.std.proofs.Common.{◌≡◌, ◌≢◌, inl, inr, ℕ, zero, suc, ◌+◌, ◌<◌, ◌≤◌, Bool, true, false, List, [], ◌∷◌, ◌++◌, length, refl, ap, sym, ◌∙◌, subst, arith, rules, append_assoc, length-append}
 use Rattle.std.specs.Prelude.{◌==◌, ◌&&◌, nat_le, max}
 use Rattle.std.proofs.lemmas.Bool.{cases_eq, cases_lt}

@@ -1,5 +1,7 @@
 pub mod Histories
+pub mod Uses
 pub mod Deeds
+pub mod Covering
 pub mod PassLists
 pub mod Renaming
 pub mod Closings

@@ -1,11 +1,12 @@
 -- The seat of the opening keeps the journal of the setup.
-use Rattle.std.proofs.Common.{◌≡◌, inl, inr, ℕ, ◌+◌, ◌<◌, ◌≤◌, List, length, refl, ap, sym, ◌∙◌, subst, arith}
+use Rattle.std.proofs.Common.{◌≡◌, inl, inr, ℕ, ◌+◌, ◌<◌, ◌≤◌, List, length, ap, sym, ◌∙◌, subst, arith}
 use Rattle.std.proofs.lemmas.Bool.{cases_lt}
 use Rattle.std.proofs.lemmas.List.{append-nil, take_all}
 use Rattle.mx_core.specs.declared.changes.Change.{Change}
 use Rattle.mx_desc.specs.Openings.{IsOpening}
 use Rattle.mx_request.specs.Versions.{last_number}
 use Rattle.mx_rule.specs.Dealing.{opening_view}
+use Rattle.mx_rule.proofs.OpeningWords.{base_opens}
 use Rattle.mx_rule.specs.Openings.{MayOpen, ArePlaced}
 use Rattle.mx_rule.specs.Shown.{base_of}
 use Rattle.mx_rule.specs.declared.layout.Layout.{Layout}
@@ -51,8 +52,9 @@ pub opening_keeps : (x : Outline) (setup : List journaled.Entry) (processes numb
     → start ≡ length setup
     → ((p n : ℕ) → 1 ≤ p → p ≤ length x.principals → base_of base p n
     ≡ descriptor_at x setup (length setup) p n)
+    → ((p n : ℕ) → IsAdmissible (base_of base p n))
     → KeepsJournal x setup (record (opening_view {E = journaled.Entry} processes numbers start base) { next = next })
-opening_keeps x setup processes numbers start next base history many same begun table = record {
+opening_keeps x setup processes numbers start next base history many same begun table admissible = record {
   history = subst (λ (journal : List journaled.Entry). IsHistory (supervised x journal)) (sym (append-nil setup))
       history;
   setup_length = many;
@@ -65,7 +67,8 @@ opening_keeps x setup processes numbers start next base history many same begun 
       table p n some most
       ∙ ap (λ (point : ℕ). descriptor_at x setup point p n) (omega (arith, begun, low, high))
       ∙ ap (λ (journal : List journaled.Entry). descriptor_at x journal q p n) (sym (append-nil setup));
-  one_use = λ q later p n page low after high some most covered. refl;
+  admissible = λ q p n low high some most. admissible p n;
+  given = λ q page low under within. absurd (omega arith);
 }
 
 -- with the list of its known descriptors the table is the plain supervisor's now
@@ -98,13 +101,15 @@ may_open x s y start limit i base own history some most begun bound low all is a
 
 pub keeps_now : (x : Outline) (s : Supervised) (y : Layout) (start i : ℕ) (base : List Change) → s.session ≡ x
     → IsHistory s → y ≡ layout_of x → start ≡ length s.journal → i ≡ y.processes
-    → base ≡ known_rows y.numbers (descriptor (state_of s)) i → length s.journal ≡ setup_entries x → (next : ℕ)
+    → base ≡ known_rows y.numbers (descriptor (state_of s)) i → MayOpen y start base
+    → length s.journal ≡ setup_entries x → (next : ℕ)
     → KeepsJournal x s.journal
     (record (opening_view {E = journaled.Entry} y.processes y.numbers start base) { next = next })
-keeps_now x s y start i base own history laid begun all is many next =
+keeps_now x s y start i base own history laid begun all is may many next =
     opening_keeps x s.journal y.processes y.numbers start next base
     (subst (λ (o : Outline). IsHistory (supervised o s.journal)) own history) many
     (ap (λ (l : Layout). l.processes) laid) begun (opens x s y i base own laid all is)
+    (base_opens y start base may).admissible
 
 -- the seat's view as the opening gives it
 pub begins : (processes numbers start many : ℕ) (base : List Change) (v : SuperView journaled.Entry)

@@ -57,7 +57,8 @@ finished x setup v v' items passes same is all counted end keeps =
       processes = keeps.processes;
       makers = keeps.makers;
       tables = keeps.tables;
-      one_use = keeps.one_use;
+      admissible = keeps.admissible;
+      given = keeps.given;
     })
     (record {
       all = all;

@@ -9,7 +9,8 @@ ghost use Rattle.mx_script.specs.SessionTexts.{session_text};
 ghost use Rattle.mx_transcript.specs.Runs.{IsRunOf};
 ghost use Rattle.mx_commands.specs.Commands.{IsReading, IsAnswered, IsCommand};
 ghost use Rattle.mx_commands.specs.PlainTexts.{plain_text};
-ghost use Rattle.mx_explain.specs.Statuses.{IsDone, IsRefused, IsToldOf, IsCutOffOf, GainsFront, IsStopped, IsDueStatus};
+ghost use Rattle.mx_lint.specs.Diagnoses.{IsBadLine};
+ghost use Rattle.mx_explain.specs.Statuses.{IsDone, IsRefused, IsToldOf, IsCutOffOf, IsBadText, IsBadTextCut, GainsFront, IsStopped, IsDueStatus};
 ghost use Rattle.mx_commands.specs.Usage.{usage, refusal};
 ghost use Rattle.mx_explain.specs.Views.{ShowsOf, TellsSession, Tells, CutsOff, TellsFrontOfSession, TellsFront};
 
@@ -200,7 +201,7 @@ fn tell_session<R: Threads + Wait + Sync, K: Sink>(
 {
     match lint(alloc, bytes)? {
         Finding::Bad(diagnosis) => {
-            tell_bad_line(alloc, &diagnosis, sink)?;
+            tell_bad_text(alloc, bytes, &diagnosis, sink)?;
             Ok(BAD_LINE)
         }
         Finding::Good(session) => {
@@ -248,21 +249,48 @@ fn run_alone<R: Threads + Wait + Sync>(
 ) -> Result<(Journal, Transcripts), AllocError>
     ensures { IfOk result (λ ran. IsRunOf session.now ran.0 ran.1) }
 {
-    let mut nobody = Vec::new(alloc);
     match turns {
-        Turns::Threads => run(rt, alloc, session, &NoGate, &mut nobody),
+        Turns::Threads => run(rt, alloc, session, &NoGate, &mut Vec::new(alloc)),
         Turns::Chosen(number) => {
             let order = chosen_order(alloc, session, number)?;
-            run_in_order(rt, alloc, session, &order, &NoGate, &mut nobody)
+            run_in_turns(rt, alloc, session, &order)
         }
         Turns::Named(words) => {
             let order = named_order(alloc, words)?;
-            run_in_order(rt, alloc, session, &order, &NoGate, &mut nobody)
+            run_in_turns(rt, alloc, session, &order)
         }
     }
 }
 
-// Explains the first bad line.
+// Runs a session on one thread, the lines of its processes in this order, with no gate and no auditors.
+fn run_in_turns<R: Wait>(
+    rt: &R,
+    alloc: Global,
+    session: &Session,
+    order: &[u8],
+) -> Result<(Journal, Transcripts), AllocError>
+    ensures { IfOk result (λ ran. IsRunOf session.now ran.0 ran.1) }
+{
+    run_in_order(rt, alloc, session, order, &NoGate, &mut Vec::new(alloc))
+}
+
+// Explains the first bad line of these bytes.
+fn tell_bad_text<K: Sink>(
+    alloc: Global,
+    _bytes: &[u8],
+    diagnosis: &Diagnosis,
+    sink: &mut K,
+) -> Result<(), ShowError>
+    requires bad { IsBadLine _bytes.now diagnosis.now.number diagnosis.now.text.now }
+    ensures told { OnOk result (IsBadText _bytes.now (K.out sink.old) (K.out sink.new)) }
+    ensures front { IsErrOf result ShowError.Fault → IsBadTextCut _bytes.now (K.out sink.old) (K.out sink.new) }
+    ensures cause { IsErrOf result ShowError.Fault → Rose (K.faults sink.old) (K.faults sink.new) }
+    ensures only { (IsErrOf result ShowError.Fault → ⊥) → K.faults sink.new ≡ K.faults sink.old }
+{
+    tell_bad_line(alloc, diagnosis, sink)
+}
+
+// Explains a bad line.
 fn tell_bad_line<K: Sink>(
     alloc: Global,
     diagnosis: &Diagnosis,

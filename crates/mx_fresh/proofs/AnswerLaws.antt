@@ -1,24 +1,28 @@
 -- What a request on a path is answered, by what was done to the hierarchy.
-use Rattle.std.proofs.Common.{◌≡◌, ℕ, Option, Result, Ok, Err, IfOk, OnErr, IsErr, IsOk, refl, sym, ap, subst, ◌∙◌}
+use Rattle.std.proofs.Common.{◌≡◌, ℕ, Option, Some, None, IfSome, Result, Ok, Err, IfOk, OnErr, IsErr, option_map, refl, sym, ap, subst, ◌∙◌}
 use Rattle.std.specs.declared.alloc.AllocError.{AllocError}
-use Rattle.mx_hier.specs.Branches.{Hierarchy}
+use Rattle.mx_hier.specs.Branches.{Hierarchy, segment_at}
 use Rattle.mx_hier.specs.Callers.{Caller}
-use Rattle.mx_hier.specs.Rules.{Answers, Tells, TellsFirst, onward}
+use Rattle.mx_hier.specs.Delete.{pages_left}
+use Rattle.mx_hier.specs.Rules.{Answers, Tells, onward}
+use Rattle.mx_hier.specs.declared.branches.Segment.{Segment}
 use Rattle.mx_hier.specs.declared.refusals.HierError.{HierError}
 use Rattle.mx_hier.specs.declared.refusals.HierError.TheVariants as given
 use Rattle.mx_hier.specs.declared.refusals.Refusal.{Refusal}
+use Rattle.mx_pages.specs.Runs.{IsPageRun, with_free}
 use Rattle.mx_pages.specs.declared.pages.PageRun.{PageRun}
 use Rattle.mx_request.specs.declared.replies.Reply.{Reply}
 use Rattle.mx_request.specs.declared.replies.Reply.TheVariants as reply
 use Rattle.mx_state.specs.Askers.{Asker, Initializer, Process, Nobody, asker, answered_caller, on_path}
 use Rattle.mx_state.specs.Calling.{IsCallerOf}
 use Rattle.mx_state.specs.Plain.{Plain, Answer, answer}
-use Rattle.mx_state.specs.NextRun.{IsNext}
 use Rattle.mx_state.specs.Requests.{changed, told}
 use Rattle.mx_state.proofs.GivenLaws.{Ends, KeepsPages}
-use Rattle.mx_fresh.specs.Runs.{GivesNext}
-use Rattle.mx_fresh.specs.Said.{SaysDone, giving_none, said}
+use Rattle.mx_fresh.specs.Runs.{AreMoved, AreSegmentsTaken, GivesNext, IsTaken, Moves, TellsRuns, run_of}
+use Rattle.mx_fresh.specs.Said.{SaysDone, moving, with_freed, with_no_runs, said}
 use Rattle.mx_fresh.specs.declared.answered.Answered.{Answered}
+use Rattle.mx_fresh.specs.declared.answered.Runs.{Runs}
+use Rattle.mx_fresh.proofs.RunLaws.{given_runs, kept_runs, moved_runs}
 
 -- whose request it is
 pub asked : (s : Plain) (p ring : ℕ) (who : Caller) (meant : Caller → Answer) → IsCallerOf (asker s.processes p) ring who → on_path s p ring meant ≡ meant who
@@ -38,44 +42,71 @@ on_error (Ok value) F f = tt
 on_error (Err error) F f = f
 
 -- what is done, or refused
-answered : (s : Plain) (meant : Result Hierarchy Refusal) (new : Hierarchy) (did : Result (Option PageRun) HierError) (result : Result Answered AllocError)
+answered : (s : Plain) (meant : Result Hierarchy Refusal) (new : Hierarchy) (did : Result Runs HierError) (result : Result Answered AllocError)
     → Answers meant s.hierarchy did new → SaysDone did result → IfOk result (λ a. changed s meant ≡ answer a.reply (record s { hierarchy = new }))
 answered s meant new (Ok run) result a e = rw (e, a) refl
 answered s meant new (Err (given.Refused why)) result a e = rw (e, a.0, a.1) refl
 answered s meant new (Err given.Memory) result a e = no_answer result (λ a. changed s meant ≡ answer a.reply (record s { hierarchy = new })) e
 
-pub served : (s : Plain) (p ring : ℕ) (who : Caller) (meant : Caller → Result Hierarchy Refusal) (new : Hierarchy) (did : Result (Option PageRun) HierError)
+pub served : (s : Plain) (p ring : ℕ) (who : Caller) (meant : Caller → Result Hierarchy Refusal) (new : Hierarchy) (did : Result Runs HierError)
     (result : Result Answered AllocError) → IsCallerOf (asker s.processes p) ring who → Answers (meant who) s.hierarchy did new → SaysDone did result
     → IfOk result (λ a. on_path s p ring (λ who. changed s (meant who)) ≡ answer a.reply (record s { hierarchy = new }))
 served s p ring who meant new did result is a e =
     subst (λ (given : Answer). IfOk result (λ a. given ≡ answer a.reply (record s { hierarchy = new })))
     (sym (asked s p ring who (λ who. changed s (meant who)) is)) (answered s (meant who) new did result a e)
 
-pub unserved : (meant : Result Hierarchy Refusal) (old new : Hierarchy) (did : Result (Option PageRun) HierError) (result : Result Answered AllocError)
+pub unserved : (meant : Result Hierarchy Refusal) (old new : Hierarchy) (did : Result Runs HierError) (result : Result Answered AllocError)
     → Answers meant old did new → SaysDone did result → OnErr result (new ≡ old)
 unserved meant old new (Ok run) result a e = rw e tt
 unserved meant old new (Err (given.Refused why)) result a e = rw e tt
 unserved meant old new (Err given.Memory) result a e = on_error result (new ≡ old) a
 
--- the run that was given out is the next one, also where the request is refused and none is
-pub served_next : (s : Plain) (meant : Result Hierarchy Refusal) (new : Hierarchy) (did : Result (Option PageRun) HierError) (result : Result Answered AllocError)
-    → Answers meant s.hierarchy did new → IfOk did (IsNext s.hierarchy.pages new.pages) → SaysDone did result
-    → IfOk result (GivesNext s (record s { hierarchy = new }))
-served_next s meant new (Ok run) result a next e = rw e (record { next = next; freed = refl })
-served_next s meant new (Err (given.Refused why)) result a next e = rw e (record { next = ap (λ (h : Hierarchy). h.pages) a.1; freed = refl })
-served_next s meant new (Err given.Memory) result a next e = no_answer result (GivesNext s (record s { hierarchy = new })) e
+-- the runs are those that were given out and freed, also where the request is refused and none is
+pub served_runs : (s : Plain) (meant : Result Hierarchy Refusal) (new : Hierarchy) (did : Result Runs HierError) (result : Result Answered AllocError)
+    → Answers meant s.hierarchy did new → IfOk did (Moves s.hierarchy.pages new.pages) → SaysDone did result
+    → IfOk result (TellsRuns s (record s { hierarchy = new }))
+served_runs s meant new (Ok runs) result a moves e =
+    rw e (moved_runs s (record s { hierarchy = new }) (moving reply.Done runs) moves)
+served_runs s meant new (Err (given.Refused why)) result a moves e =
+    rw e (kept_runs s (record s { hierarchy = new }) (reply.Refused why) (ap (λ (h : Hierarchy). h.pages) a.1))
+served_runs s meant new (Err given.Memory) result a moves e = no_answer result (TellsRuns s (record s { hierarchy = new })) e
 
--- what gives out no page
+-- what gives out no page, and frees none
 pub quiet_answers : (meant : Result Hierarchy Refusal) (old new : Hierarchy) (did : Result (Unit {0}) HierError) → Answers meant old did new
-    → Answers meant old (giving_none did) new
+    → Answers meant old (with_no_runs did) new
 quiet_answers meant old new (Ok done) a = a
 quiet_answers meant old new (Err (given.Refused why)) a = a
 quiet_answers meant old new (Err given.Memory) a = a
 
-pub quiet_next : (meant : Result Hierarchy Refusal) (old new : Hierarchy) (did : Result (Unit {0}) HierError) → Answers meant old did new
-    → Ends (KeepsPages old) meant → IfOk (giving_none did) (IsNext old.pages new.pages)
-quiet_next meant old new (Ok done) a keeps = keeps new a
-quiet_next meant old new (Err error) a keeps = tt
+pub quiet_moves : (meant : Result Hierarchy Refusal) (old new : Hierarchy) (did : Result (Unit {0}) HierError) → Answers meant old did new
+    → Ends (KeepsPages old) meant → IfOk (with_no_runs did) (Moves old.pages new.pages)
+quiet_moves meant old new (Ok done) a keeps = keeps new a
+quiet_moves meant old new (Err error) a keeps = tt
+
+-- what frees a run, or none
+pub freed_answers : (meant : Result Hierarchy Refusal) (old new : Hierarchy) (did : Result (Option PageRun) HierError) → Answers meant old did new
+    → Answers meant old (with_freed did) new
+freed_answers meant old new (Ok run) a = a
+freed_answers meant old new (Err (given.Refused why)) a = a
+freed_answers meant old new (Err given.Memory) a = a
+
+pub freed_moves : (old new : Hierarchy) (uid : ℕ) (did : Result (Option PageRun) HierError) → AreSegmentsTaken old
+    → IfOk did (λ run. run ≡ option_map run_of (segment_at old uid)) → IfOk did (λ run. IfSome run IsPageRun)
+    → IfOk did (λ run. new.pages ≡ pages_left old.pages (segment_at old uid)) → IfOk (with_freed did) (Moves old.pages new.pages)
+freed_moves old new uid (Ok run) taken is is_run left = by_segment (segment_at old uid) refl run is is_run left
+  where
+    by_segment : (o : Option Segment) → segment_at old uid ≡ o → (run : Option PageRun) → run ≡ option_map run_of o → IfSome run IsPageRun
+        → new.pages ≡ pages_left old.pages o → AreMoved old.pages new.pages None run
+    by_segment None at run is is_run left = rw is left
+    by_segment (Some segment) at None is is_run left = absurd (cc)
+    by_segment (Some segment) at (Some run) is is_run left =
+        let same : run ≡ run_of segment = cc in
+        record {
+          is_run = is_run;
+          taken = subst (IsTaken old.pages) (sym same) (taken uid segment at);
+          left = left ∙ ap (λ (run : PageRun). with_free old.pages run.first run.count) (sym same);
+        }
+freed_moves old new uid (Err error) taken is is_run left = tt
 
 -- a reply alone
 pub said_answer : (F : Reply → Type 0) (reply : Result Reply AllocError) (result : Result Answered AllocError) → result ≡ said reply → IfOk reply F
@@ -83,10 +114,15 @@ pub said_answer : (F : Reply → Type 0) (reply : Result Reply AllocError) (resu
 said_answer F (Ok reply) result e is = rw e is
 said_answer F (Err error) result e is = rw e tt
 
-pub said_next : (old new : Plain) (reply : Result Reply AllocError) (result : Result Answered AllocError) → result ≡ said reply
-    → new.hierarchy ≡ old.hierarchy → IfOk result (GivesNext old new)
-said_next old new (Ok reply) result e same = rw e (record { next = ap (λ (h : Hierarchy). h.pages) same; freed = refl })
-said_next old new (Err error) result e same = rw e tt
+pub said_runs : (old new : Plain) (reply : Result Reply AllocError) (result : Result Answered AllocError) → result ≡ said reply
+    → new.hierarchy ≡ old.hierarchy → IfOk result (TellsRuns old new)
+said_runs old new (Ok reply) result e same = rw e (kept_runs old new reply (ap (λ (h : Hierarchy). h.pages) same))
+said_runs old new (Err error) result e same = rw e tt
+
+-- where the next run was given out
+pub next_runs : (old new : Plain) (result : Result Answered AllocError) → IfOk result (GivesNext old new) → IfOk result (TellsRuns old new)
+next_runs old new (Ok answered) next = given_runs old new answered next
+next_runs old new (Err error) next = tt
 
 pub said_error : (F : Type 0) (reply : Result Reply AllocError) (result : Result Answered AllocError) → result ≡ said reply → OnErr reply F → OnErr result F
 said_error F (Ok reply) result e is = rw e tt

@@ -6,3 +6,4 @@ pub mod RoomLaws
 pub mod AnswerLaws
 pub mod RunLaws
 pub mod ToldLaws
+pub mod HeldLaws

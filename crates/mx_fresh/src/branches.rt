@@ -34,7 +34,8 @@ impl Model for Directory {
     ghost invariant = { λ a. (a.segments.kind ≡ OfSegment) × (a.directories.kind ≡ OfDirectory) };
 }
 
-/// A segment: its access list, its class, its brackets, its length in words, and its first page.
+/// A segment of 1 to 1,024 words: its access list, its class, its brackets, its length in words, and the first of its
+/// pages, which are pages of memory.
 #[derive(Drop)]
 pub struct Segment {
     pub(crate) acl: Acl,
@@ -45,6 +46,8 @@ pub struct Segment {
 }
 
 impl Model for Segment {
+    ghost use Rattle.std.specs.Prelude.{◌≤◌, ◌+◌};
+    ghost use Rattle.mx_pages.specs.Runs.{pages_for};
     ghost use Rattle.mx_hier.specs.declared.branches.Segment.{Segment};
 
     ghost Value = { Segment };
@@ -56,6 +59,8 @@ impl Model for Segment {
       words = a.words;
       page = a.page;
     } };
+
+    ghost invariant = { λ a. (1 ≤ a.words) × (a.words ≤ 1024) × (a.page + pages_for a.words ≤ 1024) };
 }
 
 /// What an entry is: a directory, a segment, or a link to a path.

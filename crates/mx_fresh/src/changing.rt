@@ -2,11 +2,13 @@
 //! `set_class`. Each is refused first without m on the directory that holds the entry. An error leaves the hierarchy as
 //! it was.
 
-ghost use Rattle.std.specs.Prelude.{◌≡◌, ◌==◌, ◌∷◌, [], false, OnOk, OnErr, is_ok, is_none, not, nat_lt};
+ghost use Rattle.std.specs.Prelude.{◌≡◌, ◌==◌, ◌∷◌, [], false, IfOk, IfSome, OnOk, OnErr, is_ok, is_none, not, nat_lt};
+ghost use Rattle.std.specs.Option.{option_map};
 ghost use Rattle.mx_acl.specs.Access.{with_entry, without_entry, entry_of};
+ghost use Rattle.mx_hier.specs.Branches.{segment_at};
 ghost use Rattle.mx_hier.specs.Callers.{on};
 ghost use Rattle.mx_hier.specs.Changing.{changing_refusals, acl_at, with_acl, with_branch};
-ghost use Rattle.mx_hier.specs.Delete.{delete_refusals, delete_at, delete, without};
+ghost use Rattle.mx_hier.specs.Delete.{delete_refusals, delete_at, pages_left, without};
 ghost use Rattle.mx_hier.specs.DeleteAclEntry.{del_acl_at, del_acl};
 ghost use Rattle.mx_hier.specs.Listed.{acl_refusals, AclTells};
 ghost use Rattle.mx_hier.specs.Rename.{rename_refusals, rename_at, rename};
@@ -17,16 +19,22 @@ ghost use Rattle.mx_hier.specs.SetClass.{set_class_refusals, set_class_at, set_c
 ghost use Rattle.mx_hier.specs.SetDirectoryBrackets.{set_dir_brackets_refusals, set_dir_brackets_at, set_dir_brackets, with_dir_brackets};
 ghost use Rattle.mx_hier.specs.Walks.{resolved};
 ghost use Rattle.mx_hier.specs.Who.{subject, caller};
+ghost use Rattle.mx_pages.specs.Runs.{IsPageRun};
+ghost use Rattle.mx_fresh.specs.Runs.{run_of};
 
 use crate::access::{has_modify, say};
+use crate::branches::Segment;
 use crate::entries::{remove_from_list, set_list};
 use crate::hierarchy::{FreshHierarchy, count_in, uid_in};
 use crate::making::settable;
+use crate::pages::{PageList, pages_for};
 use mx_acl::{AclError, Modes, NoEntry};
 use mx_aim::Class;
 use mx_hier::{HierError, Refusal, Who};
 use mx_name::{AclId, EntryName};
+use mx_pages::PageRun;
 use mx_sdw::{Brackets, Ring};
+use std::alloc::{AllocError, Global};
 
 impl FreshHierarchy {
     /// Sets the modes of an identifier on the access list of an entry.
@@ -38,6 +46,7 @@ impl FreshHierarchy {
         modes: Modes,
     ) -> Result<(), HierError>
         ensures answer { Answers (set_acl_at self.old (subject who.now) uid id.now modes) self.old result self.new }
+        ensures pages { self.new.pages ≡ self.old.pages }
         ensures told { TellsFirst (set_acl_at self.old (subject who.now) uid id.now modes) result }
     {
         if let Some(why) = self.changing_refusal(who, uid) {
@@ -54,6 +63,7 @@ impl FreshHierarchy {
     /// Removes the entry of an identifier from the access list of an entry. Takes no memory.
     pub fn del_acl(&mut self, who: &Who, uid: u32, id: &AclId) -> Result<(), HierError>
         ensures answer { Answers (del_acl_at self.old (subject who.now) uid id.now) self.old result self.new }
+        ensures pages { self.new.pages ≡ self.old.pages }
         ensures told { TellsFirst (del_acl_at self.old (subject who.now) uid id.now) result }
     {
         if let Some(why) = self.changing_refusal(who, uid) {
@@ -73,6 +83,7 @@ impl FreshHierarchy {
         brackets: [Ring; 3],
     ) -> Result<(), HierError>
         ensures answer { Answers (set_brackets_at self.old (subject who.now) uid brackets) self.old result self.new }
+        ensures pages { self.new.pages ≡ self.old.pages }
         ensures told { TellsFirst (set_brackets_at self.old (subject who.now) uid brackets) result }
     {
         if let Some(why) = self.set_brackets_refusal(who, uid, &brackets) {
@@ -88,6 +99,7 @@ impl FreshHierarchy {
     /// Sets the class of a segment. Takes no memory.
     pub fn set_class(&mut self, who: &Who, uid: u32, class: Class) -> Result<(), HierError>
         ensures answer { Answers (set_class_at self.old (subject who.now) uid class) self.old result self.new }
+        ensures pages { self.new.pages ≡ self.old.pages }
         ensures told { TellsFirst (set_class_at self.old (subject who.now) uid class) result }
     {
         if let Some(why) = self.set_class_refusal(who, uid, class) {
@@ -127,16 +139,26 @@ impl FreshHierarchy {
         Ok(())
     }
 
-    /// Deletes an entry: its pages are not used again, and its object map stays. Takes no memory.
-    pub fn delete(&mut self, who: &Who, uid: u32) -> Result<(), HierError>
+    /// Deletes an entry: the pages of a segment become free, and its object map stays. Gives back the run of those pages.
+    pub fn delete(
+        &mut self,
+        alloc: Global,
+        who: &Who,
+        uid: u32,
+    ) -> Result<Option<PageRun>, HierError>
         ensures answer { Answers (delete_at self.old (subject who.now) uid) self.old result self.new }
+        ensures run { IfOk result (λ run. run ≡ option_map run_of (segment_at self.old uid)) }
+        ensures is_run { IfOk result (λ run. IfSome run IsPageRun) }
+        ensures pages { IfOk result (λ run. self.new.pages ≡ pages_left self.old.pages (segment_at self.old uid)) }
         ensures told { TellsFirst (delete_at self.old (subject who.now) uid) result }
     {
         if let Some(why) = self.delete_refusal(who, uid) {
             return Err(HierError::Refused(why));
         }
-        self.remove(uid);
-        Ok(())
+        let run = self.run_at(uid);
+        let pages = self.pages_left(alloc, uid)?;
+        self.remove(uid, pages);
+        Ok(run)
     }
 
     fn changing_refusal(&self, who: &Who, uid: u32) -> Option<Refusal>
@@ -234,6 +256,7 @@ impl FreshHierarchy {
         ensures answer { AclTells (first_of (acl_refusals id.now modes (acl_at self.old uid))) result }
         ensures ok { OnOk result (self.new ≡ with_acl self.old uid (λ acl. with_entry acl id.now modes)) }
         ensures err { OnErr result (self.new ≡ self.old) }
+        ensures pages { self.new.pages ≡ self.old.pages }
     {
         if uid == 0 {
             set_list(&mut self.root.acl, id, modes)?;
@@ -247,6 +270,7 @@ impl FreshHierarchy {
         ensures found { is_ok result ≡ not (on (λ acl. is_none (entry_of acl id.now)) (acl_at self.old uid)) }
         ensures ok { OnOk result (self.new ≡ with_acl self.old uid (λ acl. without_entry acl id.now)) }
         ensures err { OnErr result (self.new ≡ self.old) }
+        ensures pages { self.new.pages ≡ self.old.pages }
     {
         if uid == 0 {
             remove_from_list(&mut self.root.acl, id)?;
@@ -285,10 +309,45 @@ impl FreshHierarchy {
         self.branches.rename(uid, name);
     }
 
-    fn remove(&mut self, uid: u32)
-        ensures { self.new ≡ record self.old { branches = without uid self.old.branches } }
+    /// The run of pages that the segment of a uid lies on.
+    fn run_at(&self, uid: u32) -> Option<PageRun>
+        ensures value { result ≡ option_map run_of (segment_at self.now uid) }
+        ensures is_run { IfSome result IsPageRun }
+    {
+        let segment = self.segment_at(uid)?;
+        Some(run_of(segment))
+    }
+
+    /// The pages once those of the segment of a uid are free.
+    fn pages_left(&self, alloc: Global, uid: u32) -> Result<PageList, AllocError>
+        ensures { IfOk result (λ pages. pages ≡ pages_left self.now.pages (segment_at self.now uid)) }
+    {
+        match self.segment_at(uid) {
+            None => self.pages.copy(alloc),
+            Some(segment) => {
+                let pages = pages_for(u32::from(segment.words));
+                self.pages.with_free(alloc, u32::from(segment.page), pages)
+            }
+        }
+    }
+
+    fn remove(&mut self, uid: u32, pages: PageList)
+        ensures { self.new ≡ record self.old { branches = without uid self.old.branches; pages = pages } }
     {
         self.branches.remove(uid);
+        self.pages = pages;
+    }
+}
+
+/// The run of pages that a segment lies on.
+fn run_of(segment: &Segment) -> PageRun
+    ensures value { result ≡ run_of segment.now }
+    ensures is_run { IsPageRun result }
+{
+    let pages = pages_for(u32::from(segment.words));
+    PageRun {
+        first: segment.page,
+        count: pages as u16,
     }
 }
 

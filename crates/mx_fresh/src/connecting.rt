@@ -1,15 +1,16 @@
 //! A segment becomes known to a process, or gets a further name: what `initiate` and `link` have in common.
 
 ghost use Rattle.std.specs.Prelude.{◌≡◌, ◌≤◌, true, false, Some, None, IfOk, IfNone, IfSome, OnErr};
-ghost use Rattle.std.specs.Option.{option_copied};
+ghost use Rattle.std.specs.Option.{option_and_then, option_copied};
 ghost use Rattle.mx_hier.specs.Linkage.{links_at, linkage_brackets, linkage_brackets_at, page_given};
 ghost use Rattle.mx_hier.specs.Rules.{first_of};
 ghost use Rattle.mx_kst.specs.Initiating.{is_full};
 ghost use Rattle.mx_kst.specs.Sections.{IsWithinPage};
 ghost use Rattle.mx_state.specs.Connecting.{connect_refusals, with_section_page, connect};
 ghost use Rattle.mx_state.specs.NextRun.{IsNext, section_run};
-ghost use Rattle.mx_state.specs.Sections.{has_links, needs_section, section_by, section_made};
+ghost use Rattle.mx_state.specs.Sections.{has_links, needs_section, section_by, section_made, with_page_back};
 ghost use Rattle.mx_fresh.specs.Connections.{connected_of};
+ghost use Rattle.mx_fresh.specs.Runs.{page_freed};
 
 use crate::hierarchy::FreshHierarchy;
 use crate::known::{FreshKnown, Section};
@@ -74,6 +75,27 @@ impl FreshHierarchy {
                 None => self.pages.copy(alloc),
             },
         }
+    }
+
+    /// The pages once that of a linkage section was given back, if there is one.
+    pub(crate) fn pages_back(
+        &self,
+        alloc: Global,
+        page: Option<u16>,
+    ) -> Result<PageList, AllocError>
+        ensures { IfOk result (λ pages. record self.now { pages = pages } ≡ with_page_back self.now page) }
+    {
+        match page {
+            None => self.pages.copy(alloc),
+            Some(page) => self.pages.with_free(alloc, u32::from(page), 1),
+        }
+    }
+
+    /// The page of a linkage section, if there is one, as the run that becomes free with it.
+    pub(crate) fn page_freed(&self, page: Option<u16>) -> Option<PageRun>
+        ensures { result ≡ option_and_then (page_freed self.now.pages) page }
+    {
+        self.pages.page_freed(page?)
     }
 
     /// The page that is given out for a linkage section, if there is one, as a run.

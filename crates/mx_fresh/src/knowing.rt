@@ -13,7 +13,7 @@ ghost use Rattle.mx_state.specs.Plain.{answer};
 ghost use Rattle.mx_state.specs.Requests.{plain};
 ghost use Rattle.mx_state.specs.declared.states.ProcessState.{ProcessState as ProcessValue};
 ghost use Rattle.mx_fresh.specs.Connections.{connected_of};
-ghost use Rattle.mx_fresh.specs.Runs.{GivesNext};
+ghost use Rattle.mx_fresh.specs.Runs.{GivesNext, TellsRuns};
 ghost use Rattle.mx_fresh.specs.Told.{IsResolved, IsUndecided};
 
 use crate::answered::Answered;
@@ -23,14 +23,14 @@ use crate::known::FreshKnown;
 use crate::pages::PageList;
 use crate::processes::{FreshProcess, own_caller, own_process};
 use crate::resolving::resolved;
-use crate::supervisor::Fresh;
+use crate::supervisor::FreshState;
 use mx_hier::{HierError, Refusal};
 use mx_name::{EntryName, Pathname};
 use mx_request::Reply;
 use mx_sdw::Ring;
 use std::alloc::{AllocError, Global};
 
-impl Fresh {
+impl FreshState {
     /// Makes a segment known, with a reference name in the ring where one is given.
     pub(crate) fn initiate(
         &mut self,
@@ -57,25 +57,25 @@ impl Fresh {
                 let known = connection.known;
                 let given = connection.given;
                 learn(&mut self.processes, p, connection.after);
-                give_out(&mut self.hierarchy, connection.pages);
+                put_pages(&mut self.hierarchy, connection.pages);
                 Ok(Answered::giving(Reply::Segno(known), given))
             }
             Err(why) => Ok(Answered::alone(Reply::Refused(why))),
         }
     }
 
-    /// Takes a segment's number and names away, and its linkage section.
+    /// Takes a segment's number and names away, and its linkage section, of which the page becomes free.
     pub(crate) fn terminate(
         &mut self,
         alloc: Global,
         p: u8,
         ring: Ring,
         segno: u16,
-    ) -> Result<Reply, AllocError>
+    ) -> Result<Answered, AllocError>
         requires some { 1 ≤ p }
         requires process { p ≤ length self.old.processes }
-        ensures answer { IfOk result (λ given. plain self.old p ring (ask.Terminate segno) ≡ answer given self.new) }
-        ensures hierarchy { self.new.hierarchy ≡ self.old.hierarchy }
+        ensures answer { IfOk result (λ given. plain self.old p ring (ask.Terminate segno) ≡ answer given.reply self.new) }
+        ensures runs { IfOk result (TellsRuns self.old self.new) }
         ensures processes { length self.new.processes ≡ length self.old.processes }
         ensures err { OnErr result (self.new ≡ self.old) }
         ensures told { OnErr result (IsUndecided self.old p ring (ask.Terminate segno)) }
@@ -83,10 +83,14 @@ impl Fresh {
         let process = own_process(self.processes.as_slice(), p);
         match process.known.terminated(alloc, segno)? {
             Some(known) => {
+                let page = process.known.section_page(segno);
+                let freed = self.hierarchy.page_freed(page);
+                let pages = self.hierarchy.pages_back(alloc, page)?;
                 learn(&mut self.processes, p, known);
-                Ok(Reply::Done)
+                put_pages(&mut self.hierarchy, pages);
+                Ok(Answered::freeing(Reply::Done, freed))
             }
-            None => Ok(Reply::Refused(Refusal::UnknownSegno)),
+            None => Ok(Answered::alone(Reply::Refused(Refusal::UnknownSegno))),
         }
     }
 
@@ -115,7 +119,7 @@ impl Fresh {
                 let given = leading.connection.given;
                 let word = leading.word;
                 learn(&mut self.processes, p, leading.connection.after);
-                give_out(&mut self.hierarchy, leading.connection.pages);
+                put_pages(&mut self.hierarchy, leading.connection.pages);
                 let reply = Reply::Linked {
                     segno: known.segno,
                     word,
@@ -139,7 +143,7 @@ fn learn(processes: &mut Vec<FreshProcess>, p: u8, known: FreshKnown)
     processes[usize::from(p) - 1].known = known;
 }
 
-fn give_out(hierarchy: &mut FreshHierarchy, pages: PageList)
+fn put_pages(hierarchy: &mut FreshHierarchy, pages: PageList)
     ensures { hierarchy.new ≡ record hierarchy.old { pages = pages } }
 {
     hierarchy.pages = pages;

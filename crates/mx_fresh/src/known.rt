@@ -1,15 +1,16 @@
 //! What a process knows: what each number given so far stands for, and its reference names, as lists.
 
 ghost use Rattle.std.specs.Prelude.{◌≡◌, ◌∷◌, ◌++◌, [], ◌≤◌, false, find, map, length, None, ◌+◌, IfOk, IsSome, OnErr, is_some, not, ◌==◌, slice_set};
-ghost use Rattle.std.specs.Option.{option_copied, option_map};
+ghost use Rattle.std.specs.Option.{option_and_then, option_copied, option_map};
 ghost use Rattle.std.specs.Map.{lookup};
 ghost use Rattle.mx_name.specs.Names.{same_name};
 ghost use Rattle.mx_kst.specs.Initiating.{is_another, is_taken, is_full, lots_given, lots_with, with_name, known_as, known_by, initiated, numbers_needed};
 ghost use Rattle.mx_kst.specs.KnownSegments.{at_first};
-ghost use Rattle.mx_kst.specs.Lots.{stacks, lot_of, number_of, is_segment, is_branch};
+ghost use Rattle.mx_kst.specs.Lots.{stacks, lot_of, number_of, is_segment, is_branch, is_section_of};
 ghost use Rattle.mx_kst.specs.Names.{no_names, names_in, named};
 ghost use Rattle.mx_kst.specs.Terminating.{lot_without, lots_without, names_without, terminate};
 ghost use Rattle.mx_state.specs.Numbers.{stands_for};
+ghost use Rattle.mx_state.specs.Sections.{page_of_lot, section_page};
 ghost use Rattle.mx_kst.specs.declared.lots.Lot.TheVariants as lot;
 
 use mx_kst::{Known, Lot};
@@ -170,6 +171,14 @@ impl FreshKnown {
         }
     }
 
+    /// The page of the linkage section that goes with a number.
+    pub(crate) fn section_page(&self, segno: u16) -> Option<u16>
+        ensures { result ≡ section_page self.now segno }
+    {
+        let _last = usize::from(self.last);
+        section_page(self.lots.as_slice(), segno)
+    }
+
     /// What is known without a segment's number, its names and its linkage section; none where the number is not that of
     /// a known segment.
     pub(crate) fn terminated(
@@ -287,6 +296,42 @@ fn is_branch(lot: Lot) -> bool
     ensures { result ≡ is_branch lot }
 {
     matches!(lot, Lot::Branch { .. })
+}
+
+/// The page of the linkage section that goes with a number.
+fn section_page(lots: &[Lot], segno: u16) -> Option<u16>
+    ensures { result ≡ option_and_then page_of_lot (find (is_section_of segno) lots.now) }
+{
+    page_of_lot(section_of(lots, segno)?)
+}
+
+/// The linkage section that goes with a number.
+fn section_of(lots: &[Lot], segno: u16) -> Option<&Lot>
+    ensures { option_map (λ lot. lot.now) result ≡ find (is_section_of segno) lots.now }
+{
+    lots.iter().find(
+        |lot: &&Lot| -> bool
+            ensures { result ≡ is_section_of segno lot.now.now }
+        { is_section_of(segno, lot) },
+    )
+}
+
+fn is_section_of(segno: u16, lot: &Lot) -> bool
+    ensures { result ≡ is_section_of segno lot.now }
+{
+    match lot {
+        Lot::Linkage { of, .. } => *of == segno,
+        Lot::Free | Lot::Stack(_) | Lot::Branch { .. } => false,
+    }
+}
+
+fn page_of_lot(lot: &Lot) -> Option<u16>
+    ensures { result ≡ page_of_lot lot.now }
+{
+    match lot {
+        Lot::Linkage { page, .. } => Some(*page),
+        Lot::Free | Lot::Stack(_) | Lot::Branch { .. } => None,
+    }
 }
 
 /// The number that a name stands for in a ring.

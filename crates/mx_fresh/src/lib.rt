@@ -19,6 +19,7 @@ mod changing;
 mod connecting;
 mod entries;
 mod finding;
+mod fresh;
 mod hierarchy;
 mod initial_lists;
 mod knowing;
@@ -41,8 +42,8 @@ mod walks;
 
 pub use answered::Answered;
 pub use branches::{Branch, Directory, Form, Segment};
+pub use fresh::Fresh;
 pub use hierarchy::FreshHierarchy;
 pub use known::FreshKnown;
 pub use plain_supervisor::PlainSupervisor;
 pub use processes::FreshProcess;
-pub use supervisor::Fresh;

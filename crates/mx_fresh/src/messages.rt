@@ -9,13 +9,13 @@ ghost use Rattle.mx_fresh.specs.Told.{IsUndecided};
 
 use crate::mail::{end, send, take};
 use crate::processes::own_process;
-use crate::supervisor::Fresh;
+use crate::supervisor::FreshState;
 use mx_mail::Taken;
 use mx_request::Reply;
 use mx_sdw::{Ring, Word};
 use std::alloc::AllocError;
 
-impl Fresh {
+impl FreshState {
     /// Sends a word to a process.
     pub(crate) fn wakeup(
         &mut self,

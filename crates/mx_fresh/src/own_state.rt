@@ -8,7 +8,7 @@ ghost use Rattle.mx_fresh.specs.Told.{IsResolved};
 ghost use Rattle.mx_state.specs.declared.states.ProcessState.{ProcessState as ProcessValue};
 
 use crate::processes::{FreshProcess, own_caller, own_process};
-use crate::supervisor::Fresh;
+use crate::supervisor::FreshState;
 use mx_hier::HierError;
 use mx_name::{Path, Pathname};
 use mx_request::Reply;
@@ -16,7 +16,7 @@ use mx_sdw::Ring;
 use mx_search::Rules;
 use std::alloc::{AllocError, Global};
 
-impl Fresh {
+impl FreshState {
     /// Makes a directory the working directory.
     pub(crate) fn change_wdir(
         &mut self,

@@ -1,8 +1,10 @@
 //! The pages of memory, as a list that says of each whether it is free.
 
-ghost use Rattle.std.specs.Prelude.{◌≡◌, ◌≤◌, ◌+◌, false, if◌then◌else◌, IfOk, IfSome};
-ghost use Rattle.mx_pages.specs.Runs.{is_free, is_in_run, free_from, run_at, run_given, with_run, pages_for};
+ghost use Rattle.std.specs.Prelude.{◌≡◌, ◌≤◌, ◌+◌, true, false, if◌then◌else◌, IfOk, IfSome};
+ghost use Rattle.mx_pages.specs.Runs.{is_free, is_in_run, free_from, run_at, run_given, with_run, with_free, pages_for};
+ghost use Rattle.mx_fresh.specs.Runs.{page_freed};
 
+use mx_pages::PageRun;
 use std::alloc::{AllocError, Global};
 use std::marker::Model;
 
@@ -53,11 +55,41 @@ impl PageList {
         n: u32,
     ) -> Result<PageList, AllocError>
         requires few { n ≤ 1024 }
-        requires low { first ≤ 1024 }
+        requires low { first ≤ 65535 }
         ensures { IfOk result (λ after. after ≡ with_run false self.now first n) }
     {
-        let free = without_run(alloc, self.free.as_slice(), first, n)?;
+        let free = with_run(alloc, self.free.as_slice(), false, first, n)?;
         Ok(PageList { free })
+    }
+
+    /// The pages after the run of n pages from `first` on was freed.
+    pub(crate) fn with_free(
+        &self,
+        alloc: Global,
+        first: u32,
+        n: u32,
+    ) -> Result<PageList, AllocError>
+        requires few { n ≤ 1024 }
+        requires low { first ≤ 65535 }
+        ensures { IfOk result (λ after. after ≡ with_free self.now first n) }
+    {
+        let free = with_run(alloc, self.free.as_slice(), true, first, n)?;
+        Ok(PageList { free })
+    }
+
+    /// The run of this page alone, where it is a page that is not free.
+    pub(crate) fn page_freed(&self, page: u16) -> Option<PageRun>
+        ensures { result ≡ page_freed self.now page }
+    {
+        let first = u32::from(page);
+        if first < PAGES && !is_free(self.free.as_slice(), first) {
+            Some(PageRun {
+                first: page,
+                count: 1,
+            })
+        } else {
+            None
+        }
     }
 
     /// The same pages.
@@ -118,27 +150,33 @@ fn run_given(free: &[bool], n: u32) -> Option<u32>
     None
 }
 
-/// The pages after the run of n pages from `first` on was given out.
-fn without_run(alloc: Global, free: &[bool], first: u32, n: u32) -> Result<Vec<bool>, AllocError>
+/// The pages with those of the run of n pages from `first` on free, or not free.
+fn with_run(
+    alloc: Global,
+    free: &[bool],
+    value: bool,
+    first: u32,
+    n: u32,
+) -> Result<Vec<bool>, AllocError>
     requires few { n ≤ 1024 }
-    requires low { first ≤ 1024 }
-    ensures { IfOk result (λ after. record { free = after.items } ≡ with_run false (record { free = free.now }) first n) }
+    requires low { first ≤ 65535 }
+    ensures { IfOk result (λ after. record { free = after.items } ≡ with_run value (record { free = free.now }) first n) }
 {
     let mut after = Vec::new(alloc);
     for page in 0..PAGES {
-        after.push(is_left(free, first, n, page))?;
+        after.push(is_free_with(free, value, first, n, page))?;
     }
     Ok(after)
 }
 
-/// Whether a page is free once the run was given out.
-fn is_left(free: &[bool], first: u32, n: u32, page: u32) -> bool
+/// Whether a page is free once those of the run are free, or are not.
+fn is_free_with(free: &[bool], value: bool, first: u32, n: u32, page: u32) -> bool
     requires few { n ≤ 1024 }
-    requires low { first ≤ 1024 }
-    ensures { result ≡ (if is_in_run n first page then false else is_free (record { free = free.now }) page) }
+    requires low { first ≤ 65535 }
+    ensures { result ≡ (if is_in_run n first page then value else is_free (record { free = free.now }) page) }
 {
     if first <= page && page < first + n {
-        false
+        value
     } else {
         is_free(free, page)
     }

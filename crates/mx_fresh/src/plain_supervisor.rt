@@ -1,7 +1,7 @@
 //! What both programs under the definitions of the plain supervisor have in common.
 
 use crate::answered::Answered;
-use crate::supervisor::Fresh;
+use crate::fresh::Fresh;
 use mx_request::{Entrant, Request};
 use mx_sdw::{Desc, Ring};
 use mx_state::State;

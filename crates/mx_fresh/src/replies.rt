@@ -4,18 +4,17 @@ ghost use Rattle.mx_fresh.specs.Said.{SaysDone, said};
 ghost use Rattle.mx_state.specs.Shown.{shown, without_class};
 ghost use Rattle.std.specs.Prelude.{◌≡◌};
 
-use crate::answered::Answered;
+use crate::answered::{Answered, Runs};
 use mx_hier::{HierError, Status};
-use mx_pages::PageRun;
 use mx_request::{Reply, has_classes};
 use std::alloc::AllocError;
 
-/// The answer where a request is done, which gave out this run of pages, or why it is refused.
-pub(crate) fn done(did: Result<Option<PageRun>, HierError>) -> Result<Answered, AllocError>
+/// The answer where a request is done, which gave out and freed these runs of pages, or why it is refused.
+pub(crate) fn done(did: Result<Runs, HierError>) -> Result<Answered, AllocError>
     ensures { SaysDone did result }
 {
     match did {
-        Ok(given) => Ok(Answered::giving(Reply::Done, given)),
+        Ok(runs) => Ok(Answered::moving(Reply::Done, runs)),
         Err(HierError::Refused(why)) => Ok(Answered::alone(Reply::Refused(why))),
         Err(HierError::Memory) => Err(AllocError),
     }

@@ -5,11 +5,12 @@ ghost use Rattle.mx_hier.specs.Rules.{onward, Answers, TellsFirst};
 ghost use Rattle.mx_hier.specs.Walks.{entry, resolved};
 ghost use Rattle.mx_hier.specs.Who.{caller, subject};
 ghost use Rattle.mx_fresh.specs.Meant.{meant_by};
-ghost use Rattle.mx_fresh.specs.Said.{giving_none};
+ghost use Rattle.mx_fresh.specs.Runs.{AreSegmentsTaken, Moves};
+ghost use Rattle.mx_fresh.specs.Said.{with_freed, with_no_runs};
 ghost use Rattle.mx_fresh.specs.Told.{path_found};
 ghost use Rattle.mx_state.specs.Changing.{created, amended_at, altered_at};
-ghost use Rattle.mx_state.specs.NextRun.{IsNext};
 
+use crate::answered::Runs;
 use crate::hierarchy::FreshHierarchy;
 use mx_hier::{HierError, Who};
 use mx_name::Pathname;
@@ -23,15 +24,15 @@ pub(crate) fn create(
     alloc: Global,
     who: &Who,
     request: &Request,
-) -> Result<Option<PageRun>, HierError>
+) -> Result<Runs, HierError>
     ensures answer { Answers (created hierarchy.old (caller who.now) request.now) hierarchy.old result hierarchy.new }
-    ensures run { IfOk result (IsNext hierarchy.old.pages hierarchy.new.pages) }
+    ensures runs { IfOk result (Moves hierarchy.old.pages hierarchy.new.pages) }
     ensures told { TellsFirst (path_found (caller who.now) request.now) result }
 {
     match request {
         Request::CreateDir { path, d1, d2 } => {
             hierarchy.create_dir(alloc, who, path, *d1, *d2)?;
-            Ok(None)
+            Ok(Runs::none())
         }
         Request::CreateSeg {
             path,
@@ -39,7 +40,7 @@ pub(crate) fn create(
             brackets,
         } => {
             let given = hierarchy.create_seg(alloc, who, path, *words, *brackets)?;
-            Ok(Some(given))
+            Ok(Runs::given(given))
         }
         Request::CreateObject {
             path,
@@ -48,13 +49,13 @@ pub(crate) fn create(
             map,
         } => {
             let given = hierarchy.create_object(alloc, who, path, *words, *brackets, map)?;
-            Ok(Some(given))
+            Ok(Runs::given(given))
         }
         Request::CreateLink { path, target } => {
             hierarchy.create_link(alloc, who, path, target)?;
-            Ok(None)
+            Ok(Runs::none())
         }
-        _ => Ok(None),
+        _ => Ok(Runs::none()),
     }
 }
 
@@ -87,20 +88,25 @@ pub(crate) fn amend(
 /// Changes an entry, and descriptors with it, as one of these requests asks.
 pub(crate) fn alter(
     hierarchy: &mut FreshHierarchy,
+    alloc: Global,
     who: &Who,
     uid: u32,
     request: &Request,
-) -> Result<(), HierError>
+) -> Result<Runs, HierError>
+    requires { AreSegmentsTaken hierarchy.old }
     ensures answer { Answers (altered_at hierarchy.old (subject who.now) uid request.now)
         hierarchy.old result hierarchy.new }
+    ensures runs { IfOk result (Moves hierarchy.old.pages hierarchy.new.pages) }
 {
     match request {
-        Request::Delete { .. } => hierarchy.delete(who, uid),
-        Request::SetAcl { path: _, id, modes } => hierarchy.set_acl(who, uid, id, *modes),
-        Request::DelAcl { path: _, id } => hierarchy.del_acl(who, uid, id),
-        Request::SetBrackets { path: _, brackets } => hierarchy.set_brackets(who, uid, *brackets),
-        Request::SetClass { path: _, class } => hierarchy.set_class(who, uid, *class),
-        _ => Ok(()),
+        Request::Delete { .. } => freed(hierarchy.delete(alloc, who, uid)),
+        Request::SetAcl { path: _, id, modes } => quiet(hierarchy.set_acl(who, uid, id, *modes)),
+        Request::DelAcl { path: _, id } => quiet(hierarchy.del_acl(who, uid, id)),
+        Request::SetBrackets { path: _, brackets } => {
+            quiet(hierarchy.set_brackets(who, uid, *brackets))
+        }
+        Request::SetClass { path: _, class } => quiet(hierarchy.set_class(who, uid, *class)),
+        _ => Ok(Runs::none()),
     }
 }
 
@@ -112,10 +118,10 @@ fn amend_along(
     path: &Pathname,
     follow: bool,
     request: &Request,
-) -> Result<Option<PageRun>, HierError>
+) -> Result<Runs, HierError>
     ensures answer { Answers (onward (entry hierarchy.old (caller who.now) path.now follow)
         (λ uid. amended_at hierarchy.old (subject who.now) uid request.now)) hierarchy.old result hierarchy.new }
-    ensures run { IfOk result (IsNext hierarchy.old.pages hierarchy.new.pages) }
+    ensures runs { IfOk result (Moves hierarchy.old.pages hierarchy.new.pages) }
     ensures told { TellsFirst (resolved (caller who.now) path.now) result }
 {
     match hierarchy.entry(alloc, who, path, follow) {
@@ -131,37 +137,49 @@ fn alter_along(
     path: &Pathname,
     follow: bool,
     request: &Request,
-) -> Result<Option<PageRun>, HierError>
+) -> Result<Runs, HierError>
+    requires { AreSegmentsTaken hierarchy.old }
     ensures answer { Answers (onward (entry hierarchy.old (caller who.now) path.now follow)
         (λ uid. altered_at hierarchy.old (subject who.now) uid request.now)) hierarchy.old result hierarchy.new }
-    ensures run { IfOk result (IsNext hierarchy.old.pages hierarchy.new.pages) }
+    ensures runs { IfOk result (Moves hierarchy.old.pages hierarchy.new.pages) }
     ensures told { TellsFirst (resolved (caller who.now) path.now) result }
 {
     match hierarchy.entry(alloc, who, path, follow) {
-        Ok(uid) => quiet(alter(hierarchy, who, uid, request)),
+        Ok(uid) => alter(hierarchy, alloc, who, uid, request),
         Err(error) => Err(error),
     }
 }
 
-/// What gives out no page.
-fn quiet(did: Result<(), HierError>) -> Result<Option<PageRun>, HierError>
-    ensures { result ≡ giving_none did }
+/// What gives out no page, and frees none.
+fn quiet(did: Result<(), HierError>) -> Result<Runs, HierError>
+    ensures { result ≡ with_no_runs did }
 {
     match did {
-        Ok(()) => Ok(None),
+        Ok(()) => Ok(Runs::none()),
         Err(error) => Err(error),
     }
 }
 
-/// Does what a request that changes the hierarchy asks for, and says which run of pages it gave out.
+/// What frees a run, or none.
+fn freed(did: Result<Option<PageRun>, HierError>) -> Result<Runs, HierError>
+    ensures { result ≡ with_freed did }
+{
+    match did {
+        Ok(run) => Ok(Runs::freed(run)),
+        Err(error) => Err(error),
+    }
+}
+
+/// Does what a request that changes the hierarchy asks for, and says which runs of pages it gave out and freed.
 pub(crate) fn change(
     hierarchy: &mut FreshHierarchy,
     alloc: Global,
     who: &Who,
     request: &Request,
-) -> Result<Option<PageRun>, HierError>
+) -> Result<Runs, HierError>
+    requires { AreSegmentsTaken hierarchy.old }
     ensures answer { Answers (meant_by hierarchy.old (caller who.now) request.now) hierarchy.old result hierarchy.new }
-    ensures run { IfOk result (IsNext hierarchy.old.pages hierarchy.new.pages) }
+    ensures runs { IfOk result (Moves hierarchy.old.pages hierarchy.new.pages) }
     ensures told { TellsFirst (path_found (caller who.now) request.now) result }
 {
     match request {
@@ -182,6 +200,6 @@ pub(crate) fn change(
             amend_along(hierarchy, alloc, who, path, true, request)
         }
         Request::SetClass { path, .. } => alter_along(hierarchy, alloc, who, path, true, request),
-        _ => Ok(None),
+        _ => Ok(Runs::none()),
     }
 }

@@ -1,4 +1,4 @@
-//! The plain supervisor from plain lists.
+//! The state of the plain supervisor as plain lists, and what each request makes of it.
 
 ghost use Rattle.std.specs.Prelude.{◌≡◌, ◌≢◌, ◌≤◌, length, IfOk, OnErr};
 ghost use Rattle.mx_state.specs.Askers.{on_path};
@@ -11,7 +11,7 @@ ghost use Rattle.mx_request.specs.declared.requests.Request.TheVariants as ask;
 ghost use Rattle.mx_state.specs.Requests.{changed, plain};
 ghost use Rattle.mx_state.specs.Table.{stack_desc, standing_desc, descriptor};
 ghost use Rattle.mx_fresh.specs.Meant.{meant_by};
-ghost use Rattle.mx_fresh.specs.Runs.{GivesNext};
+ghost use Rattle.mx_fresh.specs.Runs.{AreSegmentsTaken, TellsRuns};
 ghost use Rattle.mx_fresh.specs.Told.{IsResolved, IsUndecided};
 
 use crate::answered::Answered;
@@ -31,14 +31,14 @@ use std::marker::Model;
 /// The state of the plain supervisor as lists: the version of the session, the hierarchy, the processes, and of each
 /// whether it runs, waits or has ended, with the messages that wait for it.
 #[derive(Drop)]
-pub struct Fresh {
+pub(crate) struct FreshState {
     pub(crate) version: u8,
     pub(crate) hierarchy: FreshHierarchy,
     pub(crate) processes: Vec<FreshProcess>,
     pub(crate) mail: Vec<Mailbox>,
 }
 
-impl Model for Fresh {
+impl Model for FreshState {
     ghost use Rattle.std.specs.Prelude.{◌≡◌, length};
     ghost use Rattle.mx_state.specs.Plain.{Plain};
 
@@ -54,10 +54,14 @@ impl Model for Fresh {
     ghost invariant = { λ a. length a.mail.items ≡ length a.processes.items };
 }
 
-impl Fresh {
+impl FreshState {
     /// The state before any entry, for 1 to 15 processes with their principals and authorizations, in a session of this
     /// version.
-    pub fn new(alloc: Global, entrants: &[Entrant], version: u8) -> Result<Fresh, AllocError>
+    pub(crate) fn new(
+        alloc: Global,
+        entrants: &[Entrant],
+        version: u8,
+    ) -> Result<FreshState, AllocError>
         requires most { length entrants.now ≤ 15 }
         ensures { IfOk result (λ fresh. fresh ≡ opening version entrants.now) }
     {
@@ -65,7 +69,7 @@ impl Fresh {
         let hierarchy = FreshHierarchy::new(alloc, 8 * entrants.len() as u32)?;
         let processes = fresh_processes(alloc, entrants, version)?;
         let mail = all_running(alloc, entrants.len())?;
-        Ok(Fresh {
+        Ok(FreshState {
             version,
             hierarchy,
             processes,
@@ -83,9 +87,10 @@ impl Fresh {
         request: &Request,
     ) -> Result<Answered, AllocError>
         requires asker { p ≤ length self.old.processes }
+        requires taken { AreSegmentsTaken self.old.hierarchy }
         ensures answer { IfOk result (λ given. on_path self.old p ring (λ who.
             changed self.old (meant_by self.old.hierarchy who request.now)) ≡ answer given.reply self.new) }
-        ensures run { IfOk result (GivesNext self.old self.new) }
+        ensures runs { IfOk result (TellsRuns self.old self.new) }
         ensures processes { length self.new.processes ≡ length self.old.processes }
         ensures err { OnErr result (self.new ≡ self.old) }
         ensures told { OnErr result (IsResolved self.old p ring request.now) }
@@ -138,8 +143,9 @@ impl Fresh {
     ) -> Result<Answered, AllocError>
         requires asker { p ≤ length self.old.processes }
         requires class { class_of request.now ≡ OfPath }
+        requires taken { AreSegmentsTaken self.old.hierarchy }
         ensures answer { IfOk result (λ given. plain self.old p ring request.now ≡ answer given.reply self.new) }
-        ensures run { IfOk result (GivesNext self.old self.new) }
+        ensures runs { IfOk result (TellsRuns self.old self.new) }
         ensures processes { length self.new.processes ≡ length self.old.processes }
         ensures err { OnErr result (self.new ≡ self.old) }
         ensures told { OnErr result (IsUndecided self.old p ring request.now) }
@@ -183,7 +189,7 @@ impl Fresh {
         requires process { p ≤ length self.old.processes }
         requires class { class_of request.now ≢ OfPath }
         ensures answer { IfOk result (λ given. plain self.old p ring request.now ≡ answer given.reply self.new) }
-        ensures run { IfOk result (GivesNext self.old self.new) }
+        ensures runs { IfOk result (TellsRuns self.old self.new) }
         ensures processes { length self.new.processes ≡ length self.old.processes }
         ensures err { OnErr result (self.new ≡ self.old) }
         ensures told { OnErr result (IsUndecided self.old p ring request.now) }
@@ -194,7 +200,7 @@ impl Fresh {
             Request::Initiate { path, name } => {
                 self.initiate(alloc, p, ring, path, name.as_ref())
             }
-            Request::Terminate { segno } => said(self.terminate(alloc, p, ring, *segno)),
+            Request::Terminate { segno } => self.terminate(alloc, p, ring, *segno),
             Request::Wakeup { to, word } => said(self.wakeup(p, ring, *to, *word)),
             Request::Block => Ok(Answered::alone(self.block(p, ring))),
             Request::Link { segno, word } => self.link(alloc, p, ring, *segno, *word),
@@ -218,19 +224,16 @@ impl Fresh {
         }
     }
 
-    /// Answers the request of process `p` in a ring as the definition says; process 0 is the initializer, which makes
-    /// requests on paths alone. The runs of pages are exactly those that were given out and that were freed. A refusal
-    /// changes nothing, and nor does want of memory, the only error. A refusal that is found before memory is taken is
-    /// told whatever memory there is: a path that can't be resolved, a number that is not that of a known segment, a word
-    /// that is not one of a linkage section, and each refusal of a message; `block`, `resume` and `logout` take no memory.
-    pub fn apply(
+    /// Answers the request of process `p` in a ring as `Fresh::apply` does, where no page of a segment is free.
+    pub(crate) fn apply(
         &mut self,
         alloc: Global,
         p: u8,
         ring: Ring,
         request: &Request,
     ) -> Result<Answered, AllocError>
-        requires { MayAsk self.old p request.now }
+        requires asker { MayAsk self.old p request.now }
+        requires taken { AreSegmentsTaken self.old.hierarchy }
         ensures answer { IfOk result (λ given. plain self.old p ring request.now ≡ answer given.reply self.new) }
         ensures given { IfOk result (λ answered. AreGiven self.old self.new answered.given) }
         ensures freed { IfOk result (λ answered. AreFreed self.old self.new answered.freed) }
@@ -245,9 +248,8 @@ impl Fresh {
         }
     }
 
-    /// The descriptor that process `p` has of a segment number: unknown where there is no such process, or the number
-    /// stands for nothing; gone where its segment was deleted. Takes no memory.
-    pub fn descriptor(&self, p: u8, segno: u16) -> Desc
+    /// The descriptor that process `p` has of a segment number.
+    pub(crate) fn descriptor(&self, p: u8, segno: u16) -> Desc
         ensures { result ≡ descriptor self.now p segno }
     {
         match process_at(self.processes.as_slice(), p) {

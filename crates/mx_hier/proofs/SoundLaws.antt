@@ -1,10 +1,11 @@
 -- What a request does to the branches leaves every segment on pages of its own.
-use Rattle.std.proofs.Common.{◌≡◌, ◌≢◌, ◌⊎◌, inl, inr, ℕ, ◌+◌, ◌-◌, ◌<◌, ◌≤◌, eqb, cond, not, Bool, true, false, List, [], ◌∷◌, ◌++◌, Option, Some, None, refl, sym, ap, subst, ◌∙◌, arith}
+use Rattle.std.proofs.Common.{◌≡◌, ◌≢◌, ◌⊎◌, ◌↔◌, inl, inr, ℕ, ◌+◌, ◌-◌, ◌<◌, ◌≤◌, eqb, cond, not, Bool, true, false, List, [], ◌∷◌, ◌++◌, Option, Some, None, refl, sym, ap, subst, ◌∙◌, arith}
 use Rattle.std.proofs.lemmas.Bool.{eqb-true, ne_eqb}
-use Rattle.std.specs.Option.{option_and_then}
+use Rattle.std.specs.Option.{option_map, option_and_then}
 use Rattle.mx_acl.specs.Access.{Access}
 use Rattle.mx_object.specs.Objects.{PlainObjectMap}
-use Rattle.mx_pages.specs.Runs.{PageMap, pages_for, IsFreeRun, IsFree, run_given, after_run}
+use Rattle.mx_pages.specs.declared.pages.PageRun.{PageRun}
+use Rattle.mx_pages.specs.Runs.{PageMap, pages_for, IsFreeRun, IsFree, IsInRun, run_given, after_run}
 use Rattle.mx_hier.specs.declared.branches.Branch.{Branch}
 use Rattle.mx_hier.specs.declared.branches.Directory.{Directory}
 use Rattle.mx_hier.specs.declared.branches.Segment.{Segment}
@@ -152,24 +153,58 @@ gone at (x ∷ xs) = by_test (eqb x.uid at) refl (gone at xs)
     by_test true t later = later
     by_test false t later = ap (λ (c : Bool). cond c (Some x) (branch_of (without at xs) at)) t ∙ later
 
-without_was : (at uid : ℕ) (branches : List Branch) (segment : Segment) → segment_in (without at branches) uid ≡ Some segment
-    → WasOn (segment_in branches uid) segment
-without_was at uid branches segment is = by (eqb uid at) refl
+still_there : (at uid : ℕ) (branches : List Branch) (segment : Segment) → segment_in (without at branches) uid ≡ Some segment
+    → (uid ≢ at) × (segment_in branches uid ≡ Some segment)
+still_there at uid branches segment is = by (eqb uid at) refl
   where
-    by : (b : Bool) → eqb uid at ≡ b → WasOn (segment_in branches uid) segment
+    by : (b : Bool) → eqb uid at ≡ b → (uid ≢ at) × (segment_in branches uid ≡ Some segment)
     by true t =
         let none : segment_in (without at branches) uid ≡ None =
         ap (λ n. segment_in (without at branches) n) (eqb-true uid at t) ∙ ap (option_and_then (λ (branch : Branch). as_segment branch.node)) (gone at branches) in
         absurd (cc)
     by false t =
-        was_itself (segment_in branches uid) segment
-        (sym (ap (option_and_then (λ (branch : Branch). as_segment branch.node)) (found_without at branches uid (λ same. absurd (grind arith)))) ∙ is)
+        let differ : uid ≢ at = λ same. absurd (grind arith) in
+        (differ, sym (ap (option_and_then (λ (branch : Branch). as_segment branch.node)) (found_without at branches uid differ)) ∙ is)
 
+-- where it is no segment, the pages are as they were
 pub sound_without : (at : ℕ) (pages : PageMap) (objects : Objects) (old new : Listed) → new ≡ record old { branches = without at old.branches }
     → IsSound old.branches old.next pages objects → IsSound new.branches new.next pages objects
 sound_without at pages objects old new e sound =
     subst (λ (t : Listed). IsSound t.branches t.next pages objects) (sym e)
-    (sound_kept old.branches (without at old.branches) old.next pages objects (λ uid segment is. without_was at uid old.branches segment is) sound)
+    (sound_kept old.branches (without at old.branches) old.next pages objects
+    (λ uid segment is. was_itself (segment_in old.branches uid) segment (still_there at uid old.branches segment is).1) sound)
+
+-- the pages of a segment are those of no other, and become free with it
+abbrev pub run_of : Segment → PageRun
+run_of segment = record { first = segment.page; count = pages_for segment.words }
+
+pub sound_freed : (at first count : ℕ) (run : PageRun) (pages after : PageMap) (objects : Objects) (old new : Listed)
+    → new ≡ record old { branches = without at old.branches } → Some run ≡ option_map run_of (segment_in old.branches at)
+    → first ≡ run.first → count ≡ run.count → ((page : ℕ) → IsFree after page ↔ (IsFree pages page ⊎ IsInRun count first page))
+    → IsSound old.branches old.next pages objects → IsSound new.branches new.next after objects
+sound_freed at first count run pages after objects old new e is from many freed sound =
+    subst (λ (t : Listed). IsSound t.branches t.next after objects) (sym e) (by (segment_in old.branches at) refl is)
+  where
+    by : (found : Option Segment) → segment_in old.branches at ≡ found → Some run ≡ option_map run_of found → IsSound (without at old.branches) old.next after objects
+    by None there same = absurd (cc)
+    by (Some was) there same =
+        let begins : first ≡ was.page = from ∙ cc in
+        let extends : count ≡ pages_for was.words = many ∙ cc in
+        record {
+          first = sound.first;
+          last = sound.last;
+          stored = λ uid segment found. sound.stored uid segment (still_there at uid old.branches segment found).1;
+          taken = λ uid page segment found has free.
+              let before = still_there at uid old.branches segment found in
+              elim ((freed page).0 free) [
+                | inl then ↦ sound.taken uid page segment before.1 has then
+                | inr inside ↦
+                    sound.apart uid at segment was before.1 there before.0 page has
+                    (subst (λ n. IsInRun n was.page page) extends (subst (λ n. IsInRun count n page) begins inside))
+              ];
+          apart = λ uid other a b found also. sound.apart uid other a b (still_there at uid old.branches a found).1 (still_there at other old.branches b also).1;
+          maps = sound.maps;
+        }
 
 -- one branch more: a segment is that of before, or the new one
 added_was : (branches : List Branch) (branch : Branch) (uid : ℕ) (segment : Segment) → segment_in (branches ++ branch ∷ []) uid ≡ Some segment

@@ -1,9 +1,9 @@
 -- What the hierarchy says of linkage sections: how many links an object has, which brackets a section made of it now
--- has, and the page that it is given. A page that was given out stays so.
+-- has, and the page that it is given and that becomes free with it.
 use Rattle.std.specs.Prelude.{ℕ, length, Option, Some, None}
 use Rattle.std.specs.Option.{option_map}
 use Rattle.mx_object.specs.Objects.{PlainObjectMap}
-use Rattle.mx_pages.specs.Runs.{run_given, after_run}
+use Rattle.mx_pages.specs.Runs.{run_given, after_run, with_free}
 use Rattle.mx_sdw.specs.Rings.{Bracketing}
 use Rattle.mx_hier.specs.Branches.{Hierarchy, segment_at, object_at}
 
@@ -28,3 +28,7 @@ page_given hierarchy = run_given hierarchy.pages 1
 
 abbrev pub with_page_given : Hierarchy → Hierarchy
 with_page_given hierarchy = record hierarchy { pages = after_run hierarchy.pages 1 (page_given hierarchy) }
+
+-- the page of a linkage section that is taken away becomes free
+abbrev pub with_page_freed : Hierarchy → ℕ → Hierarchy
+with_page_freed hierarchy page = record hierarchy { pages = with_free hierarchy.pages page 1 }

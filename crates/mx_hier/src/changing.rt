@@ -4,12 +4,13 @@
 //! root holds itself; it is said at that directory: a caller without s on it is told `NoInfo` instead. A refusal is
 //! told whatever memory there is. An error leaves the hierarchy as it was.
 
-ghost use Rattle.std.specs.Prelude.{◌≡◌, ◌==◌, ◌∷◌, [], Some, None, IfOk, OnOk, OnErr, is_ok, not, is_none, is_some, false, nat_lt};
+ghost use Rattle.std.specs.Prelude.{◌≡◌, ◌==◌, ◌∷◌, [], Some, None, IfOk, IfSome, OnOk, OnErr, is_ok, not, is_none, is_some, false, nat_lt};
+ghost use Rattle.std.specs.Option.{option_map};
 ghost use Rattle.mx_acl.specs.Access.{with_entry, without_entry, entry_of};
-ghost use Rattle.mx_hier.specs.Branches.{uid_in, holder};
+ghost use Rattle.mx_hier.specs.Branches.{uid_in, segment_at, holder};
 ghost use Rattle.mx_hier.specs.Callers.{on};
 ghost use Rattle.mx_hier.specs.Changing.{changing_refusals, acl_at, with_acl, with_branch};
-ghost use Rattle.mx_hier.specs.Delete.{delete_refusals, delete_at, without};
+ghost use Rattle.mx_hier.specs.Delete.{delete_refusals, delete_at, deleted};
 ghost use Rattle.mx_hier.specs.DeleteAclEntry.{del_acl_at};
 ghost use Rattle.mx_hier.specs.Listed.{acl_refusals, AclTells};
 ghost use Rattle.mx_hier.specs.Rename.{rename_refusals, rename_at};
@@ -19,6 +20,7 @@ ghost use Rattle.mx_hier.specs.SetBrackets.{set_brackets_refusals, set_brackets_
 ghost use Rattle.mx_hier.specs.SetClass.{set_class_refusals, set_class_at, with_class};
 ghost use Rattle.mx_hier.specs.SetDirectoryBrackets.{set_dir_brackets_refusals, set_dir_brackets_at, with_dir_brackets};
 ghost use Rattle.mx_hier.specs.Who.{subject};
+ghost use Rattle.mx_pages.specs.Runs.{IsPageRun, pages_for};
 
 use crate::callers::Who;
 use crate::hier::Hier;
@@ -27,6 +29,7 @@ use crate::refusals::{HierError, Refusal};
 use mx_acl::{AclError, Modes, NoEntry};
 use mx_aim::Class;
 use mx_name::{AclId, EntryName};
+use mx_pages::{PageRun, pages_for};
 use mx_sdw::{Brackets, Ring};
 use std::alloc::AllocError;
 
@@ -140,7 +143,7 @@ impl Hier {
     }
 
     /// Deletes an entry. After the refusal of every change (above): `IncorrectAccess` on the root, then `DirNotEmpty`
-    /// where it has entries. The pages of a segment are not used again. Takes no memory.
+    /// where it has entries. The pages of a segment become free. Takes no memory.
     pub fn delete(&mut self, who: &Who, uid: u32) -> Result<(), HierError>
         ensures answer { Answers (delete_at self.old (subject who.now) uid) self.old result self.new }
         ensures told { TellsFirst (delete_at self.old (subject who.now) uid) result }
@@ -305,11 +308,27 @@ impl Hier {
         Ok(())
     }
 
-    #[tactic(auto, using(crate::proofs::SoundLaws::sound_without))]
     fn remove(&mut self, uid: u32)
-        ensures { self.new ≡ record self.old { branches = without uid self.old.branches } }
+        ensures { self.new ≡ deleted self.old uid }
     {
+        let run = self.run_at(uid);
         self.tables.remove(uid);
+        if let Some(run) = run {
+            self.pages.free(u32::from(run.first), u32::from(run.count));
+        }
+    }
+
+    /// The pages of the segment of a uid.
+    fn run_at(&self, uid: u32) -> Option<PageRun>
+        ensures value { result ≡ option_map
+            (λ segment. record { first = segment.page; count = pages_for segment.words }) (segment_at self.now uid) }
+        ensures run { IfSome result IsPageRun }
+    {
+        let segment = self.segment_at(uid)?;
+        Some(PageRun {
+            first: segment.page,
+            count: pages_for(u32::from(segment.words)) as u16,
+        })
     }
 }
 

@@ -5,7 +5,8 @@
 //! with its refusals in the order of the table, and each call has the exact answer and the exact hierarchy that its
 //! definition gives; a refusal, and the want of memory, change nothing. Behind it stand a table of branches by uid and a
 //! map of names for each directory. What linkage sections are made of, an object's links and brackets and a page, is
-//! asked for by uid. Stands on names, access lists, brackets, classes, pages and object maps.
+//! asked for by uid, and the page of one that goes is given back. Stands on names, access lists, brackets, classes,
+//! pages and object maps.
 #![tactic(auto)]
 
 mod asking;

@@ -1,10 +1,11 @@
-//! What linkage sections take of the hierarchy: the links and brackets of their objects, and pages. Nothing here takes
-//! memory.
+//! What linkage sections take of the hierarchy: the links and brackets of their objects, and pages, which they give
+//! back. Nothing here takes memory.
 
-ghost use Rattle.std.specs.Prelude.{◌≡◌, ◌≤◌, ℕ, Some, IfSome};
+ghost use Rattle.std.specs.Prelude.{◌≡◌, ◌≤◌, ◌<◌, ℕ, Some, false, IfSome};
+ghost use Rattle.mx_pages.specs.Runs.{page_count, is_free};
 ghost use Rattle.mx_hier.specs.Branches.{segment_at};
 ghost use Rattle.mx_hier.specs.declared.branches.Segment.{Segment as SegmentValue};
-ghost use Rattle.mx_hier.specs.Linkage.{links_at, linkage_brackets, linkage_brackets_at, page_given, with_page_given};
+ghost use Rattle.mx_hier.specs.Linkage.{links_at, linkage_brackets, linkage_brackets_at, page_given, with_page_given, with_page_freed};
 ghost use Rattle.mx_hier.specs.Sound.{HasPage};
 
 use crate::hier::Hier;
@@ -51,6 +52,17 @@ impl Hier {
             Ok(page) => Some(page as u16),
             Err(_) => None,
         }
+    }
+
+    /// Frees a page that was given out, and is a page of no segment: that of a linkage section that goes.
+    pub fn release_page(&mut self, page: u16)
+        requires within { page < page_count }
+        requires taken { is_free self.old.pages page ≡ false }
+        requires apart { (uid : ℕ) (segment : SegmentValue)
+            → segment_at self.old uid ≡ Some segment → HasPage segment page → ⊥ }
+        ensures { self.new ≡ with_page_freed self.old page }
+    {
+        self.pages.free(u32::from(page), 1);
     }
 }
 

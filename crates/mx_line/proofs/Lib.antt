@@ -1,11 +1,6 @@
-pub mod RaisedLaws
 pub mod SeatLaws
-pub mod CellLaws
 pub mod FillLaws
-pub mod PlaceLaws
-pub mod MadeLaws
 pub mod OperandLaws
-pub mod ProcessLaws
 pub mod StandingLaws
 pub mod ReplyLaws
 pub mod TakenLaws

@@ -1,36 +1,34 @@
 -- What the office keeps under its lock is what the end of a run asks of the supervisor's seat.
-use Rattle.std.proofs.Common.{◌≡◌, ℕ, zero, suc, ◌+◌, ◌<◌, ◌≤◌, Bool, true, false, List, length, sym, ap, ◌∙◌, subst, arith}
-use Rattle.std.specs.Prelude.{IsTrue, ◌&&◌, not}
-use Rattle.mx_core.specs.Pages.{covers}
-use Rattle.mx_pages.specs.Runs.{is_free}
+use Rattle.std.proofs.Common.{◌≡◌, ℕ, suc, ◌+◌, ◌<◌, ◌≤◌, List, length, sym, ap, ◌∙◌, subst, arith}
+use Rattle.mx_pages.specs.Runs.{page_count}
 use Rattle.mx_rule.specs.Shown.{office_of}
 use Rattle.mx_rule.specs.declared.layout.Layout.{Layout}
 use Rattle.mx_rule.specs.declared.views.SuperView.{SuperView}
 use Rattle.mx_script.specs.Sessions.{Outline}
 use Rattle.mx_state.specs.Given.{gives}
-use Rattle.mx_state.proofs.TakenLaws.{taken_pages_stay}
 use Rattle.mx_state.specs.declared.journal.Entry as journaled
 use Rattle.mx_sup.specs.Supervised.{IsHistory, Supervised, supervised}
+use Rattle.mx_ties.specs.Closed.{followed}
 use Rattle.mx_transcript.specs.Access.{descriptor_at}
-use Rattle.mx_transcript.specs.Opened.{opening_of}
-use Rattle.mx_closing.specs.Closing.{AreOfAll}
+use Rattle.mx_transcript.specs.Uses.{given_by}
 use Rattle.mx_closing.specs.Keeping.{KeepsJournal}
-use Rattle.mx_office.specs.Locked.{IsLocked, IsTaken, state_at}
+use Rattle.mx_closing.specs.Views.{marked_in}
+use Rattle.mx_office.specs.Locked.{IsLocked, state_at}
 
 module _ (x : Outline) (setup : List journaled.Entry) (y : Layout) (s : Supervised)
     (v : SuperView journaled.Entry) (total : ℕ) (l : IsLocked x setup y s v total) where
-  -- an entry gives out no page that was taken before
-  given_anew : (q later p n page : ℕ) → v.start ≤ q → q < later → later ≤ v.length
-      → IsTrue (covers ((office_of v).table q p n) page) → (office_of v).given later page ≡ false
-  given_anew q zero p n page from after to covered = absurd (omega arith)
-  given_anew q (suc k) p n page from after to covered =
-      let was : IsTaken (state_at s.session s.journal q) page = l.pages.taken q p n page from (omega arith) covered in
-      let before : is_free (state_at s.session s.journal k).hierarchy.pages page ≡ false =
-      taken_pages_stay (opening_of s.session) s.journal q k page (omega arith) was.1 in
-      let next : suc k ≡ k + 1 = omega arith in
-      ap (λ (m : ℕ). (office_of v).given m page) next
-      ∙ l.pages.given k page (omega arith) (omega arith) was.0
-      ∙ ap (λ (b : Bool). b && not (is_free (state_at s.session s.journal (k + 1)).hierarchy.pages page)) before
+  -- the pages that an entry gave out are those that the plain supervisor gives out there, in the journal that the seat keeps
+  given_by_journal : (q page : ℕ) → v.start ≤ q → q < v.length → page < page_count
+      → (office_of v).given (q + 1) page ≡ given_by x (followed setup (marked_in v.history)) (q + 1) page
+  given_by_journal q page from under low =
+      l.pages.given q page from under low
+      ∙ (λ i. gives (state_at (l.session i) (l.journal i) q) (state_at (l.session i) (l.journal i) (q + 1)) page)
+      ∙ sym (ap (λ (n : ℕ). given_by x (followed setup (marked_in v.history)) n page) next
+      ∙ ap (λ (n : ℕ). gives (state_at x (followed setup (marked_in v.history)) q)
+      (state_at x (followed setup (marked_in v.history)) n) page) (sym next))
+    where
+      next : q + 1 ≡ suc q
+      next = omega arith
 
   pub keeps_journal : v.start + length v.history ≡ v.length → v.answered ≤ v.length → v.processes ≡ y.processes
       → KeepsJournal x setup v
@@ -44,5 +42,6 @@ module _ (x : Outline) (setup : List journaled.Entry) (y : Layout) (s : Supervis
     makers = l.makers;
     tables = λ q p n from to some most. l.tables q p n from to
         ∙ ap (λ (j : List journaled.Entry). descriptor_at x j q p n) l.journal;
-    one_use = λ q later p n page from after to some most covered. given_anew q later p n page from after to covered;
+    admissible = λ q p n from to some most. l.admissible q p n from to;
+    given = given_by_journal;
   }

@@ -27,8 +27,6 @@ use Rattle.mx_rule.specs.declared.views.SuperView.{SuperView}
 use Rattle.mx_script.specs.Sessions.{Outline}
 use Rattle.mx_sdw.specs.Admissible.{IsAdmissible}
 use Rattle.mx_sdw.specs.Descriptors.{Descriptor, unknown_desc}
-use Rattle.mx_sdw.specs.declared.descriptors.DescKind.{DescKind}
-use Rattle.mx_sdw.specs.declared.descriptors.DescKind.TheVariants.{Unknown, Gone, Segment}
 use Rattle.mx_state.proofs.Descriptors.{process_at_place}
 use Rattle.mx_state.proofs.NumberedLaws.{unknown_law}
 use Rattle.mx_state.specs.Changes.{IsBounded}
@@ -51,7 +49,8 @@ use Rattle.mx_office.specs.Revoking.{IsListed}
 use Rattle.mx_transcript.specs.Opened.{opening_of}
 use Rattle.mx_office.specs.Announcing.{Coming, MayAnnounce, announced_view, came_view, coming}
 use Rattle.mx_office.specs.Clearing.{cleaned, cleaned_pages}
-use Rattle.mx_office.specs.Locked.{ArePages, IsLocked, IsTaken, state_at}
+use Rattle.mx_office.specs.Locked.{ArePages, IsLocked, state_at}
+use Rattle.mx_closing.proofs.Covering.{covers_within}
 use Rattle.mx_closing.specs.Views.{marked_in}
 use Rattle.mx_office.specs.Serving.{runs_of}
 use Rattle.mx_office.proofs.Comings.{admissible_new, all_at, both_true, covered_by, each_new, from_true, listed_new, not_true, or_left, or_right, pairs_once, run_within, runs_give, table_new, to_true}
@@ -76,7 +75,7 @@ locked_as x setup y s v total reported made l = record {
   tables = l.tables;
   admissible = l.admissible;
   words = l.words;
-  pages = record { clean = l.pages.clean; ready = l.pages.ready; given = l.pages.given; taken = l.pages.taken };
+  pages = record { clean = l.pages.clean; ready = l.pages.ready; given = l.pages.given };
   counted = l.counted;
   dealt = l.dealt;
   out = l.out;
@@ -121,19 +120,6 @@ journal_length x setup y s v total l counted =
 pub nobody_beyond : (s : Plain) (p n : ℕ) → length s.processes < p → descriptor s p n ≡ unknown_desc
 nobody_beyond s p n past = ap (λ (o : Option ProcessState). process_desc s.hierarchy p o n)
     (process_at_place s.processes p (omega arith) ∙ slice_get_past s.processes (p - 1) (omega arith))
-
--- a descriptor that a table may hold covers only pages that there are
-pub covers_within : (d : Descriptor) (page : ℕ) → IsAdmissible d → IsTrue (covers d page) → page < page_count
-covers_within d page a h = by_kind d.kind refl
-  where
-    high : 64 * page < 64 * d.page + d.bound
-    high = let t = (both_true (nat_le d.page page) (nat_lt (64 * page) (64 * d.page + d.bound)) (from_true (covers d page) h)).1 in
-        grind (arith, nat_tests)
-
-    by_kind : (kind : DescKind) → d.kind ≡ kind → page < page_count
-    by_kind Unknown e = let t = high in let z = ap (λ (k : Descriptor). 64 * k.page + k.bound) (a.unknown e) in absurd (omega arith)
-    by_kind Gone e = let t = high in let z = ap (λ (k : Descriptor). 64 * k.page + k.bound) (a.gone e) in absurd (omega arith)
-    by_kind Segment e = let t = high in let z = (a.segment e).cells in omega arith
 
 -- cells that are cleared are clean, others stay so; pages without such a cell stay ready
 cleaned_here : (first : ℕ → Bool) (low count cell : ℕ) (xs : List Cleaning) → low ≤ cell → cell < low + count
@@ -233,7 +219,7 @@ module _ (x : Outline) (setup : List journaled.Entry) (y : Layout) (s s' : Super
   next_is p n = table_new old new came.changes come.changes ((office_of v).table v.length) now_is p n
 
   old_admissible : (p n : ℕ) → IsAdmissible (descriptor old p n)
-  old_admissible p n = subst IsAdmissible (now_is p n) (l.admissible p n)
+  old_admissible p n = subst IsAdmissible (now_is p n) (l.admissible v.length p n (omega arith) (omega arith))
 
   new_admissible : (p n : ℕ) → IsAdmissible (descriptor new p n)
   new_admissible = admissible_new old new came.changes come.changes (last_number old.version) come.bounded old_admissible
@@ -404,7 +390,6 @@ module _ (x : Outline) (setup : List journaled.Entry) (y : Layout) (s s' : Super
         subst IsTrue (sym (pages_stay_ready came.freed page
         (Covered came.changes (runs_of came.given) ∷ v.cleanings) kept)) (given_or_ready page low taken);
     given = λ q page from below low. by_place q page from below low (cases_eq q v.length);
-    taken = λ q p n page from to covered. by_point q p n page from to covered (cases_eq q (v.length + 1));
   }
     where
       and_none : (b : Bool) → (b && false) ≡ false
@@ -446,25 +431,6 @@ module _ (x : Outline) (setup : List journaled.Entry) (y : Layout) (s s' : Super
           ∙ sym (λ i. given.gives ((ap (λ (o : Outline). state_at o s'.journal q) session_is ∙ still_by q (omega arith)) i)
           ((ap (λ (o : Outline). state_at o s'.journal (q + 1)) session_is ∙ still_by (q + 1) (omega arith)) i) page)
 
-      by_point : (q p n page : ℕ) → v.start ≤ q → q ≤ v.length + 1
-          → IsTrue (covers ((office_of after).table q p n) page) → (q ≡ v.length + 1) ⊎ (q ≢ v.length + 1)
-          → IsTaken (state_at s'.session s'.journal q) page
-      by_point q p n page from to covered (inl is) =
-          let now = subst (λ (d : Descriptor). IsTrue (covers d page))
-          (ap (λ (k : ℕ). (office_of after).table k p n) is ∙ ap (λ (t : ℕ → ℕ → Descriptor). t p n) came_table ∙ next_is p n)
-          covered in
-          subst (λ (z : Plain). IsTaken z page)
-          (sym (ap (state_at s'.session s'.journal) is
-          ∙ ap (λ (o : Outline). state_at o s'.journal (v.length + 1)) (session_is ∙ l.session) ∙ new_at))
-          (covers_within (descriptor new p n) page (new_admissible p n) now, covered_taken p n page now)
-      by_point q p n page from to covered (inr ne) =
-          subst (λ (z : Plain). IsTaken z page)
-          (sym (ap (λ (o : Outline). state_at o s'.journal q) session_is ∙ still_by q (omega arith)))
-          (l.pages.taken q p n page from (omega arith)
-          (subst (λ (d : Descriptor). IsTrue (covers d page)) (ap (λ (t : ℕ → ℕ → Descriptor). t p n)
-          (put_else (office_of v).table (v.length + 1) (with_changes came.changes ((office_of v).table v.length)) q ne))
-          covered))
-
   pub journal_after : (mark : ℕ)
       → s'.journal ≡ followed setup (marked_in v.history ++ record { entry = entry; mark = mark } ∷ [])
   journal_after mark = journal_is ∙ ap (λ (j : List journaled.Entry). j ++ entry ∷ []) l.journal
@@ -489,8 +455,7 @@ module _ (x : Outline) (setup : List journaled.Entry) (y : Layout) (s s' : Super
     start = l.start;
     makers = (refl, sym counted, l.makers);
     tables = λ q p n from to. by_table q p n from to (cases_eq q (v.length + 1));
-    admissible = λ p n. subst IsAdmissible (sym (ap (λ (t : ℕ → ℕ → Descriptor). t p n) came_table ∙ next_is p n))
-        (new_admissible p n);
+    admissible = λ q p n from to. by_point q p n from to (cases_eq q (v.length + 1));
     words = words;
     pages = after_pages;
     counted = (let a = l.counted in omega arith);
@@ -498,6 +463,16 @@ module _ (x : Outline) (setup : List journaled.Entry) (y : Layout) (s s' : Super
     out = l.out;
   }
     where
+      by_point : (q p n : ℕ) → v.start ≤ q → q ≤ v.length + 1 → (q ≡ v.length + 1) ⊎ (q ≢ v.length + 1)
+          → IsAdmissible ((office_of after).table q p n)
+      by_point q p n from to (inl is) =
+          subst (λ (k : ℕ). IsAdmissible ((office_of after).table k p n)) (sym is)
+          (subst IsAdmissible (sym (ap (λ (t : ℕ → ℕ → Descriptor). t p n) came_table ∙ next_is p n)) (new_admissible p n))
+      by_point q p n from to (inr ne) =
+          subst IsAdmissible (sym (ap (λ (t : ℕ → ℕ → Descriptor). t p n)
+          (put_else (office_of v).table (v.length + 1) (with_changes came.changes ((office_of v).table v.length)) q ne)))
+          (l.admissible q p n from (omega arith))
+
       by_table : (q p n : ℕ) → v.start ≤ q → q ≤ v.length + 1 → (q ≡ v.length + 1) ⊎ (q ≢ v.length + 1)
           → (office_of after).table q p n ≡ descriptor_at x s'.journal q p n
       by_table q p n from to (inl is) =

@@ -94,7 +94,7 @@ locked_told x setup y s v total words told reported made l right = record {
   tables = l.tables;
   admissible = l.admissible;
   words = right;
-  pages = record { clean = l.pages.clean; ready = l.pages.ready; given = l.pages.given; taken = l.pages.taken };
+  pages = record { clean = l.pages.clean; ready = l.pages.ready; given = l.pages.given };
   counted = l.counted;
   dealt = l.dealt;
   out = l.out;

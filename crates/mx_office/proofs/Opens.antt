@@ -6,7 +6,6 @@ use Rattle.std.proofs.lemmas.List.{append-nil, take_all}
 use Rattle.mx_core.specs.Opening.{CanOpen, any_below, is_covered}
 use Rattle.mx_core.specs.Pages.{covers, page_of}
 use Rattle.mx_core.specs.declared.changes.Change.{Change}
-use Rattle.mx_pages.specs.Runs.{is_free, page_count}
 use Rattle.mx_request.specs.Versions.{last_number}
 use Rattle.mx_rule.proofs.OpeningWords.{base_opens}
 use Rattle.mx_rule.specs.Dealing.{opening_view}
@@ -33,9 +32,9 @@ use Rattle.mx_closing.specs.Keeping.{KeepsJournal}
 use Rattle.mx_closing.specs.Opening.{layout_of}
 use Rattle.mx_closing.specs.Preparing.{IsPrepared}
 use Rattle.mx_closing.specs.declared.preparing.Prepared.{Prepared}
-use Rattle.mx_office.specs.Locked.{IsLocked, IsTaken, state_at}
+use Rattle.mx_office.specs.Locked.{IsLocked, state_at}
 use Rattle.mx_office.proofs.Comings.{from_true, not_true, to_true}
-use Rattle.mx_office.proofs.Locks.{covers_within, nobody_beyond}
+use Rattle.mx_office.proofs.Locks.{nobody_beyond}
 
 -- nothing below is so
 neither : (a b : Bool) → (IsTrue a → ⊥) → IsTrue (not b) → IsTrue (not (a || b))
@@ -90,16 +89,6 @@ module _ (x : Outline) (setup : List journaled.Entry) (base : List Change) (hist
   state_is : (q : ℕ) → q ≡ length setup → state_at x setup q ≡ now
   state_is q is = ap (replay (opening_of x)) (ap (λ (k : ℕ). take k setup) is ∙ take_all (length setup) setup (omega arith))
 
-  covered_taken : (p n page : ℕ) → IsTrue (covers (descriptor now p n) page) → IsTaken now page
-  covered_taken p n page covered = (within, by_test (is_free now.hierarchy.pages page) refl)
-    where
-      within : page < page_count
-      within = covers_within (descriptor now p n) page (admissible p n) covered
-
-      by_test : (b : Bool) → is_free now.hierarchy.pages page ≡ b → b ≡ false
-      by_test true is = absurd (bare p n page (admissible p n) within is covered)
-      by_test false is = refl
-
   pub opens_locked : IsLocked x setup (layout_of x) (supervised x setup) (opened_view x (length setup) base) 0
   opens_locked = record {
     session = refl;
@@ -116,7 +105,7 @@ module _ (x : Outline) (setup : List journaled.Entry) (base : List Change) (hist
     makers = tt;
     tables = λ q p n from to. table_is p n
         ∙ sym (ap (λ (z : Plain). descriptor z p n) (state_is q (omega arith)));
-    admissible = can.admissible;
+    admissible = λ q p n from to. can.admissible p n;
     words = λ p n. record {
       low = omega arith;
       high = omega arith;
@@ -130,8 +119,6 @@ module _ (x : Outline) (setup : List journaled.Entry) (base : List Change) (hist
           (subst (λ (d : Descriptor). IsTrue (covers d (page_of cell))) (table_is p n) covered));
       ready = λ page low taken. to_true true refl;
       given = λ q page from below low. absurd (omega arith);
-      taken = λ q p n page from to covered. subst (λ (z : Plain). IsTaken z page) (sym (state_is q (omega arith)))
-          (covered_taken p n page (subst (λ (d : Descriptor). IsTrue (covers d page)) (table_is p n) covered));
     };
     counted = refl;
     dealt = omega arith;

@@ -35,6 +35,7 @@ use Rattle.mx_state.specs.Messages.{block, is_ready, sent, taken_reply, wakeup, 
 use Rattle.mx_state.specs.OwnState.{change_wdir, set_rules}
 use Rattle.mx_state.specs.Plain.{Plain, Answer}
 use Rattle.mx_state.specs.Requests.{plain}
+use Rattle.mx_state.specs.Sections.{section_page}
 use Rattle.mx_state.specs.Waiting.{does}
 use Rattle.mx_script.specs.Sessions.{Outline, limit_of}
 use Rattle.mx_sup.specs.Supervised.{Supervised, state_of}
@@ -271,10 +272,10 @@ module _ (s : Plain) (p q : ℕ) (some : 1 ≤ p) (apart : q ≢ p)
   given_quiet process (Ok known) = unready
   given_quiet process (Err why) = unready
 
-  terminate_quiet : (process : ProcessState) (meant : Option KnownSegments)
-      → is_ready (terminate s p process meant).state q ≡ false
-  terminate_quiet process (Some known) = unready
-  terminate_quiet process None = unready
+  terminate_quiet : (process : ProcessState) (page : Option ℕ) (meant : Option KnownSegments)
+      → is_ready (terminate s p process page meant).state q ≡ false
+  terminate_quiet process page (Some known) = unready
+  terminate_quiet process page None = unready
 
   linked_quiet : (process : ProcessState) (word : ℕ) (meant : Result Connected Refusal)
       → is_ready (linked s p process word meant).state q ≡ false
@@ -355,8 +356,8 @@ module _ (s : Plain) (p q : ℕ) (some : 1 ≤ p) (apart : q ≢ p)
       (λ process. given_quiet process (onward (segment s.hierarchy (caller process ring) path)
       (connect s.hierarchy process.known ring name)))) ∙ ready)
   woken ring (ask.Terminate segno) ready = contrary (sym (on_quiet
-      (λ process. terminate s p process (kst.terminate process.known segno))
-      (λ process. terminate_quiet process (kst.terminate process.known segno))) ∙ ready)
+      (λ process. terminate s p process (section_page process.known segno) (kst.terminate process.known segno))
+      (λ process. terminate_quiet process (section_page process.known segno) (kst.terminate process.known segno))) ∙ ready)
   woken ring (ask.Wakeup to word) ready = after_wakeup ring to word ready
   woken ring ask.Block ready = contrary (sym (on_quiet (λ process. block s p) (λ process. block_quiet)) ∙ ready)
   woken ring (ask.Link segno word) ready = contrary (sym (on_quiet (λ process. link s p ring process segno word)

@@ -3,7 +3,7 @@
 use Rattle.std.specs.Prelude.{◌≡◌, ℕ, suc, ◌+◌, ◌<◌, ◌≤◌, true, false, IsTrue, List, [], ◌∷◌, ◌++◌, length, take, Some, slice_get}
 use Rattle.mx_closing.specs.Keeping.{AreMakers}
 use Rattle.mx_closing.specs.Views.{marked_in}
-use Rattle.mx_core.specs.Pages.{covers, page_of}
+use Rattle.mx_core.specs.Pages.{page_of}
 use Rattle.mx_pages.specs.Runs.{is_free, page_count}
 use Rattle.mx_request.specs.Versions.{last_number}
 use Rattle.mx_rule.specs.Shown.{office_of}
@@ -31,12 +31,8 @@ pub record IsSetupOf (x : Outline) (setup : List journaled.Entry) : Type 0 where
   pub count : length setup ≡ setup_entries x
   pub makers : (i : ℕ) (entry : journaled.Entry) → slice_get setup i ≡ Some entry → entry.process ≡ 0
 
--- a page of memory that is not free
-abbrev pub IsTaken : Plain → ℕ → Type 0
-IsTaken s page = (page < page_count) × (is_free s.hierarchy.pages page ≡ false)
-
 -- All cells of free pages are clean, and all other pages ready. The pages that an entry gave are those that the plain
--- supervisor gives out there; what a descriptor covered at a point was not free there.
+-- supervisor gives out there.
 pub record ArePages (s : Supervised) (v : SuperView journaled.Entry) : Type 0 where
   pub clean : (cell : ℕ) → page_of cell < page_count → is_free (state_of s).hierarchy.pages (page_of cell) ≡ true
       → IsTrue ((office_of v).clean cell)
@@ -44,8 +40,6 @@ pub record ArePages (s : Supervised) (v : SuperView journaled.Entry) : Type 0 wh
       → IsTrue ((office_of v).ready page)
   pub given : (q page : ℕ) → v.start ≤ q → q < v.length → page < page_count
       → (office_of v).given (q + 1) page ≡ gives (state_at s.session s.journal q) (state_at s.session s.journal (q + 1)) page
-  pub taken : (q p n page : ℕ) → v.start ≤ q → q ≤ v.length → IsTrue (covers ((office_of v).table q p n) page)
-      → IsTaken (state_at s.session s.journal q) page
 
 -- the shared words have the processes and the numbers of the session
 pub record IsLaidFor (x : Outline) (y : Layout) : Type 0 where
@@ -67,7 +61,7 @@ pub record IsLocked (x : Outline) (setup : List journaled.Entry) (y : Layout) (s
   pub makers : AreMakers v.start v.history
   pub tables : (q p n : ℕ) → v.start ≤ q → q ≤ v.length
       → (office_of v).table q p n ≡ descriptor_at x s.journal q p n
-  pub admissible : (p n : ℕ) → IsAdmissible ((office_of v).table v.length p n)
+  pub admissible : (q p n : ℕ) → v.start ≤ q → q ≤ v.length → IsAdmissible ((office_of v).table q p n)
   -- each word is right, with what is known settled
   pub words : AreRightWords (office_of v)
   pub pages : ArePages s v

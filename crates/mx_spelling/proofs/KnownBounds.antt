@@ -25,7 +25,7 @@ use Rattle.mx_request.specs.RequestTexts.{is_segno}
 use Rattle.mx_sdw.specs.Rings.{Bracketing}
 use Rattle.mx_state.proofs.ConnectingLaws.{granted, section_with}
 use Rattle.mx_state.specs.Connecting.{Connected, connect, connected, with_section_page}
-use Rattle.mx_state.specs.Sections.{has_links, section_by}
+use Rattle.mx_state.specs.Sections.{has_links, section_by, with_page_back}
 use Rattle.mx_spelling.specs.Spelling.{is_none_or}
 use Rattle.mx_spelling.proofs.ReplyBounds.{object_spelled, segment_found, small_object}
 use Rattle.mx_spelling.proofs.StateBounds.{IsSpelledHierarchy, IsSpelledKnown, IsSpelledLot}
@@ -138,6 +138,11 @@ pub record IsSpelledConnection (c : Connected) : Type 0 where
 paged : (h : Hierarchy) (section : Option PlainSection) → IsSpelledHierarchy h → IsSpelledHierarchy (with_section_page h section)
 paged h None is = is
 paged h (Some section) is = record { root = is.root; branches = is.branches; objects = is.objects }
+
+-- a page that goes back changes no more than the pages
+pub back_spelled : (h : Hierarchy) (page : Option ℕ) → IsSpelledHierarchy h → IsSpelledHierarchy (with_page_back h page)
+back_spelled h None is = is
+back_spelled h (Some page) is = record { root = is.root; branches = is.branches; objects = is.objects }
 
 pub connected_spelled : (h : Hierarchy) (k : KnownSegments) (uid ring : ℕ) (name : Option (List ℕ)) (c : Connected) → IsSpelledHierarchy h
     → IsSpelledKnown k → connect h k ring name uid ≡ Ok c → IsSpelledConnection c

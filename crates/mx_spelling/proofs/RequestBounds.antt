@@ -55,11 +55,12 @@ use Rattle.mx_state.specs.Messages.{block, logout, sent, taken_reply, wakeup, wa
 use Rattle.mx_state.specs.OwnState.{change_wdir, set_rules}
 use Rattle.mx_state.specs.Plain.{Answer, Plain, with_process}
 use Rattle.mx_state.specs.Requests.{changed, plain, told}
+use Rattle.mx_state.specs.Sections.{section_page, with_page_back}
 use Rattle.mx_state.specs.Shown.{shown}
 use Rattle.mx_state.specs.declared.linking.Link.{Link}
 use Rattle.mx_state.specs.declared.states.ProcessState.{ProcessState}
 use Rattle.mx_spelling.proofs.HierarchyBounds.{Keeps, create_dir_keeps, create_link_keeps, del_acl_keeps, del_iacl_keeps, delete_keeps, make_segment_keeps, rename_keeps, resolved_names, set_acl_keeps, set_brackets_keeps, set_class_keeps, set_dir_brackets_keeps, set_iacl_keeps}
-use Rattle.mx_spelling.proofs.KnownBounds.{connected_spelled, terminated_spelled}
+use Rattle.mx_spelling.proofs.KnownBounds.{back_spelled, connected_spelled, terminated_spelled}
 use Rattle.mx_spelling.proofs.NextBounds.{address_test}
 use Rattle.mx_spelling.proofs.ReplyBounds.{AllTold, IsSaid, IsSaidStatus, defined_low, list_said, object_spelled, onward_told, status_said, unless_told}
 use Rattle.mx_spelling.proofs.StateBounds.{IsSpelled, IsSpelledHierarchy, IsSpelledKnown, IsSpelledMail, IsSpelledMessage, IsSpelledProcess}
@@ -231,12 +232,14 @@ module _ (s : Plain) (p ring : ℕ) (is : IsSpelled s) where
       said = refl;
     }
 
-    ends : (segno : ℕ) (meant : Option KnownSegments) → kst.terminate process.known segno ≡ meant → IsSpelledAnswer (terminate s p process meant)
-    ends segno (Some known) e = record {
-      state = replaced (record process { known = known }) s.hierarchy (knowing known (terminated_spelled process.known known segno own.known e)) is.hierarchy;
+    ends : (segno : ℕ) (page : Option ℕ) (meant : Option KnownSegments) → kst.terminate process.known segno ≡ meant
+        → IsSpelledAnswer (terminate s p process page meant)
+    ends segno page (Some known) e = record {
+      state = replaced (record process { known = known }) (with_page_back s.hierarchy page)
+          (knowing known (terminated_spelled process.known known segno own.known e)) (back_spelled s.hierarchy page is.hierarchy);
       said = refl;
     }
-    ends segno None e = plainly (reply.Refused UnknownSegno) refl
+    ends segno page None e = plainly (reply.Refused UnknownSegno) refl
 
     known_more : (uid : ℕ) (name : Option (List ℕ)) (meant : Result Connected Refusal) → connect s.hierarchy process.known ring name uid ≡ meant
         → IsSpelledAnswer (given s p process meant)
@@ -357,8 +360,8 @@ module _ (s : Plain) (p ring : ℕ) (is : IsSpelled s) where
       own_answer (λ process. initiate s p ring process name (segment s.hierarchy (caller process ring) path))
       (λ process low at. initiated process low at name (segment s.hierarchy (caller process ring) path))
   answer_spelled (ask.Terminate segno) fits =
-      own_answer (λ process. terminate s p process (kst.terminate process.known segno))
-      (λ process low at. ends process low at segno (kst.terminate process.known segno) refl)
+      own_answer (λ process. terminate s p process (section_page process.known segno) (kst.terminate process.known segno))
+      (λ process low at. ends process low at segno (section_page process.known segno) (kst.terminate process.known segno) refl)
   answer_spelled (ask.Wakeup to word) fits =
       own_answer (λ process. wakeup s p to word)
       (λ process low at. woken process low at to word (both (is_process_number to) (is_word word) fits).1)

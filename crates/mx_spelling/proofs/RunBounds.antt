@@ -32,7 +32,8 @@ use Rattle.mx_transcript.specs.Misses.{IsChanged}
 use Rattle.mx_transcript.specs.Next.{Reference}
 use Rattle.mx_transcript.specs.Openings.{opening_control}
 use Rattle.mx_transcript.specs.Reads.{IsKnown}
-use Rattle.mx_transcript.specs.References.{cell_by, cell_of, deed_by, granted_cell, reference, use_of}
+use Rattle.mx_transcript.specs.References.{cell_by, cell_of, deed_by, granted_cell, reference}
+use Rattle.mx_transcript.specs.Uses.{use_of}
 use Rattle.mx_transcript.specs.Scripts.{lines_of}
 use Rattle.mx_transcript.specs.Settings.{entry_at}
 use Rattle.mx_transcript.specs.Transcripts.{Step, part, events_of, entries_named, numbers_from}
@@ -165,27 +166,27 @@ listed first p (other ∷ journal) (suc place) entry e own =
     by_test false found = (found.0, found.1 ∙ ap (λ (k : ℕ). Some k) on)
 
 -- a word that was read has a cell
-read_granted : (d : Descriptor) (o : Op) (stores : Option ℕ) (entered ring word value writer stamp : ℕ) (cell : Cell)
+read_granted : (named : ℕ → CellUse) (d : Descriptor) (o : Op) (stores : Option ℕ) (entered ring word value writer stamp : ℕ) (cell : Cell)
     → judgement d o ring word ≡ Ok cell → Gives o stores entered (outcome.Read value writer stamp)
-    → (c : CellUse) × (cell_by d (kind_of o) ring word ≡ Some c)
-read_granted d op.Read stores entered ring word value writer stamp cell ok g = (use_of cell.0, ap granted_cell ok)
-read_granted d op.Indirect stores entered ring word value writer stamp cell ok g = (use_of cell.0, ap granted_cell ok)
-read_granted d op.Fetch stores entered ring word value writer stamp cell ok g = (use_of cell.0, ap granted_cell ok)
-read_granted _ _ _ _ _ _ _ _ _ _ ok g = absurd g
+    → (c : CellUse) × (cell_by named d (kind_of o) ring word ≡ Some c)
+read_granted named d op.Read stores entered ring word value writer stamp cell ok g = (named cell.0, ap (granted_cell named) ok)
+read_granted named d op.Indirect stores entered ring word value writer stamp cell ok g = (named cell.0, ap (granted_cell named) ok)
+read_granted named d op.Fetch stores entered ring word value writer stamp cell ok g = (named cell.0, ap (granted_cell named) ok)
+read_granted _ _ _ _ _ _ _ _ _ _ _ ok g = absurd g
 
-read_cell : (r : Reference) (d : Descriptor) (e : Element) (value writer stamp : ℕ) → IsJudged r d e
-    → e.outcome ≡ outcome.Read value writer stamp → (c : CellUse) × (cell_by d e.kind e.ring e.word ≡ Some c)
-read_cell r d e value writer stamp is came =
+read_cell : (named : ℕ → CellUse) (r : Reference) (d : Descriptor) (e : Element) (value writer stamp : ℕ) → IsJudged r d e
+    → e.outcome ≡ outcome.Read value writer stamp → (c : CellUse) × (cell_by named d e.kind e.ring e.word ≡ Some c)
+read_cell named r d e value writer stamp is came =
     by_ruled (judgement d r.op r.ring r.word) refl
     (subst (λ (o : Outcome). Agrees r (ring_after d r.op r.ring) (judgement d r.op r.ring r.word) o) came is.outcome)
   where
-    same : cell_by d e.kind e.ring e.word ≡ cell_by d (kind_of r.op) r.ring r.word
+    same : cell_by named d e.kind e.ring e.word ≡ cell_by named d (kind_of r.op) r.ring r.word
     same = rw (is.kind, is.ring, is.word) refl
 
     by_ruled : (ruled : Result Cell Denial) → judgement d r.op r.ring r.word ≡ ruled
-        → Agrees r (ring_after d r.op r.ring) ruled (outcome.Read value writer stamp) → (c : CellUse) × (cell_by d e.kind e.ring e.word ≡ Some c)
+        → Agrees r (ring_after d r.op r.ring) ruled (outcome.Read value writer stamp) → (c : CellUse) × (cell_by named d e.kind e.ring e.word ≡ Some c)
     by_ruled (Ok cell) ok a =
-        let found = read_granted d r.op r.stores (ring_after d r.op r.ring) r.ring r.word value writer stamp cell ok a in
+        let found = read_granted named d r.op r.stores (ring_after d r.op r.ring) r.ring r.word value writer stamp cell ok a in
         (found.0, same ∙ found.1)
     by_ruled (Err denial) ok a = absurd cc
 
@@ -230,16 +231,16 @@ module _ (x : Outline) (journal : List journaled.Entry) (transcripts : List (Lis
   point_within p place deed q at is = (legal.points p place deed q at is).within
 
   deed_at : (p place : ℕ) (event : Event2) → slice_get (events_of (part transcripts p)) place ≡ Some event
-      → slice_get (deeds x journal transcripts p) place ≡ Some (deed_by (cell_of (descriptor_of x journal p)) event)
+      → slice_get (deeds x journal transcripts p) place ≡ Some (deed_by (cell_of (use_of x journal) (descriptor_of x journal p)) event)
   deed_at p place event at =
-      map_at (deed_by (cell_of (descriptor_of x journal p))) (events_of (part transcripts p)) place event
-      (deed_by (cell_of (descriptor_of x journal p)) event) at refl
+      map_at (deed_by (cell_of (use_of x journal) (descriptor_of x journal p))) (events_of (part transcripts p)) place event
+      (deed_by (cell_of (use_of x journal) (descriptor_of x journal p)) event) at refl
 
   -- who stored a word
   store_low : (w place : ℕ) (cell : CellUse) (value stamp : ℕ) → slice_get (deeds x journal transcripts w) place ≡ Some (Stores cell value stamp)
       → (w ≤ 15) × (stamp ≤ length journal)
   store_low w place cell value stamp at =
-      let found = mapped_at (deed_by (cell_of (descriptor_of x journal w))) (events_of (part transcripts w)) place (Stores cell value stamp) at in
+      let found = mapped_at (deed_by (cell_of (use_of x journal) (descriptor_of x journal w))) (events_of (part transcripts w)) place (Stores cell value stamp) at in
       let there = part_within transcripts w place found.0 found.1 in
       let a = few_parts in
       (omega (arith, a, there), point_within w place (Stores cell value stamp) stamp at refl)
@@ -280,14 +281,14 @@ module _ (x : Outline) (journal : List journaled.Entry) (transcripts : List (Lis
       low = at_place (IsLowEvent (setting_of x journal p)) (events_of (part transcripts p)) place (Core (Seen e)) (low_part p there).0 at
 
       point : e.point ≤ length journal
-      point = point_within p place (deed_by (cell_of (descriptor_of x journal p)) (Core (Seen e))) e.point (deed_at p place (Core (Seen e)) at)
-          (reference_point (cell_of (descriptor_of x journal p) e) e.outcome e.point)
+      point = point_within p place (deed_by (cell_of (use_of x journal) (descriptor_of x journal p)) (Core (Seen e))) e.point (deed_at p place (Core (Seen e)) at)
+          (reference_point (cell_of (use_of x journal) (descriptor_of x journal p) e) e.outcome e.point)
 
       by_outcome : (came : Outcome) → e.outcome ≡ came → IsLowOutcome came → fits_outcome came ≡ true
       by_outcome (outcome.Read value writer stamp) is small =
           let asked = each_reference_law x journal transcripts legal p place e there at in
-          let cell = read_cell asked.asked (descriptor_of x journal p e) e value writer stamp asked.right is in
-          let deed : deed_by (cell_of (descriptor_of x journal p)) (Core (Seen e)) ≡ Loads cell.0 value writer stamp e.point =
+          let cell = read_cell (λ at. use_of x journal at e.point) asked.asked (descriptor_of x journal p e) e value writer stamp asked.right is in
+          let deed : deed_by (cell_of (use_of x journal) (descriptor_of x journal p)) (Core (Seen e)) ≡ Loads cell.0 value writer stamp e.point =
           ap (λ (c : Option CellUse). reference c e.outcome e.point) cell.1
           ∙ ap (λ (o : Outcome). reference (Some cell.0) o e.point) is in
           let low = writer_low p place cell.0 value writer stamp e.point

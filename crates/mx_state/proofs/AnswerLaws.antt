@@ -22,13 +22,13 @@ use Rattle.mx_state.specs.Askers.{Asker, Initializer, Process, Nobody, asker, an
 use Rattle.mx_state.specs.Calling.{IsCallerOf}
 use Rattle.mx_state.specs.Changes.{AreChanges, IsBounded}
 use Rattle.mx_state.specs.Plain.{Plain, Answer, answer}
-use Rattle.mx_state.specs.NextRun.{IsNext}
+use Rattle.mx_state.specs.NextRun.{IsFreed, IsNext}
 use Rattle.mx_state.specs.Replies.{Says, IsRefused, alone, telling}
 use Rattle.mx_state.specs.Requests.{changed, plain, told}
 use Rattle.mx_state.specs.Serving.{Serves}
 use Rattle.mx_state.specs.Sound.{IsSound, HoldsSound}
 use Rattle.mx_state.proofs.Descriptors.{nothing_changes, quiet, grown_is_sound, changes_are_bounded, sound_numbered}
-use Rattle.mx_state.proofs.GivenLaws.{none_given, none_freed, next_given, next_frees_none}
+use Rattle.mx_state.proofs.GivenLaws.{freeing_gives_none, none_given, none_freed, next_given, next_frees_none, run_freed}
 use Rattle.mx_state.proofs.PageLaws.{grown_once}
 use Rattle.mx_state.proofs.SegmentLaws.{IsAsBefore, Nothing, Leaves, as_it_was}
 
@@ -152,22 +152,22 @@ quiet_refused {A = A} version f meant h k mail processes p ring who call error r
     by_error fault.Memory (Ok applied) answers says = absurd (cc)
     by_error fault.Memory (Err e) answers says = tt
 
--- one that changes one segment, and keeps the pages
+-- one that changes one segment, and may free a run of pages
 pub loud_serves : (version : ℕ) (f : Caller → Result Hierarchy Refusal) (meant : Result Hierarchy Refusal) (h k : Hierarchy) (mail : List PlainProcess) (processes : List ProcessState)
-    (p ring : ℕ) (who : Caller) (call : Result (Unit {0}) HierError) (reply : Reply) (changes : List Change)
+    (p ring : ℕ) (who : Caller) (call : Result (Unit {0}) HierError) (reply : Reply) (changes : List Change) (freed : Option PageRun)
     → IsCallerOf (asker processes p) ring who → f who ≡ meant → Answers meant h call k → Says call (Ok reply)
-    → k.pages ≡ h.pages
+    → IsFreed h.pages k.pages freed
     → IsSound (plain_state version h mail processes) → AreChanges (plain_state version h mail processes) (plain_state version k mail processes) changes
     → All (λ c. IsAdmissible c.desc) changes
     → Serves (plain_state version h mail processes) (plain_state version k mail processes)
     (on_path (plain_state version h mail processes) p ring (λ who. changed (plain_state version h mail processes) (f who)))
-    (telling reply changes)
-loud_serves version f meant h k mail processes p ring who call reply changes is same answers says pages sound are admissible = record {
+    (telling reply changes freed)
+loud_serves version f meant h k mail processes p ring who call reply changes freed is same answers says pages sound are admissible = record {
   as_meant = to_caller (plain_state version h mail processes) (asker processes p) ring who (λ who. changed (plain_state version h mail processes) (f who)) is
       ∙ ap (changed (plain_state version h mail processes)) same ∙ changed_as version h k mail processes meant call reply answers says;
   changes = are;
-  given = none_given (plain_state version h mail processes) (plain_state version k mail processes) pages;
-  freed = none_freed (plain_state version h mail processes) (plain_state version k mail processes) pages;
+  given = freeing_gives_none (plain_state version h mail processes) (plain_state version k mail processes) freed pages;
+  freed = run_freed (plain_state version h mail processes) (plain_state version k mail processes) freed pages;
   bounded = changes_are_bounded (plain_state version h mail processes) (plain_state version k mail processes) changes sound (sound_numbered (plain_state version h mail processes) sound) refl refl are admissible;
   version = refl;
   count = refl;

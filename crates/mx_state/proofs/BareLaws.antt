@@ -34,7 +34,7 @@ use Rattle.mx_state.proofs.Descriptors.{IsThere, is_there}
 use Rattle.mx_state.proofs.NumberLaws.{stands_within, nothing_beyond}
 
 -- what passes is counted
-counted_or : {X : Type 0} (p : X → Bool) (xs : List X) (n : ℕ) (d : X) → p d ≡ false → p (get_or xs n d) ≡ true
+pub counted_or : {X : Type 0} (p : X → Bool) (xs : List X) (n : ℕ) (d : X) → p d ≡ false → p (get_or xs n d) ≡ true
     → 1 ≤ count_by p xs
 counted_or p [] n d fails holds = absurd (cc)
 counted_or p (x ∷ xs) zero d fails holds =
@@ -51,7 +51,7 @@ counted_at p (y ∷ ys) zero x e holds =
 counted_at p (y ∷ ys) (suc n) x e holds =
     omega (arith, sum_by-cons (λ z. cond (p z) 1 0) y ys, counted_at p ys n x e holds)
 
-summed_at : {X : Type 0} (f : X → ℕ) (xs : List X) (n : ℕ) (x : X) → slice_get xs n ≡ Some x → f x ≤ sum_by f xs
+pub summed_at : {X : Type 0} (f : X → ℕ) (xs : List X) (n : ℕ) (x : X) → slice_get xs n ≡ Some x → f x ≤ sum_by f xs
 summed_at f [] n x e = absurd (cc)
 summed_at f (y ∷ ys) zero x e = let same : y ≡ x = cc in omega (arith, sum_by-cons f y ys, ap f same)
 summed_at f (y ∷ ys) (suc n) x e = omega (arith, sum_by-cons f y ys, summed_at f ys n x e)
@@ -76,7 +76,7 @@ covered_high d page h =
 covers_nothing : (d : Descriptor) (page : ℕ) → d.page ≡ 0 → d.bound ≡ 0 → IsTrue (covers d page) → ⊥
 covers_nothing d page first none h = let z = covered_high d page h in absurd (omega arith)
 
-segment_held : (branches : List Branch) (uid page : ℕ) (segment : Segment) → segment_in branches uid ≡ Some segment
+pub segment_held : (branches : List Branch) (uid page : ℕ) (segment : Segment) → segment_in branches uid ≡ Some segment
     → is_in_run (pages_for segment.words) segment.page page ≡ true → 1 ≤ segments_at branches page
 segment_held branches uid page segment is within = by_branch (branch_of branches uid) refl is
   where

@@ -41,7 +41,7 @@ use Rattle.mx_state.specs.Numbers.{stands_for}
 use Rattle.mx_state.specs.OwnState.{change_wdir, set_rules}
 use Rattle.mx_state.specs.Plain.{Plain, Answer, process_at}
 use Rattle.mx_state.specs.Requests.{plain}
-use Rattle.mx_state.specs.Sections.{has_links, section_by}
+use Rattle.mx_state.specs.Sections.{has_links, section_by, section_page}
 use Rattle.mx_state.specs.Told.{IsSection, lot_by, lot_in}
 use Rattle.mx_state.proofs.ConnectingLaws.{granted, section_with, stands_still}
 use Rattle.mx_state.proofs.Descriptors.{process_at_place}
@@ -176,11 +176,11 @@ module _ (s : Plain) (p ring : ℕ) (process : ProcessState) (low : 1 ≤ p) (at
       replaced_comes (change_wdir s p process (Ok path)) (record process { working_directory = path }) refl (λ n words is. inl is)
   change_wdir_comes (Err why) = left_comes s p (change_wdir s p process (Err why)) refl
 
-  terminate_comes : (segno : ℕ) (meant : Option KnownSegments) → kst.terminate process.known segno ≡ meant
-      → Comes s p (terminate s p process meant)
-  terminate_comes segno (Some known) e =
-      replaced_comes (terminate s p process (Some known)) (record process { known = known }) refl (ended_comes process.known known segno e)
-  terminate_comes segno None e = left_comes s p (terminate s p process None) refl
+  terminate_comes : (segno : ℕ) (page : Option ℕ) (meant : Option KnownSegments) → kst.terminate process.known segno ≡ meant
+      → Comes s p (terminate s p process page meant)
+  terminate_comes segno page (Some known) e =
+      replaced_comes (terminate s p process page (Some known)) (record process { known = known }) refl (ended_comes process.known known segno e)
+  terminate_comes segno page None e = left_comes s p (terminate s p process page None) refl
 
   given_comes : (uid : ℕ) (name : Option (List ℕ)) (meant : Result Connected Refusal) → connect s.hierarchy process.known ring name uid ≡ meant
       → Comes s p (given s p process meant)
@@ -244,8 +244,9 @@ own_comes s p ring (ask.Initiate path name) =
     by_process (Comes s p) s p (λ process. initiate s p ring process name (segment s.hierarchy (caller process ring) path)) (left_comes s p (unmade s) refl)
     (λ process low at. initiate_comes s p ring process low at name (segment s.hierarchy (caller process ring) path))
 own_comes s p ring (ask.Terminate segno) =
-    by_process (Comes s p) s p (λ process. terminate s p process (kst.terminate process.known segno)) (left_comes s p (unmade s) refl)
-    (λ process low at. terminate_comes s p ring process low at segno (kst.terminate process.known segno) refl)
+    by_process (Comes s p) s p (λ process. terminate s p process (section_page process.known segno) (kst.terminate process.known segno))
+    (left_comes s p (unmade s) refl)
+    (λ process low at. terminate_comes s p ring process low at segno (section_page process.known segno) (kst.terminate process.known segno) refl)
 own_comes s p ring (ask.Wakeup to word) =
     by_process (Comes s p) s p (λ process. wakeup s p to word) (left_comes s p (unmade s) refl) (λ process low at. sent_comes s p _)
 own_comes s p ring ask.Block =

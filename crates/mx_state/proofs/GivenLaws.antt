@@ -8,13 +8,14 @@ use Rattle.mx_pages.proofs.RunLaws.{set_at, is_in, given_free}
 use Rattle.mx_pages.specs.Runs.{PageMap, IsFree, IsInRun, pages_for, is_free, is_in_run, run_given, after_run}
 use Rattle.mx_pages.specs.declared.pages.PageRun.{PageRun}
 use Rattle.mx_hier.specs.declared.branches.Directory.{Directory}
+use Rattle.mx_hier.specs.declared.branches.Segment.{Segment}
 use Rattle.mx_hier.specs.declared.branches.Node.TheVariants.{Directory as IsDirectory, Link as IsLink}
 use Rattle.mx_hier.specs.declared.making.Place.{Place}
 use Rattle.mx_hier.specs.declared.refusals.HierError.{HierError}
 use Rattle.mx_hier.specs.declared.refusals.HierError.TheVariants as fault
 use Rattle.mx_hier.specs.declared.refusals.Refusal.{Refusal}
 use Rattle.mx_hier.specs.declared.refusals.Refusal.TheVariants.{NotADir, BadBrackets, NoPages}
-use Rattle.mx_hier.specs.Branches.{Hierarchy, directory_at}
+use Rattle.mx_hier.specs.Branches.{Hierarchy, directory_at, segment_at}
 use Rattle.mx_hier.specs.Brackets.{settable}
 use Rattle.mx_hier.specs.Callers.{Caller, Subject}
 use Rattle.mx_hier.specs.Changing.{with_acl, with_branch, with_directory, branch_with_acl, branch_with_directory}
@@ -22,7 +23,7 @@ use Rattle.mx_hier.specs.CreateDirectory.{create_dir, create_dir_at, create_dir_
 use Rattle.mx_hier.specs.CreateLink.{create_link, create_link_at}
 use Rattle.mx_hier.specs.CreateObject.{create_object}
 use Rattle.mx_hier.specs.CreateSegment.{create_seg}
-use Rattle.mx_hier.specs.Delete.{delete_refusals, without}
+use Rattle.mx_hier.specs.Delete.{delete_refusals, deleted, pages_left}
 use Rattle.mx_hier.specs.DeleteAclEntry.{del_acl_refusals}
 use Rattle.mx_hier.specs.InitialLists.{initial_changed, with_initial, set_iacl_refusals, del_iacl_refusals}
 use Rattle.mx_hier.specs.Linkage.{page_given}
@@ -41,8 +42,9 @@ use Rattle.mx_request.specs.declared.requests.Request.TheVariants as ask
 use Rattle.mx_state.specs.Changing.{amended_at, altered_at}
 use Rattle.mx_state.specs.Connecting.{with_section_page}
 use Rattle.mx_state.specs.Given.{AreGiven, AreFreed}
-use Rattle.mx_state.specs.NextRun.{IsNext, IsNextRun, section_run, one_page}
+use Rattle.mx_state.specs.NextRun.{IsApart, IsFreed, IsFreedRun, IsNext, IsNextRun, IsTaken, freed_by, one_page, run_of, section_run, unless_refused}
 use Rattle.mx_state.specs.Plain.{Plain}
+use Rattle.mx_state.specs.Sections.{with_page_back}
 
 -- where the pages are as they were none is given out, and none is freed
 pub none_given : (s t : Plain) → t.hierarchy.pages ≡ s.hierarchy.pages → AreGiven s t None
@@ -105,6 +107,42 @@ next_frees_none s t None same = none_freed s t same
 next_frees_none s t (Some run) is =
     record { some = tt; each = λ page below. frees_none s.hierarchy.pages t.hierarchy.pages run is page below }
 
+-- after a run was freed its pages are free, which none was, and every other page is as it was
+module _ (before after : PageMap) (run : PageRun) (is : IsFreedRun before after run) (page : ℕ) (below : page < 1024) where
+  freed_then : is_free after page ≡ cond (is_in_run run.count run.first page) true (is_free before page)
+  freed_then = ap (λ (pages : PageMap). is_free pages page) is.left ∙ set_at true before run.first run.count page below
+
+  pub frees_run : is_in_run run.count run.first page ≡ (not (is_free before page) && is_free after page)
+  frees_run = by_tests (is_in_run run.count run.first page) (is_free before page) refl refl
+      ∙ sym (ap (λ b. not (is_free before page) && b) freed_then)
+    where
+      by_tests : (inside free : Bool) → is_in_run run.count run.first page ≡ inside → is_free before page ≡ free
+          → inside ≡ (not free && cond inside true free)
+      by_tests true false i f = refl
+      by_tests true true i f = absurd (is.was.taken page (is_in run.count run.first page i) f)
+      by_tests false true i f = refl
+      by_tests false false i f = refl
+
+  pub gives_none : false ≡ (is_free before page && not (is_free after page))
+  gives_none = by_tests (is_in_run run.count run.first page) (is_free before page)
+      ∙ sym (ap (λ b. is_free before page && not b) freed_then)
+    where
+      by_tests : (inside free : Bool) → false ≡ (free && not (cond inside true free))
+      by_tests true true = refl
+      by_tests true false = refl
+      by_tests false true = refl
+      by_tests false false = refl
+
+pub run_freed : (s t : Plain) (run : Option PageRun) → IsFreed s.hierarchy.pages t.hierarchy.pages run → AreFreed s t run
+run_freed s t None same = none_freed s t same
+run_freed s t (Some run) is =
+    record { some = is.was.is_run; each = λ page below. frees_run s.hierarchy.pages t.hierarchy.pages run is page below }
+
+pub freeing_gives_none : (s t : Plain) (run : Option PageRun) → IsFreed s.hierarchy.pages t.hierarchy.pages run → AreGiven s t None
+freeing_gives_none s t None same = none_given s t same
+freeing_gives_none s t (Some run) is =
+    record { some = tt; each = λ page below. gives_none s.hierarchy.pages t.hierarchy.pages run is page below }
+
 -- a linkage section is on the page that is given out
 pub section_next : (h : Hierarchy) (section : Option PlainSection) → IfSome section (λ s. page_given h ≡ Some s.page)
     → IfSome section (λ s. IsWithinPage s.page s.words) → IsNext h.pages (with_section_page h section).pages (section_run h section)
@@ -115,6 +153,19 @@ section_next h (Some section) given within =
       left = refl;
       is_run = record { some = omega arith; most = omega arith; within = omega (arith, within.last_page) };
     })
+
+-- and that page is freed where the section is taken away
+pub section_freed : (h : Hierarchy) (page : Option ℕ) → IfSome page (IsApart h) → IsFreed h.pages (with_page_back h page).pages (option_map one_page page)
+section_freed h None apart = refl
+section_freed h (Some page) apart = record {
+  was = record {
+    is_run = record { some = omega arith; most = omega arith; within = omega (arith, apart.within) };
+    taken = λ other inside free.
+        let same : other ≡ page = omega (arith, inside.0, inside.1) in
+        true≢false (sym free ∙ ap (is_free h.pages) same ∙ apart.taken);
+  };
+  left = refl;
+}
 
 -- what is so of the hierarchy that a request leaves, where it is not refused
 abbrev pub Ends : (Hierarchy → Type 0) → Result Hierarchy Refusal → Type 0
@@ -154,6 +205,13 @@ pub pages_kept : {A : Type 0} (meant : Result Hierarchy Refusal) (h k : Hierarch
 pages_kept meant h k (Ok value) says keeps = keeps k says
 pages_kept meant h k (Err (fault.Refused why)) says keeps = ap (λ (h : Hierarchy). h.pages) says.1
 pages_kept meant h k (Err fault.Memory) says keeps = ap (λ (h : Hierarchy). h.pages) says
+
+-- a run that the request was to free is freed, unless it is refused
+pub pages_freed : {A : Type 0} (meant : Result Hierarchy Refusal) (h k : Hierarchy) (call : Result A HierError) (run : Option PageRun)
+    → Answers meant h call k → Ends (λ (k : Hierarchy). IsFreed h.pages k.pages run) meant → IsFreed h.pages k.pages (unless_refused call run)
+pages_freed meant h k (Ok value) run says frees = frees k says
+pages_freed meant h k (Err (fault.Refused why)) run says frees = ap (λ (h : Hierarchy). h.pages) says.1
+pages_freed meant h k (Err fault.Memory) run says frees = ap (λ (h : Hierarchy). h.pages) says
 
 -- the requests that make an entry: a directory or a link lies on no page
 pub create_dir_keeps : (h : Hierarchy) (who : Caller) (path : List ℕ) (d1 d2 : ℕ) → Ends (KeepsPages h) (create_dir h who path d1 d2)
@@ -248,16 +306,25 @@ brackets_keep h who uid rings why =
     (λ uid. ends_onward (KeepsPages h) (required BadBrackets (settable who.ring rings)) (λ brackets. Ok (with_brackets h uid brackets))
     (λ brackets. ends_ok (KeepsPages h) (with_brackets h uid brackets) refl))
 
-pub altered_keeps : (h : Hierarchy) (who : Subject) (uid : ℕ) (request : Request) → Ends (KeepsPages h) (altered_at h who uid request)
-altered_keeps h who uid (ask.Delete path) =
-    ends_unless (KeepsPages h) (record h { branches = without uid h.branches }) (first_of (delete_refusals h who uid)) refl
-altered_keeps h who uid (ask.SetAcl path id modes) =
+-- the pages of a segment that is deleted
+deleted_frees : (h : Hierarchy) (o : Option Segment) → IfSome (option_map run_of o) (IsTaken h.pages)
+    → IsFreed h.pages (pages_left h.pages o) (option_map run_of o)
+deleted_frees h None taken = refl
+deleted_frees h (Some segment) taken = record { was = taken; left = refl }
+
+-- `delete` frees the pages of the segment, and the others no page
+pub altered_frees : (h : Hierarchy) (who : Subject) (uid : ℕ) (request : Request) → IfSome (freed_by h uid request) (IsTaken h.pages)
+    → Ends (λ (k : Hierarchy). IsFreed h.pages k.pages (freed_by h uid request)) (altered_at h who uid request)
+altered_frees h who uid (ask.Delete path) taken =
+    ends_unless (λ (k : Hierarchy). IsFreed h.pages k.pages (option_map run_of (segment_at h uid))) (deleted h uid) (first_of (delete_refusals h who uid))
+    (deleted_frees h (segment_at h uid) taken)
+altered_frees h who uid (ask.SetAcl path id modes) taken =
     ends_unless (KeepsPages h) (with_acl h uid (λ acl. with_entry acl id modes)) (first_of (set_acl_refusals h who uid id modes))
     (acl_keeps h uid (λ acl. with_entry acl id modes))
-altered_keeps h who uid (ask.DelAcl path id) =
+altered_frees h who uid (ask.DelAcl path id) taken =
     ends_unless (KeepsPages h) (with_acl h uid (λ acl. without_entry acl id)) (first_of (del_acl_refusals h who uid id))
     (acl_keeps h uid (λ acl. without_entry acl id))
-altered_keeps h who uid (ask.SetBrackets path brackets) = brackets_keep h who uid brackets (first_of (set_brackets_refusals h who uid brackets))
-altered_keeps h who uid (ask.SetClass path class) =
+altered_frees h who uid (ask.SetBrackets path brackets) taken = brackets_keep h who uid brackets (first_of (set_brackets_refusals h who uid brackets))
+altered_frees h who uid (ask.SetClass path class) taken =
     ends_unless (KeepsPages h) (with_class h uid class) (first_of (set_class_refusals h who uid class)) refl
-altered_keeps h who uid other = ends_ok (KeepsPages h) h refl
+altered_frees h who uid other taken = ends_ok (KeepsPages h) h refl

@@ -1,6 +1,7 @@
 -- What a process knows after a segment became known or was terminated, and which descriptors that changes.
 use Rattle.std.proofs.Common.{◌≡◌, ◌⊎◌, ◌≤◌, ◌<◌, ◌+◌, ◌-◌, ◌==◌, ◌||◌, ℕ, List, map, length, Option, Some, None, IfSome, Ok, Bool, true, false, cond, inl, inr, refl, ap, sym, ◌∙◌, subst, slice_get, slice_set, length-set, arith}
 use Rattle.std.specs.List.{All}
+use Rattle.std.specs.Option.{option_map}
 use Rattle.std.proofs.lemmas.Bool.{ne_eqb}
 use Rattle.mx_core.specs.declared.changes.Change.{Change}
 use Rattle.mx_name.specs.Principals.{PlainPrincipal}
@@ -33,17 +34,17 @@ use Rattle.mx_state.specs.Connecting.{connect, connect_refusals, with_section_pa
 use Rattle.mx_state.specs.Known.{IsConnected, knowing, section_or_refusal}
 use Rattle.mx_state.specs.Knowing.{terminate}
 use Rattle.mx_state.specs.Plain.{Plain, Answer, answer, process_at}
-use Rattle.mx_state.specs.NextRun.{section_run}
+use Rattle.mx_state.specs.NextRun.{IsApart, IsFreed, one_page, section_run}
 use Rattle.mx_state.specs.Renewing.{held_two, renewed}
 use Rattle.mx_state.specs.Replies.{telling}
-use Rattle.mx_state.specs.Sections.{needs_section, section_by, section_made}
+use Rattle.mx_state.specs.Sections.{needs_section, section_by, section_made, section_page, with_page_back}
 use Rattle.mx_state.specs.Serving.{Serves}
 use Rattle.mx_state.specs.Sound.{IsSound, IsSoundProcess, HoldsSound}
 use Rattle.mx_state.specs.Table.{descriptor}
 use Rattle.mx_state.proofs.ConnectingLaws.{connect_granted, connected_by, initiated_last, initiated_lots, lots_apart, made_by}
 use Rattle.mx_state.proofs.AnswerLaws.{plain_state}
 use Rattle.mx_state.proofs.Descriptors.{AreNumbered, process_at_place, changes_are_bounded, sound_numbered}
-use Rattle.mx_state.proofs.GivenLaws.{none_given, none_freed, section_next}
+use Rattle.mx_state.proofs.GivenLaws.{freeing_gives_none, run_freed, section_freed, section_next}
 use Rattle.mx_state.proofs.PageLaws.{known_once, ended_once}
 use Rattle.mx_state.proofs.ProcessLaws.{in_place, replaced_is_sound, replaced_numbered, others_stay, to_process}
 use Rattle.mx_state.proofs.RenewingLaws.{renewing_two}
@@ -235,52 +236,73 @@ stays_apart k segno m sound apart beyond =
         let next = (sound.section_next m of page words brackets e).0 in
         ne_eqb of segno (λ same. beyond (next ∙ ap (λ n. n + 1) same))
 
-pub ended_holds : (version : ℕ) (h : Hierarchy) (mail : List PlainProcess) (processes new : List ProcessState) (i : ℕ) (process : ProcessState) (segno : ℕ) (after : KnownSegments)
-    (principal : PlainPrincipal) (root : List (List ℕ)) → HoldsSound principal root (plain_state version h mail processes)
+-- a page that is freed keeps a state sound, and its descriptors
+back_is_sound : (version : ℕ) (h : Hierarchy) (page : Option ℕ) (mail : List PlainProcess) (processes : List ProcessState)
+    → IsSound (plain_state version h mail processes) → IsSound (plain_state version (with_page_back h page) mail processes)
+back_is_sound version h None mail processes sound = sound
+back_is_sound version h (Some page) mail processes sound =
+    record { process_count = sound.process_count; mail_count = sound.mail_count; processes = sound.processes }
+
+back_shows : (version : ℕ) (h : Hierarchy) (page : Option ℕ) (mail : List PlainProcess) (processes : List ProcessState) (q m : ℕ)
+    → descriptor (plain_state version h mail processes) q m ≡ descriptor (plain_state version (with_page_back h page) mail processes) q m
+back_shows version h None mail processes q m = refl
+back_shows version h (Some page) mail processes q m = refl
+
+pub ended_holds : (version : ℕ) (h k : Hierarchy) (mail : List PlainProcess) (processes new : List ProcessState) (i : ℕ) (process : ProcessState) (segno : ℕ)
+    (page : Option ℕ) (after : KnownSegments) (principal : PlainPrincipal) (root : List (List ℕ)) → HoldsSound principal root (plain_state version h mail processes)
     → slice_get processes i ≡ Some process → end.terminate process.known segno ≡ Some after → new ≡ knowing processes i process after
-    → HoldsSound principal root (plain_state version h mail new)
-ended_holds version h mail processes new i process segno after principal root holds e ends set =
+    → page ≡ section_page process.known segno → k ≡ with_page_back h page
+    → HoldsSound principal root (plain_state version k mail new)
+ended_holds version h k mail processes new i process segno page after principal root holds e ends set goes back =
     let own = holds.sound.processes i process e in
     let is = ended_lots process.known after segno ends in
+    let gone : k ≡ with_page_back h (section_page process.known segno) = back ∙ ap (with_page_back h) goes in
     record {
       initializer_is = holds.initializer_is;
       root_is = holds.root_is;
-      sound = rw set (replaced_is_sound (plain_state version h mail processes) i (knower process after) holds.sound (record {
-        known = sound_terminated process.known after segno own.known ends;
-        last = is.2 ∙ own.last;
-        made = λ n v f. own.made n v (stood process.known.lots segno n v (ap (λ (lots : List Lot). lot_of lots n) (sym is.1) ∙ f));
-      }));
-      held_once = rw set (ended_once version h mail processes i segno process (knower process after) e is.1 holds.held_once);
+      sound = rw (gone, set) (back_is_sound version h (section_page process.known segno) mail (knowing processes i process after)
+          (replaced_is_sound (plain_state version h mail processes) i (knower process after) holds.sound (record {
+            known = sound_terminated process.known after segno own.known ends;
+            last = is.2 ∙ own.last;
+            made = λ n v f. own.made n v (stood process.known.lots segno n v (ap (λ (lots : List Lot). lot_of lots n) (sym is.1) ∙ f));
+          })));
+      held_once = rw (gone, set) (ended_once version h mail processes i segno process (knower process after) e is.1 holds.held_once);
     }
 
-pub ended_serves : (version : ℕ) (h : Hierarchy) (mail : List PlainProcess) (processes new : List ProcessState) (p i : ℕ) (process : ProcessState) (segno : ℕ) (after : KnownSegments)
-    (held changes : List Change) (ask : ProcessState → Answer) → IsSound (plain_state version h mail processes) → 1 ≤ p → p - 1 ≡ i
-    → slice_get processes i ≡ Some process → ask process ≡ terminate (plain_state version h mail processes) p process (end.terminate process.known segno)
+pub ended_serves : (version : ℕ) (h k : Hierarchy) (mail : List PlainProcess) (processes new : List ProcessState) (p i : ℕ) (process : ProcessState) (segno : ℕ)
+    (page : Option ℕ) (after : KnownSegments) (held changes : List Change) (freed : Option PageRun) (ask : ProcessState → Answer)
+    → IsSound (plain_state version h mail processes) → IfSome page (IsApart h) → 1 ≤ p → p - 1 ≡ i → slice_get processes i ≡ Some process
+    → ask process ≡ terminate (plain_state version h mail processes) p process (section_page process.known segno) (end.terminate process.known segno)
     → end.terminate process.known segno ≡ Some after → new ≡ knowing processes i process after
-    → held ≡ held_two h processes p segno → changes ≡ renewed h new held → All (λ c. IsAdmissible c.desc) changes
-    → Serves (plain_state version h mail processes) (plain_state version h mail new) (on_process (plain_state version h mail processes) p ask)
-    (telling Done changes)
-ended_serves version h mail processes new p i process segno after held changes ask sound first here e meant ends set was now admissible =
+    → page ≡ section_page process.known segno → k ≡ with_page_back h page → freed ≡ option_map one_page page
+    → held ≡ held_two h processes p segno → changes ≡ renewed k new held → All (λ c. IsAdmissible c.desc) changes
+    → Serves (plain_state version h mail processes) (plain_state version k mail new) (on_process (plain_state version h mail processes) p ask)
+    (telling Done changes freed)
+ended_serves version h k mail processes new p i process segno page after held changes freed ask sound apart_page first here e meant ends set goes back frees was now admissible =
     let s = plain_state version h mail processes in
     let own = sound.processes i process e in
     let is = ended_lots process.known after segno ends in
-    let two : AreChanges s (in_place s i (knower process after)) (renewed h (slice_set processes i (knower process after)) (held_two h processes p segno)) =
-    renewing_two s (in_place s i (knower process after)) p segno
+    let t = plain_state version (with_page_back h page) mail (knowing processes i process after) in
+    let two : AreChanges s t (renewed (with_page_back h page) (knowing processes i process after) (held_two h processes p segno)) =
+    renewing_two s t p segno
     (λ q m apart. others_stay s p i process (knower process after) first here e (refl, refl) is.2 q m
     (λ at. ap (λ (lots : List Lot). lot_of lots m) is.1
-    ∙ stays_apart process.known segno m own.known (λ f. apart (at, inl f)) (λ f. apart (at, inr f)))) in
-    let are : AreChanges s (plain_state version h mail new) changes = rw (now, was, set) two in
+    ∙ stays_apart process.known segno m own.known (λ f. apart (at, inl f)) (λ f. apart (at, inr f)))
+    ∙ back_shows version h page mail (knowing processes i process after) q m) in
+    let are : AreChanges s (plain_state version k mail new) changes = rw (now, was, back, set) two in
+    let run : IsFreed h.pages k.pages freed = rw (back, frees) (section_freed h page apart_page) in
     let count : length new ≡ length processes = ap length set ∙ length-set processes i (knower process after) in
     let numbered : AreNumbered (last_number version) new =
     rw set (replaced_numbered (last_number version) processes i (knower process after) (sound_numbered s sound) (is.2 ∙ own.last)) in
     record {
-      as_meant = to_process s p i process ask first here e ∙ meant ∙ ap (terminate s p process) ends
-          ∙ ap (λ k. answer Done (plain_state version h mail (slice_set processes k (knower process after)))) here
-          ∙ ap (λ xs. answer Done (plain_state version h mail xs)) (sym set);
+      as_meant = to_process s p i process ask first here e ∙ meant ∙ ap (terminate s p process (section_page process.known segno)) ends
+          ∙ ap (λ i. answer Done (plain_state version (with_page_back h (section_page process.known segno)) mail (slice_set processes i (knower process after)))) here
+          ∙ ap (λ (k : Hierarchy). answer Done (plain_state version k mail (knowing processes i process after))) (sym (back ∙ ap (with_page_back h) goes))
+          ∙ ap (λ xs. answer Done (plain_state version k mail xs)) (sym set);
       changes = are;
-      given = none_given s (plain_state version h mail new) refl;
-      freed = none_freed s (plain_state version h mail new) refl;
-      bounded = changes_are_bounded s (plain_state version h mail new) changes sound numbered refl count are admissible;
+      given = freeing_gives_none s (plain_state version k mail new) freed run;
+      freed = run_freed s (plain_state version k mail new) freed run;
+      bounded = changes_are_bounded s (plain_state version k mail new) changes sound numbered refl count are admissible;
       version = refl;
       count = count;
     }

@@ -48,6 +48,7 @@ use Rattle.mx_state.specs.OwnState.{change_wdir, set_rules}
 use Rattle.mx_state.specs.Laws.{RefusalLaw, PathLaw}
 use Rattle.mx_state.specs.Plain.{Plain, Answer, answer}
 use Rattle.mx_state.specs.Requests.{changed, told, plain}
+use Rattle.mx_state.specs.Sections.{section_page}
 use Rattle.mx_state.specs.Serving.{Serves}
 use Rattle.mx_state.specs.Shown.{shown}
 use Rattle.mx_state.proofs.Descriptors.{nothing_told}
@@ -101,9 +102,9 @@ link_still s p ring process (Some it) = by_target (link_target s.hierarchy proce
     by_target (Err error.NoDefinition) = λ why e. refl
     by_target (Err error.Memory) = λ why e. refl
 
-terminate_still : (s : Plain) (p : ℕ) (process : ProcessState) (meant : Option KnownSegments) → IsStill s (terminate s p process meant)
-terminate_still s p process None = λ why e. refl
-terminate_still s p process (Some known) = λ why e. cc
+terminate_still : (s : Plain) (p : ℕ) (process : ProcessState) (page : Option ℕ) (meant : Option KnownSegments) → IsStill s (terminate s p process page meant)
+terminate_still s p process page None = λ why e. refl
+terminate_still s p process page (Some known) = λ why e. cc
 
 change_wdir_still : (s : Plain) (p : ℕ) (process : ProcessState) (meant : Result (List (List ℕ)) Refusal) → IsStill s (change_wdir s p process meant)
 change_wdir_still s p process (Err other) = λ why e. refl
@@ -165,8 +166,8 @@ refusal_leaves s p ring (ask.Initiate path name) =
     (λ process. given_still s p process
     (onward (segment s.hierarchy (caller process ring) path) (connect s.hierarchy process.known ring name)))
 refusal_leaves s p ring (ask.Terminate segno) =
-    process_still s (asker s.processes p) (λ process. terminate s p process (kst.terminate process.known segno))
-    (λ process. terminate_still s p process (kst.terminate process.known segno))
+    process_still s (asker s.processes p) (λ process. terminate s p process (section_page process.known segno) (kst.terminate process.known segno))
+    (λ process. terminate_still s p process (section_page process.known segno) (kst.terminate process.known segno))
 refusal_leaves s p ring (ask.Wakeup to word) =
     process_still s (asker s.processes p) (λ process. wakeup s p to word) (λ process. wakeup_still s p to word)
 refusal_leaves s p ring ask.Block =

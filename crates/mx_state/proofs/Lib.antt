@@ -25,5 +25,5 @@ pub mod MessageLaws
 pub mod AimLaws
 pub mod WaitingLaws
 pub mod BareLaws
+pub mod FreedLaws
 pub mod AtOnceLaws
-pub mod TakenLaws

@@ -22,6 +22,7 @@ use Rattle.mx_state.specs.declared.states.ProcessState.{ProcessState}
 use Rattle.mx_state.specs.Askers.{caller}
 use Rattle.mx_state.specs.Connecting.{Connected, connect}
 use Rattle.mx_state.specs.History.{fresh, opening, replay}
+use Rattle.mx_state.specs.Sections.{section_page}
 use Rattle.mx_state.specs.Knowing.{free_name, given, initiate, link, link_by, link_to, link_towards, linked, terminate}
 use Rattle.mx_state.specs.Laws.{UnknownLaw}
 use Rattle.mx_state.specs.Linking.{found_uid, link_at, link_target}
@@ -66,10 +67,10 @@ module _ (last : ℕ) (s : Plain) (p ring : ℕ) (numbered : AreNumbered last s.
     change_wdir_numbered (Ok path) = replaced_numbered last s.processes (p - 1) (record process { working_directory = path }) numbered own
     change_wdir_numbered (Err why) = numbered
 
-    terminate_numbered : (segno : ℕ) (meant : Option KnownSegments) → kst.terminate process.known segno ≡ meant
-        → StaysNumbered last (terminate s p process meant)
-    terminate_numbered segno (Some known) e = knowing known (ended_lots process.known known segno e).2
-    terminate_numbered segno None e = numbered
+    terminate_numbered : (segno : ℕ) (page : Option ℕ) (meant : Option KnownSegments) → kst.terminate process.known segno ≡ meant
+        → StaysNumbered last (terminate s p process page meant)
+    terminate_numbered segno page (Some known) e = knowing known (ended_lots process.known known segno e).2
+    terminate_numbered segno page None e = numbered
 
     given_numbered : (uid : ℕ) (name : Option (List ℕ)) (meant : Result Connected Refusal)
         → connect s.hierarchy process.known ring name uid ≡ meant → StaysNumbered last (given s p process meant)
@@ -128,8 +129,8 @@ module _ (last : ℕ) (s : Plain) (p ring : ℕ) (numbered : AreNumbered last s.
       by_process (StaysNumbered last) s p (λ process. initiate s p ring process name (segment s.hierarchy (caller process ring) path)) numbered
       (λ process low at. initiate_numbered process at name (segment s.hierarchy (caller process ring) path))
   stays_numbered (ask.Terminate segno) =
-      by_process (StaysNumbered last) s p (λ process. terminate s p process (kst.terminate process.known segno)) numbered
-      (λ process low at. terminate_numbered process at segno (kst.terminate process.known segno) refl)
+      by_process (StaysNumbered last) s p (λ process. terminate s p process (section_page process.known segno) (kst.terminate process.known segno)) numbered
+      (λ process low at. terminate_numbered process at segno (section_page process.known segno) (kst.terminate process.known segno) refl)
   stays_numbered (ask.Wakeup to word) =
       by_process (StaysNumbered last) s p (λ process. wakeup s p to word) numbered (λ process low at. sent_numbered _)
   stays_numbered ask.Block = by_process (StaysNumbered last) s p (λ process. block s p) numbered (λ process low at. numbered)

@@ -27,7 +27,7 @@ use Rattle.mx_hier.specs.CreateDirectory.{create_dir, create_dir_at, create_dir_
 use Rattle.mx_hier.specs.CreateLink.{create_link, create_link_at}
 use Rattle.mx_hier.specs.CreateObject.{create_object}
 use Rattle.mx_hier.specs.CreateSegment.{create_seg}
-use Rattle.mx_hier.specs.Delete.{delete_at, delete_refusals, without}
+use Rattle.mx_hier.specs.Delete.{delete_at, delete_refusals, deleted, without}
 use Rattle.mx_hier.specs.DeleteAclEntry.{del_acl_at, del_acl_refusals}
 use Rattle.mx_hier.specs.MakeSegment.{Wanted, make_segment, make_segment_at, make_segment_refusals, new_segment, segment_added}
 use Rattle.mx_hier.specs.InitialLists.{initial_changed, with_initial, set_iacl_at, set_iacl_refusals, del_iacl_at, del_iacl_refusals}
@@ -347,7 +347,7 @@ found_without at (x ∷ xs) uid apart = by_test (eqb x.uid at) refl (found_witho
 
 pub delete_leaves : (h : Hierarchy) (who : Subject) (uid : ℕ) → Leaves (Only uid) h (delete_at h who uid)
 delete_leaves h who uid =
-    leaves_unless (Only uid) h (record h { branches = without uid h.branches }) (first_of (delete_refusals h who uid)) (record {
+    leaves_unless (Only uid) h (deleted h uid) (first_of (delete_refusals h who uid)) (record {
       same = λ u below apart. ap (option_and_then (λ (branch : Branch). as_segment branch.node)) (found_without uid h.branches u apart);
       maps = λ u below. refl;
       next = omega arith;

@@ -56,6 +56,7 @@ use Rattle.mx_state.specs.Plain.{Plain, Answer, process_at, with_process}
 use Rattle.mx_state.specs.Requests.{changed, plain, told}
 use Rattle.mx_state.specs.Shown.{shown}
 use Rattle.mx_state.specs.Table.{process_desc, standing_desc}
+use Rattle.mx_state.specs.Sections.{section_page}
 use Rattle.mx_state.specs.Told.{HasLinkWord, HasSection, IsLinked, IsLinkedWithin, IsRefused, IsSection, LinkRepliesLaw, NewSectionLaw, OnlyLinkLaw, OthersLaw, PathTellsLaw, ResolvedLaw, SectionDescLaw, SectionsStayLaw, lot_by, lot_in}
 use Rattle.mx_state.proofs.ConnectingLaws.{SectionAt, given_below, section_is_there, stands_still}
 use Rattle.mx_state.proofs.LeavingLaws.{path_request_leaves}
@@ -207,9 +208,9 @@ module _ (s : Plain) (p ring : ℕ) (process : ProcessState) (low : 1 ≤ p) (at
   change_wdir_told (Ok path) = plainly_told s p (change_wdir s p process (Ok path)) refl (λ q apart. replaced s p q _ low apart)
   change_wdir_told (Err why) = left_told s p (change_wdir s p process (Err why)) refl refl
 
-  terminate_told : (meant : Option KnownSegments) → IsTold s p (terminate s p process meant)
-  terminate_told (Some known) = plainly_told s p (terminate s p process (Some known)) refl (λ q apart. replaced s p q _ low apart)
-  terminate_told None = left_told s p (terminate s p process None) refl refl
+  terminate_told : (page : Option ℕ) (meant : Option KnownSegments) → IsTold s p (terminate s p process page meant)
+  terminate_told page (Some known) = plainly_told s p (terminate s p process page (Some known)) refl (λ q apart. replaced s p q _ low apart)
+  terminate_told page None = left_told s p (terminate s p process page None) refl refl
 
   -- what a number of the process stands for afterwards
   now_stands : (c : Connected) (n : ℕ) → lot_in (knowing_more s p process c) p n ≡ stands_for c.after n
@@ -283,8 +284,8 @@ is_told s p ring (ask.Initiate path name) =
     by_process (IsTold s p) s p (λ process. initiate s p ring process name (segment s.hierarchy (caller process ring) path)) (unmade_told s p)
     (λ process low at. initiate_told s p ring process low at name (segment s.hierarchy (caller process ring) path))
 is_told s p ring (ask.Terminate segno) =
-    by_process (IsTold s p) s p (λ process. terminate s p process (kst.terminate process.known segno)) (unmade_told s p)
-    (λ process low at. terminate_told s p ring process low at (kst.terminate process.known segno))
+    by_process (IsTold s p) s p (λ process. terminate s p process (section_page process.known segno) (kst.terminate process.known segno)) (unmade_told s p)
+    (λ process low at. terminate_told s p ring process low at (section_page process.known segno) (kst.terminate process.known segno))
 is_told s p ring (ask.Wakeup to word) =
     by_process (IsTold s p) s p (λ process. wakeup s p to word) (unmade_told s p) (λ process low at. plain_sent s p _)
 is_told s p ring ask.Block =
@@ -367,9 +368,9 @@ unlinked_given : (s : Plain) (p : ℕ) (process : ProcessState) (meant : Result 
 unlinked_given s p process (Ok c) = refl
 unlinked_given s p process (Err why) = refl
 
-unlinked_end : (s : Plain) (p : ℕ) (process : ProcessState) (meant : Option KnownSegments) → IsUnlinked (terminate s p process meant)
-unlinked_end s p process (Some known) = refl
-unlinked_end s p process None = refl
+unlinked_end : (s : Plain) (p : ℕ) (process : ProcessState) (page : Option ℕ) (meant : Option KnownSegments) → IsUnlinked (terminate s p process page meant)
+unlinked_end s p process page (Some known) = refl
+unlinked_end s p process page None = refl
 
 unlinked_sent : (s : Plain) (meant : Result (List PlainProcess) Refusal) → IsUnlinked (sent s meant)
 unlinked_sent s (Ok after) = refl
@@ -410,8 +411,8 @@ link_or_unlinked s p ring (ask.Initiate path name) =
     inl (by_process IsUnlinked s p (λ process. initiate s p ring process name (segment s.hierarchy (caller process ring) path)) refl
     (λ process low at. unlinked_given s p process _))
 link_or_unlinked s p ring (ask.Terminate segno) =
-    inl (by_process IsUnlinked s p (λ process. terminate s p process (kst.terminate process.known segno)) refl
-    (λ process low at. unlinked_end s p process _))
+    inl (by_process IsUnlinked s p (λ process. terminate s p process (section_page process.known segno) (kst.terminate process.known segno)) refl
+    (λ process low at. unlinked_end s p process _ _))
 link_or_unlinked s p ring (ask.Wakeup to word) =
     inl (by_process IsUnlinked s p (λ process. wakeup s p to word) refl (λ process low at. unlinked_sent s _))
 link_or_unlinked s p ring ask.Block =

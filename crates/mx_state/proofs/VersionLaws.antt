@@ -46,6 +46,7 @@ use Rattle.mx_state.specs.Messages.{block, logout, sent, wakeup, wakeup_refusals
 use Rattle.mx_state.specs.OwnState.{change_wdir, set_rules}
 use Rattle.mx_state.specs.Plain.{Plain, Answer}
 use Rattle.mx_state.specs.Requests.{changed, told, plain}
+use Rattle.mx_state.specs.Sections.{section_page}
 use Rattle.mx_state.specs.Shown.{shown, without_class}
 
 -- the same answer, where the state has another version
@@ -102,9 +103,10 @@ module _ (s : Plain) (version : ℕ) where
       by_target (Err error.NoDefinition) = record { state = refl; reply = refl }
       by_target (Err error.Memory) = record { state = refl; reply = refl }
 
-  terminate_same : (p : ℕ) (process : ProcessState) (meant : Option KnownSegments) → IsSame version (terminate t p process meant) (terminate s p process meant)
-  terminate_same p process None = record { state = refl; reply = refl }
-  terminate_same p process (Some known) = record { state = refl; reply = refl }
+  terminate_same : (p : ℕ) (process : ProcessState) (page : Option ℕ) (meant : Option KnownSegments)
+      → IsSame version (terminate t p process page meant) (terminate s p process page meant)
+  terminate_same p process page None = record { state = refl; reply = refl }
+  terminate_same p process page (Some known) = record { state = refl; reply = refl }
 
   change_wdir_same : (p : ℕ) (process : ProcessState) (meant : Result (List (List ℕ)) Refusal)
       → IsSame version (change_wdir t p process meant) (change_wdir s p process meant)
@@ -200,9 +202,10 @@ version_law s v p ring (ask.Initiate path name) =
     (λ process. given_same s v p process
     (onward (segment s.hierarchy (caller process ring) path) (connect s.hierarchy process.known ring name))))
 version_law s v p ring (ask.Terminate segno) =
-    at s v p ring _ (own s v p (λ process. terminate (at_version s v) p process (kst.terminate process.known segno))
-    (λ process. terminate s p process (kst.terminate process.known segno))
-    (λ process. terminate_same s v p process (kst.terminate process.known segno)))
+    at s v p ring _ (own s v p
+    (λ process. terminate (at_version s v) p process (section_page process.known segno) (kst.terminate process.known segno))
+    (λ process. terminate s p process (section_page process.known segno) (kst.terminate process.known segno))
+    (λ process. terminate_same s v p process (section_page process.known segno) (kst.terminate process.known segno)))
 version_law s v p ring (ask.Wakeup to word) =
     let receiver = mail.process_at s.mail to in
     at s v p ring _ (own s v p (λ process. wakeup (at_version s v) p to word) (λ process. wakeup s p to word)

@@ -30,6 +30,7 @@ use Rattle.mx_state.specs.declared.states.ProcessState.{ProcessState}
 use Rattle.mx_state.specs.Askers.{caller, on_process}
 use Rattle.mx_state.specs.History.{IsRight, IsRightEntry, opening, replay}
 use Rattle.mx_state.specs.Connecting.{Connected, connect}
+use Rattle.mx_state.specs.Sections.{section_page}
 use Rattle.mx_state.specs.Knowing.{free_name, given, initiate, link, link_by, link_to, link_towards, linked, terminate}
 use Rattle.mx_state.specs.Linking.{found_uid, link_at, link_target}
 use Rattle.mx_state.specs.Messages.{block, logout, sent, taken_reply, wakeup, wakeup_refusals}
@@ -153,10 +154,10 @@ module _ (s : Plain) (p : ℕ) (low : 1 ≤ p) (process : ProcessState) (at : sl
         by_target (Err error.NoDefinition) = left_alone s p (ask.Link segno word) _ refl (λ now. refl)
         by_target (Err error.Memory) = left_alone s p (ask.Link segno word) _ refl (λ now. refl)
 
-    terminate_steps : (segno : ℕ) (meant : Option KnownSegments)
-        → Steps s p (ask.Terminate segno) (terminate s p process meant)
-    terminate_steps segno (Some known) = left_alone s p (ask.Terminate segno) _ refl (λ now. refl)
-    terminate_steps segno None = left_alone s p (ask.Terminate segno) _ refl (λ now. refl)
+    terminate_steps : (segno : ℕ) (page : Option ℕ) (meant : Option KnownSegments)
+        → Steps s p (ask.Terminate segno) (terminate s p process page meant)
+    terminate_steps segno page (Some known) = left_alone s p (ask.Terminate segno) _ refl (λ now. refl)
+    terminate_steps segno page None = left_alone s p (ask.Terminate segno) _ refl (λ now. refl)
 
 -- a message changes nothing of what its receiver does
 delivered : (xs : List PlainProcess) (to q : ℕ) (process : PlainProcess) (message : ℕ × ℕ)
@@ -252,8 +253,8 @@ steps s p ring (ask.Initiate path name) low within =
 steps s p ring (ask.Terminate segno) low within =
     let w = some_in s.processes (p - 1) (omega arith) in
     own_steps s p low w.0 w.1 (ask.Terminate segno)
-    (λ process. terminate s p process (kst.terminate process.known segno))
-    (terminate_steps s p low w.0 w.1 segno (kst.terminate w.0.known segno))
+    (λ process. terminate s p process (section_page process.known segno) (kst.terminate process.known segno))
+    (terminate_steps s p low w.0 w.1 segno (section_page w.0.known segno) (kst.terminate w.0.known segno))
 steps s p ring (ask.Wakeup to word) low within =
     let w = some_in s.processes (p - 1) (omega arith) in
     let receiver = mail.process_at s.mail to in

@@ -15,6 +15,7 @@ use Rattle.mx_state.specs.Askers.{unmade}
 use Rattle.mx_state.specs.Connecting.{Connected, connect}
 use Rattle.mx_state.specs.Linking.{link_at, link_target, found_uid}
 use Rattle.mx_state.specs.Plain.{Plain, Answer, answer, with_process}
+use Rattle.mx_state.specs.Sections.{with_page_back}
 
 -- the state in which a segment has become known to the process
 abbrev pub knowing_more : Plain → ℕ → ProcessState → Connected → Plain
@@ -30,10 +31,16 @@ abbrev pub initiate : Plain → ℕ → ℕ → ProcessState → Option (List �
 initiate state p ring process name segment =
     given state p process (onward segment (connect state.hierarchy process.known ring name))
 
--- `terminate`, by what is known without the number, unless that is not the number of a known segment
-abbrev pub terminate : Plain → ℕ → ProcessState → Option KnownSegments → Answer
-terminate state p process (Some known) = answer Done (with_process state p (record process { known = known }))
-terminate state p process None = answer (Refused refusal.UnknownSegno) state
+-- the state in which a segment is known no longer, and the page of its linkage section is free
+abbrev pub knowing_less : Plain → ℕ → ProcessState → Option ℕ → KnownSegments → Plain
+knowing_less state p process page known =
+    record (with_process state p (record process { known = known })) { hierarchy = with_page_back state.hierarchy page }
+
+-- `terminate`, by the page of the linkage section that goes with the number, and by what is known without both, unless
+-- it is not the number of a known segment
+abbrev pub terminate : Plain → ℕ → ProcessState → Option ℕ → Option KnownSegments → Answer
+terminate state p process page (Some known) = answer Done (knowing_less state p process page known)
+terminate state p process page None = answer (Refused refusal.UnknownSegno) state
 
 -- the name under which the segment that was found becomes known in the ring, unless the ring has it already
 abbrev pub free_name : KnownSegments → ℕ → List ℕ → Option (List ℕ)

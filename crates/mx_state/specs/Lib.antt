@@ -22,7 +22,6 @@ pub mod Serving
 pub mod Laws
 pub mod Waiting
 pub mod Pages
-pub mod Taking
 pub mod Sound
 pub mod Calling
 pub mod Known

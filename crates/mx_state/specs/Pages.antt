@@ -22,7 +22,7 @@ lies_on page (IsSegment segment) = is_in_run (pages_for segment.words) segment.p
 lies_on page (IsDirectory directory) = false
 lies_on page (IsLink target) = false
 
--- how many segments lie on the page: one that was deleted is no branch any more, and its pages are held by nobody
+-- how many segments lie on the page: one that was deleted is no branch any more, and its pages are free
 abbrev pub segments_at : List Branch → ℕ → ℕ
 segments_at branches page = count_by (λ branch. lies_on page branch.node) branches
 
@@ -43,7 +43,7 @@ holders s page = stacks_at s.processes page + segments_at s.hierarchy.branches p
 abbrev pub free_count : Plain → ℕ → ℕ
 free_count s page = if is_free s.hierarchy.pages page then 1 else 0
 
--- each page is free, or held once, or neither, as that of a segment that was deleted
+-- a page is free or held, and never both, nor held twice
 abbrev pub ArePagesHeldOnce : Plain → Type 0
 ArePagesHeldOnce s = (page : ℕ) → page < page_count → free_count s page + holders s page ≤ 1
 

@@ -25,6 +25,7 @@ use Rattle.mx_request.specs.declared.replies.Reply.{Reply}
 use Rattle.mx_request.specs.declared.replies.Reply.TheVariants as reply
 use Rattle.mx_state.specs.Askers.{caller, on_path, on_process}
 use Rattle.mx_state.specs.Knowing.{initiate, link, terminate}
+use Rattle.mx_state.specs.Sections.{section_page}
 use Rattle.mx_state.specs.Messages.{wakeup, block, logout}
 use Rattle.mx_state.specs.OwnState.{change_wdir, set_rules}
 use Rattle.mx_state.specs.Plain.{Plain, Answer, answer}
@@ -77,7 +78,8 @@ plain state p ring (ask.SetRules rules) = on_process state p (λ process. set_ru
 plain state p ring (ask.Initiate path name) =
     on_process state p (λ process. initiate state p ring process name (segment state.hierarchy (caller process ring) path))
 plain state p ring (ask.Terminate segno) =
-    on_process state p (λ process. terminate state p process (kst.terminate process.known segno))
+    on_process state p (λ process.
+    terminate state p process (section_page process.known segno) (kst.terminate process.known segno))
 plain state p ring (ask.Wakeup to word) = on_process state p (λ process. wakeup state p to word)
 plain state p ring ask.Block = on_process state p (λ process. block state p)
 plain state p ring (ask.Link segno word) = on_process state p (λ process. link state p ring process segno word)

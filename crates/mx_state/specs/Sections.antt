@@ -1,10 +1,13 @@
 -- Linkage sections: which one is made where an object becomes known, and what a number that is one stands for.
-use Rattle.std.specs.Prelude.{ℕ, nat_lt, Bool, ◌&&◌, Option, Some, None, if◌then◌else◌, is_none}
+use Rattle.std.specs.Prelude.{ℕ, nat_lt, Bool, ◌&&◌, find, Option, Some, None, if◌then◌else◌, is_none}
+use Rattle.std.specs.Option.{option_and_then}
 use Rattle.mx_hier.specs.Branches.{Hierarchy}
-use Rattle.mx_hier.specs.Linkage.{links_at, linkage_brackets_at, page_given}
+use Rattle.mx_hier.specs.Linkage.{links_at, linkage_brackets_at, page_given, with_page_freed}
 use Rattle.mx_kst.specs.KnownSegments.{KnownSegments}
-use Rattle.mx_kst.specs.Lots.{number_of}
+use Rattle.mx_kst.specs.Lots.{is_section_of, number_of}
 use Rattle.mx_kst.specs.Sections.{PlainSection}
+use Rattle.mx_kst.specs.declared.lots.Lot.{Lot}
+use Rattle.mx_kst.specs.declared.lots.Lot.TheVariants.{Free, Stack, Branch, Linkage}
 use Rattle.mx_sdw.specs.Rings.{Bracketing}
 
 abbrev pub has_links : Hierarchy → ℕ → Bool
@@ -24,3 +27,18 @@ section_by links None page = None
 abbrev pub section_made : Hierarchy → KnownSegments → ℕ → Option PlainSection
 section_made hierarchy known uid =
     if needs_section hierarchy known uid then section_by (links_at hierarchy uid) (linkage_brackets_at hierarchy uid) (page_given hierarchy) else None
+
+abbrev pub page_of_lot : Lot → Option ℕ
+page_of_lot (Linkage of page brackets words) = Some page
+page_of_lot Free = None
+page_of_lot (Stack ring) = None
+page_of_lot (Branch uid) = None
+
+-- the page of the linkage section that goes with a number
+abbrev pub section_page : KnownSegments → ℕ → Option ℕ
+section_page known segno = option_and_then page_of_lot (find (is_section_of segno) known.lots)
+
+-- the hierarchy after a linkage section on this page was taken away: the page is free again
+abbrev pub with_page_back : Hierarchy → Option ℕ → Hierarchy
+with_page_back hierarchy None = hierarchy
+with_page_back hierarchy (Some page) = with_page_freed hierarchy page

@@ -2,14 +2,17 @@
 //!
 //! The entry is found by one walk, and what a process knows of it by one look-up. All memory but that of the hierarchy
 //! itself is taken before the hierarchy changes: the descriptors that are held of the segment, in place of which those
-//! that become others are told.
+//! that become others are told. Where a segment is deleted its pages are freed, and told.
 
-ghost use Rattle.std.specs.Prelude.{◌≡◌, ◌≤◌, length, None, IfOk, OnErr};
+ghost use Rattle.std.specs.Prelude.{◌≡◌, ◌≤◌, length, None, IfOk, IfSome, OnErr};
+ghost use Rattle.std.specs.Option.{option_map};
+ghost use Rattle.mx_hier.specs.Branches.{segment_at};
 ghost use Rattle.mx_hier.specs.Rules.{Answers};
 ghost use Rattle.mx_hier.specs.Who.{subject};
 ghost use Rattle.mx_state.specs.Askers.{asker};
 ghost use Rattle.mx_state.specs.AtOnce.{pathless};
 ghost use Rattle.mx_state.specs.Changing.{alteration, altered_at};
+ghost use Rattle.mx_state.specs.NextRun.{IsTaken, freed_by, run_of, unless_refused};
 ghost use Rattle.mx_state.specs.Serving.{Serves};
 
 use crate::applied::Applied;
@@ -17,8 +20,9 @@ use crate::callers::caller;
 use crate::renewing::{held, renewed};
 use crate::replies::{done, refused};
 use crate::states::State;
-use mx_hier::{Hier, HierError, Who};
+use mx_hier::{Hier, HierError, Who, segments_have_pages_of_their_own};
 use mx_name::Pathname;
+use mx_pages::{PageRun, pages_for};
 use mx_request::Request;
 use mx_sdw::Ring;
 use std::alloc::{AllocError, Global};
@@ -47,15 +51,56 @@ impl State {
             Err(error) => return refused(alloc, error),
         };
         let held = held(alloc, &self.hier, processes, uid)?;
+        let pages = freed_by(&self.hier, &who, uid, request);
         let given = alter(&mut self.hier, &who, uid, request);
+        let freed = unless_refused(&given, pages);
         let reply = done(given)?;
         let changes = renewed(&self.hier, processes, held);
         Ok(Applied {
             reply,
             changes,
             given: None,
-            freed: None,
+            freed,
         })
+    }
+}
+
+// The run of pages that a request frees, unless it is refused: that of a segment that it deletes.
+fn freed_by(hier: &Hier, who: &Who, uid: u32, request: &Request) -> Option<PageRun>
+    ensures value { result ≡ freed_by hier.now uid request.now }
+    ensures taken { IfSome result (IsTaken hier.now.pages) }
+{
+    match request {
+        Request::Delete { .. } => pages_of(hier, who, uid),
+        _ => None,
+    }
+}
+
+// The run of pages on which the segment of a uid lies: none where no segment stands there.
+fn pages_of(hier: &Hier, who: &Who, uid: u32) -> Option<PageRun>
+    ensures value { result ≡ option_map run_of (segment_at hier.now uid) }
+    ensures taken { IfSome result (IsTaken hier.now.pages) }
+{
+    // A descriptor says where its segment lies, whosever it is. It has no words where there is no segment.
+    let desc = hier.desc_of(uid, who.principal, who.authorization);
+    // This is called for its clause: no page of a segment is free.
+    segments_have_pages_of_their_own(hier);
+    if desc.bound() == 0 {
+        return None;
+    }
+    Some(PageRun {
+        first: desc.page(),
+        count: pages_for(u32::from(desc.bound())) as u16,
+    })
+}
+
+// The run that was freed, where it was to be this one: none where the call came to nothing.
+fn unless_refused(given: &Result<(), HierError>, pages: Option<PageRun>) -> Option<PageRun>
+    ensures { result ≡ unless_refused given.now pages }
+{
+    match given {
+        Ok(()) => pages,
+        Err(_) => None,
     }
 }
 

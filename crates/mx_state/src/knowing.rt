@@ -1,10 +1,10 @@
 //! Requests on what a process knows.
 
-ghost use Rattle.std.specs.Prelude.{◌≡◌, ◌≤◌, ◌<◌, [], true, Some, None, Ok, length, slice_get, vec_len, IfOk, IfSome, OnErr};
-ghost use Rattle.std.specs.Option.{option_copied};
+ghost use Rattle.std.specs.Prelude.{◌≡◌, ◌≤◌, ◌<◌, [], true, Some, None, Ok, if◌then◌else◌, length, slice_get, vec_len, IfOk, IfSome, OnErr};
+ghost use Rattle.std.specs.Option.{option_copied, option_map};
 ghost use Rattle.mx_kst.specs.Initiating.{initiate};
 ghost use Rattle.mx_kst.specs.KnownSegments.{KnownSegments};
-ghost use Rattle.mx_kst.specs.Lots.{lot_of, is_branch};
+ghost use Rattle.mx_kst.specs.Lots.{lot_of, is_branch, is_section_of};
 ghost use Rattle.mx_kst.specs.Sections.{IsWithinPage};
 ghost use Rattle.mx_kst.specs.Terminating as kst;
 ghost use Rattle.mx_request.specs.declared.requests.Request.TheVariants as ask;
@@ -13,9 +13,10 @@ ghost use Rattle.mx_state.specs.AtOnce.{no_link, pathless, unknown_number};
 ghost use Rattle.mx_state.specs.Connecting.{connect, with_section_page};
 ghost use Rattle.mx_state.specs.Known.{knowing, section_or_refusal, Connects};
 ghost use Rattle.mx_state.specs.Knowing.{free_name};
-ghost use Rattle.mx_state.specs.NextRun.{section_run};
+ghost use Rattle.mx_state.specs.NextRun.{IsApart, one_page, section_run};
 ghost use Rattle.mx_state.specs.Plain.{process_at};
 ghost use Rattle.mx_state.specs.Requests.{plain};
+ghost use Rattle.mx_state.specs.Sections.{page_of_lot, section_page, with_page_back};
 ghost use Rattle.mx_state.specs.Serving.{Serves};
 ghost use Rattle.mx_state.specs.Told.{IsLinkedWithin};
 ghost use Rattle.mx_state.specs.declared.states.ProcessState.{ProcessState as ProcessValue};
@@ -158,8 +159,8 @@ impl State {
         }))
     }
 
-    /// Takes a segment's number and names away, and its linkage section. The only descriptors that change are those of
-    /// the two numbers, which are then unknown.
+    /// Takes a segment's number and names away, and its linkage section, whose page is freed. The only descriptors that
+    /// change are those of the two numbers, which are then unknown.
     pub(crate) fn terminate(
         &mut self,
         alloc: Global,
@@ -179,13 +180,15 @@ impl State {
             return Ok(Applied::unchanged(alloc, Reply::Refused(Refusal::UnknownSegno)));
         }
         let held = held_two(alloc, &self.hier, self.processes.as_slice(), p, segno)?;
+        let page = section_page(&process.known, segno);
         forget(&mut self.processes, i, segno);
+        let freed = release_page(&mut self.hier, page);
         let changes = renewed(&self.hier, self.processes.as_slice(), held);
         Ok(Applied {
             reply: Reply::Done,
             changes,
             given: None,
-            freed: None,
+            freed,
         })
     }
 }
@@ -272,6 +275,39 @@ fn is_segment(process: &ProcessState, segno: u16) -> bool
     ensures within { result ≡ true → segno ≤ 255 }
 {
     matches!(process.known.lot(segno), Lot::Branch { .. })
+}
+
+// The page of the linkage section that goes with a number: a section has the number after that of its segment.
+fn section_page(known: &Kst, segno: u16) -> Option<u16>
+    requires { segno ≤ 255 }
+    ensures { result ≡ section_page known.now segno }
+{
+    let lot = known.lot(segno + 1);
+    page_of_section(&lot, segno)
+}
+
+// The page of a lot, where that is the linkage section of a number.
+fn page_of_section(lot: &Lot, segno: u16) -> Option<u16>
+    ensures { result ≡ if is_section_of segno lot.now then page_of_lot lot.now else None }
+{
+    match lot {
+        Lot::Linkage { of, page, .. } if *of == segno => Some(*page),
+        _ => None,
+    }
+}
+
+// Frees the page of a linkage section that was taken away, if there was one, and says which.
+fn release_page(hier: &mut Hier, page: Option<u16>) -> Option<PageRun>
+    requires { IfSome page (IsApart hier.old) }
+    ensures run { result ≡ option_map one_page page }
+    ensures after { hier.new ≡ with_page_back hier.old page }
+{
+    let page = page?;
+    hier.release_page(page);
+    Some(PageRun {
+        first: page,
+        count: 1,
+    })
 }
 
 // Takes a known segment's number away from the process in a place.

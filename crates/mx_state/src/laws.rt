@@ -4,7 +4,6 @@ ghost use Rattle.mx_state.specs.AimAlone.{OtherClassLaw, AimAloneLaw, AimToldLaw
 ghost use Rattle.mx_state.specs.Coming.{SectionComesLaw, SectionWordsLaw};
 ghost use Rattle.mx_state.specs.Laws.{RefusalLaw, PathLaw, OwnLastLaw, UnknownLaw, SetInitialLaw, DeleteInitialLaw, VersionLaw};
 ghost use Rattle.mx_state.specs.Pages.{AreFreePagesBare, ArePagesHeldOnce};
-ghost use Rattle.mx_state.specs.Taking.{TakenPagesStayLaw};
 ghost use Rattle.mx_state.specs.Told.{NewSectionLaw, PathTellsLaw, SectionDescLaw, ResolvedLaw, OnlyLinkLaw, LinkRepliesLaw, OthersLaw, SectionsStayLaw};
 ghost use Rattle.mx_state.specs.Waiting.{DoesLaw, OneRunsLaw, WaitsForLaw};
 
@@ -84,13 +83,8 @@ pub fn not_all_wait_for_one_another()
     ensures waits_for { WaitsForLaw }
 {}
 
-/// No request frees a page of memory: one that is not free at a point of a journal is not free at any later one.
-pub fn taken_pages_stay_taken()
-    ensures { TakenPagesStayLaw }
-{}
-
 /// In every state that the program reaches the stacks, the segments and the linkage sections of all processes lie on
-/// different pages, and no free page is held.
+/// different pages, and no free page is held: so a page that is freed is held no more.
 pub fn pages_are_held_once(state: &State)
     ensures { ArePagesHeldOnce state.now }
 {

@@ -89,9 +89,10 @@ link_never : (s : Plain) (p ring : ℕ) (process : ProcessState) (found : Option
 link_never s p ring process (Some found) e = towards_never s p ring process found (link_target s.hierarchy process ring found) e
 link_never s p ring process None e = cc
 
-terminate_never : (s : Plain) (p : ℕ) (process : ProcessState) (r : Option KnownSegments) → Waits (terminate s p process r) → ⊥
-terminate_never s p process (Some known) e = cc
-terminate_never s p process None e = cc
+terminate_never : (s : Plain) (p : ℕ) (process : ProcessState) (page : Option ℕ) (r : Option KnownSegments)
+    → Waits (terminate s p process page r) → ⊥
+terminate_never s p process page (Some known) e = cc
+terminate_never s p process page None e = cc
 
 sent_never : (s : Plain) (r : Result (List PlainProcess) Refusal) → Waits (sent s r) → ⊥
 sent_never s (Ok mail) e = cc
@@ -123,7 +124,7 @@ only_block_waits s p ring (ask.SetRules rules) e = absurd (by_process s (asker s
 only_block_waits s p ring (ask.Initiate path name) e =
     absurd (by_process s (asker s.processes p) _ (λ process. given_never s p process _) e)
 only_block_waits s p ring (ask.Terminate segno) e =
-    absurd (by_process s (asker s.processes p) _ (λ process. terminate_never s p process _) e)
+    absurd (by_process s (asker s.processes p) _ (λ process. terminate_never s p process _ _) e)
 only_block_waits s p ring (ask.Wakeup to word) e = absurd (by_process s (asker s.processes p) _ (λ process. sent_never s _) e)
 only_block_waits s p ring ask.Block e = inl refl
 only_block_waits s p ring (ask.Link segno word) e =

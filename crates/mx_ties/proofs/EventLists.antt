@@ -60,39 +60,40 @@ reference_no_miss (Some at) (outcome.Written value) point segno by h = cc
 reference_no_miss (Some at) (outcome.Entered ring) point segno by h = cc
 reference_no_miss (Some at) (outcome.Denied denial) point segno by h = cc
 
--- the cells are those of the descriptors that the trace keeps
-abbrev pub HasCells : (Element → Option CellUse) → List Kept → Type 0
-HasCells cell trace = (i : ℕ) (j : Judged) → slice_get trace i ≡ Some (Referred j)
-    → cell j.element ≡ cell_by j.desc j.element.kind j.element.ring j.element.word
+-- the cells are those of the descriptors that the trace keeps, in their uses
+abbrev pub HasCells : (ℕ → ℕ → CellUse) → (Element → Option CellUse) → List Kept → Type 0
+HasCells use_of cell trace = (i : ℕ) (j : Judged) → slice_get trace i ≡ Some (Referred j)
+    → cell j.element
+    ≡ cell_by (λ at. use_of at j.element.point) j.desc j.element.kind j.element.ring j.element.word
 
-cells_rest : (cell : Element → Option CellUse) (kept : Kept) (trace : List Kept) → HasCells cell (kept ∷ trace)
-    → HasCells cell trace
-cells_rest cell kept trace cells i j h = cells (suc i) j h
+cells_rest : (use_of : ℕ → ℕ → CellUse) (cell : Element → Option CellUse) (kept : Kept) (trace : List Kept)
+    → HasCells use_of cell (kept ∷ trace) → HasCells use_of cell trace
+cells_rest use_of cell kept trace cells i j h = cells (suc i) j h
 
-pub acts_kept : (cell : Element → Option CellUse) (events : List Event2) (trace : List Kept)
-    → cores events ≡ map event_of trace → HasCells cell trace
-    → acts (map (deed_by cell) events) ≡ map deed_kept trace
-acts_kept cell [] [] h cells = refl
-acts_kept cell [] (kept ∷ trace) h cells = cc
-acts_kept cell (Entry number ∷ events) trace h cells = acts_kept cell events trace h cells
-acts_kept cell (Core (Seen e) ∷ events) [] h cells = cc
-acts_kept cell (Core (Seen e) ∷ events) (Missed segno by ∷ trace) h cells = cc
-acts_kept cell (Core (Seen e) ∷ events) (Referred j ∷ trace) h cells =
+pub acts_kept : (use_of : ℕ → ℕ → CellUse) (cell : Element → Option CellUse) (events : List Event2) (trace : List Kept)
+    → cores events ≡ map event_of trace → HasCells use_of cell trace
+    → acts (map (deed_by cell) events) ≡ map (deed_kept use_of) trace
+acts_kept use_of cell [] [] h cells = refl
+acts_kept use_of cell [] (kept ∷ trace) h cells = cc
+acts_kept use_of cell (Entry number ∷ events) trace h cells = acts_kept use_of cell events trace h cells
+acts_kept use_of cell (Core (Seen e) ∷ events) [] h cells = cc
+acts_kept use_of cell (Core (Seen e) ∷ events) (Missed segno by ∷ trace) h cells = cc
+acts_kept use_of cell (Core (Seen e) ∷ events) (Referred j ∷ trace) h cells =
     let same : e ≡ j.element = cc in
     let rest : cores events ≡ map event_of trace = cc in
     let here = cells 0 j refl in
-    let more = acts_kept cell events trace rest (cells_rest cell (Referred j) trace cells) in
+    let more = acts_kept use_of cell events trace rest (cells_rest use_of cell (Referred j) trace cells) in
     acts_reference (cell e) e.outcome e.point (map (deed_by cell) events)
     ∙ ap (λ (a : Element). reference (cell a) a.outcome a.point ∷ acts (map (deed_by cell) events)) same
     ∙ ap (λ (o : Option CellUse). reference o j.element.outcome j.element.point ∷ acts (map (deed_by cell) events)) here
-    ∙ ap (λ (l : List Deed). deed_kept (Referred j) ∷ l) more
-acts_kept cell (Core (Missing segno by) ∷ events) [] h cells = cc
-acts_kept cell (Core (Missing segno by) ∷ events) (Referred j ∷ trace) h cells = cc
-acts_kept cell (Core (Missing segno by) ∷ events) (Missed segno' by' ∷ trace) h cells =
+    ∙ ap (λ (l : List Deed). deed_kept use_of (Referred j) ∷ l) more
+acts_kept use_of cell (Core (Missing segno by) ∷ events) [] h cells = cc
+acts_kept use_of cell (Core (Missing segno by) ∷ events) (Referred j ∷ trace) h cells = cc
+acts_kept use_of cell (Core (Missing segno by) ∷ events) (Missed segno' by' ∷ trace) h cells =
     let segnos : segno ≡ segno' = cc in
     let bys : by ≡ by' = cc in
     let rest : cores events ≡ map event_of trace = cc in
-    let more = acts_kept cell events trace rest (cells_rest cell (Missed segno' by') trace cells) in
+    let more = acts_kept use_of cell events trace rest (cells_rest use_of cell (Missed segno' by') trace cells) in
     ap (λ (n : ℕ). Misses n by ∷ acts (map (deed_by cell) events)) segnos
     ∙ ap (λ (n : ℕ). Misses segno' n ∷ acts (map (deed_by cell) events)) bys
     ∙ ap (λ (l : List Deed). Misses segno' by' ∷ l) more

@@ -1,7 +1,7 @@
--- A process stores into its stack and logs out, step by step under one lock.
-use Rattle.std.proofs.Common.{Bool, true, false, ◌≡◌, ◌≢◌, inl, inr, ℕ, zero, suc, ◌≤◌, List, [], ◌∷◌, refl, ap, ◌∙◌, Some, None, arith, rules}
-use Rattle.std.specs.Prelude.{◌==◌, codes}
-use Rattle.std.proofs.lemmas.Bool.{cases_eq}
+-- A process stores into its stack and logs out, step by step.
+use Rattle.std.proofs.Common.{false, ◌≡◌, ℕ, zero, suc, ◌<◌, ◌≤◌, List, [], ◌∷◌, refl, ap, sym, ◌∙◌, subst, Some, None, arith}
+use Rattle.std.specs.Prelude.{codes}
+use Rattle.std.specs.List.{slice_get}
 use Rattle.mx_sdw.specs.Judging.{judgement}
 use Rattle.mx_sdw.specs.declared.operations.Op.TheVariants as op
 use Rattle.mx_upcall.specs.Control.{Control}
@@ -25,14 +25,13 @@ use Rattle.mx_transcript.specs.Elements.{IsJudged}
 use Rattle.mx_transcript.specs.Next.{Reference}
 use Rattle.mx_transcript.specs.Openings.{opening_control}
 use Rattle.mx_transcript.specs.Transcripts.{Step, part}
-use Rattle.mx_reads.specs.Deeds.{CellUse, Stores}
-use Rattle.mx_reads.specs.Held.{Held}
-use Rattle.mx_ties.specs.Bench.{IsBench, opening_view, clear, entered_view, referred_view}
+use Rattle.mx_transcript.specs.Uses.{use_of}
+use Rattle.mx_reads.specs.Deeds.{CellUse, Stores, Loads}
+use Rattle.mx_ties.specs.Closed.{IsClosed, IsRetired, traces}
 use Rattle.mx_ties.specs.Ran.{HasRun, IsSetUp}
 use Rattle.mx_ties.specs.Sample.{Sample}
 use Rattle.mx_ties.specs.SoFar.{HasRunSoFar}
-use Rattle.mx_ties.specs.Views.{Referred, Marked, View, deed_kept}
-use Rattle.mx_ties.proofs.BenchSteps.{bench_opening_law, bench_store_law, bench_entry_law}
+use Rattle.mx_ties.specs.Views.{Referred, Missed, Marked, View, deed_kept}
 use Rattle.mx_ties.proofs.Finishes.{finished_law}
 use Rattle.mx_ties.proofs.SoFarLaws.{first_line_law, seen_step_law, entry_step_law, line_step_law, last_line_law}
 
@@ -63,85 +62,82 @@ logged_out = record { process = 1; ring = 4; request = ask.Logout; reply = reply
 abbrev marked : Marked
 marked = record { entry = logged_out; mark = 1 }
 
-abbrev cell : CellUse
-cell = record { cell = 263; since = 0 }
-
--- the cell that was stored in
-abbrev held_when : Bool → Bool → Held
-held_when true true = record { value = 0; writer = 1; stamp = 0 }
-held_when true false = record { value = 0; writer = 0; stamp = 0 }
-held_when false same = record { value = 0; writer = 0; stamp = 0 }
-
-abbrev stored : CellUse → Held
-stored c = held_when (c.cell == 263) (c.since == 0)
-
-others_clear : (c : CellUse) → c ≢ cell → stored c ≡ clear c
-others_clear c n = elim (cases_eq c.cell 263) [
-  | inr other ↦ outside (c.cell == 263) (c.since == 0) (search rules)
-  | inl here ↦ elim (cases_eq c.since 0) [
-    | inr other ↦ later (c.cell == 263) (c.since == 0) (search rules)
-    | inl first ↦ absurd
-        (n (ap (λ (k : ℕ). record { cell = k; since = c.since }) here
-        ∙ ap (λ (k : ℕ). record { cell = 263; since = k }) first))
-  ]
-]
-  where
-    outside : (a b : Bool) → a ≡ false → held_when a b ≡ clear c
-    outside true b h = cc
-    outside false b h = refl
-
-    later : (a b : Bool) → b ≡ false → held_when a b ≡ clear c
-    later true true h = cc
-    later true false h = refl
-    later false b h = refl
-
-abbrev views_after : View → ℕ → View
-views_after v zero = opening_view 0
-views_after v (suc zero) = v
-views_after v (suc (suc p)) = opening_view 0
+abbrev view_opened : View
+view_opened = record { trace = []; history = []; floor = 0; amount = 0 }
 
 abbrev view_stored : View
-view_stored = referred_view (opening_view 0) j 0
+view_stored = record { trace = Referred j ∷ []; history = []; floor = 0; amount = 0 }
 
 abbrev view_out : View
-view_out = entered_view view_stored (marked ∷ []) 1
+view_out = record { trace = Referred j ∷ []; history = marked ∷ []; floor = 1; amount = 1 }
 
-opened : IsBench x [] [] (λ p. opening_view 0) (λ c. true) clear
-opened = bench_opening_law x [] (omega arith) tt refl refl (λ i entry h. cc)
+abbrev views : ℕ → View
+views zero = view_opened
+views (suc zero) = view_out
+views (suc (suc p)) = view_opened
 
-apart : (v w : View) (u : ℕ) → u ≢ 1 → views_after v u ≡ views_after w u
-apart v w zero n = refl
-apart v w (suc zero) n = absurd (n refl)
-apart v w (suc (suc u)) n = refl
+idle : (p : ℕ) → 1 < p → (views p).trace ≡ []
+idle zero beyond = absurd (omega arith)
+idle (suc zero) beyond = absurd (omega arith)
+idle (suc (suc p)) beyond = refl
 
-apart_first : (v : View) (u : ℕ) → u ≢ 1 → views_after v u ≡ opening_view 0
-apart_first v zero n = refl
-apart_first v (suc zero) n = absurd (n refl)
-apart_first v (suc (suc u)) n = refl
+-- its one element stands on the table of the start
+stands : (i : ℕ) (other : Judged) → slice_get (Referred j ∷ []) i ≡ Some (Referred other)
+    → other.desc ≡ descriptor_of x (marked.entry ∷ []) 1 other.element
+stands zero other at =
+    let same : j ≡ other = cc in
+    subst (λ (o : Judged). o.desc ≡ descriptor_of x (marked.entry ∷ []) 1 o.element) same refl
+stands (suc i) other at = absurd cc
 
-deed : deed_kept (Referred j) ≡ Stores cell 0 0
+no_miss : (i segno by : ℕ) → slice_get (Referred j ∷ []) i ≡ Some (Missed segno by) → ⊥
+no_miss zero segno by at = cc
+no_miss (suc i) segno by at = cc
+
+retired : (p : ℕ) → 1 ≤ p → p ≤ 1 → IsRetired x [] (marked ∷ []) p (views p)
+retired zero some most = absurd (omega arith)
+retired (suc zero) some most = record {
+  later = [];
+  told = refl;
+  floor = omega arith;
+  elements = stands;
+  misses = λ i segno by at. absurd (no_miss i segno by at);
+}
+retired (suc (suc p)) some most = absurd (omega arith)
+
+-- it stores, and nobody reads
+deed : (named : ℕ → ℕ → CellUse) → deed_kept named (Referred j) ≡ Stores (named 263 0) 0 0
 unfolding judgement
-deed = refl
+deed named = refl
 
-after_store : IsBench x [] [] (views_after view_stored) (λ c. true) stored
-after_store = bench_store_law x [] [] (λ p. opening_view 0) (views_after view_stored)
-    (λ c. true) clear stored 1 j cell 0 opened
-    (record {
-      some = omega arith;
-      most = omega arith;
-      desc = refl;
-      point = refl;
-      own = refl;
-      others = apart_first view_stored;
-    })
-    deed refl others_clear
+no_read : (named : ℕ → ℕ → CellUse) (p place : ℕ) (cell : CellUse) (value writer stamp point : ℕ)
+    → slice_get (traces named views p) place ≡ Some (Loads cell value writer stamp point) → ⊥
+no_read named zero place cell value writer stamp point at = cc
+no_read named (suc zero) zero cell value writer stamp point at = stores
+    (sym (ap Some (deed named)) ∙ at)
+  where
+    stores : Some (Stores (named 263 0) 0 0) ≡ Some (Loads cell value writer stamp point) → ⊥
+    stores h = cc
+no_read named (suc zero) (suc place) cell value writer stamp point at = cc
+no_read named (suc (suc p)) place cell value writer stamp point at = cc
 
-after_entry : IsBench x [] (marked ∷ []) (views_after view_out) (λ c. true) stored
-after_entry = bench_entry_law x [] [] (views_after view_stored) (views_after view_out) (λ c. true)
-    (λ c. true) stored 1 marked after_store
-    (omega arith) (omega arith) refl refl (omega arith)
-    (record { maker = (omega arith, λ z. absurd (omega arith)); reply = refl })
-    (λ c t. inl t) refl (apart view_out view_stored)
+closed : IsClosed x [] (marked ∷ []) views
+closed = record {
+  within_limit = omega arith;
+  right = (record { maker = (omega arith, λ z. absurd (omega arith)); reply = refl }, tt);
+  setup_first = refl;
+  setup_length = refl;
+  setup_makers = λ i entry h. cc;
+  makers = (omega arith, omega arith, tt);
+  quiet = refl;
+  beyond = idle;
+  retired = retired;
+  reads = record {
+    source = λ p i. 0;
+    right = λ read at. absurd (no_read (use_of x (marked.entry ∷ [])) read.process read.place read.cell read.value
+        read.writer read.stamp read.point at);
+  };
+  counted = refl;
+}
 
 abbrev g : Control
 g = opening_control x 1
@@ -156,11 +152,11 @@ right = record { kind = refl; segno = refl; word = refl; ring = refl; outcome = 
 abbrev told : ℕ → ℕ
 told n = 1
 
-first : HasRunSoFar x [] 1 [] 3 sta ((4, logout) ∷ []) g [] (Attempt []) (opening_view 0) told
+first : HasRunSoFar x [] 1 [] 3 sta ((4, logout) ∷ []) g [] (Attempt []) view_opened told
 first = first_line_law x [] 1 3 sta ((4, logout) ∷ []) 0 told refl (omega arith)
 
 second : HasRunSoFar x [] 1 [] 3 sta ((4, logout) ∷ []) g (Core (Seen e) ∷ []) (Attempt (j ∷ [])) view_stored told
-second = seen_step_law x [] 1 [] 3 sta ((4, logout) ∷ []) g [] (Attempt []) (opening_view 0) told asked j 0 refl right
+second = seen_step_law x [] 1 [] 3 sta ((4, logout) ∷ []) g [] (Attempt []) view_opened told asked j 0 refl right
     (omega arith) (omega arith)
     (λ value writer stamp h. cc) first
 
@@ -192,7 +188,7 @@ set_up = record {
   quiet = refl;
 }
 
-all_ran : (p : ℕ) → 1 ≤ p → p ≤ 1 → HasRun x [] p (part ([] ∷ steps ∷ []) p) (views_after view_out p)
+all_ran : (p : ℕ) → 1 ≤ p → p ≤ 1 → HasRun x [] p (part ([] ∷ steps ∷ []) p) (views p)
 all_ran zero some most = absurd (omega arith)
 all_ran (suc zero) some most = ran
 all_ran (suc (suc p)) some most = absurd (omega arith)
@@ -203,11 +199,11 @@ sample = record {
   setup = [];
   history = marked ∷ [];
   transcripts = [] ∷ steps ∷ [];
-  views = views_after view_out;
+  views = views;
   parts = refl;
-  closed = after_entry.closed;
+  closed = closed;
   set_up = set_up;
   ran = all_ran;
   legal = finished_law x [] (marked ∷ []) ([] ∷ steps ∷ [])
-      (views_after view_out) refl after_entry.closed set_up all_ran;
+      views refl closed set_up all_ran;
 }

@@ -23,6 +23,7 @@ use Rattle.mx_transcript.specs.References.{cell_of}
 use Rattle.mx_transcript.specs.Scripts.{lines_of}
 use Rattle.mx_transcript.specs.Settings.{entry_at}
 use Rattle.mx_transcript.specs.Standing.{AgreesWith}
+use Rattle.mx_transcript.specs.Uses.{use_of}
 use Rattle.mx_transcript.specs.Transcripts.{Step, part, events_of, entries_named, numbers_of}
 use Rattle.mx_transcript.proofs.Growing.{promise_law}
 use Rattle.mx_ties.specs.Acts.{IsAct, acts, acts_before}
@@ -64,7 +65,7 @@ module _ (x : Outline) (setup : List journaled.Entry) (history : List Marked) (t
   owners = map maker (map entry_in history)
 
   abbrev cells : ℕ → Element → Option CellUse
-  cells p = cell_of (descriptor_of x journal p)
+  cells p = cell_of (use_of x journal) (descriptor_of x journal p)
 
   kept : (p : ℕ) → 1 ≤ p → p ≤ length x.principals → naming.HasKept x setup p (part transcripts p) (views p)
   kept p some most = naming.kept_of x setup p (part transcripts p) (views p) (ran p some most)
@@ -79,7 +80,7 @@ module _ (x : Outline) (setup : List journaled.Entry) (history : List Marked) (t
       → IsOwnEntry (length setup) history p number (cores_before (events p) place)
   own_entry = naming.own_entry x setup history transcripts views parts closed set_up kept
 
-  traced : (p : ℕ) → map (renamed same_use) (acts (done p)) ≡ traces views p
+  traced : (p : ℕ) → map (renamed same_use) (acts (done p)) ≡ traces (use_of x journal) views p
   traced = naming.traced x setup history transcripts views parts closed set_up kept
 
   calls : (p : ℕ) → entries_named (events p) ≡ numbers_of p journal
@@ -89,7 +90,7 @@ module _ (x : Outline) (setup : List journaled.Entry) (history : List Marked) (t
   acting : (u place : ℕ) (d : Deed) → IsAct d → slice_get (done u) place ≡ Some d → 1 ≤ u
   acting zero place d a h = absurd
       (nothing (subst (λ (l : List Deed). slice_get l (acts_before (done 0) place) ≡ Some (renamed same_use d))
-      (traced 0 ∙ ap (λ (l : List Kept). map deed_kept l) closed.quiet)
+      (traced 0 ∙ ap (λ (l : List Kept). map (deed_kept (use_of x journal)) l) closed.quiet)
       (map_at (renamed same_use) (acts (done 0)) (acts_before (done 0) place) d (act_at (done 0) place d a h))))
     where
       nothing : None ≡ Some (renamed same_use d) → ⊥
@@ -152,7 +153,7 @@ module _ (x : Outline) (setup : List journaled.Entry) (history : List Marked) (t
         within = c.within;
       }
 
-  matches : Matches same_use done (traces views) (front_after (length setup) history)
+  matches : Matches same_use done (traces (use_of x journal) views) (front_after (length setup) history)
   matches = record {
     apart = λ a b here there same. same;
     traced = traced;
@@ -266,7 +267,7 @@ module _ (x : Outline) (setup : List journaled.Entry) (history : List Marked) (t
     none_after_full = none_after;
     misses = misses;
     points = points;
-    reads = transport_law same_use done (traces views) (front_after (length setup) history) matches closed.reads;
+    reads = transport_law same_use done (traces (use_of x journal) views) (front_after (length setup) history) matches closed.reads;
   }
 
 pub finished_law : FinishedLaw

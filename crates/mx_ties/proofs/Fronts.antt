@@ -67,31 +67,3 @@ front_law start history u i q = (
   covered start history u i q,
   λ c. fronted start history u i q c.place c.marked c.at c.own c.within c.under,
 )
-
--- an entry more changes nothing up to the old length
-not_yet : (owner u n q mark : ℕ) → q < n → mark_when (owner == u) (nat_le n q) mark ≡ 0
-not_yet owner u n q mark l = go (owner == u) (nat_le n q) (search rules)
-  where
-    go : (a b : Bool) → b ≡ false → mark_when a b mark ≡ 0
-    go true b e = subst (λ (c : Bool). mark_when true c mark ≡ 0) (sym e) refl
-    go false b e = refl
-
-pub front_same : (number : ℕ) (history : List Marked) (marked : Marked) (u q : ℕ) → q ≤ number + length history
-    → front_after number (history ++ marked ∷ []) u q ≡ front_after number history u q
-front_same number [] marked u q l = let e = not_yet marked.entry.process u (suc number) q marked.mark
-    (omega arith) in omega arith
-front_same number (first ∷ history) marked u q l =
-    ap (λ (n : ℕ). max (mark_when (first.entry.process == u) (nat_le (suc number) q) first.mark) n)
-    (front_same (suc number) history marked u q (omega arith))
-
--- marks within the traces: nothing beyond a trace is known
-pub front_low : (number : ℕ) (history : List Marked) (u q most : ℕ)
-    → ((k : ℕ) (marked : Marked) → slice_get history k ≡ Some marked → marked.entry.process ≡ u → marked.mark ≤ most)
-    → front_after number history u q ≤ most
-front_low number history u q most marks = elim (cases_lt most (front_after number history u q)) [
-  | inr under ↦ under
-  | inl over ↦
-      let c = covered number history u most q over in
-      let under = c.under in
-      let m = marks c.place c.marked c.at c.own in absurd (omega arith)
-]

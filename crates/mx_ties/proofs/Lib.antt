@@ -10,13 +10,10 @@ pub mod Finishes
 pub mod JournalLists
 pub mod Fronts
 pub mod GoingLaws
-pub mod BenchLaws
 pub mod EventsMore
 pub mod TiedLaws
 pub mod SoFarLaws
-pub mod BenchSteps
 pub mod Example
-pub mod BenchGoingLaws
 pub mod SpoiltLaws
 pub mod WorkingLaws
 pub mod SectionLaws

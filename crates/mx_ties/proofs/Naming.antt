@@ -16,6 +16,7 @@ use Rattle.mx_transcript.specs.Legal.{setup_entries, deeds}
 use Rattle.mx_transcript.specs.Misses.{IsChanged}
 use Rattle.mx_transcript.specs.Points.{ArePoints}
 use Rattle.mx_transcript.specs.References.{deed_by, cell_by, cell_of}
+use Rattle.mx_transcript.specs.Uses.{use_of}
 use Rattle.mx_transcript.specs.Transcripts.{Step, part, events_of, entries_named, numbers_of}
 use Rattle.mx_ties.specs.Acts.{acts}
 use Rattle.mx_ties.specs.Closed.{IsClosed, entry_in, maker, followed, traces}
@@ -74,7 +75,7 @@ module _ (x : Outline) (setup : List journaled.Entry) (history : List Marked) (t
   owners = map maker (map entry_in history)
 
   abbrev cells : ℕ → Element → Option CellUse
-  cells p = cell_of (descriptor_of x journal p)
+  cells p = cell_of (use_of x journal) (descriptor_of x journal p)
 
   pub empty : (p : ℕ) → count < p → part transcripts p ≡ []
   empty p above = part_beyond transcripts p (omega arith)
@@ -96,15 +97,15 @@ module _ (x : Outline) (setup : List journaled.Entry) (history : List Marked) (t
       nothing : None ≡ Some kept → ⊥
       nothing h = cc
 
-  cells_kept : (p : ℕ) → HasCells (cells p) (views p).trace
-  cells_kept = by_cases count (λ (p : ℕ). HasCells (cells p) (views p).trace)
+  cells_kept : (p : ℕ) → HasCells (use_of x journal) (cells p) (views p).trace
+  cells_kept = by_cases count (λ (p : ℕ). HasCells (use_of x journal) (cells p) (views p).trace)
       (λ i j h. absurd (nowhere 0 i (Referred j) closed.quiet h))
-      (λ p some most i j h. ap (λ (d : Descriptor). cell_by d j.element.kind j.element.ring j.element.word)
+      (λ p some most i j h. ap (λ (d : Descriptor). cell_by (λ at. use_of x journal at j.element.point) d j.element.kind j.element.ring j.element.word)
       (sym ((closed.retired p some most).elements i j h)))
       (λ p above i j h. absurd (nowhere p i (Referred j) (closed.beyond p above) h))
 
-  pub traced : (p : ℕ) → map (renamed same_use) (acts (done p)) ≡ traces views p
-  traced p = renamed_same (acts (done p)) ∙ acts_kept (cells p) (events p) (views p).trace (cored p) (cells_kept p)
+  pub traced : (p : ℕ) → map (renamed same_use) (acts (done p)) ≡ traces (use_of x journal) views p
+  traced p = renamed_same (acts (done p)) ∙ acts_kept (use_of x journal) (cells p) (events p) (views p).trace (cored p) (cells_kept p)
 
   -- own entries
   pub history_at : (p : ℕ) → 1 ≤ p → p ≤ count → (i : ℕ) (marked : Marked) → slice_get (views p).history i ≡ Some marked

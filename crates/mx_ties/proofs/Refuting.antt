@@ -41,6 +41,7 @@ use Rattle.mx_transcript.specs.Opened.{opening_of}
 use Rattle.mx_transcript.specs.Points.{IsNextEntry, IsPoint}
 use Rattle.mx_transcript.specs.References.{deed_by, cell_of as touched}
 use Rattle.mx_transcript.specs.Settings.{entry_at}
+use Rattle.mx_transcript.specs.Uses.{use_of}
 use Rattle.mx_transcript.specs.Transcripts.{Step, part, events_of}
 use Rattle.mx_transcript.proofs.DueLaws.{section_word_law}
 use Rattle.mx_ties.specs.Closed.{IsClosed, IsRetired, followed}
@@ -207,10 +208,10 @@ module _ (x : Outline) (setup : List journaled.Entry) (history : List Marked) (t
         let n = named_after k entry late h own in
         let after = n.1 in
         let at = n.0.at in
-        let enters = entry_forth (touched (descriptor_of x journal p)) events at (suc k) n.0.is in
+        let enters = entry_forth (touched (use_of x journal) (descriptor_of x journal p)) events at (suc k) n.0.is in
         let f = has_next done (place_of_fill i) at (suc k) (omega arith) enters in
         let less = below f.number f.next in
-        let first = entry_back (touched (descriptor_of x journal p)) events f.next.at f.number f.next.entry in
+        let first = entry_back (touched (use_of x journal) (descriptor_of x journal p)) events f.next.at f.number f.next.entry in
         let most = f.within in
         elim (cases_lt f.next.at at) [
           | inl before ↦
@@ -226,9 +227,9 @@ module _ (x : Outline) (setup : List journaled.Entry) (history : List Marked) (t
     -- a write's point lies between the entry and the next one
     point : (i : ℕ) (e : Element) → slice_get events (place_of_fill i) ≡ Some (Core (Seen e))
         → IsPoint (setup_entries x) (views p).floor done (place_of_fill i) e.point
-    point i e h = mine.points (touched (descriptor_of x journal p)) (place_of_fill i) _ e.point
-        (map_at (deed_by (touched (descriptor_of x journal p))) events (place_of_fill i) _ h)
-        (has_point (touched (descriptor_of x journal p) e) e.outcome e.point)
+    point i e h = mine.points (touched (use_of x journal) (descriptor_of x journal p)) (place_of_fill i) _ e.point
+        (map_at (deed_by (touched (use_of x journal) (descriptor_of x journal p))) events (place_of_fill i) _ h)
+        (has_point (touched (use_of x journal) (descriptor_of x journal p) e) e.outcome e.point)
 
     module _ (segno : ℕ) where
       abbrev state : ℕ → Plain
@@ -254,7 +255,7 @@ module _ (x : Outline) (setup : List journaled.Entry) (history : List Marked) (t
           let q = point i e h in
           let within = q.within in
           let floor = retired.floor in
-          let enters = entry_forth (touched (descriptor_of x journal p)) events named (suc index) entered in
+          let enters = entry_forth (touched (use_of x journal) (descriptor_of x journal p)) events named (suc index) entered in
           let from = q.after_entries named (suc index) (omega arith) enters in
           stays i e.point words low q.before_next from (omega arith) is
 
@@ -350,10 +351,10 @@ module _ (x : Outline) (setup : List journaled.Entry) (history : List Marked) (t
       last_place = place_of_fill (length s.filled)
 
       misses_of_own : AreMisses x (followed setup own_history) p done
-      misses_of_own = mine.misses (touched (descriptor_of x journal p))
+      misses_of_own = mine.misses (touched (use_of x journal) (descriptor_of x journal p))
 
       miss_at : slice_get done last_place ≡ Some (Misses w.segno by)
-      miss_at = map_at (deed_by (touched (descriptor_of x journal p))) events last_place _ event
+      miss_at = map_at (deed_by (touched (use_of x journal) (descriptor_of x journal p))) events last_place _ event
 
       changed_by : IsChanged x journal p w.segno by
       changed_by = subst (λ (n : ℕ). IsChanged x journal p w.segno n) (sym next)
@@ -386,7 +387,7 @@ module _ (x : Outline) (setup : List journaled.Entry) (history : List Marked) (t
             | inr not_after ↦ omega arith
           ] in
           let l = misses_of_own.above last_place w.segno by n.at (suc i) miss_at (omega arith)
-          (entry_forth (touched (descriptor_of x journal p)) events n.at (suc i) n.is)
+          (entry_forth (touched (use_of x journal) (descriptor_of x journal p)) events n.at (suc i) n.is)
           (naming.own_front x setup history transcripts views parts closed set_up kept p some most w.segno (suc i)
           (naming.own_within x setup history transcripts views parts closed set_up kept p some most n.at (suc i) n.is)
           changed) in omega arith

@@ -7,10 +7,11 @@ use Rattle.mx_state.specs.declared.journal.Entry as journaled
 use Rattle.mx_script.specs.Sessions.{Outline, limit_of}
 use Rattle.mx_transcript.specs.Courses.{Judged}
 use Rattle.mx_ties.specs.Counting.{AreProcesses, total}
-use Rattle.mx_reads.specs.Deeds.{Deeds}
+use Rattle.mx_reads.specs.Deeds.{CellUse, Deeds}
 use Rattle.mx_transcript.specs.Access.{descriptor_of}
 use Rattle.mx_transcript.specs.Legal.{setup_entries, call_of, setup_call}
 use Rattle.mx_transcript.specs.Misses.{IsChanged}
+use Rattle.mx_transcript.specs.Uses.{use_of}
 use Rattle.mx_reads.specs.ReadRule.{known_by, AreRightReads}
 use Rattle.mx_ties.specs.Fronts.{front_after}
 use Rattle.mx_ties.specs.Views.{Referred, Missed, Marked, View, deed_kept}
@@ -25,9 +26,9 @@ maker entry = entry.process
 abbrev pub followed : List journaled.Entry → List Marked → List journaled.Entry
 followed setup history = setup ++ map entry_in history
 
--- the traces as deeds; the initializer has none
-abbrev pub traces : (ℕ → View) → Deeds
-traces views p = map deed_kept (views p).trace
+-- the traces as deeds, by the uses of cells; the initializer has none
+abbrev pub traces : (ℕ → ℕ → CellUse) → (ℕ → View) → Deeds
+traces use_of views p = map (deed_kept use_of) (views p).trace
 
 -- what holds of the pass of process p: its history is a front of the whole one, its floor within the journal; the
 -- descriptor beside each element is that of the tables, and each miss names an entry that changed its pair
@@ -58,7 +59,7 @@ pub record IsClosed (x : Outline) (setup : List journaled.Entry) (history : List
   pub beyond : (p : ℕ) → length x.principals < p → (views p).trace ≡ []
   -- each pass is tied to the journal
   pub retired : (p : ℕ) → 1 ≤ p → p ≤ length x.principals → IsRetired x setup history p (views p)
-  -- each word read is the store that the read rule gives, by what is known in traces
-  pub reads : AreRightReads (traces views) (known_by (front_after (length setup) history))
+  -- each word read is the store that the read rule gives, by what is known in traces; cells are used as the journal says
+  pub reads : AreRightReads (traces (use_of x (followed setup history)) views) (known_by (front_after (length setup) history))
   -- the ledger's sum: the passes count as many entries as there are
   pub counted : total (length x.principals) (λ p. (views p).amount) ≡ length history

@@ -17,7 +17,5 @@ pub mod Steps
 pub mod AtWork
 pub mod Spoilt
 pub mod Working
-pub mod Bench
-pub mod BenchGoing
 -- an example
 pub mod Sample

@@ -6,7 +6,7 @@ use Rattle.mx_core.specs.declared.elements.Event.TheVariants.{Seen, Missing}
 use Rattle.mx_transcript.specs.declared.transcripts.Event2.{Event2}
 use Rattle.mx_transcript.specs.declared.transcripts.Event2.TheVariants.{Core, Entry}
 use Rattle.mx_transcript.specs.Courses.{Judged}
-use Rattle.mx_reads.specs.Deeds.{Deed, Misses}
+use Rattle.mx_reads.specs.Deeds.{CellUse, Deed, Misses}
 use Rattle.mx_transcript.specs.References.{reference, cell_by}
 
 -- an event of a trace: an element with the descriptor on which it was judged, or a miss
@@ -18,11 +18,12 @@ abbrev pub event_of : Kept → Event
 event_of (Referred j) = Seen j.element
 event_of (Missed segno by) = Missing segno by
 
--- as a deed: its cell is that of the descriptor beside it
-abbrev pub deed_kept : Kept → Deed
-deed_kept (Referred j) = reference
-    (cell_by j.desc j.element.kind j.element.ring j.element.word) j.element.outcome j.element.point
-deed_kept (Missed segno by) = Misses segno by
+-- as a deed: its cell is that of the descriptor beside it, in the use that it has at the element's point
+abbrev pub deed_kept : (ℕ → ℕ → CellUse) → Kept → Deed
+deed_kept use_of (Referred j) = reference
+    (cell_by (λ cell. use_of cell j.element.point) j.desc j.element.kind j.element.ring j.element.word) j.element.outcome
+    j.element.point
+deed_kept use_of (Missed segno by) = Misses segno by
 
 -- the elements of a trace
 abbrev pub judged_in : List Kept → List Judged

@@ -1,7 +1,5 @@
 //! Laws over the definitions.
 
-ghost use Rattle.mx_ties.specs.Bench.{BenchOpeningLaw, BenchEntryLaw, BenchStoreLaw, BenchLoadLaw, BenchQuietLaw};
-ghost use Rattle.mx_ties.specs.BenchGoing.{BenchCallLaw, BenchLookLaw, BenchFillLaw, BenchStampLaw, BenchOthersLaw};
 ghost use Rattle.mx_ties.specs.Counting.{CountingLaw};
 ghost use Rattle.mx_ties.specs.Finished.{FinishedLaw};
 ghost use Rattle.mx_ties.specs.Fronts.{FrontLaw};
@@ -68,24 +66,6 @@ pub fn working_law()
     ensures worked { WorkedLaw }
     ensures unspoilt { UnspoiltLaw }
     ensures run { WorkedRunLaw }
-{}
-
-/// Under one lock, what is closed stays so after an entry and after a reference of one process.
-pub fn bench_law()
-    ensures opening { BenchOpeningLaw }
-    ensures entry { BenchEntryLaw }
-    ensures store { BenchStoreLaw }
-    ensures load { BenchLoadLaw }
-    ensures quiet { BenchQuietLaw }
-{}
-
-/// Under one lock the process that steps keeps its ties, and all others theirs.
-pub fn bench_going_law()
-    ensures call { BenchCallLaw }
-    ensures look { BenchLookLaw }
-    ensures fill { BenchFillLaw }
-    ensures stamp { BenchStampLaw }
-    ensures others { BenchOthersLaw }
 {}
 
 /// There is a run that meets all of this.

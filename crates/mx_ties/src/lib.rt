@@ -6,8 +6,7 @@
 //! each process has run (`Ran`), the journal and the transcripts are a legal run. It speaks of no step, no lock and
 //! no schedule. Under it stand the counting law (`Counting`: each process names each of its entries) and the
 //! transport of reads (`Matching`: the read rule by fronts of traces, and by entries of transcripts). For whoever
-//! runs processes: what a process keeps of its own part so far (`SoFar`, `Steps`), and what is kept under one lock
-//! (`Bench`, `BenchGoing`).
+//! runs processes: what a process keeps of its own part so far (`SoFar`, `Steps`).
 //!
 //! Whether a write that a reply asks for is granted is no fact of a process. So one that shares no lock keeps its lines
 //! only where none has failed (`AtWork`, `Spoilt`, `Working`), and the closed office shows that none has. Stands on
@@ -17,6 +16,6 @@
 mod laws;
 
 pub use laws::{
-    bench_going_law, bench_law, counting_law, finished_law, front_law, going_law, sample_law,
-    steps_law, transport_law, working_law,
+    counting_law, finished_law, front_law, going_law, sample_law, steps_law, transport_law,
+    working_law,
 };

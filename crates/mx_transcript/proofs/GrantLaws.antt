@@ -34,14 +34,15 @@ use Rattle.mx_transcript.specs.Access.{descriptor_of}
 use Rattle.mx_transcript.specs.Confidentiality.{MayBeGiven, letter_for}
 use Rattle.mx_reads.specs.Deeds.{CellUse, Loads, point_of}
 use Rattle.mx_transcript.specs.Elements.{kind_of, Gives, Agrees, IsJudged}
-use Rattle.mx_transcript.specs.Grants.{state_at, HadAccess}
+use Rattle.mx_transcript.specs.Grants.{state_at, HadAccess, cell_referred}
 use Rattle.mx_transcript.specs.Legal.{IsLegal, deeds}
 use Rattle.mx_transcript.specs.Next.{Reference}
 use Rattle.mx_transcript.specs.Printed.{IsRightElement, EachReferenceLaw}
-use Rattle.mx_transcript.specs.References.{use_of, cell_by, granted_cell, reference, deed_by}
+use Rattle.mx_transcript.specs.References.{cell_by, granted_cell, reference, deed_by}
 use Rattle.mx_transcript.specs.References as references
 use Rattle.mx_transcript.specs.Revocation.{Denies, IsDenied}
 use Rattle.mx_transcript.specs.Transcripts.{Step, part, events_of}
+use Rattle.mx_transcript.specs.Uses.{use_of}
 
 -- the judging rule's answer to a printed reference, at the ring and the word that are printed
 pub record IsAnswered (d : Descriptor) (e : Element) : Type 0 where
@@ -143,15 +144,15 @@ denied_err r entered (Err denial) came agrees never = (denial, agrees)
 
 -- a granted load: its cell, and what its access was
 pub record IsLoaded (d : Descriptor) (k : Kind) (ring word : ℕ) : Type 0 where
-  pub touched : cell_by d k ring word ≡ Some (use_of (cell_of d word).0)
+  pub touched : (named : ℕ → CellUse) → cell_by named d k ring word ≡ Some (named (cell_of d word).0)
   pub stood : (o : Op) × IsGranted d o ring word
   pub allowed : MayBeGiven k d ring
 
-use_granted : (d : Descriptor) (o : Op) (ring word : ℕ) (ok : IsOk (judgement d o ring word))
-    → granted_cell (judgement d o ring word) ≡ Some (use_of (cell_of d word).0)
-use_granted d o ring word ok =
-    ap granted_cell ok.is
-    ∙ ap (λ (c : Cell). Some (use_of c.0)) (granted_has_cell d o ring word ok.cell ok.is)
+use_granted : (d : Descriptor) (o : Op) (ring word : ℕ) (ok : IsOk (judgement d o ring word)) (named : ℕ → CellUse)
+    → granted_cell named (judgement d o ring word) ≡ Some (named (cell_of d word).0)
+use_granted d o ring word ok named =
+    ap (granted_cell named) ok.is
+    ∙ ap (λ (c : Cell). Some (named c.0)) (granted_has_cell d o ring word ok.cell ok.is)
 
 loaded_by : (d : Descriptor) (o : Op) (ring word : ℕ) → IsOk (judgement d o ring word) → IsLoad o
     → IsLoaded d (kind_of o) ring word
@@ -179,7 +180,7 @@ loaded d e value writer stamp is came =
 -- a granted store
 pub record IsStored (d : Descriptor) (e : Element) : Type 0 where
   pub kind : e.kind ≡ kind.Write
-  pub touched : cell_by d e.kind e.ring e.word ≡ Some (use_of (cell_of d e.word).0)
+  pub touched : (named : ℕ → CellUse) → cell_by named d e.kind e.ring e.word ≡ Some (named (cell_of d e.word).0)
   pub granted : IsGranted d op.Write e.ring e.word
 
 stored_by : (d : Descriptor) (e : Element) (o : Op) → o ≡ op.Write → e.kind ≡ kind_of o
@@ -190,8 +191,8 @@ stored_by d e o write printed ok =
     let kind : e.kind ≡ kind.Write = printed ∙ ap kind_of write in
     record {
       kind = kind;
-      touched = subst (λ (k : Kind). cell_by d k e.ring e.word ≡ Some (use_of (cell_of d e.word).0)) (sym kind)
-          (use_granted d op.Write e.ring e.word is);
+      touched = λ named. subst (λ (k : Kind). cell_by named d k e.ring e.word ≡ Some (named (cell_of d e.word).0)) (sym kind)
+          (use_granted d op.Write e.ring e.word is named);
       granted = granted_is_allowed d op.Write e.ring e.word is.cell is.is;
     }
 
@@ -254,10 +255,10 @@ read_access x journal p e is = record {
 pub deed_at : (x : Outline) (journal : List journaled.Entry) (transcripts : List (List Step)) (p place : ℕ)
     (event : Event2)
     → slice_get (events_of (part transcripts p)) place ≡ Some event
-    → slice_get (deeds x journal transcripts p) place ≡ Some (deed_by (references.cell_of (descriptor_of x journal p)) event)
+    → slice_get (deeds x journal transcripts p) place ≡ Some (deed_by (references.cell_of (use_of x journal) (descriptor_of x journal p)) event)
 deed_at x journal transcripts p place event at =
-    slice_get-map (deed_by (references.cell_of (descriptor_of x journal p))) (events_of (part transcripts p)) place
-    ∙ ap (option_map (deed_by (references.cell_of (descriptor_of x journal p)))) at
+    slice_get-map (deed_by (references.cell_of (use_of x journal) (descriptor_of x journal p))) (events_of (part transcripts p)) place
+    ∙ ap (option_map (deed_by (references.cell_of (use_of x journal) (descriptor_of x journal p)))) at
 
 -- a reference's deed has its point
 pub point_of_reference : (touching : Option CellUse) (came : Outcome) (point : ℕ)
@@ -278,8 +279,9 @@ pub load_at : (x : Outline) (journal : List journaled.Entry) (transcripts : List
     → IsLoaded (descriptor_of x journal p e) e.kind e.ring e.word
     → e.outcome ≡ outcome.Read value writer stamp
     → slice_get (deeds x journal transcripts p) place
-    ≡ Some (Loads (use_of (cell_of (descriptor_of x journal p e) e.word).0) value writer stamp e.point)
+    ≡ Some (Loads (cell_referred x journal p e) value writer stamp e.point)
 load_at x journal transcripts p place e value writer stamp at is came =
     deed_at x journal transcripts p place (Core (Seen e)) at
-    ∙ ap (λ (touching : Option CellUse). Some (reference touching e.outcome e.point)) is.touched
-    ∙ ap (λ (c : Outcome). Some (reference (Some (use_of (cell_of (descriptor_of x journal p e) e.word).0)) c e.point)) came
+    ∙ ap (λ (touching : Option CellUse). Some (reference touching e.outcome e.point))
+    (is.touched (λ cell. use_of x journal cell e.point))
+    ∙ ap (λ (c : Outcome). Some (reference (Some (cell_referred x journal p e)) c e.point)) came

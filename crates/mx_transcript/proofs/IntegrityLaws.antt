@@ -20,6 +20,7 @@ use Rattle.mx_transcript.specs.Legal.{IsLegal, deeds}
 use Rattle.mx_transcript.specs.Printed.{EachReferenceLaw}
 use Rattle.mx_transcript.specs.Reads.{IsKnown}
 use Rattle.mx_transcript.specs.References.{cell_of, reference, deed_by}
+use Rattle.mx_transcript.specs.Uses.{use_of}
 use Rattle.mx_transcript.specs.Transcripts.{Step, part, events_of}
 use Rattle.mx_transcript.proofs.GrantLaws.{answer_of, loaded, stored, write_access, load_at}
 
@@ -63,11 +64,11 @@ store_event : EachReferenceLaw → (x : Outline) (journal : List journaled.Entry
     → IsLegal x journal transcripts
     → (u place : ℕ) (cell : CellUse) (value point : ℕ) (event : Event2)
     → slice_get (events_of (part transcripts u)) place ≡ Some event
-    → deed_by (cell_of (descriptor_of x journal u)) event ≡ Stores cell value point
+    → deed_by (cell_of (use_of x journal) (descriptor_of x journal u)) event ≡ Stores cell value point
     → (write : Element) × (slice_get (events_of (part transcripts u)) place ≡ Some (Core (Seen write)))
     × IsGrantedWrite x journal u write cell value point
 store_event each x journal transcripts legal u place cell value point (Core (Seen e)) at is =
-    let store = is_store (cell_of (descriptor_of x journal u) e) e.outcome e.point cell value point is in
+    let store = is_store (cell_of (use_of x journal) (descriptor_of x journal u) e) e.outcome e.point cell value point is in
     let granted = stored (descriptor_of x journal u e) e value (answer_of each x journal transcripts legal u place e at)
     store.written in (
       e,
@@ -75,7 +76,7 @@ store_event each x journal transcripts legal u place cell value point (Core (See
       record {
         kind = granted.kind;
         written = store.written;
-        into = same_cell _ _ _ granted.touched store.touched;
+        into = same_cell _ _ _ (granted.touched (λ cell. use_of x journal cell e.point)) store.touched;
         at = store.same;
         access = write_access x journal u e granted;
       },
@@ -85,7 +86,7 @@ store_event each x journal transcripts legal u place cell value point (Entry num
 
 pub granted_stores_law : EachReferenceLaw → GrantedStoresLaw
 granted_stores_law each x journal transcripts legal u place cell value point at =
-    let came = came_of (deed_by (cell_of (descriptor_of x journal u))) (events_of (part transcripts u)) place
+    let came = came_of (deed_by (cell_of (use_of x journal) (descriptor_of x journal u))) (events_of (part transcripts u)) place
     (Stores cell value point) at in
     store_event each x journal transcripts legal u place cell value point came.event came.at came.is
 

@@ -20,6 +20,7 @@ use Rattle.mx_transcript.specs.Points.{IsPoint}
 use Rattle.mx_transcript.specs.Printed.{EachReferenceLaw}
 use Rattle.mx_transcript.specs.References.{cell_of, reference}
 use Rattle.mx_transcript.specs.Revocation.{IsStamped, Tells, Denies, ToldLaw, DeniedLaw, RevocationLaw}
+use Rattle.mx_transcript.specs.Uses.{use_of}
 use Rattle.mx_transcript.specs.Transcripts.{Step, part, events_of}
 use Rattle.mx_transcript.proofs.GrantLaws.{answer_of, loaded, denied, deed_at, load_at, point_of_reference}
 
@@ -44,9 +45,9 @@ point_at : (x : Outline) (journal : List journaled.Entry) (transcripts : List (L
     → (p place : ℕ) (e : Element) → slice_get (events_of (part transcripts p)) place ≡ Some (Core (Seen e))
     → IsPoint (setup_entries x) (length journal) (deeds x journal transcripts p) place e.point
 point_at x journal transcripts legal p place e at =
-    legal.points p place (reference (cell_of (descriptor_of x journal p) e) e.outcome e.point) e.point
+    legal.points p place (reference (cell_of (use_of x journal) (descriptor_of x journal p) e) e.outcome e.point) e.point
     (deed_at x journal transcripts p place (Core (Seen e)) at)
-    (point_of_reference (cell_of (descriptor_of x journal p) e) e.outcome e.point)
+    (point_of_reference (cell_of (use_of x journal) (descriptor_of x journal p) e) e.outcome e.point)
 
 told_by : EachReferenceLaw → (x : Outline) (journal : List journaled.Entry) (transcripts : List (List Step))
     → IsLegal x journal transcripts
@@ -71,9 +72,9 @@ told_by each x journal transcripts legal p place q point before (Core (Seen o)) 
           omega arith
       | inr judged ↦
           let l : o.point ≤ point = is.rising before
-          (reference (cell_of (descriptor_of x journal p) o) o.outcome o.point) o.point earlier
+          (reference (cell_of (use_of x journal) (descriptor_of x journal p) o) o.outcome o.point) o.point earlier
           (deed_at x journal transcripts p before (Core (Seen o)) at)
-          (point_of_reference (cell_of (descriptor_of x journal p) o) o.outcome o.point) in
+          (point_of_reference (cell_of (use_of x journal) (descriptor_of x journal p) o) o.outcome o.point) in
           omega arith
     ]
 

@@ -14,10 +14,9 @@ use Rattle.mx_reads.specs.ReadRule.{Reading, IsRightRead}
 use Rattle.mx_reads.specs.Sightings.{Source, HasStored, Sights, HasSighted, IsLatest}
 use Rattle.mx_transcript.specs.Points.{IsPoint, ArePoints}
 use Rattle.mx_transcript.specs.Reads.{IsKnown}
-use Rattle.mx_transcript.specs.References.{use_of}
 use Rattle.mx_transcript.specs.WrongFalls.{gated, call, top, under, return, WrongFalls, WrongWaysBack}
 use Rattle.mx_transcript.specs.WrongPoints.{WrongPoints}
-use Rattle.mx_transcript.specs.WrongReads.{cell, did, WrongReads}
+use Rattle.mx_transcript.specs.WrongReads.{cell, anew, did, WrongReads}
 
 -- the deeds of a right point
 abbrev before_entry : List Deed
@@ -62,7 +61,7 @@ wrong_points = record {
       (omega arith) refl in omega arith;
   before_miss = λ are. let l : 4 ≤ 3 = (are 1 (Refers 3) 3 refl refl).after_misses 0 8 4
       (omega arith) refl in omega arith;
-  before_stamp = λ are. let l : 4 ≤ 3 = (are 1 (Refers 3) 3 refl refl).after_stamps 0 (use_of 320) 7 2 4 3
+  before_stamp = λ are. let l : 4 ≤ 3 = (are 1 (Refers 3) 3 refl refl).after_stamps 0 (record { cell = 320; since = 0 }) 7 2 4 3
       (omega arith) refl in omega arith;
   falls = λ are. let l : 4 ≤ 3 = (are 1 (Refers 3) 3 refl refl).rising 0 (Refers 4) 4
       (omega arith) refl refl in omega arith;
@@ -219,12 +218,104 @@ the_read (suc (suc zero)) (suc zero) c value writer stamp q h = absurd cc
 the_read (suc (suc zero)) (suc (suc i)) c value writer stamp q h = absurd cc
 the_read (suc (suc (suc p))) i c value writer stamp q h = absurd cc
 
+-- a right read in a later use: nobody stored there yet
+abbrev emptied : Deeds
+emptied = did ((Loads anew 0 0 0 1 ∷ []) ∷ (Stores cell 5 0 ∷ Enters 1 ∷ []) ∷ [])
+
+other_use : cell ≡ anew → ⊥
+other_use e = apart cell.since anew.since (ap (λ (c : CellUse). c.since) e) refl refl
+  where
+    apart : (first later : ℕ) → first ≡ later → first ≡ 0 → later ≡ 1 → ⊥
+    apart first later same low high = omega arith
+
+no_later : (value point : ℕ) → Some (Stores cell 5 0) ≡ Some (Stores anew value point) → ⊥
+no_later value point h = other_use (same h)
+  where
+    same : Some (Stores cell 5 0) ≡ Some (Stores anew value point) → cell ≡ anew
+    same h = cc
+
+unstored : (u at value point : ℕ) → HasStored emptied u at anew value point → ⊥
+unstored zero at value point h = absurd cc
+unstored (suc zero) zero value point h = absurd cc
+unstored (suc zero) (suc at) value point h = absurd cc
+unstored (suc (suc zero)) zero value point h = no_later value point h
+unstored (suc (suc zero)) (suc zero) value point h = absurd cc
+unstored (suc (suc zero)) (suc (suc at)) value point h = absurd cc
+unstored (suc (suc (suc u))) at value point h = absurd cc
+
+abbrev IsEmptyOne : Deed → Type 0
+IsEmptyOne (Enters number) = ⊥
+IsEmptyOne (Stores c value point) = ⊥
+IsEmptyOne (Loads c value writer stamp q) = IsRightRead emptied (IsKnown emptied) first_store (record {
+  process = 1;
+  place = 0;
+  cell = c;
+  value = value;
+  writer = writer;
+  stamp = stamp;
+  point = q;
+})
+IsEmptyOne (Refers point) = ⊥
+IsEmptyOne (Misses segno by) = ⊥
+
+empty_so : IsEmptyOne (Loads anew 0 0 0 1)
+empty_so = record {
+  nobody = λ e. record {
+    zero_value = refl;
+    zero_stamp = refl;
+    unsighted = λ earlier storer store low sighted. absurd (omega arith);
+    unknown = λ u at value point stored known. unstored u at value point stored;
+  };
+  such = λ n. absurd (n refl);
+  own = λ n e. absurd (n refl);
+  another = λ n m. absurd (n refl);
+}
+
+the_empty : (p i : ℕ) (c : CellUse) (value writer stamp q : ℕ) → slice_get (emptied p) i ≡ Some (Loads c value writer stamp q)
+    → IsRightRead emptied (IsKnown emptied) first_store (record {
+      process = p;
+      place = i;
+      cell = c;
+      value = value;
+      writer = writer;
+      stamp = stamp;
+      point = q;
+    })
+the_empty zero i c value writer stamp q h = absurd cc
+the_empty (suc zero) zero c value writer stamp q h =
+    let same : Loads anew 0 0 0 1 ≡ Loads c value writer stamp q = cc in subst IsEmptyOne same empty_so
+the_empty (suc zero) (suc i) c value writer stamp q h = absurd cc
+the_empty (suc (suc zero)) zero c value writer stamp q h = absurd cc
+the_empty (suc (suc zero)) (suc zero) c value writer stamp q h = absurd cc
+the_empty (suc (suc zero)) (suc (suc i)) c value writer stamp q h = absurd cc
+the_empty (suc (suc (suc p))) i c value writer stamp q h = absurd cc
+
+-- no store of process 2 is one of the later use
+no_anew : (place : ℕ) → slice_get (Stores cell 5 0 ∷ Enters 1 ∷ []) place ≡ Some (Stores anew 5 0) → ⊥
+no_anew zero at = no_later 5 0 at
+no_anew (suc zero) at = cc
+no_anew (suc (suc place)) at = cc
+
 pub wrong_reads : WrongReads
 wrong_reads = record {
   right_read = record {
     source = first_store;
     right = λ read at. the_read read.process read.place read.cell read.value read.writer read.stamp read.point at;
   };
+  right_anew = record {
+    source = first_store;
+    right = λ read at. the_empty read.process read.place read.cell read.value read.writer read.stamp read.point at;
+  };
+  earlier_use = λ are.
+      no_anew (are.source 1 0) ((are.right (record {
+        process = 1;
+        place = 0;
+        cell = anew;
+        value = 5;
+        writer = 2;
+        stamp = 0;
+        point = 1;
+      }) refl).such (two 2 refl)).stored;
   store_before = λ are.
       let right = are.right (reading 1 2 5 1 0 0) refl in
       (right.own (λ e. omega arith) refl).last 1 6 0

@@ -16,15 +16,16 @@ use Rattle.mx_state.specs.declared.journal.Entry as journaled
 use Rattle.mx_transcript.specs.Access.{descriptor_of}
 use Rattle.mx_reads.specs.Deeds.{CellUse}
 use Rattle.mx_transcript.specs.Opened.{opening_of}
-use Rattle.mx_transcript.specs.References.{use_of}
+use Rattle.mx_transcript.specs.Uses.{use_of}
 
 -- the state of the plain supervisor after the first so many entries
 abbrev pub state_at : Outline → List journaled.Entry → ℕ → Plain
 state_at session journal point = replay (opening_of session) (take point journal)
 
--- the cell of the word of a reference, at its printed point
+-- the cell of the word of a reference, in its use at the printed point
 abbrev pub cell_referred : Outline → List journaled.Entry → ℕ → Element → CellUse
-cell_referred session journal p element = use_of (cell_of (descriptor_of session journal p element) element.word).0
+cell_referred session journal p element =
+    use_of session journal (cell_of (descriptor_of session journal p element) element.word).0 element.point
 
 -- What the access at the reference's printed point was: the segment stood and had the word, and the descriptor allowed
 -- it at the effective ring. Where the number stands for a segment, the modes of its deciding entry have the letter;

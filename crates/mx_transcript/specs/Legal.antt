@@ -19,6 +19,7 @@ use Rattle.mx_transcript.specs.Parts.{AreLines}
 use Rattle.mx_transcript.specs.Scripts.{lines_of}
 use Rattle.mx_transcript.specs.Openings.{opening_control}
 use Rattle.mx_transcript.specs.Settings.{Setting}
+use Rattle.mx_transcript.specs.Uses.{use_of}
 use Rattle.mx_transcript.specs.Transcripts.{Step, part, events_of, entries_named, numbers_of}
 
 -- a call: who made it, in which ring, and what it asked
@@ -46,9 +47,10 @@ setting_of session journal p = record {
   descriptor = descriptor_of session journal p;
 }
 
--- what each process did
+-- what each process did, each cell in its use at the element's printed point
 abbrev pub deeds : Outline → List journaled.Entry → List (List Step) → Deeds
-deeds session journal transcripts = deeds_by (descriptor_of session journal) (λ p. events_of (part transcripts p))
+deeds session journal transcripts =
+    deeds_by (use_of session journal) (descriptor_of session journal) (λ p. events_of (part transcripts p))
 
 -- the rules of a legal run
 pub record IsLegal (session : Outline) (journal : List journaled.Entry) (transcripts : List (List Step)) : Type 0 where

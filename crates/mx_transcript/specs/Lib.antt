@@ -19,6 +19,7 @@ pub mod Parts
 -- the rules over deeds, and all rules together
 pub mod Opened
 pub mod Access
+pub mod Uses
 pub mod References
 pub mod Points
 pub mod Misses

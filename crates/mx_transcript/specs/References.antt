@@ -1,4 +1,5 @@
--- The deeds of a run: what the events of each process say that it did, with the cells that its references touched.
+-- The deeds of a run: what the events of each process say that it did, with the cells that its references touched, each
+-- in its use. `use_of` names a cell in its use, at a point where it is given one.
 use Rattle.std.specs.Prelude.{ℕ, List, map, Option, Some, None, Result, Ok, Err}
 use Rattle.mx_sdw.specs.Descriptors.{Descriptor}
 use Rattle.mx_sdw.specs.Judging.{judgement}
@@ -15,25 +16,24 @@ use Rattle.mx_transcript.specs.declared.transcripts.Event2.{Event2}
 use Rattle.mx_transcript.specs.declared.transcripts.Event2.TheVariants.{Core, Entry}
 use Rattle.mx_reads.specs.Deeds.{CellUse, Deed, Deeds, Enters, Stores, Loads, Refers, Misses}
 
--- no page is given out twice, so each cell has one use
-abbrev pub use_of : ℕ → CellUse
-use_of cell = record { cell = cell; since = 0 }
-
-abbrev pub granted_cell : Result Cell Denial → Option CellUse
-granted_cell (Ok cell) = Some (use_of cell.0)
-granted_cell (Err denial) = None
+-- the cell that was granted, in its use
+abbrev pub granted_cell : (ℕ → CellUse) → Result Cell Denial → Option CellUse
+granted_cell use_of (Ok cell) = Some (use_of cell.0)
+granted_cell use_of (Err denial) = None
 
 -- the cell that a reference of this kind touches: where the judging rule grants it one
-abbrev pub cell_by : Descriptor → Kind → ℕ → ℕ → Option CellUse
-cell_by descriptor kind.Read ring word = granted_cell (judgement descriptor op.Read ring word)
-cell_by descriptor kind.Ind ring word = granted_cell (judgement descriptor op.Indirect ring word)
-cell_by descriptor kind.Write ring word = granted_cell (judgement descriptor op.Write ring word)
-cell_by descriptor kind.Fetch ring word = granted_cell (judgement descriptor op.Fetch ring word)
-cell_by descriptor kind.Call ring word = None
-cell_by descriptor kind.Return ring word = None
+abbrev pub cell_by : (ℕ → CellUse) → Descriptor → Kind → ℕ → ℕ → Option CellUse
+cell_by use_of descriptor kind.Read ring word = granted_cell use_of (judgement descriptor op.Read ring word)
+cell_by use_of descriptor kind.Ind ring word = granted_cell use_of (judgement descriptor op.Indirect ring word)
+cell_by use_of descriptor kind.Write ring word = granted_cell use_of (judgement descriptor op.Write ring word)
+cell_by use_of descriptor kind.Fetch ring word = granted_cell use_of (judgement descriptor op.Fetch ring word)
+cell_by use_of descriptor kind.Call ring word = None
+cell_by use_of descriptor kind.Return ring word = None
 
-abbrev pub cell_of : (Element → Descriptor) → Element → Option CellUse
-cell_of descriptor element = cell_by (descriptor element) element.kind element.ring element.word
+-- of an element, in the use of its cell at its printed point
+abbrev pub cell_of : (ℕ → ℕ → CellUse) → (Element → Descriptor) → Element → Option CellUse
+cell_of use_of descriptor element =
+    cell_by (λ cell. use_of cell element.point) (descriptor element) element.kind element.ring element.word
 
 -- calls, returns and denied references touch no word
 abbrev pub reference : Option CellUse → Outcome → ℕ → Deed
@@ -49,6 +49,6 @@ deed_by cell (Entry number) = Enters number
 deed_by cell (Core (Seen element)) = reference (cell element) element.outcome element.point
 deed_by cell (Core (Missing segno by)) = Misses segno by
 
--- what each process did, by its events and the descriptors of its elements
-abbrev pub deeds_by : (ℕ → Element → Descriptor) → (ℕ → List Event2) → Deeds
-deeds_by descriptor events p = map (deed_by (cell_of (descriptor p))) (events p)
+-- what each process did, by the uses of cells, the descriptors of its elements, and its events
+abbrev pub deeds_by : (ℕ → ℕ → CellUse) → (ℕ → Element → Descriptor) → (ℕ → List Event2) → Deeds
+deeds_by use_of descriptor events p = map (deed_by (cell_of use_of (descriptor p))) (events p)

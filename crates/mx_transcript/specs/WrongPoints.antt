@@ -3,7 +3,6 @@
 use Rattle.std.specs.Prelude.{List, [], ◌∷◌}
 use Rattle.mx_reads.specs.Deeds.{Deed, Enters, Loads, Refers, Misses}
 use Rattle.mx_transcript.specs.Points.{ArePoints}
-use Rattle.mx_transcript.specs.References.{use_of}
 
 abbrev pub NeverPoints : List Deed → Type 0
 NeverPoints done = ArePoints 2 5 done → ⊥
@@ -18,7 +17,7 @@ pub record WrongPoints : Type 0 where
   -- before the entry by which it missed
   pub before_miss : NeverPoints (Misses 8 4 ∷ Refers 3 ∷ [])
   -- before the stamp of the word that it read
-  pub before_stamp : NeverPoints (Loads (use_of 320) 7 2 4 3 ∷ Refers 3 ∷ [])
+  pub before_stamp : NeverPoints (Loads (record { cell = 320; since = 0 }) 7 2 4 3 ∷ Refers 3 ∷ [])
   -- a point that falls
   pub falls : NeverPoints (Refers 4 ∷ Refers 3 ∷ [])
   -- beyond the journal

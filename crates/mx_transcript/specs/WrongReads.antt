@@ -3,10 +3,13 @@ use Rattle.std.specs.Prelude.{zero, suc, List, [], ◌∷◌}
 use Rattle.mx_reads.specs.Deeds.{CellUse, Deed, Deeds, Enters, Stores, Loads}
 use Rattle.mx_reads.specs.ReadRule.{AreRightReads}
 use Rattle.mx_transcript.specs.Reads.{IsKnown}
-use Rattle.mx_transcript.specs.References.{use_of}
 
 abbrev pub cell : CellUse
-cell = use_of 320
+cell = record { cell = 320; since = 0 }
+
+-- the same cell, used anew since entry 1
+abbrev pub anew : CellUse
+anew = record { cell = 320; since = 1 }
 
 -- what processes 1, 2, .. did
 abbrev pub did : List (List Deed) → Deeds
@@ -24,6 +27,10 @@ NeverReads lists = ReadsRight lists → ⊥
 pub record WrongReads : Type 0 where
   -- right: another process's store, which is known
   pub right_read : ReadsRight ((Loads cell 5 2 0 1 ∷ []) ∷ (Stores cell 5 0 ∷ Enters 1 ∷ []) ∷ [])
+  -- right: nobody's word in a later use of the cell, though a store of the earlier use is known
+  pub right_anew : ReadsRight ((Loads anew 0 0 0 1 ∷ []) ∷ (Stores cell 5 0 ∷ Enters 1 ∷ []) ∷ [])
+  -- a store of the earlier use, read in the later one
+  pub earlier_use : NeverReads ((Loads anew 5 2 0 1 ∷ []) ∷ (Stores cell 5 0 ∷ Enters 1 ∷ []) ∷ [])
   -- the process's own store before its last
   pub store_before : NeverReads ((Stores cell 5 0 ∷ Stores cell 6 0 ∷ Loads cell 5 1 0 0 ∷ []) ∷ [])
   -- nobody's word after an own store

@@ -13,11 +13,11 @@ fn the_drill_of_seven(rt: HostRuntime) -> Result<(), Fail> {
     let alloc = rt.alloc();
     let session = session_of(alloc, 7)?;
     let text = session_text(alloc, &session)?;
-    let Some(ran) = run_in_order(alloc, text.items(), b"", ROOM)? else {
+    let Some(ran) = run_in_order(&rt, alloc, text.items(), b"", ROOM)? else {
         return Err(Fail::new("not run"));
     };
     let entrants = session.principals().items();
-    let came = play(alloc, session.version(), entrants, &ran.printed)?;
+    let came = play(alloc, session.version(), entrants, &ran)?;
     assert_eq!(rt; came, Came::AsTold);
     Ok(())
 }

@@ -15,6 +15,26 @@ const TWO_NAMES: &[u8] = b"journal 7
 7 1 4 logout = ok
 ";
 
+/// The pages of a deleted segment, and the page of a linkage section that was taken away, are used again.
+const USED_AGAIN: &[u8] = b"journal 16
+1 0 0 set_acl > Jones.Faculty.a sma = ok
+2 1 4 create_object >math 64 4 4 4 1 d:sqrt:5 = ok
+3 1 4 create_object >main 64 4 4 4 1 l:math$sqrt = ok
+4 1 4 create_seg >a 1024 4 4 4 = ok
+5 1 4 initiate >a = segno 10 new
+6 1 4 initiate >main = segno 11 new linkage 12
+7 1 4 create_seg >b 64 4 4 4 = ok
+8 1 4 delete >a = ok
+9 1 4 terminate 11 = ok
+10 1 4 create_seg >c 1024 4 4 4 = ok
+11 1 4 initiate >c = segno 13 new
+12 1 4 initiate >main = segno 14 new linkage 15
+13 1 4 terminate 10 = ok
+14 1 4 delete >main = ok
+15 1 4 terminate 14 = ok
+16 1 4 logout = ok
+";
+
 /// A link, which the working directory resolves before the library.
 const A_LINK: &[u8] = b"journal 14
 1 0 0 create_dir >lib 7 7 = ok
@@ -224,6 +244,7 @@ const GIVEN: &[u8] = b"journal 12
 fn two_names_and_a_deletion(rt: HostRuntime) -> Result<(), Fail> {
     let jones = entrant(b"Jones.Faculty.a", b"0:0")?;
     assert_eq!(rt; play(rt.alloc(), 1, &[jones], TWO_NAMES)?, Came::AsTold);
+    assert_eq!(rt; play(rt.alloc(), 1, &[jones], USED_AGAIN)?, Came::AsTold);
     Ok(())
 }
 

@@ -9,6 +9,9 @@ use std::sync::Wait;
 use std::sync::atomic::{AtomicU64, Ordering};
 use std::test::Fail;
 
+/// The most bytes of a session here.
+const MOST_BYTES: usize = 4_096;
+
 // Counts the lines of which it is told.
 #[derive(Drop)]
 struct Count {
@@ -28,12 +31,15 @@ fn in_order<R: Wait>(
     text: &[u8],
     order: &[u8],
 ) -> Result<(u64, Vec<u8>), AllocError> {
+    if text.len() > MOST_BYTES {
+        return Err(AllocError);
+    }
     let session = read_session(alloc, text).map_err(|_| AllocError)?;
     let gate = Count {
         calls: AtomicU64::new(0),
     };
-    let auditors = &mut Vec::new(alloc);
-    let (journal, transcripts) = run_in_order(rt, alloc, &session, order, &gate, auditors)?;
+    let ran = run_in_order(rt, alloc, &session, order, &gate, &mut Vec::new(alloc));
+    let (journal, transcripts) = ran?;
     let made = MemorySink::new(alloc, 4096, Vec::new(alloc), 4096);
     let mut sink = made.map_err(|_| AllocError)?;
     print(alloc, &journal, &transcripts, &mut sink).map_err(|_| AllocError)?;

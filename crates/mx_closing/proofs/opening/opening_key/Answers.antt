@@ -40,3 +40,9 @@ returns-clause-keeps c =
     c.loop-i.base c.requires c.length-start.ensures.history c.layout_of-layout.ensures.layout
     c.length-start.ensures.value (ended c.loop-i.i c.layout_of-layout.result.processes c.loop-i-test.false c.loop-i.auto.i-end)
     c.loop-i.invariant.known
+    (may_open c.args.session.now c.args.supervisor.now c.layout_of-layout.result c.length-start.result
+    c.limit-limit.result c.loop-i.i c.loop-i.base c.requires c.length-start.ensures.history
+    c.layout_of-layout.ensures.some c.layout_of-layout.ensures.most c.length-start.ensures.value
+    c.limit-limit.ensures.value c.limit-limit.ensures.most
+    (ended c.loop-i.i c.layout_of-layout.result.processes c.loop-i-test.false c.loop-i.auto.i-end)
+    c.loop-i.invariant.known c.loop-i.invariant.admissible)

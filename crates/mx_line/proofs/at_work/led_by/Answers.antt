@@ -8,7 +8,7 @@ use Rattle.mx_transcript.specs.Attempts.{wants}
 use Rattle.mx_transcript.specs.Elements.{IsJudged}
 use Rattle.mx_transcript.specs.Next.{Reference}
 use Rattle.mx_line.proofs.TakenLaws.{same_asked}
-use Rattle.mx_line.specs.Making.{looks}
+use Rattle.mx_line.specs.Looks.{looks}
 use Rattle.mx_line.proofs.at_work.led_by.Goals as goal
 
 pub returns-in-Word-clause-leads : goal.returns-in-Word-clause-leads

@@ -6,7 +6,7 @@ use Rattle.std.proofs.Common.{◌≡◌, ℕ}
 use Rattle.mx_core.specs.declared.elements.Outcome.TheVariants.{Written, Entered, Denied}
 use Rattle.mx_sdw.specs.declared.denials.Denial.{Denial}
 use Rattle.mx_line.proofs.TakenLaws.{judged_gives, word_gives}
-use Rattle.mx_line.specs.Making.{looks}
+use Rattle.mx_line.specs.Looks.{looks}
 use Rattle.mx_line.proofs.at_work.word_read.Goals as goal
 
 pub returns-in-Read-clause-leads : goal.returns-in-Read-clause-leads

@@ -10,7 +10,7 @@ use Rattle.mx_hier.specs.Who.{caller, subject}
 use Rattle.mx_state.specs.Changing.{altered_at, alteration}
 use Rattle.mx_state.proofs.AnswerLaws.{after_call, call_is_sound, of_old_by, found, loud_serves}
 use Rattle.mx_state.proofs.ChangingLaws.{altered_leaves}
-use Rattle.mx_state.proofs.GivenLaws.{altered_keeps, pages_kept}
+use Rattle.mx_state.proofs.GivenLaws.{altered_frees, pages_freed}
 use Rattle.mx_state.proofs.RenewingLaws.{renewed_are}
 use Rattle.mx_state.proofs.SegmentLaws.{Only}
 use Rattle.mx_state.proofs.states.State.alter.Goals as goal
@@ -34,10 +34,12 @@ returns-clause-served c =
     of_old_by s.version (λ s. alteration s c.args.p c.args.ring c.args.path.now c.args.follow request) s.hier s.mail s.processes.items _ _ _ c.self.view_is
     (loud_serves s.version (λ who. onward (entry s.hier who c.args.path.now c.args.follow) (λ uid. altered_at s.hier who.subject uid request))
     meant s.hier c.alter-given.new.hier s.mail s.processes.items c.args.p c.args.ring who
-    c.alter-given.result c.in_ok-reply.reply c.renewed-changes.result (rw c.as_slice-processes.ensures.value at c.caller-who.ensures)
+    c.alter-given.result c.in_ok-reply.reply c.renewed-changes.result c.unless_refused-freed.result (rw c.as_slice-processes.ensures.value at c.caller-who.ensures)
     (found (entry s.hier who c.args.path.now c.args.follow) (λ uid. altered_at s.hier who.subject uid request) uid c.in-Ok.ensures.answer)
     c.alter-given.ensures.answer c.in_ok-reply.ensures
-    (pages_kept meant s.hier c.alter-given.new.hier c.alter-given.result c.alter-given.ensures.answer (altered_keeps s.hier who.subject uid request))
+    (rw (c.unless_refused-freed.ensures, c.freed_by-pages.ensures.value)
+    (pages_freed meant s.hier c.alter-given.new.hier c.alter-given.result _ c.alter-given.ensures.answer
+    (altered_frees s.hier who.subject uid request (rw c.freed_by-pages.ensures.value at c.freed_by-pages.ensures.taken))))
     c.self.invariant.sound
     (renewed_are s.version s.hier c.alter-given.new.hier s.mail s.processes.items uid c.in_ok-held.held.items c.renewed-changes.result c.self.invariant.sound before
     (rw c.as_slice-processes.ensures.value at c.in_ok-held.ensures)
