@@ -1,3 +1,4 @@
+mod beside;
 mod inside;
 mod running;
 mod turning;
