@@ -11,6 +11,7 @@ mod errors;
 mod gates;
 mod judging;
 mod lines;
+mod numbers;
 mod parts;
 mod reasons;
 mod refusals;

@@ -2,6 +2,7 @@
 
 use crate::gates::Gates;
 use crate::judging::{Accesses, FIRST_RING};
+use crate::numbers::Numbers;
 use crate::parts::Part::{self, Decimal, Octal, Place, Text};
 use crate::parts::{NOTHING, add_parts, add_sentences, ring};
 use crate::reasons::{Reason, explain};
@@ -24,6 +25,7 @@ pub(crate) struct Teller<'a> {
     process: u8,
     ring: u8,
     gates: Gates,
+    numbers: Numbers<'a>,
     judged: usize,
     changed: usize,
 }
@@ -42,6 +44,7 @@ impl<'a> Teller<'a> {
             process,
             ring: FIRST_RING,
             gates: Gates::new(alloc, FIRST_RING),
+            numbers: Numbers::new(alloc),
             judged: 0,
             changed: 0,
         }
@@ -111,7 +114,13 @@ impl<'a> Teller<'a> {
         )?;
         add_reply(alloc, out, entry)?;
         out.push_str("\n")?;
+        self.numbers.note(number, entry)?;
         self.add_changes(out, number)
+    }
+
+    /// Adds which segment numbers the process was given, and what each stands for.
+    pub(crate) fn add_numbers(&self, out: &mut String) -> Result<(), AllocError> {
+        self.numbers.add_table(out)
     }
 
     // Adds whose access this entry changed.

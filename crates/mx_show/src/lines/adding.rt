@@ -70,10 +70,12 @@ pub(super) fn add_request_line(
     ensures { OnOk result (IsLineBehind number (Ask request.now) out.old.items out.new.items) }
 {
     add_request_head(out, number, request)?;
-    add_step(alloc, out, teller, None, events, ends)
+    let mut told = String::new(alloc);
+    teller.add_step(alloc, &mut told, None, events, ends)?;
+    add_told(out, told.as_bytes())
 }
 
-/// Adds a line of a script, and what is told of it.
+/// Adds a line of a script, and what is told of it; of a logout also which segment numbers the process was given.
 pub(super) fn add_script_line(
     alloc: Global,
     out: &mut Vec<u8>,
@@ -86,7 +88,12 @@ pub(super) fn add_script_line(
     ensures { OnOk result (IsLineBehind number line.now out.old.items out.new.items) }
 {
     add_line_head(out, number, line)?;
-    add_step(alloc, out, teller, word_set(line), events, ends)
+    let mut told = String::new(alloc);
+    teller.add_step(alloc, &mut told, word_set(line), events, ends)?;
+    if is_logout(line) {
+        teller.add_numbers(&mut told)?;
+    }
+    add_told(out, told.as_bytes())
 }
 
 fn add_request_head(out: &mut Vec<u8>, number: u32, request: &Request) -> Result<(), AllocError>
@@ -107,27 +114,19 @@ fn add_line_head(out: &mut Vec<u8>, number: u32, line: &Line) -> Result<(), Allo
     out.extend_from_slice(b"\n")
 }
 
-// Adds what is told of a line: its events and how it ended. A line that sets A has its word.
-fn add_step(
-    alloc: Global,
-    out: &mut Vec<u8>,
-    teller: &mut Teller,
-    set: Option<Word>,
-    events: &[Event2],
-    ends: Result2,
-) -> Result<(), AllocError>
-    ensures { OnOk result (IsToldBehind out.old.items out.new.items) }
-{
-    let mut told = String::new(alloc);
-    teller.add_step(alloc, &mut told, set, events, ends)?;
-    add_told(out, told.as_bytes())
-}
-
 // The word of a line that sets A.
 fn word_set(line: &Line) -> Option<Word> {
     match line {
         Line::Set { word } => Some(*word),
         _ => None,
+    }
+}
+
+// Whether a line is the logout.
+fn is_logout(line: &Line) -> bool {
+    match line {
+        Line::Ask(asked) => matches!(asked.request(), Request::Logout),
+        _ => false,
     }
 }
 
