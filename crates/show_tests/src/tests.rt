@@ -36,7 +36,8 @@ const SMALLEST_LINES: &str = "processes: 1; journal entries: 4\n\n\
     \x20       at point 3: rw by Jones.Faculty.a, brackets 1,4,4, 64 words, since entry 3\n\
     line 8: lda 10|5\n    read 10|5 in ring 4: 0, nobody has stored there\n\
     \x20       at point 3: rw by Jones.Faculty.a, brackets 1,4,4, 64 words, since entry 3\n\
-    line 9: logout\n    entry 4 in ring 4: done\n";
+    line 9: logout\n    entry 4 in ring 4: done\n\
+    \x20   numbers besides those of its stacks:\n        10 is >a, since entry 3\n";
 
 const ENDED: &str =
     "line 1: the text ends here; what may come is `multics 1`, `multics 2`, `multics 3` or `multics 4`\n";
