@@ -1,5 +1,6 @@
 //! What is wrong with a line, and how it is found.
 
+use crate::causes::{Cause, cause_of};
 use crate::fields::Field;
 use crate::forms::Form;
 use crate::orders::Order;
@@ -23,7 +24,7 @@ pub enum Fault<'a> {
     /// The line ends with a carriage return.
     CarriageReturn,
     /// A space too many, or a tab.
-    Spaces,
+    Space(Space),
     /// No kind of line begins with this word.
     UnknownWord(&'a [u8]),
     /// A line of this kind cannot stand here.
@@ -40,6 +41,19 @@ pub enum Fault<'a> {
     DefinedTwice(&'a [u8]),
     /// A line that is right by itself.
     Unexplained,
+}
+
+/// A space that cannot stand where it is, by its column, counted from 1.
+#[derive(Clone, Copy)]
+pub enum Space {
+    /// A tab.
+    Tab(usize),
+    /// A space after a space.
+    Second(usize),
+    /// A space at the beginning.
+    First,
+    /// A space at the end.
+    Last(usize),
 }
 
 /// What is wrong with the line that begins here, in a session of this version; behind it there is a newline, or the text ends.
@@ -123,22 +137,30 @@ fn layout_fault(place: Place, line: &[u8]) -> Option<Fault<'static>> {
     if line.ends_with(b"\r") {
         return Some(Fault::CarriageReturn);
     }
-    if line.starts_with(b" ") || line.ends_with(b" ") || has_wide_space(line) {
-        return Some(Fault::Spaces);
-    }
-    None
+    wide_space(line).map(Fault::Space)
 }
 
-// Two spaces side by side, or a tab.
-fn has_wide_space(line: &[u8]) -> bool {
+// The first space that cannot stand where it is, or tab.
+fn wide_space(line: &[u8]) -> Option<Space> {
+    if line.starts_with(b" ") {
+        return Some(Space::First);
+    }
     let mut last = 0;
-    for byte in line {
-        if *byte == b'\t' || (*byte == b' ' && last == b' ') {
-            return true;
+    for (place, byte) in line.iter().enumerate() {
+        let column = place.saturating_add(1);
+        if *byte == b'\t' {
+            return Some(Space::Tab(column));
+        }
+        if *byte == b' ' && last == b' ' {
+            return Some(Space::Second(column));
         }
         last = *byte;
     }
-    false
+    if last == b' ' {
+        Some(Space::Last(line.len()))
+    } else {
+        None
+    }
 }
 
 // The first field that is missing, wrong or too many.
@@ -263,7 +285,7 @@ impl<'a> Fault<'a> {
             | Fault::NoNewline
             | Fault::Empty
             | Fault::CarriageReturn
-            | Fault::Spaces
+            | Fault::Space(_)
             | Fault::UnknownWord(_)
             | Fault::Order(_, _)
             | Fault::Unexplained => None,
@@ -278,34 +300,35 @@ enum Words<'a> {
     Alone(&'static str, &'static str),
     /// A text of the line, between words.
     Around(&'static str, &'a [u8], &'static str),
-    /// A field, its text, and what it is to be.
-    Wrong(&'static str, &'a [u8], &'static str),
+    /// A field, what it is to be, its text, and what is wrong in that.
+    Wrong(&'static str, &'static str, &'a [u8], Option<Cause<'a>>),
+    /// A space or a tab where none can be.
+    Space(Space),
 }
 
 impl<'a> Fault<'a> {
     fn words(&self) -> Words<'a> {
         match *self {
             Fault::TextEnds(place) => {
-                Words::Alone("the text ends here; what may come is ", place.next())
+                Words::Alone("the text ends here; expected: ", place.next())
             }
-            Fault::NoNewline => Words::Alone("the line has no newline behind it", ""),
+            Fault::NoNewline => Words::Alone("the line does not end with a newline", ""),
             Fault::Empty => Words::Alone("an empty line; no line is empty", ""),
             Fault::CarriageReturn => {
                 Words::Alone("a carriage return; a line ends with a newline alone", "")
             }
-            Fault::Spaces => Words::Alone(
-                "fields are separated by exactly one space, and no line begins or ends with one",
-                "",
-            ),
+            Fault::Space(space) => Words::Space(space),
             Fault::UnknownWord(word) => Words::Around("no line begins with ", word, ""),
             Fault::Order(_, order) => Words::Alone(order.words(), ""),
             Fault::Missing(_, field) => Words::Alone(field.name(), " is missing"),
-            Fault::Wrong(_, field, text) => Words::Wrong(field.name(), text, field.wanted()),
-            Fault::Extra(_, text) => Words::Around("", text, " is too much"),
+            Fault::Wrong(_, field, text) => {
+                Words::Wrong(field.name(), field.wanted(), text, cause_of(field, text))
+            }
+            Fault::Extra(_, text) => Words::Around("too much: ", text, ""),
             Fault::DefinitionBehindLink(field) => Words::Around(
                 "",
                 field,
-                " is behind a link; definitions stand before links",
+                " is after a link; definitions stand before links",
             ),
             Fault::DefinedTwice(symbol) => Words::Around(
                 "the symbol ",
@@ -331,9 +354,30 @@ impl<'a> Display for Words<'a> {
         match self {
             Words::Alone(words, more) => write!(f, "{words}{more}"),
             Words::Around(before, text, behind) => write!(f, "{before}`{}`{behind}", Shown(text)),
-            Words::Wrong(field, text, wanted) => {
-                write!(f, "{field} is `{}`, and not {wanted}", Shown(text))
+            Words::Wrong(field, wanted, text, cause) => {
+                write!(f, "{field} must be {wanted}, but is `{}`", Shown(text))?;
+                match cause {
+                    Some(cause) => write!(f, ": {cause}"),
+                    None => Ok(()),
+                }
             }
+            Words::Space(space) => {
+                write!(
+                    f,
+                    "{space}; fields are separated by exactly one space, and no line begins or ends with one"
+                )
+            }
+        }
+    }
+}
+
+impl Display for Space {
+    fn fmt<W: Write>(&self, f: &mut Formatter<W>) -> fmt::Result {
+        match self {
+            Space::Tab(column) => write!(f, "a tab in column {column}"),
+            Space::Second(column) => write!(f, "a second space in column {column}"),
+            Space::First => f.write_str("the line begins with a space"),
+            Space::Last(column) => write!(f, "the line ends with a space, in column {column}"),
         }
     }
 }

@@ -64,7 +64,7 @@ impl Field {
             Field::Gate => "GATE",
             Field::Definition => "d:SYMBOL:W",
             Field::ObjectLink => "l:NAME$SYMBOL",
-            Field::DefinitionOrLink => "a field behind GATE",
+            Field::DefinitionOrLink => "a field after GATE",
             Field::Name => "NAME",
             Field::Id => "ID",
             Field::Modes => "MODES",
@@ -92,7 +92,7 @@ impl Field {
                 "L:C, a digit from 0 to 7 and an octal number to 777777, with no leading zero"
             }
             Field::Path | Field::Target => {
-                "a pathname: names with `>` between them, after one `>`, some `<` or nothing; at most 168 characters, a name at most 32"
+                "a pathname: names with `>` between them, after one `>`, some `<` or nothing; at most 168 characters, a name at most 32 and without > < * ? $ , | : ="
             }
             Field::Words => "a decimal number of at most 5 digits, with no leading zero",
             Field::R1 | Field::R2 | Field::R3 | Field::D1 | Field::D2 => {
@@ -107,7 +107,9 @@ impl Field {
             Field::Name => {
                 "a name: 1 to 32 printable ASCII characters, none of > < * ? $ , | : ="
             }
-            Field::Id => "Person.Project.tag, with `*` in place of any of the three",
+            Field::Id => {
+                "Person.Project.tag, of at most 22, 9 and 1 letters, digits or `_`, or with `*` in place of any of the three"
+            }
             Field::Modes => "`null`, or letters of `rew`, or letters of `sma`, in this order",
             Field::Rule => {
                 "`initiated_segments`, `referencing_dir`, `working_dir` or a path from `>`"
@@ -118,7 +120,7 @@ impl Field {
             Field::Word => { "an octal word of at most 12 digits, with no leading zero" }
             Field::Register => "the number of a pointer register, one digit from 0 to 7",
             Field::Operand => {
-                "S|W or prN|W in octal, S to 7777, N to 7 and W to 37777, with `,*` behind it or not"
+                "S|W or prN|W in octal, S to 7777, N to 7 and W to 37777, with `,*` after it or not"
             }
         }
     }

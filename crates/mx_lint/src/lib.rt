@@ -5,6 +5,7 @@
 //! would name is shown by stored texts, run by the program `sessions`; the line, its text and the reading of each field are proved.
 #![tactic(auto)]
 
+mod causes;
 mod faults;
 mod fields;
 mod forms;
@@ -14,7 +15,7 @@ mod places;
 mod reading;
 mod texts;
 
-pub use faults::Fault;
+pub use faults::{Fault, Space};
 pub use fields::Field;
 pub use forms::Form;
 pub use linting::{Diagnosis, Finding, lint};

@@ -72,12 +72,7 @@ impl<'a> Numbers<'a> {
     }
 
     // A number that was given, where it is a new one, and that of its linkage section.
-    fn give(
-        &mut self,
-        number: u32,
-        stands: Stands<'a>,
-        known: Known,
-    ) -> Result<(), AllocError> {
+    fn give(&mut self, number: u32, stands: Stands<'a>, known: Known) -> Result<(), AllocError> {
         if known.fresh {
             self.add(number, known.segno, stands)?;
         }
@@ -159,7 +154,11 @@ fn add_stands(out: &mut String, stands: &Stands) -> Result<(), AllocError> {
         ),
         Stands::Behind(segno, word) => add_parts(
             out,
-            &[Text("what the link at "), Place(*segno, *word), Text(" leads to")],
+            &[
+                Text("what the link at "),
+                Place(*segno, *word),
+                Text(" leads to"),
+            ],
         ),
     }
 }

@@ -180,7 +180,9 @@ impl<B: Sitting> Insider<B> {
         requires layout { shared.now.key.layout ≡ B.layout }
     {
         self.pass.reserve(1)?;
-        let referred = self.pass.refer(shared, SEGNO, Op::Read, ring, 0, Word::zero());
+        let referred = self
+            .pass
+            .refer(shared, SEGNO, Op::Read, ring, 0, Word::zero());
         Ok(match referred {
             Referred::Seen(_) => false,
             Referred::Missing { .. } => true,
