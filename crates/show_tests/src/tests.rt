@@ -40,7 +40,7 @@ const SMALLEST_LINES: &str = "processes: 1; journal entries: 4\n\n\
     \x20   numbers besides those of its stacks:\n        10 is >a, since entry 3\n";
 
 const ENDED: &str =
-    "line 1: the text ends here; what may come is `multics 1`, `multics 2`, `multics 3` or `multics 4`\n";
+    "line 1: the text ends here; expected: `multics 1`, `multics 2`, `multics 3` or `multics 4`\n";
 
 const USAGE: &str = "Usage: show COMMAND < SESSION\n\
     \x20 lint             the first bad line of the text, and what is wrong with it\n\
