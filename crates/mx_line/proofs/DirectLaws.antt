@@ -1,5 +1,5 @@
 -- A line whose operand is not indirect makes its own reference first, at its target.
-use Rattle.std.proofs.Common.{◌≡◌, ℕ, max, Bool, true, false, List, [], ◌∷◌, ◌++◌, Option, Some, None, IsSome, refl, sym, ◌∙◌, ap}
+use Rattle.std.proofs.Common.{◌≡◌, ℕ, max, Bool, true, false, List, [], ◌∷◌, ◌++◌, Option, Some, None, IfSome, IsSome, refl, sym, ◌∙◌, ap}
 use Rattle.std.specs.Option.{option_map}
 use Rattle.std.proofs.Math.Nat.{max-zero}
 use Rattle.mx_call.specs.Registers.{Registers, raised_to}
@@ -24,13 +24,13 @@ use Rattle.mx_transcript.specs.Targets.{at_target, after_target}
 use Rattle.mx_transcript.specs.declared.transcripts.Event2.TheVariants.{Core}
 use Rattle.mx_transcript.specs.declared.transcripts.Result2.{Result2}
 use Rattle.mx_upcall.specs.Control.{Control}
-use Rattle.mx_line.proofs.TakenLaws.{Leads, begun_taken, begun_met}
-use Rattle.mx_line.specs.AtWork.{HasSeen, IsKnown, IsMet, IsSaid, IsTaken, beside, ending, left}
+use Rattle.mx_line.proofs.TakenLaws.{Leads, begun_taken, begun_met, walking_taken}
+use Rattle.mx_line.specs.AtWork.{EndsAt, HasSeen, IsKnown, IsMet, IsSaid, IsTaken, IsTakenTo, beside, ending, left}
 use Rattle.mx_line.proofs.StandingLaws.{walk_asks}
 use Rattle.mx_line.specs.Operands.{first_want, want_at}
 use Rattle.mx_line.specs.declared.at_work.LineAtWork.{LineAtWork}
 use Rattle.mx_line.specs.declared.at_work.LineAtWork.TheVariants as at
-use Rattle.mx_line.specs.declared.operands.Progress.TheVariants.{Before}
+use Rattle.mx_line.specs.declared.operands.Progress.TheVariants.{Before, Walking}
 
 -- the walk that asks for this at its beginning
 record HasFirstWalk (g : Registers) (l : Line) (w : Want) : Type 0 where
@@ -107,3 +107,23 @@ ending_said g asks (Some ends) e = e
 pub left_known : (g : Control) (ends : Option Result2) → IsSome ends → IsKnown (left g ends)
 left_known g None is = absurd cc
 left_known g (Some ends) is = tt
+
+-- a line that ends so at its target ends so by its first reference
+pub ends_taken : (g : Control) (l : Line) (target : PointerParts) (e : Element) (ends : Result2)
+    → first_want g.registers l ≡ Some (want.Done target) → EndsAt l e.outcome ends → IsTakenTo g l e (at.At Before) (left g (Some ends))
+ends_taken g l target e ends is at_end = λ d setting on.
+    direct_taken g l target e d (left g (Some ends)) is (λ asked at right. at_end g target d) setting on
+
+pub walk_ends_taken : (g : Control) (l : Line) (walk : chains.Operand) (target : PointerParts) (e : Element) (ends : Result2)
+    → wanted walk ≡ want.Done target → EndsAt l e.outcome ends
+    → IsTakenTo g l e (at.At (Walking walk)) (left g (Some ends))
+walk_ends_taken g l walk target e ends done at_end = λ d setting on.
+    walking_taken g l walk e d (left g (Some ends)) (told_leads g l walk target e d (left g (Some ends)) done (λ asked at right. at_end g target d))
+    setting on
+
+-- so it is with the end that is found
+pub walk_ends_in : (g : Control) (l : Line) (walk : chains.Operand) (target : PointerParts) (e : Element) (found : Option Result2)
+    → wanted walk ≡ want.Done target → IfSome found (EndsAt l e.outcome)
+    → IfSome found (λ ends. IsTakenTo g l e (at.At (Walking walk)) (left g (Some ends)))
+walk_ends_in g l walk target e None done at_end = tt
+walk_ends_in g l walk target e (Some ends) done at_end = walk_ends_taken g l walk target e ends done at_end

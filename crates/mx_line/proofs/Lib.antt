@@ -6,3 +6,4 @@ pub mod ReplyLaws
 pub mod TakenLaws
 pub mod DirectLaws
 pub mod ScriptLaws
+pub mod ProcessLaws

@@ -3,6 +3,9 @@
 use Rattle.std.specs.Prelude.{◌≡◌, ℕ, ◌<◌, List, Option, Some, None, IsSome}
 use Rattle.mx_call.specs.Registers.{Registers}
 use Rattle.mx_core.specs.declared.elements.Element.{Element}
+use Rattle.mx_core.specs.declared.elements.Event.TheVariants.{Seen}
+use Rattle.mx_core.specs.declared.elements.Outcome.{Outcome}
+use Rattle.mx_ptr.specs.Pointers.{PointerParts}
 use Rattle.mx_sdw.specs.Descriptors.{Descriptor}
 use Rattle.mx_sdw.specs.declared.operations.Op.{Op}
 use Rattle.mx_sdw.specs.declared.operations.Op.TheVariants.{Write}
@@ -19,7 +22,9 @@ use Rattle.mx_transcript.specs.Elements.{IsJudged}
 use Rattle.mx_transcript.specs.Events.{IsEvent}
 use Rattle.mx_transcript.specs.Next.{Next, Reference, Asks, Fills, Calls, Ends, Nowhere}
 use Rattle.mx_transcript.specs.Settings.{Setting}
+use Rattle.mx_transcript.specs.Targets.{after_target}
 use Rattle.mx_transcript.specs.declared.transcripts.Event2.{Event2}
+use Rattle.mx_transcript.specs.declared.transcripts.Event2.TheVariants.{Core}
 use Rattle.mx_transcript.specs.declared.transcripts.Result2.{Result2}
 use Rattle.mx_transcript.specs.declared.transcripts.Result2.TheVariants as result
 use Rattle.mx_upcall.specs.Changes.{Fits, keeping, changed}
@@ -229,6 +234,16 @@ ending g (Some ends) = Ends ends (with_registers g (left_in ends g.registers))
 abbrev pub left : Control → Option Result2 → LineAtWork
 left g None = at.Nowhere
 left g (Some ends) = at.Ended (record { ends = ends; after = keeping (left_in ends g.registers) })
+
+-- by its reference at its target a line ends so, wherever that is
+abbrev pub EndsAt : Line → Outcome → Result2 → Type 0
+EndsAt l outcome ends = (g : Control) (target : PointerParts) (d : Descriptor)
+    → after_target g l target d outcome ≡ ending g (Some ends)
+
+-- so it ends by this element, which it has on some descriptor
+abbrev pub IsTakenTo : Control → Line → Element → LineAtWork → LineAtWork → Type 0
+IsTakenTo g l e before after = (d : Descriptor) (setting : Setting) → setting.descriptor e ≡ d
+    → IsTaken g l setting (Core (Seen e)) before after
 
 -- the process goes on so
 abbrev pub moved_on : Change → LineAtWork

@@ -1,5 +1,5 @@
 -- Helpers: what the line of a process asks for, and what an element makes of it.
-use Rattle.std.specs.Prelude.{◌≡◌}
+use Rattle.std.specs.Prelude.{◌≡◌, Some}
 use Rattle.mx_upcall.specs.Control.{Control}
 use Rattle.mx_core.specs.declared.elements.Element.{Element}
 use Rattle.mx_core.specs.declared.elements.Event.TheVariants.{Seen}
@@ -7,22 +7,36 @@ use Rattle.mx_transcript.specs.Asking.{next}
 use Rattle.mx_transcript.specs.Courses.{Course}
 use Rattle.mx_transcript.specs.Settings.{Setting}
 use Rattle.mx_transcript.specs.declared.transcripts.Event2.TheVariants.{Core}
+use Rattle.mx_transcript.specs.declared.transcripts.Result2.{Result2}
 use Rattle.mx_script.specs.declared.lines.Line.{Line}
 use Rattle.mx_sdw.specs.Descriptors.{Descriptor}
-use Rattle.mx_line.specs.AtWork.{IsCome, IsFree, IsGoodNext, IsGoodWork, IsNearer, IsPlain, IsStorable, IsTaken, meant}
+use Rattle.mx_line.specs.AtWork.{IsCome, IsFree, IsGoodNext, IsGoodWork, IsNearer, IsPlain, IsStorable, IsTaken, IsTakenTo, left, meant}
 use Rattle.mx_line.specs.Fills.{IsNoRequest}
+use Rattle.mx_line.specs.Operands.{IsMemoryLine}
 use Rattle.mx_line.specs.declared.asking.Next as asking
+use Rattle.mx_line.specs.declared.asking.Next.TheVariants as asks
+use Rattle.mx_line.specs.declared.asking.Reference as asked
 use Rattle.mx_line.specs.declared.at_work.LineAtWork.{LineAtWork}
 use Rattle.mx_line.specs.declared.at_work.LineAtWork.TheVariants as works
 use Rattle.mx_line.specs.declared.operands.Progress.{Progress}
 use Rattle.mx_line.specs.declared.processes.Process.{Process}
 
 -- what the line of a process asks for
-pub record IsAsking (p : Process) (l : Line) (asks : asking.Next) : Type 0 where
-  pub is : (course : Course) → IsCome p.control l course p.progress → next p.control l course ≡ meant p.control l asks
-  pub storable : IsStorable asks
-  pub good : IsGoodNext p.control asks
-  pub plain : (course : Course) → IsCome p.control l course p.progress → IsNoRequest l → IsFree p.progress → IsPlain l asks
+pub record IsAsking (p : Process) (l : Line) (wanted : asking.Next) : Type 0 where
+  pub is : (course : Course) → IsCome p.control l course p.progress → next p.control l course ≡ meant p.control l wanted
+  pub storable : IsStorable wanted
+  pub good : IsGoodNext p.control wanted
+  pub plain : (course : Course) → IsCome p.control l course p.progress → IsNoRequest l → IsFree p.progress → IsPlain l wanted
+
+-- it asks for this reference to memory
+pub record IsReferring (p : Process) (l : Line) (r : asked.Reference) : Type 0 where
+  pub memory : (course : Course) → IsCome p.control l course p.progress → IsMemoryLine l
+  pub says : IsAsking p l (asks.Asks r)
+
+-- its line at work ends so by this element, which it has on some descriptor
+pub record HasPlainEnd (p : Process) (l : Line) (e : Element) (ends : Result2) : Type 0 where
+  pub taken : IsTakenTo p.control l e (works.At p.progress) (left p.control (Some ends))
+  pub good : IsGoodWork p.control (left p.control (Some ends))
 
 -- what an element makes of the line at work
 pub record Takes (g : Control) (l : Line) (progress : Progress) (e : Element) (d : Descriptor) (work : LineAtWork) : Type 0 where

@@ -117,6 +117,37 @@ fn walks(line: &Line, control: &Control) -> Next
     }
 }
 
+/// The reference that a line asks for at its beginning; none where it asks for another thing.
+#[inline(always)]
+pub(crate) fn first_reference(line: &Line, control: &Control) -> Option<Reference>
+    requires line { IsSayable line.now }
+    requires packable { IsPackableControl control.now }
+    ensures some { IfSome result (λ asked. attempts control.now line.now [] ≡ Asks (reference_in asked)) }
+    ensures storable { IfSome result (λ asked. IsStorableBy asked.op asked.stores) }
+    ensures memory { IfSome result (λ asked. IsMemoryLine line.now) }
+{
+    match first_place(line, &control.registers) {
+        Some(place) => reference_from(line, control, &place),
+        None => None,
+    }
+}
+
+// The reference that a line asks for at its beginning, whose walk begins at this place.
+#[inline(always)]
+fn reference_from(line: &Line, control: &Control, place: &Pointer) -> Option<Reference>
+    requires line { IsSayable line.now }
+    requires packable { IsPackableControl control.now }
+    requires good { IsGoodWant control.now.registers (want_at place.now) }
+    ensures some { IfSome result (λ asked. wants control.now line.now (want_at place.now) ≡ Asks (reference_in asked)) }
+    ensures storable { IfSome result (λ asked. IsStorableBy asked.op asked.stores) }
+{
+    if place.further {
+        Some(at_place(Op::Indirect, place))
+    } else {
+        reference_at(line, control, place)
+    }
+}
+
 /// The place, at its effective ring, for which the walk of a line that refers to memory asks at its beginning: a word where
 /// its further bit is set, and else the target. No walk is made for it.
 #[inline(always)]
@@ -202,6 +233,20 @@ pub(crate) fn wants(line: &Line, control: &Control, walk: &Walk) -> Next
     ensures plain { IsMemoryLine line.now → IsPlain line.now result }
 {
     at_want(line, control, &walk.want())
+}
+
+/// The reference that a line asks for where its walk has come so far; none where it asks for another thing.
+pub(crate) fn next_reference(line: &Line, control: &Control, walk: &Walk) -> Option<Reference>
+    requires line { IsSayable line.now }
+    requires packable { IsPackableControl control.now }
+    requires good { IsGoodWalk control.now.registers walk.now }
+    ensures some { IfSome result (λ asked. wants control.now line.now (wanted walk.now) ≡ Asks (reference_in asked)) }
+    ensures storable { IfSome result (λ asked. IsStorableBy asked.op asked.stores) }
+{
+    match walk.want() {
+        Want::Word { segno, word, ring } => Some(looking(segno, word, ring)),
+        Want::Done(target) => reference_at(line, control, &target),
+    }
 }
 
 // What a line asks for by what its walk does.

@@ -1,6 +1,6 @@
 //! The line at work: where a process stands within its line, and what an event that answers makes of it.
 
-ghost use Rattle.std.specs.Prelude.{◌≡◌, ◌-◌, ◌≤◌, ℕ, true, false, List, [], ◌∷◌, ◌++◌, Some, IsSome, length};
+ghost use Rattle.std.specs.Prelude.{◌≡◌, ◌-◌, ◌≤◌, ℕ, true, false, List, [], ◌∷◌, ◌++◌, Some, IfSome, IsSome, length};
 ghost use Rattle.mx_core.specs.declared.elements.Element.{Element as PlainElement};
 ghost use Rattle.mx_core.specs.declared.elements.Event.TheVariants.{Seen, Missing};
 ghost use Rattle.mx_core.specs.declared.elements.Outcome.TheVariants.{Read as WasRead, Written as WasWritten, Entered as HasEntered};
@@ -28,7 +28,7 @@ ghost use Rattle.mx_transcript.specs.declared.transcripts.Event2.TheVariants.{Co
 ghost use Rattle.mx_upcall.specs.Changes.{changed};
 ghost use Rattle.mx_upcall.specs.Control.{Control as Parts};
 ghost use Rattle.mx_upcall.specs.Soundness.{IsPackableControl};
-ghost use Rattle.mx_line.specs.AtWork.{ending, left, left_in, HasSeen, IsCome, IsFree, IsGoodNext, IsGoodWork, IsKnown, IsMet, IsMover, IsNearer, IsOver, IsPlain, IsReader, IsSaid, IsStorable, IsTaken, IsUnlinked, IsWithin, IsWriter, OneCourseLaw, StandsAt, after_writing, begun, beside, end_of, ended, filling_or, meant, moved_on, standing};
+ghost use Rattle.mx_line.specs.AtWork.{EndsAt, IsTakenTo, ending, left, left_in, HasSeen, IsCome, IsFree, IsGoodNext, IsGoodWork, IsKnown, IsMet, IsMover, IsNearer, IsOver, IsPlain, IsReader, IsSaid, IsStorable, IsTaken, IsUnlinked, IsWithin, IsWriter, OneCourseLaw, StandsAt, after_writing, begun, beside, end_of, ended, filling_or, meant, moved_on, standing};
 ghost use Rattle.mx_line.specs.Fills.{IsNoRequest, IsShort, after_fill, counted, first_fill, steps_to_fill};
 ghost use Rattle.mx_line.specs.Looks.{looks};
 ghost use Rattle.mx_line.specs.Operands.{IsGoodProgress, IsGoodWalk, IsMemoryLine, IsSayable, IsTarget};
@@ -331,6 +331,51 @@ fn did(
     }
 }
 
+/// How a line whose operand is not indirect ends by its reference, where that does not move the process; none where its
+/// operand is indirect, and for a call or a return that was granted.
+#[inline(always)]
+pub(crate) fn first_end(line: &Line, control: &Control, element: &Element) -> Option<Result2>
+    requires line { IsSayable line.now }
+    requires packable { IsPackableControl control.now }
+    ensures taken { IfSome result (λ ends. IsTakenTo control.now line.now element.now (At Before) (left control.now (Some ends))) }
+    ensures good { IfSome result (λ ends. IsGoodWork control.now (left control.now (Some ends))) }
+{
+    match first_target(line, &control.registers) {
+        Some(_) => end_at(line, element),
+        None => None,
+    }
+}
+
+/// How a line ends by the reference for which its walk asks, where that neither is to an indirect word nor moves the process.
+pub(crate) fn walked_end(
+    line: &Line,
+    control: &Control,
+    walk: &Walk,
+    element: &Element,
+) -> Option<Result2>
+    requires packable { IsPackableControl control.now }
+    ensures taken { IfSome result (λ ends. IsTakenTo control.now line.now element.now (At (Walking walk.now)) (left control.now (Some ends))) }
+    ensures good { IfSome result (λ ends. IsGoodWork control.now (left control.now (Some ends))) }
+{
+    match walk.want() {
+        Want::Done(_) => end_at(line, element),
+        Want::Word { .. } => None,
+    }
+}
+
+// How a line ends by its reference at its target, where that does not move the process.
+#[inline(always)]
+fn end_at(line: &Line, element: &Element) -> Option<Result2>
+    ensures { IfSome result (EndsAt line.now element.now.outcome) }
+{
+    match element.outcome {
+        Outcome::Denied(denial) => Some(Result2::Denied(denial)),
+        Outcome::Read { value, .. } => read(line, value),
+        Outcome::Written { .. } => written(line),
+        Outcome::Entered { .. } => None,
+    }
+}
+
 // How a line ends that read this word at its target.
 #[inline(always)]
 fn read(line: &Line, value: Word) -> Option<Result2>
@@ -387,10 +432,10 @@ fn left(ends: Option<Result2>, control: &Control) -> LineAtWork
     }
 }
 
-// What the end of a line that does not move the process leaves in the registers: the accumulator has the word that it
-// read.
+/// What the end of a line that does not move the process leaves in the registers: the accumulator has the word that it
+/// read.
 #[inline(always)]
-fn leave(registers: &mut Regs, ends: &Result2)
+pub(crate) fn leave(registers: &mut Regs, ends: &Result2)
     ensures { registers.new ≡ left_in ends.now registers.old }
 {
     match ends {

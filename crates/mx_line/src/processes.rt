@@ -1,15 +1,18 @@
 //! A process: its registers and return gates, and what was recorded of it.
 
-ghost use Rattle.std.specs.Prelude.{◌≡◌};
+ghost use Rattle.std.specs.Prelude.{◌≡◌, ◌≤◌, ◌<◌, ◌+◌, ◌^◌, [], ◌∷◌, ◌++◌, IfSome, IsTrue, length};
+ghost use Rattle.mx_upcall.specs.Control.{with_registers};
 ghost use Rattle.mx_upcall.specs.Soundness.{IsPackableControl};
+ghost use Rattle.mx_line.specs.AtWork.{left_in};
 ghost use Rattle.mx_line.specs.Operands.{IsGoodProgress, IsSayable};
-ghost use Rattle.mx_line.specs.Processes.{IsAsking};
+ghost use Rattle.mx_line.specs.Processes.{HasPlainEnd, IsAsking, IsReferring};
+ghost use Rattle.mx_line.specs.declared.operands.Progress.TheVariants.{Before};
 
-use crate::asking::Next;
-use crate::at_work::next_at;
+use crate::asking::{Next, Reference, first_reference, next_reference};
+use crate::at_work::{first_end, leave, next_at, walked_end};
 use crate::operands::Progress;
 use mx_script::Line;
-use mx_transcript::{Recording, Transcript};
+use mx_transcript::{Element, Event2, Recording, Result2, Transcript};
 use mx_upcall::Control;
 
 /// A process: the number of its first line in the session text, its registers and return gates at the start of the line at
@@ -29,6 +32,85 @@ impl Process {
     {
         let Process { recording, .. } = self;
         recording.finish()
+    }
+
+    /// The reference that its line asks for at its beginning: a word of its walk, or its target; none where the line has begun
+    /// already, or asks for another thing.
+    #[inline(always)]
+    pub fn refers(&self, line: &Line) -> Option<Reference>
+        requires packable { IsPackableControl self.now.control }
+        requires line { IsSayable line.now }
+        ensures { IfSome result (IsReferring self.now line.now) }
+    {
+        match &self.progress {
+            Progress::Before => first_reference(line, &self.control),
+            Progress::Walking(_) | Progress::AtLink(_) | Progress::Waiting | Progress::Filling(_) =>
+                None,
+        }
+    }
+
+    /// The reference that its line asks for where it has read some indirect words; none where it has read none, or asks for
+    /// another thing.
+    pub fn refers_on(&self, line: &Line) -> Option<Reference>
+        requires packable { IsPackableControl self.now.control }
+        requires progress { IsGoodProgress self.now.control.registers self.now.progress }
+        requires line { IsSayable line.now }
+        ensures { IfSome result (IsReferring self.now line.now) }
+    {
+        match &self.progress {
+            Progress::Walking(walk) => next_reference(line, &self.control, walk),
+            Progress::Before | Progress::AtLink(_) | Progress::Waiting | Progress::Filling(_) =>
+                None,
+        }
+    }
+
+    /// How its line ends by its first reference, where its operand is not indirect and that does not move the process.
+    #[inline(always)]
+    pub fn plain_end(&self, line: &Line, element: &Element) -> Option<Result2>
+        requires packable { IsPackableControl self.now.control }
+        requires line { IsSayable line.now }
+        ensures ends { IfSome result (HasPlainEnd self.now line.now element.now) }
+        ensures before { IfSome result (λ ends. self.now.progress ≡ Before) }
+    {
+        match &self.progress {
+            Progress::Before => first_end(line, &self.control, element),
+            Progress::Walking(_) | Progress::AtLink(_) | Progress::Waiting | Progress::Filling(_) =>
+                None,
+        }
+    }
+
+    /// How its line ends by the reference for which its walk asks, where that neither is to an indirect word nor moves the
+    /// process.
+    pub fn walked_end(&self, line: &Line, element: &Element) -> Option<Result2>
+        requires packable { IsPackableControl self.now.control }
+        ensures { IfSome result (HasPlainEnd self.now line.now element.now) }
+    {
+        match &self.progress {
+            Progress::Walking(walk) => walked_end(line, &self.control, walk, element),
+            Progress::Before | Progress::AtLink(_) | Progress::Waiting | Progress::Filling(_) =>
+                None,
+        }
+    }
+
+    /// Its line at work ends so with this event; how far it had come stays to be forgotten. Conditions: there is room for an
+    /// event and for the line's end. It takes no memory.
+    #[inline(always)]
+    pub fn end_plainly(&mut self, event: Event2, ends: Result2)
+        requires event { 1 ≤ self.old.recording.spare }
+        requires line { IsTrue self.old.recording.line_room }
+        requires number { self.old.first + length self.old.recording.steps < 2 ^ 32 }
+        ensures first { self.new.first ≡ self.old.first }
+        ensures done { self.new.control ≡ with_registers self.old.control (left_in ends self.old.control.registers) }
+        ensures steps { self.new.recording.steps ≡ self.old.recording.steps
+            ++ (self.old.first + length self.old.recording.steps, self.old.recording.events ++ event ∷ [], ends) ∷ [] }
+        ensures idle { self.new.recording.events ≡ [] }
+        ensures spare { self.old.recording.spare ≤ self.new.recording.spare + 1 }
+        ensures progress { self.new.progress ≡ self.old.progress }
+    {
+        let number = self.first + self.recording.lines() as u32;
+        self.recording.keep(event);
+        self.recording.end_line(number, ends);
+        leave(&mut self.control.registers, &ends);
     }
 
     /// What its line asks for.
