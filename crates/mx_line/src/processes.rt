@@ -34,66 +34,39 @@ impl Process {
         recording.finish()
     }
 
-    /// The reference that its line asks for at its beginning: a word of its walk, or its target; none where the line has begun
-    /// already, or asks for another thing.
+    /// The reference that its line asks for, at its beginning or where it has read some indirect words; none where it asks for
+    /// another thing.
     #[inline(always)]
     pub fn refers(&self, line: &Line) -> Option<Reference>
-        requires packable { IsPackableControl self.now.control }
-        requires line { IsSayable line.now }
-        ensures { IfSome result (IsReferring self.now line.now) }
-    {
-        match &self.progress {
-            Progress::Before => first_reference(line, &self.control),
-            Progress::Walking(_) | Progress::AtLink(_) | Progress::Waiting | Progress::Filling(_) =>
-                None,
-        }
-    }
-
-    /// The reference that its line asks for where it has read some indirect words; none where it has read none, or asks for
-    /// another thing.
-    pub fn refers_on(&self, line: &Line) -> Option<Reference>
         requires packable { IsPackableControl self.now.control }
         requires progress { IsGoodProgress self.now.control.registers self.now.progress }
         requires line { IsSayable line.now }
         ensures { IfSome result (IsReferring self.now line.now) }
     {
         match &self.progress {
+            Progress::Before => first_reference(line, &self.control),
             Progress::Walking(walk) => next_reference(line, &self.control, walk),
-            Progress::Before | Progress::AtLink(_) | Progress::Waiting | Progress::Filling(_) =>
-                None,
+            Progress::AtLink(_) | Progress::Waiting | Progress::Filling(_) => None,
         }
     }
 
-    /// How its line ends by its first reference, where its operand is not indirect and that does not move the process.
+    /// How its line ends by the reference for which it asks, where that is to its target and does not move the process; none
+    /// where the reference is to an indirect word, and for a call or a return that was granted.
     #[inline(always)]
     pub fn plain_end(&self, line: &Line, element: &Element) -> Option<Result2>
         requires packable { IsPackableControl self.now.control }
         requires line { IsSayable line.now }
-        ensures ends { IfSome result (HasPlainEnd self.now line.now element.now) }
-        ensures before { IfSome result (λ ends. self.now.progress ≡ Before) }
-    {
-        match &self.progress {
-            Progress::Before => first_end(line, &self.control, element),
-            Progress::Walking(_) | Progress::AtLink(_) | Progress::Waiting | Progress::Filling(_) =>
-                None,
-        }
-    }
-
-    /// How its line ends by the reference for which its walk asks, where that neither is to an indirect word nor moves the
-    /// process.
-    pub fn walked_end(&self, line: &Line, element: &Element) -> Option<Result2>
-        requires packable { IsPackableControl self.now.control }
         ensures { IfSome result (HasPlainEnd self.now line.now element.now) }
     {
         match &self.progress {
+            Progress::Before => first_end(line, &self.control, element),
             Progress::Walking(walk) => walked_end(line, &self.control, walk, element),
-            Progress::Before | Progress::AtLink(_) | Progress::Waiting | Progress::Filling(_) =>
-                None,
+            Progress::AtLink(_) | Progress::Waiting | Progress::Filling(_) => None,
         }
     }
 
-    /// Its line at work ends so with this event; how far it had come stays to be forgotten. Conditions: there is room for an
-    /// event and for the line's end. It takes no memory.
+    /// Its line at work ends so with this event, and does not move the process. Conditions: there is room for an event and for the
+    /// line's end. It takes no memory.
     #[inline(always)]
     pub fn end_plainly(&mut self, event: Event2, ends: Result2)
         requires event { 1 ≤ self.old.recording.spare }
@@ -105,12 +78,13 @@ impl Process {
             ++ (self.old.first + length self.old.recording.steps, self.old.recording.events ++ event ∷ [], ends) ∷ [] }
         ensures idle { self.new.recording.events ≡ [] }
         ensures spare { self.old.recording.spare ≤ self.new.recording.spare + 1 }
-        ensures progress { self.new.progress ≡ self.old.progress }
+        ensures fresh { self.new.progress ≡ Before }
     {
         let number = self.first + self.recording.lines() as u32;
         self.recording.keep(event);
         self.recording.end_line(number, ends);
         leave(&mut self.control.registers, &ends);
+        begin(&mut self.progress);
     }
 
     /// What its line asks for.
@@ -122,4 +96,21 @@ impl Process {
     {
         next_at(line, &self.control, &self.progress)
     }
+}
+
+// The next line has not begun; where it has not already, nothing is written.
+#[inline(always)]
+fn begin(progress: &mut Progress)
+    ensures { progress.new ≡ Before }
+{
+    if !has_not_begun(progress) {
+        *progress = Progress::Before;
+    }
+}
+
+#[inline(always)]
+fn has_not_begun(progress: &Progress) -> bool
+    ensures { IsTrue result → progress.now ≡ Before }
+{
+    matches!(progress, Progress::Before)
 }

@@ -8,9 +8,9 @@ use Rattle.mx_core.specs.declared.elements.Outcome.{Outcome}
 use Rattle.mx_core.specs.declared.elements.Outcome.TheVariants as outcome
 use Rattle.mx_desc.specs.Passes.{PassValue}
 use Rattle.mx_desc.specs.Referring.{HasMissed}
-use Rattle.mx_line.specs.AtWork.{IsCome, IsFree, IsMet, beside, reference_in}
+use Rattle.mx_line.specs.AtWork.{IsCome, IsFree, IsMet, beside, left, reference_in}
 use Rattle.mx_line.specs.Operands.{IsGoodProgress, steps_in}
-use Rattle.mx_line.specs.Processes.{Takes}
+use Rattle.mx_line.specs.Processes.{HasPlainEnd, IsReferring as AsksToRefer, Takes}
 use Rattle.mx_line.specs.declared.asking.End.{End}
 use Rattle.mx_line.specs.declared.asking.Reference as asked
 use Rattle.mx_line.specs.declared.at_work.LineAtWork.{LineAtWork}
@@ -30,6 +30,7 @@ use Rattle.mx_transcript.specs.Next.{Ends as AsksToEnd}
 use Rattle.mx_transcript.specs.Scripts.{first_line}
 use Rattle.mx_transcript.specs.declared.transcripts.Event2.{Event2}
 use Rattle.mx_transcript.specs.declared.transcripts.Event2.TheVariants.{Core}
+use Rattle.mx_transcript.specs.declared.transcripts.Result2.{Result2}
 use Rattle.mx_upcall.specs.Changes.{changed}
 use Rattle.mx_upcall.specs.Control.{Control}
 use Rattle.mx_upcall.specs.Soundness.{IsPackableControl}
@@ -42,6 +43,7 @@ use Rattle.mx_process.specs.Turns.{Ends, GoesOn, HasEnd, HasTaken, HasTurned, Co
 use Rattle.mx_process.specs.declared.misses.Fast.{Fast}
 use Rattle.mx_process.specs.declared.misses.Fast.TheVariants as fast
 use Rattle.mx_process.specs.declared.turns.Turn.{Turn}
+use Rattle.mx_process.specs.declared.turns.Turn.TheVariants as turn
 
 -- a line that is at work and has not ended has a step before it
 pub some_steps : (x : Outline) (setup : List journaled.Entry) (state : LineState) (line : Line) (k : Known)
@@ -56,6 +58,24 @@ some_steps x setup state line k a = by_progress state.progress refl a.good a.fre
     by_progress (Filling fill) is good free course come = absurd (free fill refl)
     by_progress Waiting is good free (Attempt seen) come = absurd come.0
     by_progress Waiting is good free (Answer entry filled) come = absurd (a.other _ come.2)
+
+-- the reference for which a line at work asks
+pub refers_so : (x : Outline) (setup : List journaled.Entry) (state : LineState) (line : Line) (k : Known) (r : asked.Reference)
+    → IsAttempting x setup state line k → AsksToRefer state line r → IsReferring state line r
+refers_so x setup state line k r a refers = record {
+  memory = refers.memory a.work.course a.work.come;
+  asks = λ course come. refers.says.is course come;
+  storable = refers.says.storable;
+}
+
+-- a line that ends plainly by an element
+pub taken_plainly : (old new : LineState) (line : Line) (e : Element) (d : Descriptor) (ends : Result2) → HasPlainEnd old line e ends
+    → Comes old (Core (Seen e)) (left old.control (Some ends)) turn.Ended new → HasTaken old line e d new turn.Ended
+taken_plainly old new line e d ends plain comes = record {
+  work = left old.control (Some ends);
+  takes = record { taken = plain.taken d; good = plain.good; nearer = tt };
+  comes = comes;
+}
 
 pub same_line : (state : LineState) → IsSameLine state state
 same_line state = record {

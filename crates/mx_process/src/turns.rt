@@ -57,6 +57,36 @@ pub(crate) fn make_turn<B: Sitting>(
     ensures room { state.old.recording.spare ≤ state.new.recording.spare + 1 }
     ensures untold { IsUntold pass.old pass.new }
 {
+    match state.refers(line) {
+        Some(asked) => refer(state, pass, cam, shared, line, &asked),
+        None => turn_by(state, pass, cam, shared, line),
+    }
+}
+
+// The same by all that the line may ask for.
+#[inline(never)]
+fn turn_by<B: Sitting>(
+    state: &mut LineState,
+    pass: &mut Pass<Entry, B>,
+    cam: &mut Cam,
+    shared: &Board<Entry>,
+    line: &Line,
+) -> Turn
+    requires fits { shared.now.table_id ≡ B.table }
+    requires layout { shared.now.key.layout ≡ B.layout }
+    requires same { cam.old ≡ pass.old.view.memory }
+    requires ready { pass.old.view.stage ≡ Ready }
+    requires spare { 1 ≤ pass.old.spare }
+    requires room { 1 ≤ state.old.recording.spare }
+    requires end { IsTrue state.old.recording.line_room }
+    requires attempting { IsAttempting B.session B.setup state.old line.now (known_of pass.old) }
+    ensures turned { HasTurned B.session B.setup line.now state.old result (inside state.new pass.new) }
+    ensures same { cam.new ≡ pass.new.view.memory }
+    ensures ready { pass.new.view.stage ≡ Ready }
+    ensures spare { pass.old.spare ≤ pass.new.spare + 1 }
+    ensures room { state.old.recording.spare ≤ state.new.recording.spare + 1 }
+    ensures untold { IsUntold pass.old pass.new }
+{
     match state.asks(line) {
         Next::Asks(asked) => refer(state, pass, cam, shared, line, &asked),
         Next::Calls { ring, called } => at_link(ring, called),
@@ -152,6 +182,29 @@ pub(crate) fn words_are_short(element: &Element)
 
 // The reference for which the line asks was made, on this descriptor: the line goes on by it, or ends.
 fn take(state: &mut LineState, line: &Line, element: &Element, desc: &Desc) -> Turn
+    requires room { 1 ≤ state.old.recording.spare }
+    requires end { IsTrue state.old.recording.line_room }
+    requires number { number_in state.old < 2 ^ 32 }
+    requires line { IsSayable line.now }
+    requires packable { IsPackableControl state.old.control }
+    requires good { IsGoodProgress state.old.control.registers state.old.progress }
+    requires desc { IsAdmissible desc.now }
+    requires met { IsMet state.old.control line.now (At state.old.progress) element.now desc.now }
+    ensures taken { HasTaken state.old line.now element.now desc.now state.new result }
+    ensures room { state.old.recording.spare ≤ state.new.recording.spare + 1 }
+{
+    match state.plain_end(line, element) {
+        Some(ends) => {
+            state.end_plainly(Event2::Core(Event::Seen(*element)), ends);
+            Turn::Ended
+        }
+        None => take_by(state, line, element, desc),
+    }
+}
+
+// The same by the line at work itself.
+#[inline(never)]
+fn take_by(state: &mut LineState, line: &Line, element: &Element, desc: &Desc) -> Turn
     requires room { 1 ≤ state.old.recording.spare }
     requires end { IsTrue state.old.recording.line_room }
     requires number { number_in state.old < 2 ^ 32 }

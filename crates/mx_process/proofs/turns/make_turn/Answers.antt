@@ -1,7 +1,8 @@
-use Rattle.mx_process.proofs.TurnLaws.{turned_ended}
+use Rattle.mx_process.proofs.TurnLaws.{refers_so}
+use Rattle.mx_process.specs.Processes.{known_of}
 use Rattle.mx_process.proofs.turns.make_turn.Goals as goal
 
-pub returns-in-Ends-clause-turned : goal.returns-in-Ends-clause-turned
-returns-in-Ends-clause-turned g c =
-    turned_ended g.B.Sitting.session g.B.Sitting.setup c.args.line.now c.args.state.now c.end_line.new.state c.args.pass.now c.in-Ends.end
-    c.requires.attempting c.in-Ends.ensures.is c.in-Ends.ensures.good.packable c.end_line.ensures.ended
+pub refer-requires-clause-asks : goal.refer-requires-clause-asks
+refer-requires-clause-asks g c =
+    refers_so g.B.Sitting.session g.B.Sitting.setup c.args.state.now c.args.line.now (known_of c.args.pass.now) c.in-Some.asked
+    c.requires.attempting c.in-Some.ensures

@@ -1,5 +1,5 @@
 use Rattle.mx_line.proofs.ProcessLaws.{referring_in}
-use Rattle.mx_line.proofs.processes.Process.refers_on.Goals as goal
+use Rattle.mx_line.proofs.processes.Process.refers.Goals as goal
 
 pub returns-in-Walking : goal.returns-in-Walking
 returns-in-Walking c =
