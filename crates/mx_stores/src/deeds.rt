@@ -159,6 +159,13 @@ impl Deed {
         Deed { form }
     }
 
+    /// Its form.
+    pub fn form(&self) -> &Form
+        ensures { deed_of result.now ≡ self.now }
+    {
+        &self.form
+    }
+
     /// The number of the entry, if it is one.
     pub fn entry(&self) -> Option<u32>
         ensures { result ≡ entry_of self.now }

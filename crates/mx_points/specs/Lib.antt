@@ -1,0 +1,4 @@
+pub mod Fronts
+pub mod FrontLaws
+pub mod Seen
+pub mod Own
