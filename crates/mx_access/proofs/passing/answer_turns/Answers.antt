@@ -1,0 +1,61 @@
+use Rattle.std.proofs.Common.{false, length, arith}
+use Rattle.std.proofs.lemmas.Option.{slice_get-get_or}
+use Rattle.std.specs.List.{slice_index_or}
+use Rattle.mx_access.specs.declared.questions.Turn.{Turn}
+use Rattle.mx_access.proofs.PassLaws.{all_told, none_told, not_before_next, told_more, turn_asked, turn_there, turn_within}
+use Rattle.mx_access.proofs.passing.answer_turns.Goals as goal
+
+pub loop-k-init : goal.loop-k-init
+loop-k-init g c = record {
+  is_at = c.requires.is_at;
+  onward = λ k t after found. omega arith;
+  told = none_told _ _ _ _ _ c.requires.long;
+}
+
+pub go_to-requires-clause-onward : goal.go_to-requires-clause-onward
+go_to-requires-clause-onward g c =
+    let none : Turn = record { point = 0; at = 0; is_before = false } in
+    c.loop-k.invariant.onward c.loop-k.k (slice_index_or c.args.turns.now c.loop-k.k none) (omega arith)
+    (slice_get-get_or c.args.turns.now c.loop-k.k none c.loop-k-test.true)
+
+pub go_to-requires-clause-within : goal.go_to-requires-clause-within
+go_to-requires-clause-within g c =
+    let none : Turn = record { point = 0; at = 0; is_before = false } in
+    turn_within (length c.args.entries.now) c.args.questions.now (slice_index_or c.args.turns.now c.loop-k.k none)
+    (turn_there c.args.questions.now (length c.args.questions.now) c.args.turns.now c.loop-k.k none c.requires.turns c.loop-k-test.true)
+    c.requires.within
+
+pub tell-requires-clause-processes : goal.tell-requires-clause-processes
+tell-requires-clause-processes g c = c.in_ok-go_to.ensures.processes
+
+pub tell-requires-clause-question : goal.tell-requires-clause-question
+tell-requires-clause-question g c =
+    let none : Turn = record { point = 0; at = 0; is_before = false } in
+    turn_asked c.args.questions.now (slice_index_or c.args.turns.now c.loop-k.k none)
+    (turn_there c.args.questions.now (length c.args.questions.now) c.args.turns.now c.loop-k.k none c.requires.turns c.loop-k-test.true)
+
+pub tell-requires-clause-answer : goal.tell-requires-clause-answer
+tell-requires-clause-answer g c =
+    let none : Turn = record { point = 0; at = 0; is_before = false } in
+    omega (
+      arith,
+      c.loop-k.invariant.told.long,
+      turn_asked c.args.questions.now (slice_index_or c.args.turns.now c.loop-k.k none)
+          (turn_there c.args.questions.now (length c.args.questions.now) c.args.turns.now c.loop-k.k none c.requires.turns c.loop-k-test.true),
+    )
+
+pub loop-k-preserved : goal.loop-k-preserved
+loop-k-preserved g c =
+    let none : Turn = record { point = 0; at = 0; is_before = false } in
+    let t : Turn = slice_index_or c.args.turns.now c.loop-k.k none in
+    let found = slice_get-get_or c.args.turns.now c.loop-k.k none c.loop-k-test.true in
+    record {
+      is_at = c.in_ok-go_to.ensures;
+      onward = not_before_next c.args.turns.now c.loop-k.k t c.requires.ordered found;
+      told = told_more _ _ c.args.questions.now c.args.turns.now c.loop-k.k t _ _ _ _ found
+          (turn_there c.args.questions.now (length c.args.questions.now) c.args.turns.now c.loop-k.k none c.requires.turns c.loop-k-test.true)
+          c.in_ok-go_to.ensures c.tell.ensures c.loop-k.invariant.told;
+    }
+
+pub returns : goal.returns
+returns g c = all_told _ _ c.args.questions.now c.args.turns.now c.loop-k.k c.loop-k.answers c.loop-k-test.false c.requires.turns c.loop-k.invariant.told
