@@ -208,14 +208,14 @@ struct Players<'a, B: Attending> {
     third: Outsider<B>,
 }
 
-fn outsider<B: Attending>(pass: Pass<Entry, B>) -> Outsider<B>
+fn outside<B: Attending>(pass: Pass<Entry, B>) -> Outsider<B>
     requires { IsNewPass B.session pass }
 {
     Outsider { pass }
 }
 
 // The three processes of these passes.
-fn players<'a, B: Attending>(
+fn seated<'a, B: Attending>(
     alloc: Global,
     session: &'a Session,
     passes: Passes<Entry, B>,
@@ -229,9 +229,9 @@ fn players<'a, B: Attending>(
     let mut third = None;
     for pass in passes.into_items() {
         match pass.process() {
-            1 => first = Some(outsider(pass)),
+            1 => first = Some(outside(pass)),
             2 => second = Some(Process::new(alloc, session, pass)?),
-            _ => third = Some(outsider(pass)),
+            _ => third = Some(outside(pass)),
         }
     }
     Ok(Players {
@@ -402,7 +402,7 @@ fn run<R: Threads + Wait + Sync, B: Attending + Send + Sync>(
         part: _part,
     } = open::<B>(alloc, prepared, blank)?;
     let ring = Ring::new(4).ok_or(AllocError)?;
-    let players = players(alloc, session, passes)?;
+    let players = seated(alloc, session, passes)?;
     let office = Office::new(locked, words);
     play(rt, alloc, &office, players, ring)
 }

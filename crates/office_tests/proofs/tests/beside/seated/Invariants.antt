@@ -1,5 +1,5 @@
 use Rattle.std.proofs.Common.{◌≡◌, ◌++◌}
-use Rattle.office_tests.proofs.tests.beside.players.Given as goal
+use Rattle.office_tests.proofs.tests.beside.seated.Given as goal
 
 -- the passes so far, and those to come
 abbrev pub invariant-loop-pass : goal.invariant-loop-pass
