@@ -4,7 +4,7 @@ use Rattle.std.specs.List.{list_all}
 use Rattle.std.proofs.lemmas.Bool.{cases_lt}
 use Rattle.std.proofs.lemmas.Option.{slice_get_within}
 use Rattle.std.proofs.lemmas.Result.{IfOk-weaker}
-use Rattle.mx_legal.specs.Entries.{AreGoodTo, GoodEntriesLaw, HasAnswered, HasText, IsFirstBad, IsGoodAt, IsGoodEntry, IsInPlace, state_at}
+use Rattle.mx_legal.specs.Entries.{AreGoodTo, AreOfProcessesTo, GoodEntriesLaw, HasAnswered, HasText, IsFirstBad, IsGoodAt, IsGoodEntry, IsInPlace, state_at}
 use Rattle.mx_request.proofs.StepLaws.{both, both_hold}
 use Rattle.mx_request.specs.ReplyTexts.{fits_reply}
 use Rattle.mx_request.specs.RequestTexts.{fits_request, is_ring}
@@ -31,7 +31,7 @@ one_more s (first ∷ journal) (suc place) entry at =
     one_more (plain s first.process first.ring first.request).state journal place entry at
 
 -- each entry at its place is right, where the journal is; and the other way round
-right_at : (s : Plain) (journal : List journaled.Entry) → IsRight s journal → (place : ℕ) (entry : journaled.Entry)
+pub right_at : (s : Plain) (journal : List journaled.Entry) → IsRight s journal → (place : ℕ) (entry : journaled.Entry)
     → slice_get journal place ≡ Some entry → IsRightEntry (replay s (take place journal)) entry
 right_at s [] right place entry at = absurd cc
 right_at s (first ∷ journal) right zero entry at =
@@ -99,6 +99,22 @@ good_more session journal place entry at before here = record { each = each }
           subst (λ (n : ℕ). IsGoodAt session journal n found) here'
           (subst (IsGoodAt session journal place) same here)
     ]
+
+-- one entry of a process of the session more
+pub makers_more : (session : Outline) (journal : List journaled.Entry) (place : ℕ) (entry : journaled.Entry) (s : Plain)
+    → slice_get journal place ≡ Some entry → length s.processes ≡ length session.principals
+    → AreOfProcessesTo session journal place → IsGoodEntry session s place entry → AreOfProcessesTo session journal (place + 1)
+makers_more session journal place entry s at count before here = λ other found below there. elim (cases_lt other place) [
+  | inl lower ↦ before other found lower there
+  | inr higher ↦
+      let here' : place ≡ other = omega (arith, below, higher) in
+      let same : entry ≡ found = one_at (sym at ∙ ap (slice_get journal) here' ∙ there) in
+      let maker = here.right.maker.0 in
+      subst (λ (e : journaled.Entry). e.process ≤ length session.principals) same (omega (arith, maker, count))
+]
+  where
+    one_at : {a b : journaled.Entry} → Some a ≡ Some b → a ≡ b
+    one_at e = cc
 
 -- what is said of all entries is said of those up to a place, and of the one there
 pub fit_to : (test : journaled.Entry → Bool) (journal : List journaled.Entry) (place : ℕ) → list_all test journal ≡ true → list_all test (take place journal) ≡ true

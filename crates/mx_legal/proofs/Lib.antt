@@ -1,2 +1,12 @@
 mod EntryLaws
 mod SameLaws
+mod FrontLaws
+mod ReadLaws
+mod BreachLaws
+mod LineNumbers
+mod SetupSteps
+mod LegalLaws
+mod FirstLaws
+mod DeciderLaws
+mod EarlyLaws
+mod VerdictLaws

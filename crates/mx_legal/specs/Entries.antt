@@ -69,3 +69,12 @@ pub record HasText (state : Plain) (entry : journaled.Entry) : Type 0 where
 
 pub record HasAnswered (state : Plain) (entry : journaled.Entry) (after : Plain) : Type 0 where
   pub is : after ≡ (plain state entry.process entry.ring entry.request).state
+
+-- the entries below a place are of processes of the session
+abbrev pub AreOfProcessesTo : Outline → List journaled.Entry → ℕ → Type 0
+AreOfProcessesTo session journal end = (place : ℕ) (entry : journaled.Entry) → place < end → slice_get journal place ≡ Some entry
+    → entry.process ≤ length session.principals
+
+abbrev pub AreOfProcesses : Outline → List journaled.Entry → Option ℕ → Type 0
+AreOfProcesses session journal None = AreOfProcessesTo session journal (length journal)
+AreOfProcesses session journal (Some place) = AreOfProcessesTo session journal place

@@ -1,1 +1,5 @@
 pub mod Entries
+pub mod Fronts
+pub mod Breach
+pub mod BreachLaws
+pub mod Deciding

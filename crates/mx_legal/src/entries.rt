@@ -2,7 +2,7 @@
 
 ghost use Rattle.std.specs.Prelude.{◌≡◌, ◌↔◌, ◌+◌, ◌<◌, ◌≤◌, true, false, Ok, IfOk, IsTrue, length};
 ghost use Rattle.std.specs.List.{list_all};
-ghost use Rattle.mx_legal.specs.Entries.{AreGoodTo, HasAnswered, HasText, IsFirstBad, IsFirstBadEntry, IsGoodEntry, IsInPlace, state_at};
+ghost use Rattle.mx_legal.specs.Entries.{AreGoodTo, AreOfProcesses, AreOfProcessesTo, HasAnswered, HasText, IsFirstBad, IsFirstBadEntry, IsGoodEntry, IsInPlace, state_at};
 ghost use Rattle.mx_request.specs.Classes.{class_of};
 ghost use Rattle.mx_request.specs.ReplyTexts.{fits_reply};
 ghost use Rattle.mx_request.specs.declared.classes.RequestClass.TheVariants.{OfPath};
@@ -32,7 +32,8 @@ pub fn first_bad_entry<S: PlainSupervisor>(
 ) -> Result<Option<usize>, AllocError>
     requires session { list_all fits (rows_of session.now) ≡ true }
     requires journal { list_all fits_entry journal.now ≡ true }
-    ensures { IfOk result (IsFirstBadEntry session.now journal.now) }
+    ensures first { IfOk result (IsFirstBadEntry session.now journal.now) }
+    ensures makers { IfOk result (AreOfProcesses session.now journal.now) }
 {
     let mut supervisor = S::opening(alloc, session.principals().items(), session.version())?;
     let entries = journal.items();
@@ -61,6 +62,7 @@ fn is_good_at<S: PlainSupervisor>(
     requires before { AreGoodTo session.now entries.now place }
     ensures good { result ≡ Ok true → AreGoodTo session.now entries.now (place + 1) }
     ensures bad { result ≡ Ok false → IsFirstBad session.now entries.now place }
+    ensures makers { result ≡ Ok true → AreOfProcessesTo session.now entries.now place → AreOfProcessesTo session.now entries.now (place + 1) }
     ensures state { result ≡ Ok true → S.state supervisor.new ≡ state_at session.now entries.now (place + 1) }
     ensures processes { length (S.state supervisor.new).processes ≡ length session.now.principals }
 {

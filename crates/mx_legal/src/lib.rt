@@ -1,15 +1,24 @@
-//! Whether a printed run is a legal run of a session: its journal is judged; its transcripts are not yet.
+//! Whether a printed run is a legal run of a session, and where it is not.
 //!
-//! [`first_bad_entry`] gives the place of the first bad entry of a journal, exactly: each entry has to be within the
-//! limit and in its place, to be one that its process may make, and to have the plain supervisor's reply. It is written
-//! over the trait of plain supervisors, so that either may judge. It takes what a text can say, and tells two replies
-//! apart by their texts. A law says what entries that are all good make of the whole journal. Stands on the rules of a
-//! legal run (`mx_transcript`), on what a run text can say (`mx_spelling`), and on both plain supervisors.
+//! [`legal`] gives the first breach of a run, exactly: the first bad entry of its journal; else its first bad line, in the
+//! order of processes and then of lines; else the first process with an entry that no line names. What is bad is the rules of
+//! a legal run, said of each entry at its place (`specs/Entries.antt`) and of the first lines of a part
+//! (`specs/Fronts.antt`), so that no rule is written a second time. Laws say that a run is legal exactly where nothing in it
+//! is a breach ([`legal_law`], [`no_breach_law`]), and that it has one breach at most ([`one_breach_law`]). Each rule has one
+//! decider, most of them in crates below (`mx_access`, `mx_parts`, `mx_points`, `mx_stores`); the breach is the least place
+//! that they give. It is written over the trait of plain supervisors, so that either may judge. It takes what a text can say,
+//! and tells two replies apart by their texts.
 #![tactic(auto)]
 
+mod checking;
 mod entries;
+mod fronts;
 mod laws;
+mod places;
 mod sameness;
 
+pub use checking::{Breach, legal};
 pub use entries::first_bad_entry;
-pub use laws::good_entries_law;
+pub use laws::{
+    front_law, good_entries_law, legal_law, no_breach_law, one_breach_law, reads_to_law,
+};

@@ -111,8 +111,11 @@ fn names_in(text: &[u8]) -> &[u8] {
         return names;
     }
     let mut names = text;
-    while let Some(rest) = names.strip_prefix(b"<") {
-        names = rest;
+    for _up in text {
+        match names.strip_prefix(b"<") {
+            Some(rest) => names = rest,
+            None => return names,
+        }
     }
     names
 }

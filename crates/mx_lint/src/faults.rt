@@ -137,7 +137,10 @@ fn layout_fault(place: Place, line: &[u8]) -> Option<Fault<'static>> {
     if line.ends_with(b"\r") {
         return Some(Fault::CarriageReturn);
     }
-    wide_space(line).map(Fault::Space)
+    match wide_space(line) {
+        Some(space) => Some(Fault::Space(space)),
+        None => None,
+    }
 }
 
 // The first space that cannot stand where it is, or tab.

@@ -1,7 +1,7 @@
 use Rattle.std.proofs.Common.{length, refl, subst}
 use Rattle.std.proofs.lemmas.Option.{slice_get_read}
 use Rattle.mx_legal.specs.Entries.{IsGoodEntry}
-use Rattle.mx_legal.proofs.EntryLaws.{first_bad, good_more, has_text, one_more_from, reply_at, told_bad, told_good}
+use Rattle.mx_legal.proofs.EntryLaws.{first_bad, good_more, has_text, makers_more, one_more_from, reply_at, told_bad, told_good}
 use Rattle.mx_state.specs.Plain.{Plain}
 use Rattle.mx_legal.proofs.entries.is_good_at.Goals as goal
 
@@ -38,3 +38,10 @@ returns-clause-state g c = λ done.
     let at = slice_get_read c.args.entries.now (length c.args.entries.now) c.args.place entry refl c.requires.place c.index-entries-place.is in
     one_more_from c.args.session.now c.args.entries.now c.args.place entry (g.S.PlainSupervisor.state c.args.supervisor.now)
     (g.S.PlainSupervisor.state c.is_good_entry.new.supervisor) at c.requires.state (c.is_good_entry.ensures.answered done)
+
+pub returns-clause-makers : goal.returns-clause-makers
+returns-clause-makers g c = λ done before.
+    let entry = c.index-entries-place.result in
+    let at = slice_get_read c.args.entries.now (length c.args.entries.now) c.args.place entry refl c.requires.place c.index-entries-place.is in
+    makers_more c.args.session.now c.args.entries.now c.args.place entry (g.S.PlainSupervisor.state c.args.supervisor.now) at
+    c.requires.processes before (told_good _ c.is_good_entry.result done c.is_good_entry.ensures.good)

@@ -1,0 +1,36 @@
+use Rattle.std.proofs.Common.{ℕ, Option, subst}
+use Rattle.std.specs.Prelude.{MatchOption}
+use Rattle.mx_legal.specs.Breach.{IsBadLine}
+use Rattle.mx_legal.specs.Deciding.{IsUnnamedTo}
+use Rattle.mx_legal.specs.Fronts.{IsGoodPart}
+use Rattle.mx_legal.proofs.VerdictLaws.{is_legal, parts_more, read_found, unnamed_breach, unnamed_more}
+use Rattle.mx_legal.proofs.checking.legal_lines.Goals as goal
+
+pub judge-requires-clause-reads : goal.judge-requires-clause-reads
+judge-requires-clause-reads g c =
+    read_found c.reads_to_law.ensures c.args.session.now c.args.journal.now c.args.transcripts.now c.loop-p.p c.deref.result.now
+    c.in_ok-access.access.deeds.items c.in_ok-wrong.wrong c.place_of.result c.deref.ensures.value c.in_ok-access.ensures.deeds
+    c.in_ok-wrong.ensures c.place_of.ensures c.loop-p.invariant.parts
+
+pub loop-p-preserved : goal.loop-p-preserved
+loop-p-preserved g c = record {
+  entries = c.loop-p.invariant.entries;
+  parts = parts_more c.args.session.now c.args.journal.now c.args.transcripts.now c.loop-p.p c.loop-p.invariant.parts
+      (subst (λ (bad : Option ℕ). MatchOption bad
+      (IsGoodPart c.args.session.now c.args.journal.now c.args.transcripts.now c.loop-p.p)
+      (IsBadLine c.args.session.now c.args.journal.now c.args.transcripts.now c.loop-p.p)) c.in_default.is c.in_ok-judged.ensures.bad);
+  named = unnamed_more c.args.journal.now c.args.transcripts.now c.loop-p.p c.loop-p.unnamed c.or_unnamed-unnamed.result
+      c.in_ok-judged.judged.is_named c.or_unnamed-unnamed.ensures c.loop-p.invariant.named c.in_ok-judged.ensures.named;
+}
+
+pub returns-in-None : goal.returns-in-None
+returns-in-None g c =
+    is_legal c.legal_law.ensures c.args.session.now c.args.journal.now c.args.transcripts.now c.loop-p.p c.parts_in-p-end.result
+    c.scripts-scripts.ensures.session c.parts_in-p-end.ensures c.loop-p-test.false c.requires.entries c.requires.makers
+    c.loop-p.invariant.parts (subst (IsUnnamedTo c.args.journal.now c.args.transcripts.now c.loop-p.p) c.in-None.is c.loop-p.invariant.named)
+
+pub returns : goal.returns
+returns g c =
+    unnamed_breach c.args.session.now c.args.journal.now c.args.transcripts.now c.loop-p.p c.parts_in-p-end.result
+    c.in-Some-unnamed.process c.parts_in-p-end.ensures c.loop-p-test.false c.requires.entries c.loop-p.invariant.parts
+    (subst (IsUnnamedTo c.args.journal.now c.args.transcripts.now c.loop-p.p) c.in-Some-unnamed.is c.loop-p.invariant.named)
