@@ -1,0 +1,2 @@
+mod both;
+mod judging;

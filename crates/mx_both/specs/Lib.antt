@@ -1,0 +1,4 @@
+pub mod BothTexts
+pub mod Ends
+pub mod Cutting
+pub mod Laws
