@@ -1,0 +1,4 @@
+pub mod OrderLaws
+pub mod TurnLaws
+pub mod CountLaws
+pub mod FirstLaws
