@@ -87,6 +87,7 @@ impl Cam {
         ensures stage { pass.new.view.stage ≡ pass.old.view.stage }
         ensures same { self.new ≡ pass.new.view.memory }
         ensures amount { pass.new.amount ≡ pass.old.amount }
+        ensures keeps { pass.new.keeps ≡ pass.old.keeps }
         ensures spare { pass.old.spare ≤ pass.new.spare + 1 }
     {
         match self.places.recall(segno) {

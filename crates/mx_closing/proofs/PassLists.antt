@@ -126,7 +126,7 @@ fresh_at start p (q ∷ passes) fresh zero o at =
     same : Some q ≡ Some o → q ≡ o
     same at = cc
 fresh_at start p (q ∷ passes) fresh (suc place) o at =
-    fresh_at start (p + 1) passes fresh.2 place o at ∙ omega arith
+    fresh_at start (p + 1) passes fresh.3 place o at ∙ omega arith
 
 pub fresh_of_all : (start processes : ℕ) (passes : List (PassValue journaled.Entry))
     → AreFreshPasses start 1 passes → length passes ≡ processes → AreOfAll processes passes

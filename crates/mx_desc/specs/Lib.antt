@@ -6,3 +6,4 @@ pub mod Completing
 pub mod Slots
 pub mod Standing
 pub mod Supers
+pub mod Traces

@@ -1,9 +1,9 @@
 //! What the processes of a run and the supervisor hold of the words that they share: a reference is judged on descriptor
 //! words, without a lock and without memory.
 //!
-//! A pass is the place of one process there, with its trace, what it judged on last, and its share of the ledger of own
-//! entries; the supervisor has the present table, and tells processes by notes. Their types say that what they keep is
-//! what the rule knows. The crate stands on the seats of `mx_rule` and looks into no descriptor.
+//! A pass is the place of one process there, with its trace where it keeps one, what it judged on last, and its share of
+//! the ledger of own entries; the supervisor has the present table, and tells processes by notes. Their types say that
+//! what they keep is what the rule knows. The crate stands on the seats of `mx_rule` and looks into no descriptor.
 #![tactic(auto)]
 
 mod completing;
@@ -15,6 +15,7 @@ mod passes;
 mod referring;
 mod slots;
 mod supers;
+mod traces;
 mod waiting;
 
 pub use ending::close;

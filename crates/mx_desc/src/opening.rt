@@ -9,6 +9,7 @@ use crate::naming::Naming;
 use crate::passes::Pass;
 use crate::slots::opening_slots;
 use crate::supers::Super;
+use crate::traces::Trace;
 use mx_core::Changes;
 use mx_list::Sequence;
 use mx_rule::{Board, SuperSeat};
@@ -49,7 +50,7 @@ pub fn seats<E, B: Naming>(
     for dealt in 0..seat.layout.processes {
         let pass = Pass {
             seat: seat.deal(shared),
-            trace: Vec::new(alloc),
+            trace: Trace::new(alloc),
             basis: None,
             share: rest.split_off(1, 0),
         };

@@ -1,12 +1,13 @@
 //! A process's pass: its place at the shared words, and what it did there.
 
-ghost use Rattle.std.specs.Prelude.{◌≡◌, ◌≢◌, ◌+◌, ◌<◌, ◌≤◌, ◌==◌, not, OnOk, OnErr, Some};
+ghost use Rattle.std.specs.Prelude.{◌≡◌, ◌≢◌, ◌+◌, ◌<◌, ◌≤◌, ◌==◌, true, not, OnOk, OnErr, Some};
 ghost use Rattle.mx_core.specs.declared.words.Stage.TheVariants.{Outside, Entering};
 ghost use Rattle.mx_core.specs.declared.words.Triple.{Triple as TripleValue};
-ghost use Rattle.mx_desc.specs.Passes.{HasBasis};
+ghost use Rattle.mx_desc.specs.Passes.{HasBasis, without_trace};
 ghost use Rattle.mx_rule.specs.Entering.{connected_view, entered_view, left_view};
 
 use crate::naming::Naming;
+use crate::traces::Trace;
 use mx_core::{Kept, Triple};
 use mx_rule::{Board, PassSeat};
 use mx_sdw::Desc;
@@ -18,13 +19,13 @@ use std::sync::ledger::{Book, Share};
 #[derive(Drop)]
 pub struct Pass<E, B: Naming> {
     pub(crate) seat: PassSeat<E>,
-    pub(crate) trace: Vec<Kept>,
+    pub(crate) trace: Trace,
     pub(crate) basis: Option<Triple>,
     pub(crate) share: Share<B>,
 }
 
 impl<E, B: Naming> Model for Pass<E, B> {
-    ghost use Rattle.std.specs.Prelude.{◌-◌, vec_len, vec_capacity};
+    ghost use Rattle.std.specs.Prelude.{is_some};
     ghost use Rattle.mx_desc.specs.Passes.{PassValue, IsPass};
     ghost use Rattle.mx_rule.specs.Seats.{pass_of};
 
@@ -33,11 +34,12 @@ impl<E, B: Naming> Model for Pass<E, B> {
     ghost view = { λ a. record {
       view = pass_of a.seat.seat.me.0;
       amount = a.share.amount;
-      spare = vec_capacity a.trace - vec_len a.trace;
+      keeps = is_some a.trace.kept;
+      spare = a.trace.spare;
     } };
 
     ghost invariant = { λ a. IsPass B.table a.seat.seat.table_id B.layout a.seat.layout B.start a.share.parts
-        (pass_of a.seat.seat.me.0) a.trace.items a.basis };
+        (pass_of a.seat.seat.me.0) a.trace.kept a.basis };
 }
 
 impl<E, B: Naming> Pass<E, B> {
@@ -58,11 +60,19 @@ impl<E, B: Naming> Pass<E, B> {
     }
 
     /// What the process did, from the opening on: its elements, each with the descriptor on which it was judged, and
-    /// its misses.
+    /// its misses. Condition: the trace is kept, as it is from the opening until `forget_trace`.
     pub fn trace(&self) -> &[Kept]
+        requires { self.now.keeps ≡ true }
         ensures { result.now ≡ self.now.view.trace }
     {
-        self.trace.as_slice()
+        self.trace.events()
+    }
+
+    /// Gives the memory of the trace back, and keeps none from then on: what the process does then wants no room.
+    pub fn forget_trace(&mut self)
+        ensures { self.new ≡ without_trace self.old }
+    {
+        self.trace.forget();
     }
 
     /// How many segment numbers each process has.
@@ -89,12 +99,14 @@ impl<E, B: Naming> Pass<E, B> {
         self.basis.unwrap().number
     }
 
-    /// Makes room for so many more events of the trace. This call alone takes memory.
+    /// Makes room for so many more events of the trace. This call alone takes memory, and only where the trace is kept.
     pub fn reserve(&mut self, events: usize) -> Result<(), AllocError>
         ensures room { OnOk result (events ≤ self.new.spare) }
         ensures view { self.new.view ≡ self.old.view }
         ensures amount { self.new.amount ≡ self.old.amount }
+        ensures keeps { self.new.keeps ≡ self.old.keeps }
         ensures err { OnErr result (self.new ≡ self.old) }
+        ensures wanted { OnErr result (self.old.keeps ≡ true) }
     {
         self.trace.reserve(events)
     }

@@ -1,7 +1,7 @@
 //! A reference by a process: it is judged on the descriptor word of its number, or on what the memory has of that, and
 //! makes the cell step that is granted.
 
-ghost use Rattle.std.specs.Prelude.{◌≡◌, ◌≤◌, ◌<◌, ◌+◌, ◌++◌, ◌∷◌, ℕ, [], Ok, Err, Some, vec_len, vec_capacity};
+ghost use Rattle.std.specs.Prelude.{◌≡◌, ◌≤◌, ◌<◌, ◌+◌, ℕ, Ok, Err, Some};
 ghost use Rattle.mx_sdw.specs.Admissible.{IsAdmissible};
 ghost use Rattle.mx_core.specs.AssociativeMemory.{recalled};
 ghost use Rattle.mx_core.specs.Loading.{element_of};
@@ -55,6 +55,7 @@ impl<E, B: Naming> Pass<E, B> {
         ensures missing { (by : ℕ) → result ≡ Missing by → HasMissed segno by self.old.view self.new.view }
         ensures stage { self.new.view.stage ≡ self.old.view.stage }
         ensures amount { self.new.amount ≡ self.old.amount }
+        ensures keeps { self.new.keeps ≡ self.old.keeps }
         ensures spare { self.old.spare ≤ self.new.spare + 1 }
     {
         let asked = asked_of(&op, &ring, word);
@@ -64,12 +65,12 @@ impl<E, B: Naming> Pass<E, B> {
                 let point = self.seat.floor;
                 let outcome = complete(&mut self.seat, shared, &on, &asked, value);
                 let element = element(&on, &asked, point, outcome);
-                push(&mut self.trace, kept(&element, &asked, &on));
+                self.trace.push(kept(&element, &asked, &on));
                 self.basis = some(&on);
                 seen(&element)
             },
             Err(by) => {
-                push(&mut self.trace, Kept::Missed { segno, by });
+                self.trace.push(Kept::Missed { segno, by });
                 self.basis = None;
                 Referred::Missing { by }
             },
@@ -98,6 +99,7 @@ impl<E, B: Naming> Pass<E, B> {
             self.new.view }
         ensures admissible { IsAdmissible on.now.desc }
         ensures amount { self.new.amount ≡ self.old.amount }
+        ensures keeps { self.new.keeps ≡ self.old.keeps }
         ensures spare { self.old.spare ≤ self.new.spare + 1 }
     {
         let asked = asked_of(&op, &ring, word);
@@ -105,7 +107,7 @@ impl<E, B: Naming> Pass<E, B> {
         let point = self.seat.floor;
         let outcome = complete(&mut self.seat, shared, on, &asked, value);
         let element = element(on, &asked, point, outcome);
-        push(&mut self.trace, kept(&element, &asked, on));
+        self.trace.push(kept(&element, &asked, on));
         self.basis = some(on);
         element
     }
@@ -197,17 +199,4 @@ fn asked_of(op: &Op, ring: &Ring, word: u16) -> Asked
         ring: *ring,
         word,
     }
-}
-
-/// Keeps an event, for which there is room.
-#[inline(always)]
-fn push(trace: &mut Vec<Kept>, event: Kept)
-    requires { vec_len trace.old < vec_capacity trace.old }
-    ensures items { trace.new.items ≡ trace.old.items ++ event ∷ [] }
-    ensures len { vec_len trace.new ≡ vec_len trace.old + 1 }
-    ensures room { vec_capacity trace.old ≤ vec_capacity trace.new }
-{
-    let Ok(()) = trace.extend_from_slice(&[event]) else {
-        unreachable!()
-    };
 }

@@ -38,7 +38,7 @@ fresh_view_at start p (q ∷ passes) zero o fresh at =
       ap (λ (r : PassValue journaled.Entry). r.amount) (sym same) ∙ fresh.1,
     )
 fresh_view_at start p (q ∷ passes) (suc place) o fresh at =
-    let there = fresh_view_at start (p + 1) passes place o fresh.2 at in
+    let there = fresh_view_at start (p + 1) passes place o fresh.3 at in
     let here : p + 1 + place ≡ p + suc place = omega arith in
     (there.0 ∙ ap (fresh_view start) here, there.1)
 

@@ -11,7 +11,7 @@ fresh_last : {E : Type 0} (start p : ℕ) (passes : List (PassValue E)) (pass : 
     → AreFreshPasses start p (passes ++ pass ∷ []) → (pass.view.stage ≡ Outside) × (pass.view.memory ≡ [])
 fresh_last {E = E} start p [] pass fresh =
     (ap (λ (v : PassView E). v.stage) fresh.0, ap (λ (v : PassView E). v.memory) fresh.0)
-fresh_last start p (x ∷ passes) pass fresh = fresh_last start (p + 1) passes pass fresh.2
+fresh_last start p (x ∷ passes) pass fresh = fresh_last start (p + 1) passes pass fresh.3
 
 -- so is what is popped, where there is one
 pub popped_last : {E : Type 0} (start : ℕ) (items rest : List (PassValue E)) (pass : Option (PassValue E))

@@ -12,8 +12,8 @@ pub fresh_are_new : {E : Type 0} (start p : ℕ) (passes : List (PassValue E)) �
     → AreNew passes
 fresh_are_new start p [] fresh = tt
 fresh_are_new {E = E} start p (pass ∷ rest) fresh = (
-  (ap (λ (v : PassView E). v.stage) fresh.0, ap (λ (v : PassView E). v.memory) fresh.0),
-  fresh_are_new start (p + 1) rest fresh.2,
+  (ap (λ (v : PassView E). v.stage) fresh.0, ap (λ (v : PassView E). v.memory) fresh.0, fresh.2),
+  fresh_are_new start (p + 1) rest fresh.3,
 )
 
 -- of new passes the last is new, and so are the others

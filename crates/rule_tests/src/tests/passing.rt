@@ -24,6 +24,7 @@ pub(super) fn leave<B: Naming>(pass: &mut Pass<u32, B>, shared: &Board<u32>)
     ensures outside { pass.new.view.stage ≡ Outside }
     ensures memory { pass.new.view.memory ≡ pass.old.view.memory }
     ensures spare { pass.new.spare ≡ pass.old.spare }
+    ensures keeps { pass.new.keeps ≡ pass.old.keeps }
 {
     pass.leave(shared);
 }
@@ -36,6 +37,7 @@ pub(super) fn visit<B: Naming>(pass: &mut Pass<u32, B>, shared: &Board<u32>, ask
     requires spare { 1 ≤ pass.old.spare }
     ensures outside { pass.new.view.stage ≡ Outside }
     ensures spare { pass.old.spare ≤ pass.new.spare + 1 }
+    ensures keeps { pass.new.keeps ≡ pass.old.keeps }
 {
     pass.enter(shared);
     pass.load_connect(shared);

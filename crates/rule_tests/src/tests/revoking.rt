@@ -1,7 +1,7 @@
 //! The same revocation by the calls of passes and of the supervisor: what each process keeps of what it did, and of how
 //! many entries it was told.
 
-ghost use Rattle.std.specs.Prelude.{◌≡◌, ◌≢◌, ◌≤◌, ◌<◌, [], ◌∷◌};
+ghost use Rattle.std.specs.Prelude.{◌≡◌, ◌≢◌, ◌≤◌, ◌<◌, true, [], ◌∷◌};
 ghost use Rattle.mx_core.specs.declared.words.Stage.TheVariants.{Outside};
 ghost use Rattle.mx_desc.specs.Openings.{IsOpening};
 ghost use Rattle.mx_desc.specs.Slots.{IsPair};
@@ -31,7 +31,9 @@ struct Did {
     floor: u32,
 }
 
-fn kept_by<B: Naming>(alloc: Global, pass: &Pass<u32, B>) -> Result<Did, AllocError> {
+fn kept_by<B: Naming>(alloc: Global, pass: &Pass<u32, B>) -> Result<Did, AllocError>
+    requires { pass.now.keeps ≡ true }
+{
     Ok(Did {
         trace: pass.trace().to_vec(alloc)?,
         floor: pass.floor(),
@@ -46,6 +48,7 @@ fn note<B: Naming>(shared: &Board<u32>, chief: &mut Super<u32, B>, pass: &mut Pa
     ensures unsettled { IsUnsettled (office_of chief.new) 2 8 }
     ensures stage { pass.new.view.stage ≡ pass.old.view.stage }
     ensures spare { pass.new.spare ≡ pass.old.spare }
+    ensures keeps { pass.new.keeps ≡ pass.old.keeps }
 {
     let note = chief.split(shared);
     pass.join(shared, note);
@@ -78,6 +81,8 @@ fn revoke<R: Wait, B: Naming>(
     requires none { none.now ≡ [] }
     requires admissible { IsAdmissible desc.now }
     requires other { present (office_of chief.old) 2 8 ≢ desc.now }
+    ensures first { first.new.keeps ≡ first.old.keeps }
+    ensures second { second.new.keeps ≡ second.old.keeps }
 {
     append(shared, chief, changes, none, 2, 8, desc);
     strike(shared, chief, 2, 8);

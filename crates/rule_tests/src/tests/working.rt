@@ -1,6 +1,6 @@
 //! A process at work through its cam.
 
-ghost use Rattle.std.specs.Prelude.{◌≡◌, ◌≤◌};
+ghost use Rattle.std.specs.Prelude.{◌≡◌, ◌≤◌, true};
 ghost use Rattle.mx_core.specs.declared.words.Stage.TheVariants.{Outside};
 ghost use Rattle.rule_tests.specs.Passing.{IsNew};
 
@@ -11,7 +11,7 @@ use mx_rule::Board;
 use mx_sdw::{Op, Ring, Word};
 use std::alloc::AllocError;
 
-// A process at work through its cam, outside between its turns, with room for so many events.
+// A process at work through its cam, outside between its turns, with room for so many events; its trace is kept.
 #[derive(Drop)]
 pub(super) struct Worker<B: Naming> {
     pass: Pass<u32, B>,
@@ -20,6 +20,7 @@ pub(super) struct Worker<B: Naming> {
     ghost outside: { pass.view.stage ≡ Outside },
     ghost same: { cam ≡ pass.view.memory },
     ghost roomy: { room ≤ pass.spare },
+    ghost keeping: { pass.keeps ≡ true },
 }
 
 impl<B: Naming> Worker<B> {

@@ -1,7 +1,8 @@
-use Rattle.std.proofs.Common.{ℕ, ◌+◌, List, length, length-append, sym, ap, ◌∙◌, subst, arith}
+use Rattle.std.proofs.Common.{ℕ, ◌+◌, List, Option, is_some, length, length-append, sym, ap, ◌∙◌, subst, arith}
 use Rattle.mx_rule.specs.Dealing.{dealing_view}
 use Rattle.mx_rule.specs.Shown.{fresh_view}
 use Rattle.mx_core.specs.declared.changes.Change.{Change}
+use Rattle.mx_core.specs.declared.elements.Kept.{Kept}
 use Rattle.mx_rule.specs.Seats.{super_of}
 use Rattle.mx_rule.specs.declared.layout.Layout.{Layout}
 use Rattle.mx_desc.specs.Openings.{AreFreshPasses}
@@ -22,7 +23,7 @@ loop-dealt-preserved g c =
       c.deal.ensures.view ∙ ap dealing_view was.0,
       subst (AreFreshPasses start 1) (sym c.in_ok-push.ensures.ok)
           (one_more_pass start 1 (dealt + 1) c.loop-dealt.passes _ was.1 (let a = was.2 in omega arith) view
-          c.split_off.ensures.amount),
+          c.split_off.ensures.amount (ap (λ (k : Option (List Kept)). is_some k) c.new.ensures)),
       ap (λ (l : List (PassValue g.row.E.Denot)). length l) c.in_ok-push.ensures.ok
           ∙ length-append c.loop-dealt.passes _ ∙ ap (λ (k : ℕ). k + 1) was.2,
       c.deal.ensures.place ∙ was.3,

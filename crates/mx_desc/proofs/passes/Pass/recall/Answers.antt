@@ -1,7 +1,9 @@
 use Rattle.std.proofs.Common.{◌≡◌, ℕ, ◌++◌, ◌∷◌, [], sym, ap, ◌∙◌, subst, rules}
 use Rattle.mx_core.specs.Judging.{at_once}
 use Rattle.mx_core.specs.Loading.{element_of}
+use Rattle.std.specs.Prelude.{List, option_map}
 use Rattle.mx_core.specs.declared.elements.Element.{Element}
+use Rattle.mx_core.specs.declared.elements.Kept.{Kept}
 use Rattle.mx_core.specs.declared.elements.Kept.TheVariants.{Judged}
 use Rattle.mx_core.specs.declared.words.Asked.{Asked}
 use Rattle.mx_rule.specs.Loading.{judged_view}
@@ -37,8 +39,8 @@ invariant_of-self g c =
     (pass_of c.complete-outcome.new.seat.seat.me.0)) at
     (seen_then on a c.args.value v _ (pass_of c.complete-outcome.new.seat.seat.me.0) c.complete-outcome.result is
     c.complete-outcome.ensures.done) in
-    let kept = c.push.ensures.items ∙ (λ i. c.self.inside.trace.items ++ (c.kept.ensures
-    ∙ (λ j. Judged (c.element-element.ensures j) a.op on.desc)) i ∷ []) in
+    let kept = c.push.ensures.kept ∙ (λ i. option_map (λ (b : List Kept). b ++ (c.kept.ensures
+    ∙ (λ j. Judged (c.element-element.ensures j) a.op on.desc)) i ∷ []) c.self.inside.trace.kept) in
     still_seen _ _ _ _ _ _ _ _ v _ _ _ _ _ c.self.invariant (c.complete-outcome.ensures.place ∙ c.recall.ensures.place)
     (c.complete-outcome.ensures.layout ∙ c.recall.ensures.layout) v.memory on a c.args.value _ seen kept
     c.some-self-inside.ensures

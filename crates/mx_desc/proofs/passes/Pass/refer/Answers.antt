@@ -1,5 +1,7 @@
 use Rattle.std.proofs.Common.{◌≡◌, ℕ, ◌++◌, ◌∷◌, [], refl, sym, ap, ◌∙◌, subst, rules}
+use Rattle.std.specs.Prelude.{List, option_map}
 use Rattle.mx_core.specs.declared.elements.Element.{Element}
+use Rattle.mx_core.specs.declared.elements.Kept.{Kept}
 use Rattle.mx_core.specs.declared.elements.Kept.TheVariants.{Judged}
 use Rattle.mx_core.specs.declared.words.Asked.{Asked}
 use Rattle.mx_rule.specs.Codes.{word_by}
@@ -41,8 +43,8 @@ invariant_of-self g c =
     let seen = after_there y.numbers c.args.segno _ c.asked_of-asked.result v at word _
     (pass_of c.complete-outcome.new.seat.seat.me.0) c.in-Ok.on c.args.value c.complete-outcome.result is
     (c.standing.ensures.on c.in-Ok.on (search rules)) c.complete-outcome.ensures.done in
-    let kept = c.push.ensures.items ∙ (λ i. c.self.inside.trace.items ++ (c.kept.ensures
-    ∙ (λ j. Judged (c.element-element.ensures j) c.asked_of-asked.result.op c.in-Ok.on.desc)) i ∷ []) in
+    let kept = c.push.ensures.kept ∙ (λ i. option_map (λ (b : List Kept). b ++ (c.kept.ensures
+    ∙ (λ j. Judged (c.element-element.ensures j) c.asked_of-asked.result.op c.in-Ok.on.desc)) i ∷ []) c.self.inside.trace.kept) in
     still_seen _ _ _ _ _ _ _ _ v _ _ _ _ _ c.self.invariant
     (c.complete-outcome.ensures.place ∙ c.load_desc-found.ensures.place)
     (c.complete-outcome.ensures.layout ∙ c.load_desc-found.ensures.layout) _ c.in-Ok.on c.asked_of-asked.result
@@ -109,7 +111,7 @@ invariant_of-self-in-Err g c =
     (opened_before _ _ _ _ _ _ v _ _ c.self.invariant) is c.load_desc-found.ensures.news
     (λ far. ap word_by (c.load_desc-found.ensures.past far)) (c.standing.ensures.missed c.in-Err.by (search rules)) in
     still_missed _ _ _ _ _ _ _ _ v _ _ _ _ _ c.self.invariant c.load_desc-found.ensures.place
-    c.load_desc-found.ensures.layout c.args.segno c.in-Err.by missed c.push-in-Err.ensures.items refl
+    c.load_desc-found.ensures.layout c.args.segno c.in-Err.by missed c.push-in-Err.ensures.kept refl
 
 pub returns-in-Ok-clause-stage : goal.returns-in-Ok-clause-stage
 returns-in-Ok-clause-stage g c =
