@@ -1,0 +1,4 @@
+mod LinkTargets
+mod ToldTargets
+mod Outcomes
+pub mod PrintedLaws
