@@ -250,6 +250,10 @@ abbrev pub moved_on : Change → LineAtWork
 moved_on after =
     at.Ended (record { ends = result.Moved after.registers.ring after.registers.procedure; after = after })
 
+-- so the line asks for its end
+abbrev pub moving : Control → Change → Next
+moving g after = Ends (result.Moved after.registers.ring after.registers.procedure) (changed g after)
+
 -- what an indirect word came to
 abbrev pub standing : Onward → LineAtWork
 standing (onward.More progress) = at.At progress

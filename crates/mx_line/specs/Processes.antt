@@ -1,6 +1,7 @@
 -- Helpers: what the line of a process asks for, and what an element makes of it.
 use Rattle.std.specs.Prelude.{◌≡◌, Some}
 use Rattle.mx_upcall.specs.Control.{Control}
+use Rattle.mx_upcall.specs.declared.controls.Change.{Change}
 use Rattle.mx_core.specs.declared.elements.Element.{Element}
 use Rattle.mx_core.specs.declared.elements.Event.TheVariants.{Seen}
 use Rattle.mx_transcript.specs.Asking.{next}
@@ -10,7 +11,7 @@ use Rattle.mx_transcript.specs.declared.transcripts.Event2.TheVariants.{Core}
 use Rattle.mx_transcript.specs.declared.transcripts.Result2.{Result2}
 use Rattle.mx_script.specs.declared.lines.Line.{Line}
 use Rattle.mx_sdw.specs.Descriptors.{Descriptor}
-use Rattle.mx_line.specs.AtWork.{IsCome, IsFree, IsGoodNext, IsGoodWork, IsNearer, IsPlain, IsStorable, IsTaken, IsTakenTo, left, meant}
+use Rattle.mx_line.specs.AtWork.{IsCome, IsFree, IsGoodNext, IsGoodWork, IsNearer, IsPlain, IsStorable, IsTaken, IsTakenTo, left, meant, moved_on}
 use Rattle.mx_line.specs.Fills.{IsNoRequest}
 use Rattle.mx_line.specs.Operands.{IsMemoryLine}
 use Rattle.mx_line.specs.declared.asking.Next as asking
@@ -37,6 +38,12 @@ pub record IsReferring (p : Process) (l : Line) (r : asked.Reference) : Type 0 w
 pub record HasPlainEnd (p : Process) (l : Line) (e : Element) (ends : Result2) : Type 0 where
   pub taken : IsTakenTo p.control l e (works.At p.progress) (left p.control (Some ends))
   pub good : IsGoodWork p.control (left p.control (Some ends))
+
+-- its line at work ends by this element on this descriptor, and the process goes on so
+pub record HasPlainMove (p : Process) (l : Line) (e : Element) (d : Descriptor) (after : Change) : Type 0 where
+  pub taken : (setting : Setting) → setting.descriptor e ≡ d
+      → IsTaken p.control l setting (Core (Seen e)) (works.At p.progress) (moved_on after)
+  pub good : IsGoodWork p.control (moved_on after)
 
 -- what an element makes of the line at work
 pub record Takes (g : Control) (l : Line) (progress : Progress) (e : Element) (d : Descriptor) (work : LineAtWork) : Type 0 where

@@ -1,6 +1,6 @@
 //! The line at work: where a process stands within its line, and what an event that answers makes of it.
 
-ghost use Rattle.std.specs.Prelude.{◌≡◌, ◌-◌, ◌≤◌, ℕ, true, false, List, [], ◌∷◌, ◌++◌, Some, IfSome, IsSome, length};
+ghost use Rattle.std.specs.Prelude.{◌≡◌, ◌-◌, ◌≤◌, ℕ, true, false, List, [], ◌∷◌, ◌++◌, Some, IfSome, IsSome, MatchOption, length};
 ghost use Rattle.mx_core.specs.declared.elements.Element.{Element as PlainElement};
 ghost use Rattle.mx_core.specs.declared.elements.Event.TheVariants.{Seen, Missing};
 ghost use Rattle.mx_core.specs.declared.elements.Outcome.TheVariants.{Read as WasRead, Written as WasWritten, Entered as HasEntered};
@@ -20,7 +20,7 @@ ghost use Rattle.mx_transcript.specs.Attempts.{wants};
 ghost use Rattle.mx_transcript.specs.Courses.{Answer, Attempt, Course, Judged};
 ghost use Rattle.mx_transcript.specs.Elements.{IsJudged};
 ghost use Rattle.mx_transcript.specs.Lines.{IsEnd};
-ghost use Rattle.mx_transcript.specs.Next.{Asks, Calls, Reference};
+ghost use Rattle.mx_transcript.specs.Next.{Asks, Calls, Nowhere as AsksNothing, Reference};
 ghost use Rattle.mx_transcript.specs.Settings.{Setting, entry_at};
 ghost use Rattle.mx_transcript.specs.Standing.{IsWalked};
 ghost use Rattle.mx_transcript.specs.Targets.{after_target, at_target};
@@ -28,7 +28,7 @@ ghost use Rattle.mx_transcript.specs.declared.transcripts.Event2.TheVariants.{Co
 ghost use Rattle.mx_upcall.specs.Changes.{changed};
 ghost use Rattle.mx_upcall.specs.Control.{Control as Parts};
 ghost use Rattle.mx_upcall.specs.Soundness.{IsPackableControl};
-ghost use Rattle.mx_line.specs.AtWork.{EndsAt, IsTakenTo, ending, left, left_in, HasSeen, IsCome, IsFree, IsGoodNext, IsGoodWork, IsKnown, IsMet, IsMover, IsNearer, IsOver, IsPlain, IsReader, IsSaid, IsStorable, IsTaken, IsUnlinked, IsWithin, IsWriter, OneCourseLaw, StandsAt, after_writing, begun, beside, end_of, ended, filling_or, meant, moved_on, standing};
+ghost use Rattle.mx_line.specs.AtWork.{EndsAt, IsTakenTo, ending, left, left_in, HasSeen, IsCome, IsFree, IsGoodNext, IsGoodWork, IsKnown, IsMet, IsMover, IsNearer, IsOver, IsPlain, IsReader, IsSaid, IsStorable, IsTaken, IsUnlinked, IsWithin, IsWriter, OneCourseLaw, StandsAt, after_writing, begun, beside, end_of, ended, filling_or, meant, moved_on, moving, standing};
 ghost use Rattle.mx_line.specs.Fills.{IsNoRequest, IsShort, after_fill, counted, first_fill, steps_to_fill};
 ghost use Rattle.mx_line.specs.Looks.{looks};
 ghost use Rattle.mx_line.specs.Operands.{IsGoodProgress, IsGoodWalk, IsMemoryLine, IsSayable, IsTarget};
@@ -462,14 +462,34 @@ fn entered(line: &Line, control: &Control, target: &Pointer, desc: &Desc) -> Lin
     ensures known { (ring : ℕ) (asked : Reference) (e : PlainElement) → at_target control.now line.now target.now ≡ Asks asked
         → IsJudged asked desc.now e → e.outcome ≡ HasEntered ring → IsMover line.now → IsKnown result }
 {
+    match move_at(line, control, target, desc) {
+        Some(after) => moved(&after),
+        None => LineAtWork::Nowhere,
+    }
+}
+
+// What the call or return that it was granted makes of the registers and return gates; none for a line that is neither.
+#[inline(always)]
+fn move_at(line: &Line, control: &Control, target: &Pointer, desc: &Desc) -> Option<Change>
+    requires packable { IsPackableControl control.now }
+    requires target { IsTarget control.now.registers target.now }
+    requires desc { IsAdmissible desc.now }
+    ensures said { (ring : ℕ) (asked : Reference) (e : PlainElement) → at_target control.now line.now target.now ≡ Asks asked
+        → IsJudged asked desc.now e → e.outcome ≡ HasEntered ring
+        → MatchOption result (after_target control.now line.now target.now desc.now (HasEntered ring) ≡ AsksNothing)
+            (λ after. after_target control.now line.now target.now desc.now (HasEntered ring) ≡ moving control.now after) }
+    ensures good { IfSome result (λ after. IsGoodWork control.now (moved_on after)) }
+    ensures some { (ring : ℕ) (asked : Reference) (e : PlainElement) → at_target control.now line.now target.now ≡ Asks asked
+        → IsJudged asked desc.now e → e.outcome ≡ HasEntered ring → IsMover line.now → IsSome result }
+{
     match line {
         Line::Call { .. } => match control.call(target, desc) {
-            Ok(after) => moved(&after),
-            Err(_) => LineAtWork::Nowhere,
+            Ok(after) => Some(after),
+            Err(_) => None,
         },
         Line::Return { .. } => match control.ret(target, desc) {
-            Ok(after) => moved(&after),
-            Err(_) => LineAtWork::Nowhere,
+            Ok(after) => Some(after),
+            Err(_) => None,
         },
         Line::Ask(_)
         | Line::Set { .. }
@@ -477,7 +497,27 @@ fn entered(line: &Line, control: &Control, target: &Pointer, desc: &Desc) -> Lin
         | Line::Lda { .. }
         | Line::Sta { .. }
         | Line::Spri { .. }
-        | Line::Fetch => LineAtWork::Nowhere,
+        | Line::Fetch => None,
+    }
+}
+
+/// What a granted call or return makes of the registers and return gates, where the operand of its line is not indirect; none
+/// for every other element.
+#[inline(always)]
+pub(crate) fn first_move(line: &Line, control: &Control, element: &Element, desc: &Desc) -> Option<Change>
+    requires line { IsSayable line.now }
+    requires packable { IsPackableControl control.now }
+    requires desc { IsAdmissible desc.now }
+    ensures taken { IfSome result (λ after. (setting : Setting) → setting.descriptor element.now ≡ desc.now
+        → IsTaken control.now line.now setting (Core (Seen element.now)) (At Before) (moved_on after)) }
+    ensures good { IfSome result (λ after. IsGoodWork control.now (moved_on after)) }
+{
+    match element.outcome {
+        Outcome::Entered { .. } => match first_target(line, &control.registers) {
+            Some(target) => move_at(line, control, &target, desc),
+            None => None,
+        },
+        Outcome::Read { .. } | Outcome::Written { .. } | Outcome::Denied(_) => None,
     }
 }
 

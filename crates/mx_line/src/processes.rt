@@ -1,19 +1,23 @@
 //! A process: its registers and return gates, and what was recorded of it.
 
 ghost use Rattle.std.specs.Prelude.{◌≡◌, ◌≤◌, ◌<◌, ◌+◌, ◌^◌, [], ◌∷◌, ◌++◌, IfSome, IsTrue, length};
+ghost use Rattle.mx_sdw.specs.Admissible.{IsAdmissible};
+ghost use Rattle.mx_transcript.specs.declared.transcripts.Result2.TheVariants.{Moved};
+ghost use Rattle.mx_upcall.specs.Changes.{Fits, changed};
 ghost use Rattle.mx_upcall.specs.Control.{with_registers};
 ghost use Rattle.mx_upcall.specs.Soundness.{IsPackableControl};
 ghost use Rattle.mx_line.specs.AtWork.{left_in};
 ghost use Rattle.mx_line.specs.Operands.{IsGoodProgress, IsSayable};
-ghost use Rattle.mx_line.specs.Processes.{HasPlainEnd, IsAsking, IsReferring};
+ghost use Rattle.mx_line.specs.Processes.{HasPlainEnd, HasPlainMove, IsAsking, IsReferring};
 ghost use Rattle.mx_line.specs.declared.operands.Progress.TheVariants.{Before};
 
 use crate::asking::{Next, Reference, first_reference, next_reference};
-use crate::at_work::{first_end, leave, next_at, walked_end};
+use crate::at_work::{first_end, first_move, leave, next_at, walked_end};
 use crate::operands::Progress;
 use mx_script::Line;
+use mx_sdw::Desc;
 use mx_transcript::{Element, Event2, Recording, Result2, Transcript};
-use mx_upcall::Control;
+use mx_upcall::{Change, Control};
 
 /// A process: the number of its first line in the session text, its registers and return gates at the start of the line at
 /// work, what was recorded of its lines, and how far the line at work has come.
@@ -84,6 +88,52 @@ impl Process {
         self.recording.keep(event);
         self.recording.end_line(number, ends);
         leave(&mut self.control.registers, &ends);
+        begin(&mut self.progress);
+    }
+
+    /// What the call or return that its line's first reference was granted makes of the registers and return gates; none for
+    /// another element, and where an indirect word was read before it.
+    #[inline(always)]
+    pub fn plain_move(&self, line: &Line, element: &Element, desc: &Desc) -> Option<Change>
+        requires packable { IsPackableControl self.now.control }
+        requires line { IsSayable line.now }
+        requires desc { IsAdmissible desc.now }
+        ensures { IfSome result (HasPlainMove self.now line.now element.now desc.now) }
+    {
+        match &self.progress {
+            Progress::Before => first_move(line, &self.control, element, desc),
+            Progress::Walking(_)
+            | Progress::AtLink(_)
+            | Progress::Waiting
+            | Progress::Filling(_) => None,
+        }
+    }
+
+    /// Its line at work ends with this event, by which the process goes on so. Conditions: there is room for an event and for
+    /// the line's end, and a gate is left only where one more may stand. It takes no memory.
+    pub fn end_moved(&mut self, event: Event2, after: &Change)
+        requires event { 1 ≤ self.old.recording.spare }
+        requires line { IsTrue self.old.recording.line_room }
+        requires number { self.old.first + length self.old.recording.steps < 2 ^ 32 }
+        requires fits { Fits self.old.control.gates after.now.gates }
+        ensures first { self.new.first ≡ self.old.first }
+        ensures done { self.new.control ≡ changed self.old.control after.now }
+        ensures steps { self.new.recording.steps ≡ self.old.recording.steps ++ (self.old.first + length self.old.recording.steps,
+            self.old.recording.events ++ event ∷ [], Moved after.now.registers.ring after.now.registers.procedure) ∷ [] }
+        ensures idle { self.new.recording.events ≡ [] }
+        ensures spare { self.old.recording.spare ≤ self.new.recording.spare + 1 }
+        ensures fresh { self.new.progress ≡ Before }
+    {
+        let number = self.first + self.recording.lines() as u32;
+        self.recording.keep(event);
+        self.recording.end_line(
+            number,
+            Result2::Moved {
+                ring: after.registers.ring,
+                procedure: after.registers.procedure,
+            },
+        );
+        self.control.change(after);
         begin(&mut self.progress);
     }
 

@@ -8,9 +8,9 @@ use Rattle.mx_core.specs.declared.elements.Outcome.{Outcome}
 use Rattle.mx_core.specs.declared.elements.Outcome.TheVariants as outcome
 use Rattle.mx_desc.specs.Passes.{PassValue}
 use Rattle.mx_desc.specs.Referring.{HasMissed}
-use Rattle.mx_line.specs.AtWork.{IsCome, IsFree, IsMet, beside, left, reference_in}
+use Rattle.mx_line.specs.AtWork.{IsCome, IsFree, IsMet, beside, left, moved_on, reference_in}
 use Rattle.mx_line.specs.Operands.{IsGoodProgress, steps_in}
-use Rattle.mx_line.specs.Processes.{HasPlainEnd, IsReferring as AsksToRefer, Takes}
+use Rattle.mx_line.specs.Processes.{HasPlainEnd, HasPlainMove, IsReferring as AsksToRefer, Takes}
 use Rattle.mx_line.specs.declared.asking.End.{End}
 use Rattle.mx_line.specs.declared.asking.Reference as asked
 use Rattle.mx_line.specs.declared.at_work.LineAtWork.{LineAtWork}
@@ -34,6 +34,7 @@ use Rattle.mx_transcript.specs.declared.transcripts.Result2.{Result2}
 use Rattle.mx_upcall.specs.Changes.{changed}
 use Rattle.mx_upcall.specs.Control.{Control}
 use Rattle.mx_upcall.specs.Soundness.{IsPackableControl}
+use Rattle.mx_upcall.specs.declared.controls.Change.{Change}
 use Rattle.mx_process.proofs.JudgedLaws.{WasJudged, asked_by, at_floor, is_judged}
 use Rattle.mx_process.proofs.KnownLaws.{seen_known, known_seen, known_missed}
 use Rattle.mx_process.proofs.WorkLaws.{IsNext, line_ended, line_ends, line_goes_on, never_fills}
@@ -74,6 +75,15 @@ pub taken_plainly : (old new : LineState) (line : Line) (e : Element) (d : Descr
 taken_plainly old new line e d ends plain comes = record {
   work = left old.control (Some ends);
   takes = record { taken = plain.taken d; good = plain.good; nearer = tt };
+  comes = comes;
+}
+
+-- a line that ends by a granted call or return
+pub taken_moved : (old new : LineState) (line : Line) (e : Element) (d : Descriptor) (after : Change) → HasPlainMove old line e d after
+    → Comes old (Core (Seen e)) (moved_on after) turn.Ended new → HasTaken old line e d new turn.Ended
+taken_moved old new line e d after plain comes = record {
+  work = moved_on after;
+  takes = record { taken = plain.taken; good = plain.good; nearer = tt };
   comes = comes;
 }
 

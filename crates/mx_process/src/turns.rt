@@ -198,6 +198,29 @@ fn take(state: &mut LineState, line: &Line, element: &Element, desc: &Desc) -> T
             state.end_plainly(Event2::Core(Event::Seen(*element)), ends);
             Turn::Ended
         }
+        None => move_on(state, line, element, desc),
+    }
+}
+
+// The same for a reference by which the line does not end where the process stands: it is a call or return that was granted,
+// or another.
+fn move_on(state: &mut LineState, line: &Line, element: &Element, desc: &Desc) -> Turn
+    requires room { 1 ≤ state.old.recording.spare }
+    requires end { IsTrue state.old.recording.line_room }
+    requires number { number_in state.old < 2 ^ 32 }
+    requires line { IsSayable line.now }
+    requires packable { IsPackableControl state.old.control }
+    requires good { IsGoodProgress state.old.control.registers state.old.progress }
+    requires desc { IsAdmissible desc.now }
+    requires met { IsMet state.old.control line.now (At state.old.progress) element.now desc.now }
+    ensures taken { HasTaken state.old line.now element.now desc.now state.new result }
+    ensures room { state.old.recording.spare ≤ state.new.recording.spare + 1 }
+{
+    match state.plain_move(line, element, desc) {
+        Some(after) => {
+            state.end_moved(Event2::Core(Event::Seen(*element)), &after);
+            Turn::Ended
+        }
         None => take_by(state, line, element, desc),
     }
 }
