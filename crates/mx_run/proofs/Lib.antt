@@ -2,4 +2,3 @@ pub mod CommandLaws
 pub mod VerdictLaws
 mod RoomLaws
 pub mod SpellingLaws
-mod WritingLaws

@@ -4,24 +4,28 @@ use Rattle.mx_audit.specs.Accounts.{Account, HaveGrown}
 use Rattle.mx_io.specs.Bytes.{TakesAll, TakesTooMany, Appends, AppendsPart}
 use Rattle.mx_io.specs.declared.reading.ReadError.{ReadError}
 use Rattle.mx_io.specs.declared.reading.ReadError.TheVariants as reading
-use Rattle.mx_run.proofs.CommandLaws.{run_is_no_drill}
+use Rattle.mx_check.specs.Judgements.{IsJudgement, judgement_status, judgement_text}
+use Rattle.mx_check.specs.Laws.{DueStatusLaw}
+use Rattle.mx_check.specs.declared.judgements.Judgement.{Judgement}
+use Rattle.mx_check.specs.declared.judgements.Judgement.TheVariants as judged
+use Rattle.mx_run.proofs.CommandLaws.{check_is_no_drill, run_is_no_check, run_is_no_drill}
 use Rattle.mx_script.specs.FirstBadLine.{IsFirstBad}
 use Rattle.mx_script.specs.SessionTexts.{IsText}
 use Rattle.mx_script.specs.declared.reading.SessionError.{SessionError}
 use Rattle.mx_script.specs.declared.reading.SessionError.TheVariants as session
-use Rattle.mx_run.specs.Commands.{IsRun}
-use Rattle.mx_run.specs.Done.{most_bytes, IsDone, IsDoneBy}
+use Rattle.mx_run.specs.Commands.{IsCheck, IsRun}
+use Rattle.mx_run.specs.Done.{most_bytes, IsChecked, IsDone, IsDoneBy}
 use Rattle.mx_run.specs.Statuses.{HasPrinted, IsDueStatus}
 use Rattle.mx_run.specs.Verdicts.{IsVerdict, verdict_status, verdict_text}
 use Rattle.mx_run.specs.Unread.{no_session, unread}
 use Rattle.mx_run.specs.declared.verdicts.Unreached.{Unreached}
 use Rattle.mx_run.specs.declared.verdicts.Unreached.TheVariants.{Fault, Memory}
 use Rattle.mx_run.specs.declared.verdicts.Verdict.{Verdict}
-use Rattle.mx_run.specs.declared.verdicts.Verdict.TheVariants.{Ran, Drilled, BadWords, BadLine, TooLong}
+use Rattle.mx_run.specs.declared.verdicts.Verdict.TheVariants.{Ran, Drilled, Checked, BadWords, BadLine, TooLong}
 
-pub due_status : (words : List (List ℕ)) (spelled : List ℕ) (source' : Option (List ℕ)) (accounts accounts' : List Account) (verdict : Verdict)
+pub due_status : DueStatusLaw → (words : List (List ℕ)) (spelled : List ℕ) (source' : Option (List ℕ)) (accounts accounts' : List Account) (verdict : Verdict)
     → IsVerdict words (Some spelled) source' accounts accounts' verdict → IsDueStatus words spelled (verdict_status verdict)
-due_status words spelled source' accounts accounts' (Ran journal transcripts) right = record {
+due_status law words spelled source' accounts accounts' (Ran journal transcripts) right = record {
   bad_words = λ other. absurd (other (inl right.0));
   drill = λ number d. absurd (run_is_no_drill words number right.0 d);
   session = λ run within some. refl;
@@ -30,22 +34,33 @@ due_status words spelled source' accounts accounts' (Ran journal transcripts) ri
   too_long = λ run more.
       let within : length spelled ≤ most_bytes = subst (λ (l : List ℕ). length l ≤ most_bytes) (sym right.1.read.0) right.1.within in
       absurd (omega arith);
+  check = λ check. absurd (run_is_no_check words right.0 check);
 }
-due_status words spelled source' accounts accounts' (Drilled number journal transcripts) right = record {
-  bad_words = λ other. absurd (other (inr (number, right.0)));
+due_status law words spelled source' accounts accounts' (Drilled number journal transcripts) right = record {
+  bad_words = λ other. absurd (other (inr (inl (number, right.0))));
   drill = λ other d. refl;
   session = λ run within some. refl;
   no_session = λ run within none. absurd (run_is_no_drill words number run right.0);
   too_long = λ run more. absurd (run_is_no_drill words number run right.0);
+  check = λ check. absurd (check_is_no_drill words number check right.0);
 }
-due_status words spelled source' accounts accounts' BadWords right = record {
+due_status law words spelled source' accounts accounts' (Checked judgement) right = record {
+  bad_words = λ other. absurd (other (inr (inr right.0)));
+  drill = λ number d. absurd (check_is_no_drill words number right.0 d);
+  session = λ run within some. absurd (run_is_no_check words run right.0);
+  no_session = λ run within none. absurd (run_is_no_check words run right.0);
+  too_long = λ run more. absurd (run_is_no_check words run right.0);
+  check = λ check. law spelled source' judgement right.1;
+}
+due_status law words spelled source' accounts accounts' BadWords right = record {
   bad_words = λ other. refl;
-  drill = λ number d. absurd (right.0 (inr (number, d)));
+  drill = λ number d. absurd (right.0 (inr (inl (number, d))));
   session = λ run within some. absurd (right.0 (inl run));
   no_session = λ run within none. absurd (right.0 (inl run));
   too_long = λ run more. absurd (right.0 (inl run));
+  check = λ check. absurd (right.0 (inr (inr check)));
 }
-due_status words spelled source' accounts accounts' (BadLine number) right = record {
+due_status law words spelled source' accounts accounts' (BadLine number) right = record {
   bad_words = λ other. absurd (other (inl right.0));
   drill = λ number d. absurd (run_is_no_drill words number right.0 d);
   session = λ run within some. absurd (right.1.first.no_session (some.0, subst (λ (l : List ℕ). IsText l some.0) right.1.read.0 some.1));
@@ -53,28 +68,48 @@ due_status words spelled source' accounts accounts' (BadLine number) right = rec
   too_long = λ run more.
       let within : length spelled ≤ most_bytes = subst (λ (l : List ℕ). length l ≤ most_bytes) (sym right.1.read.0) right.1.within in
       absurd (omega arith);
+  check = λ check. absurd (run_is_no_check words right.0 check);
 }
-due_status words spelled source' accounts accounts' TooLong right = record {
+due_status law words spelled source' accounts accounts' TooLong right = record {
   bad_words = λ other. absurd (other (inl right.0));
   drill = λ number d. absurd (run_is_no_drill words number right.0 d);
   session = λ run within some. let more : most_bytes < length spelled = right.1.0 in absurd (omega arith);
   no_session = λ run within none. let more : most_bytes < length spelled = right.1.0 in absurd (omega arith);
   too_long = λ run more. refl;
+  check = λ check. absurd (run_is_no_check words right.0 check);
 }
 
 -- under `run` a session was run
 pub run_done : (words : List (List ℕ)) (source source' sink sink' : Option (List ℕ)) (accounts accounts' : List Account) → IsRun words
     → IsDoneBy words source source' sink sink' accounts accounts' → IsDone source source' sink sink' accounts accounts'
 run_done words source source' sink sink' accounts accounts' run (inl done) = done.1
-run_done words source source' sink sink' accounts accounts' run (inr drilled) = absurd (run_is_no_drill words drilled.number run drilled.words_are)
+run_done words source source' sink sink' accounts accounts' run (inr (inl drilled)) =
+    absurd (run_is_no_drill words drilled.number run drilled.words_are)
+run_done words source source' sink sink' accounts accounts' run (inr (inr checked)) = absurd (run_is_no_check words run checked.words_are)
 
 -- What a verdict leaves. That the accounts have grown names them.
-pub due_of : (words : List (List ℕ)) (spelled : List ℕ) (source source' : Option (List ℕ)) (accounts accounts' : List Account) (verdict : Verdict)
+pub due_of : DueStatusLaw → (words : List (List ℕ)) (spelled : List ℕ) (source source' : Option (List ℕ)) (accounts accounts' : List Account) (verdict : Verdict)
     → HaveGrown accounts accounts' → source ≡ Some spelled → IsVerdict words source source' accounts accounts' verdict
     → IsDueStatus words spelled (verdict_status verdict)
-due_of words spelled source source' accounts accounts' verdict grown told right =
-    due_status words spelled source' accounts accounts' verdict
+due_of law words spelled source source' accounts accounts' verdict grown told right =
+    due_status law words spelled source' accounts accounts' verdict
     (subst (λ (l : Option (List ℕ)). IsVerdict words l source' accounts accounts' verdict) told right)
+
+checked_of : (words : List (List ℕ)) (source source' sink sink' : Option (List ℕ)) (accounts accounts' : List Account) (judgement : Judgement)
+    → IsCheck words × IsJudgement source source' judgement × (accounts' ≡ accounts) → Appends sink sink' (judgement_text judgement)
+    → judgement_status judgement ≡ 0 → IsChecked words source source' sink sink' accounts accounts'
+checked_of words source source' sink sink' accounts accounts' judged.Legal right printed done = record {
+  words_are = right.0;
+  spelled = right.1.spelled;
+  read = right.1.read;
+  within = right.1.within;
+  legal = right.1.judged;
+  untold = right.2;
+  printed = printed;
+}
+checked_of words source source' sink sink' accounts accounts' (judged.Breach breach) right printed done = absurd (omega (arith, done))
+checked_of words source source' sink sink' accounts accounts' (judged.BadLine number) right printed done = absurd (omega (arith, done))
+checked_of words source source' sink sink' accounts accounts' judged.TooLong right printed done = absurd (omega (arith, done))
 
 pub done_of : (words : List (List ℕ)) (source source' sink sink' : Option (List ℕ)) (accounts accounts' : List Account) (verdict : Verdict)
     → HaveGrown accounts accounts' → IsVerdict words source source' accounts accounts' verdict → Appends sink sink' (verdict_text verdict)
@@ -82,7 +117,7 @@ pub done_of : (words : List (List ℕ)) (source source' sink sink' : Option (Lis
 done_of words source source' sink sink' accounts accounts' (Ran journal transcripts) grown right printed done =
     inl (right.0, record { journal = journal; transcripts = transcripts; run = right.1; told = right.2; printed = printed })
 done_of words source source' sink sink' accounts accounts' (Drilled number journal transcripts) grown right printed done =
-    inr (record {
+    inr (inl (record {
       number = number;
       words_are = right.0;
       journal = journal;
@@ -91,7 +126,9 @@ done_of words source source' sink sink' accounts accounts' (Drilled number journ
       spellable = right.2;
       told = right.4;
       printed = printed;
-    })
+    }))
+done_of words source source' sink sink' accounts accounts' (Checked judgement) grown right printed done =
+    inr (inr (checked_of words source source' sink sink' accounts accounts' judgement right printed done))
 done_of words source source' sink sink' accounts accounts' BadWords grown right printed done = absurd (omega (arith, done))
 done_of words source source' sink sink' accounts accounts' (BadLine number) grown right printed done = absurd (omega (arith, done))
 done_of words source source' sink sink' accounts accounts' TooLong grown right printed done = absurd (omega (arith, done))
@@ -126,6 +163,8 @@ of_read words source source' spelled accounts accounts' (Ran journal transcripts
 )
 of_read words source source' spelled accounts accounts' (Drilled number journal transcripts) run takes within right =
     absurd (run_is_no_drill words number run right.0)
+of_read words source source' spelled accounts accounts' (Checked judgement) run takes within right =
+    absurd (run_is_no_check words run right.0)
 of_read words source source' spelled accounts accounts' BadWords run takes within right = absurd (right.0 (inl run))
 of_read words source source' spelled accounts accounts' (BadLine number) run takes within right = (
   right.0,

@@ -1,4 +1,4 @@
--- The words of a command line that are accepted: `run`, and `drill` with a number.
+-- The words of a command line that are accepted: `run`, `drill` with a number, and `check`.
 use Rattle.std.specs.Prelude.{◌≡◌, ◌⊎◌, ℕ, List, [], ◌∷◌, codes}
 use Rattle.mx_drill.specs.Numbers.{IsNumber}
 
@@ -12,6 +12,14 @@ pub record IsDrill (words : List (List ℕ)) (number : ℕ) : Type 0 where
   pub words_are : words ≡ codes "drill" ∷ digits ∷ []
   pub spelled : IsNumber digits number
 
+-- the words of a command that checks the session of the source, and the run behind it
+abbrev pub IsCheck : List (List ℕ) → Type 0
+IsCheck words = words ≡ codes "check" ∷ []
+
 -- the words of a command
 abbrev pub IsAccepted : List (List ℕ) → Type 0
-IsAccepted words = IsRun words ⊎ ((number : ℕ) × IsDrill words number)
+IsAccepted words = IsRun words ⊎ (((number : ℕ) × IsDrill words number) ⊎ IsCheck words)
+
+-- the words of a command that reads the source
+abbrev pub IsReading : List (List ℕ) → Type 0
+IsReading words = IsRun words ⊎ IsCheck words

@@ -1,9 +1,11 @@
 -- Status 0, the headline. Under `run` the source held the text of a session, and the sink gained the run text of a legal
 -- run of it. Under `drill N` the sink gained the summary of a legal run of the drill of that number. Each auditor was told
--- what the run's transcripts say of its process. A source's bytes and a sink's are spoken of where they are told.
-use Rattle.std.specs.Prelude.{ℕ, ◌≤◌, ◌⊎◌, List, length, Option}
+-- what the run's transcripts say of its process. Under `check` the source held a session and a legal run of it, and the sink
+-- gained `legal`; no auditor was told. A source's bytes and a sink's are spoken of where they are told.
+use Rattle.std.specs.Prelude.{◌≡◌, ℕ, ◌≤◌, ◌⊎◌, List, length, Option, codes}
 use Rattle.mx_io.specs.Bytes.{TakesAll, Appends}
 use Rattle.mx_audit.specs.Accounts.{Account}
+use Rattle.mx_check.specs.Judgements as judged
 use Rattle.mx_script.specs.SessionTexts.{IsText}
 use Rattle.mx_script.specs.Sessions.{Outline}
 use Rattle.mx_state.specs.declared.journal.Entry.{Entry}
@@ -14,7 +16,7 @@ use Rattle.mx_spelling.specs.Spelling.{IsSpellable}
 use Rattle.mx_drill.specs.Drills.{drill_session}
 use Rattle.mx_drill.specs.Summaries.{summary_text}
 use Rattle.mx_text.specs.RunText.{run_text}
-use Rattle.mx_run.specs.Commands.{IsRun, IsDrill}
+use Rattle.mx_run.specs.Commands.{IsRun, IsDrill, IsCheck}
 
 -- the greatest size of a session text, in bytes
 abbrev pub most_bytes : ℕ
@@ -51,7 +53,18 @@ pub record IsDrilled (words : List (List ℕ)) (sink sink' : Option (List ℕ)) 
   pub told : WereTold accounts transcripts accounts'
   pub printed : Appends sink sink' (summary_text number journal transcripts)
 
+-- under `check`
+pub record IsChecked (words : List (List ℕ)) (source source' sink sink' : Option (List ℕ)) (accounts accounts' : List Account) : Type 0 where
+  pub words_are : IsCheck words
+  pub spelled : List ℕ
+  pub read : TakesAll source source' spelled
+  pub within : length spelled ≤ judged.most_bytes
+  pub legal : judged.IsLegalText spelled
+  pub untold : accounts' ≡ accounts
+  pub printed : Appends sink sink' (codes "legal\n")
+
 -- what the words ask for was done
 abbrev pub IsDoneBy : List (List ℕ) → Option (List ℕ) → Option (List ℕ) → Option (List ℕ) → Option (List ℕ) → List Account → List Account → Type 0
 IsDoneBy words source source' sink sink' accounts accounts' =
-    (IsRun words × IsDone source source' sink sink' accounts accounts') ⊎ IsDrilled words sink sink' accounts accounts'
+    (IsRun words × IsDone source source' sink sink' accounts accounts')
+    ⊎ (IsDrilled words sink sink' accounts accounts' ⊎ IsChecked words source source' sink sink' accounts accounts')

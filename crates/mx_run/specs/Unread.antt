@@ -1,6 +1,5 @@
 -- Helpers that only private contracts cite: what comes of a source that was not read to its end, and of bytes of which no session was read.
-use Rattle.std.specs.Prelude.{ℕ, List, ◌++◌, Result, Ok, Err, codes}
-use Rattle.std.specs.Fmt.{decimal}
+use Rattle.std.specs.Prelude.{Result, Ok, Err}
 use Rattle.mx_io.specs.declared.reading.ReadError.{ReadError}
 use Rattle.mx_io.specs.declared.reading.ReadError.TheVariants as reading
 use Rattle.mx_script.specs.declared.reading.SessionError.{SessionError}
@@ -18,6 +17,3 @@ unread reading.Memory = Err Memory
 abbrev pub no_session : SessionError → Result Verdict Unreached
 no_session (session.BadLine number) = Ok (BadLine number)
 no_session session.Memory = Err Memory
-
-abbrev pub bad_line_text : ℕ → List ℕ
-bad_line_text number = codes "bad line " ++ decimal number ++ codes "\n"

@@ -5,12 +5,13 @@ ghost use Rattle.std.specs.String.{string_bytes};
 ghost use Rattle.mx_audit.specs.Accounts.{HaveGrown, HaveRoom};
 ghost use Rattle.mx_io.specs.Bytes.{Appends, AppendsPart};
 ghost use Rattle.mx_io.specs.Faults.{Rose};
-ghost use Rattle.mx_run.specs.Commands.{IsRun, IsDrill, IsAccepted};
+ghost use Rattle.mx_run.specs.Commands.{IsDrill, IsAccepted, IsReading};
 ghost use Rattle.mx_run.specs.Done.{IsDoneBy};
 ghost use Rattle.mx_run.specs.Statuses.{HasPrinted, IsStopped, IsDueStatus};
 
 use crate::verdicts::{Unreached, Verdict};
 use mx_audit::Auditor;
+use mx_check::a_judgement_has_the_due_status;
 use mx_io::{Sink, Source};
 use mx_proc::Gate;
 use mx_text::TextError;
@@ -30,20 +31,23 @@ const SINK_FAULT: u8 = 4;
 /// Does what the words of the command line ask for, and answers the status with which the program is to end. Under `run` the source is
 /// read to its end as the text of a session, the session is run, each process on a thread of its own where one can be had, and the run text
 /// is written to the sink. Under `drill` and one word of 1 to 6 decimal digits the drill of that number is run in the same way, and its
-/// summary is written; the source is not read. No other words are accepted. The gate is told of each script line before it begins. Auditor `i`,
-/// counted from 0, belongs to process `i + 1` and is told of each line of it that ends denied, in the step that ends it; processes
-/// beyond the auditors have none, and auditors beyond the processes are not called. Each needs room for 700,000 denials. At the return the
-/// vector holds the same auditors in the same order. The call may wait; what it promises holds when it returns.
+/// summary is written; the source is not read. Under `check` the source is read to its end as the text of a session followed at once by
+/// that of a run, and the judgement on the run is written: whether it is a legal one of the session. No other words are accepted. The gate
+/// is told of each script line before it begins. Auditor `i`, counted from 0, belongs to process `i + 1` and is told of each line of it that
+/// ends denied, in the step that ends it; processes beyond the auditors have none, and auditors beyond the processes are not called. Each
+/// needs room for 700,000 denials. At the return the vector holds the same auditors in the same order. The call may wait; what it promises
+/// holds when it returns.
 ///
 /// | Status | Comes | Written | Auditors were told of |
 /// |---|---|---|---|
-/// | 0 | the session, or the drill, was run | the run text, or the summary | the denials of the run |
+/// | 0 | the session, or the drill, was run; or the run is a legal one | the run text, the summary, or `legal` | the denials of the run; under `check` nothing |
 /// | 1 | memory ran out | the front of the run text, or nothing | some denials, or none; of those of the run where anything was written |
 /// | 2 | the words are not accepted; the source is not read, and no memory is taken | `bad words` | nothing |
 /// | 3 | the source failed | nothing | nothing |
 /// | 4 | the sink failed | the front of what the status otherwise due writes | what they are told of at that status |
-/// | 5 | the bytes are no session | `bad line N`, N the first bad line | nothing |
-/// | 6 | the source gave more than 4,194,304 bytes | `too long` | nothing |
+/// | 5 | the bytes are no session; under `check` no session and run | `bad line N`, N the first bad line | nothing |
+/// | 6 | the source gave more than 4,194,304 bytes; under `check` more than 33,554,432 | `too long` | nothing |
+/// | 7 | under `check`: the bytes are a session and a run, and the run is no legal one | `breach P L`: process P, line L | nothing |
 pub fn multics<R: Threads + Wait + Sync, S: Source, K: Sink, G: Gate>(
     rt: &R,
     alloc: Global,
@@ -61,7 +65,7 @@ pub fn multics<R: Threads + Wait + Sync, S: Source, K: Sink, G: Gate>(
         → IsDoneBy (map string_bytes words.now) (S.left source.old) (S.left source.new) (K.out sink.old) (K.out sink.new)
         (map account auditors.old.items) (map account auditors.new.items) }
 
-    // Statuses 0, 2, 5 and 6 are those of a right verdict, told whole. There are no others but 1, 3 and 4.
+    // Statuses 0, 2, 5, 6 and 7 are those of a right verdict, told whole. There are no others but 1, 3 and 4.
     ensures verdict { IsStopped result
         ⊎ HasPrinted (Appends (K.out sink.old) (K.out sink.new)) (map string_bytes words.now) (S.left source.old) (S.left source.new)
         (map account auditors.old.items) (map account auditors.new.items) result }
@@ -71,10 +75,10 @@ pub fn multics<R: Threads + Wait + Sync, S: Source, K: Sink, G: Gate>(
         → IsStopped result ⊎ IsDueStatus (map string_bytes words.now) spelled result }
 
     // Words that are not accepted are refused, or the sink failed. A drill is run, or memory ran out, or the sink failed. The source is not
-    // touched where the words are not `run`.
+    // touched where the words are neither `run` nor `check`.
     ensures refused { (IsAccepted (map string_bytes words.now) → ⊥) → (result ≡ 2) ⊎ (result ≡ 4) }
     ensures drilled { (number : ℕ) → IsDrill (map string_bytes words.now) number → (result ≡ 0) ⊎ ((result ≡ 1) ⊎ (result ≡ 4)) }
-    ensures unread { (IsRun (map string_bytes words.now) → ⊥) → source.new ≡ source.old }
+    ensures unread { (IsReading (map string_bytes words.now) → ⊥) → source.new ≡ source.old }
 
     // At status 1 no end had failed; nothing was written, or the front of a run text.
     ensures unfailed { result ≡ 1 → (S.faults source.new ≡ S.faults source.old) × (K.faults sink.new ≡ K.faults sink.old) }
@@ -96,6 +100,7 @@ pub fn multics<R: Threads + Wait + Sync, S: Source, K: Sink, G: Gate>(
         × HasPrinted (AppendsPart (K.out sink.old) (K.out sink.new)) (map string_bytes words.now) (S.left source.old) (S.left source.new)
         (map account auditors.old.items) (map account auditors.new.items) status }
 {
+    a_judgement_has_the_due_status();
     match Verdict::reach(rt, alloc, words, source, gate, auditors) {
         Ok(verdict) => match verdict.tell(alloc, sink) {
             Ok(()) => verdict.status(),

@@ -3,6 +3,7 @@
 ghost use Rattle.std.specs.Prelude.{◌≡◌, ◌⊎◌, ℕ, ◌≤◌, true, [], ◌∷◌, map, length, Some, Ok, IfOk, OnOk, OnErr, IsErrOf, codes};
 ghost use Rattle.std.specs.List.{list_all};
 ghost use Rattle.std.specs.String.{string_bytes};
+ghost use Rattle.mx_check.specs.Judgements.{IsJudgement, judgement_text};
 ghost use Rattle.mx_audit.specs.Accounts.{HaveGrown, HaveRoom};
 ghost use Rattle.mx_io.specs.Bytes.{Appends, AppendsPart};
 ghost use Rattle.mx_io.specs.Faults.{Rose};
@@ -11,14 +12,14 @@ ghost use Rattle.mx_proc.specs.Auditors.{HaveRoomForLines, WereTold};
 ghost use Rattle.mx_script.specs.SessionTexts.{fits, rows_of};
 ghost use Rattle.mx_spelling.specs.Spelling.{IsSpellable};
 ghost use Rattle.mx_transcript.specs.Runs.{IsRunOf};
-ghost use Rattle.mx_run.specs.Commands.{IsRun, IsDrill, IsAccepted};
-ghost use Rattle.mx_run.specs.Unread.{bad_line_text, no_session, unread};
+ghost use Rattle.mx_run.specs.Commands.{IsDrill, IsAccepted, IsReading};
+ghost use Rattle.mx_run.specs.Unread.{no_session, unread};
 ghost use Rattle.mx_run.specs.Verdicts.{IsVerdict, verdict_status, verdict_text};
 ghost use Rattle.mx_run.specs.declared.verdicts.Unreached.TheVariants.{Fault, Memory};
 
 use crate::words::Command;
-use itoa::Buffer;
 use mx_audit::Auditor;
+use mx_check::{Judgement, Unjudged};
 use mx_drill::{session_of, summary};
 use mx_io::{ReadError, Sink, Source, read_all, write_all};
 use mx_proc::{Gate, run};
@@ -47,11 +48,13 @@ pub enum Verdict {
         journal: Journal,
         transcripts: Transcripts,
     },
+    /// The words ask for the check of a printed run, and this is the judgement on the source.
+    Checked(Judgement),
     /// The words are not accepted. The source was not read.
     BadWords,
-    /// The source held no session; the number of the first bad line.
+    /// The source was to hold a session and held none; the number of the first bad line.
     BadLine(u32),
-    /// The source held more than 4,194,304 bytes.
+    /// The source was to hold a session, and held more than 4,194,304 bytes.
     TooLong,
 }
 
@@ -72,7 +75,8 @@ impl From<AllocError> for Unreached {
 
 impl Verdict {
     /// The verdict on a command. Under `run` the source is read to its end, and its session is run. Under `drill` the drill is run, and the
-    /// source is left as it is. Otherwise the source is left as it is and no memory is taken. The auditors are told of the run's denials.
+    /// source is left as it is. Under `check` the source is read to its end and judged. Otherwise the source is left as it is and no memory
+    /// is taken. The auditors are told of the run's denials; under `check` of nothing.
     pub(crate) fn reach<R: Threads + Wait + Sync, S: Source, G: Gate>(
         rt: &R,
         alloc: Global,
@@ -88,8 +92,8 @@ impl Verdict {
         ensures untold { IsErrOf result Unreached.Fault → map account auditors.new.items ≡ map account auditors.old.items }
         ensures refused { (IsAccepted (map string_bytes words.now) → ⊥) → result ≡ Ok Verdict.BadWords }
         ensures drilled { (n : ℕ) → IsDrill (map string_bytes words.now) n → IfOk result (λ verdict. verdict_status verdict ≡ 0) }
-        ensures faultless { (IsRun (map string_bytes words.now) → ⊥) → IsErrOf result Unreached.Fault → ⊥ }
-        ensures unread { (IsRun (map string_bytes words.now) → ⊥) → source.new ≡ source.old }
+        ensures faultless { (IsReading (map string_bytes words.now) → ⊥) → IsErrOf result Unreached.Fault → ⊥ }
+        ensures unread { (IsReading (map string_bytes words.now) → ⊥) → source.new ≡ source.old }
         ensures cause { IsErrOf result Unreached.Fault → Rose (S.faults source.old) (S.faults source.new) }
         ensures only { (IsErrOf result Unreached.Fault → ⊥) → S.faults source.new ≡ S.faults source.old }
     {
@@ -102,6 +106,10 @@ impl Verdict {
                     journal,
                     transcripts,
                 })
+            }
+            Command::Check => {
+                let judgement = judged(alloc, source)?;
+                Ok(Verdict::Checked(judgement))
             }
             Command::Other => Ok(Verdict::BadWords),
         }
@@ -162,6 +170,7 @@ impl Verdict {
     {
         match self {
             Verdict::Ran { .. } | Verdict::Drilled { .. } => 0,
+            Verdict::Checked(judgement) => judgement.status(),
             Verdict::BadWords => 2,
             Verdict::BadLine(_) => 5,
             Verdict::TooLong => 6,
@@ -192,10 +201,24 @@ impl Verdict {
                 let text = summary(alloc, *number, journal, transcripts)?;
                 write(sink, text.items())
             }
+            Verdict::Checked(judgement) => tell_judgement(judgement, sink),
             Verdict::BadWords => write(sink, b"bad words\n"),
-            Verdict::BadLine(number) => tell_bad_line(*number, sink),
+            Verdict::BadLine(number) => tell_judgement(&Judgement::BadLine(*number), sink),
             Verdict::TooLong => write(sink, b"too long\n"),
         }
+    }
+}
+
+// The judgement on a source.
+fn judged<S: Source>(alloc: Global, source: &mut S) -> Result<Judgement, Unreached>
+    ensures right { IfOk result (IsJudgement (S.left source.old) (S.left source.new)) }
+    ensures cause { IsErrOf result Unreached.Fault → Rose (S.faults source.old) (S.faults source.new) }
+    ensures only { (IsErrOf result Unreached.Fault → ⊥) → S.faults source.new ≡ S.faults source.old }
+{
+    match Judgement::reach(alloc, source) {
+        Ok(judgement) => Ok(judgement),
+        Err(Unjudged::Fault) => Err(Unreached::Fault),
+        Err(Unjudged::Memory) => Err(Unreached::Memory),
     }
 }
 
@@ -250,21 +273,19 @@ fn write<K: Sink>(sink: &mut K, text: &[u8]) -> Result<(), TextError>
     Ok(())
 }
 
-// Writes the number of a bad line. The only error is `Fault`.
-fn tell_bad_line<K: Sink>(number: u32, sink: &mut K) -> Result<(), TextError>
-    ensures all { OnOk result (Appends (K.out sink.old) (K.out sink.new) (bad_line_text number)) }
-    ensures part { IsErrOf result TextError.Fault → AppendsPart (K.out sink.old) (K.out sink.new) (bad_line_text number) }
+// Writes the text of a judgement. The only error is `Fault`.
+fn tell_judgement<K: Sink>(judgement: &Judgement, sink: &mut K) -> Result<(), TextError>
+    ensures all { OnOk result (Appends (K.out sink.old) (K.out sink.new) (judgement_text judgement.now)) }
+    ensures part { IsErrOf result TextError.Fault → AppendsPart (K.out sink.old) (K.out sink.new) (judgement_text judgement.now) }
     ensures no_memory { IsErrOf result TextError.Memory → ⊥ }
     ensures cause { IsErrOf result TextError.Fault → Rose (K.faults sink.old) (K.faults sink.new) }
     ensures only { (IsErrOf result TextError.Fault → ⊥) → K.faults sink.new ≡ K.faults sink.old }
 {
-    let mut buffer = Buffer::new();
-    write(sink, b"bad line ")?;
-    write(sink, buffer.format(number).as_bytes())?;
-    write(sink, b"\n")
+    judgement.tell(sink)?;
+    Ok(())
 }
 
-// What comes of a source that was not read to its end. Takes no memory: that it has too many bytes is told.
+// What comes of a source that was to hold a session and was not read to its end. Takes no memory: that it has too many bytes is told.
 fn unread(error: ReadError) -> Result<Verdict, Unreached>
     ensures { result ≡ unread error }
 {

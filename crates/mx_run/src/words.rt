@@ -1,8 +1,7 @@
 //! The words of a command line.
 
-ghost use Rattle.std.specs.Prelude.{◌≤◌, ◌↔◌, map, IfSome, IsTrue};
+ghost use Rattle.std.specs.Prelude.{◌≡◌, ◌≤◌, ◌↔◌, [], ◌∷◌, map, IfSome, IsTrue};
 ghost use Rattle.std.specs.String.{string_bytes};
-ghost use Rattle.mx_run.specs.Commands.{IsRun};
 ghost use Rattle.mx_run.specs.Reading.{IsDrillOf, IsCommand};
 
 use mx_drill::read_number;
@@ -14,6 +13,8 @@ pub(crate) enum Command {
     Run,
     /// `drill N`: the drill of this number is run.
     Drill(u32),
+    /// `check`: the session of the source is checked, and the run behind it.
+    Check,
     /// The words are not accepted.
     Other,
 }
@@ -23,8 +24,11 @@ impl Command {
     pub(crate) fn read(words: &[String]) -> Command
         ensures { IsCommand (map string_bytes words.now) result }
     {
-        if is_run(words) {
+        if is_word(words, "run") {
             return Command::Run;
+        }
+        if is_word(words, "check") {
+            return Command::Check;
         }
         match drill(words) {
             Some(number) => Command::Drill(number),
@@ -33,12 +37,12 @@ impl Command {
     }
 }
 
-// Whether the words are the one word `run`.
-fn is_run(words: &[String]) -> bool
-    ensures { IsTrue result ↔ IsRun (map string_bytes words.now) }
+// Whether the words are this one word.
+fn is_word(words: &[String], word: &str) -> bool
+    ensures { IsTrue result ↔ (map string_bytes words.now ≡ word.now ∷ []) }
 {
     match words {
-        [word] => word.as_str() == "run",
+        [only] => only.as_str() == word,
         _ => false,
     }
 }

@@ -2,6 +2,7 @@
 
 mod auditors;
 mod calls;
+mod checks;
 mod drills;
 mod ends;
 mod logs;

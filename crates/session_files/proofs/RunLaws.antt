@@ -4,7 +4,7 @@ use Rattle.std.proofs.Common.{◌≡◌, ℕ, ◌≤◌, List, [], ◌∷◌, le
 use Rattle.std.specs.Prelude.{codes, IfSome}
 use Rattle.mx_audit.specs.Accounts.{Account}
 use Rattle.mx_run.proofs.VerdictLaws.{run_done}
-use Rattle.mx_run.specs.Commands.{IsRun}
+use Rattle.mx_run.specs.Commands.{IsCheck, IsRun}
 use Rattle.mx_run.specs.Done.{IsDrilled, IsDoneBy}
 use Rattle.mx_run.specs.Statuses.{IsDueStatus}
 use Rattle.mx_script.specs.Sessions.{Outline}
@@ -26,7 +26,7 @@ without words source left sink sink' told (inl done) = inl (
     printed = done.1.printed;
   },
 )
-without words source left sink sink' told (inr drilled) = inr (record {
+without words source left sink sink' told (inr (inl drilled)) = inr (inl (record {
   number = drilled.number;
   words_are = drilled.words_are;
   journal = drilled.journal;
@@ -35,7 +35,16 @@ without words source left sink sink' told (inr drilled) = inr (record {
   spellable = drilled.spellable;
   told = refl;
   printed = drilled.printed;
-})
+}))
+without words source left sink sink' told (inr (inr checked)) = inr (inr (record {
+  words_are = checked.words_are;
+  spelled = checked.spelled;
+  read = checked.read;
+  within = checked.within;
+  legal = checked.legal;
+  untold = refl;
+  printed = checked.printed;
+}))
 
 -- over a source that held this text and an empty sink
 pub done_over : (words : List (List ℕ)) (text held before after printed : List ℕ) (left : Option (List ℕ)) (accounts told : List Account)
@@ -57,14 +66,18 @@ pub run_of : (words : List (List ℕ)) (session printed : List ℕ) → IsRun wo
 run_of words session printed run done =
     (done.0, run_done words (Some session) done.0 (Some []) (Some printed) [] [] run done.1)
 
--- `drill` and a word are not `run`
+-- `drill` and a word are neither `run` nor `check`
 drill_is_no_run : (number : List ℕ) → IsRun (codes "drill" ∷ number ∷ []) → ⊥
 drill_is_no_run number run = cc
+
+drill_is_no_check : (number : List ℕ) → IsCheck (codes "drill" ∷ number ∷ []) → ⊥
+drill_is_no_check number check = cc
 
 drilled_of : (number : List ℕ) (source left sink sink' : Option (List ℕ))
     → IsDoneBy (codes "drill" ∷ number ∷ []) source left sink sink' [] [] → IsDrilled (codes "drill" ∷ number ∷ []) sink sink' [] []
 drilled_of number source left sink sink' (inl done) = absurd (drill_is_no_run number done.0)
-drilled_of number source left sink sink' (inr drilled) = drilled
+drilled_of number source left sink sink' (inr (inl drilled)) = drilled
+drilled_of number source left sink sink' (inr (inr checked)) = absurd (drill_is_no_check number checked.words_are)
 
 -- under `drill`
 pub summary_of : (words : List (List ℕ)) (number text printed : List ℕ) → words ≡ codes "drill" ∷ number ∷ []

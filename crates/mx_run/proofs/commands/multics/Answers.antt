@@ -9,7 +9,7 @@ pub returns-in-Ok-tell-clause-due : goal.returns-in-Ok-tell-clause-due
 returns-in-Ok-tell-clause-due g c = λ spelled told.
     let words : List (List ℕ) = map string_bytes c.args.words.now in
     inr (subst (λ (n : ℕ). IsDueStatus words spelled n) (sym c.status.ensures)
-    (due_of words spelled (g.S.Source.left c.args.source.now) (g.S.Source.left c.reach.new.source) _ _ c.in-Ok.verdict c.in-Ok.ensures.grown told
+    (due_of c.a_judgement_has_the_due_status.ensures words spelled (g.S.Source.left c.args.source.now) (g.S.Source.left c.reach.new.source) _ _ c.in-Ok.verdict c.in-Ok.ensures.grown told
     c.in-Ok.ensures.right))
 
 pub returns-in-Ok-tell-clause-done : goal.returns-in-Ok-tell-clause-done

@@ -4,4 +4,6 @@ use Rattle.mx_run.proofs.CommandLaws.{not_accepted}
 use Rattle.mx_run.proofs.words.Command.read.Goals as goal
 
 pub returns-in-None : goal.returns-in-None
-returns-in-None c = not_accepted _ (λ r. false≢true (sym c.if-is_run.false ∙ c.is_run.ensures.1 r)) c.in-None.ensures.value
+returns-in-None c =
+    not_accepted _ (λ r. false≢true (sym c.if-is_word.false ∙ c.is_word.ensures.1 r)) c.in-None.ensures.value
+    (λ r. false≢true (sym c.if-is_word-2.false ∙ c.is_word-2.ensures.1 r))

@@ -1,0 +1,3 @@
+mod WritingLaws
+mod SessionLaws
+mod JudgementLaws
