@@ -135,7 +135,7 @@ walk_ends_in g l walk target e (Some ends) done at_end = walk_ends_taken g l wal
 pub move_taken : (g : Control) (l : Line) (target : PointerParts) (e : Element) (d : Descriptor) (ring : ℕ) (after : Change)
     → first_want g.registers l ≡ Some (want.Done target) → e.outcome ≡ Entered ring
     → ((asked : Reference) → at_target g l target ≡ Asks asked → IsJudged asked d e
-        → after_target g l target d (Entered ring) ≡ moving g after)
+    → after_target g l target d (Entered ring) ≡ moving g after)
     → (setting : Setting) → setting.descriptor e ≡ d → IsTaken g l setting (Core (Seen e)) (at.At Before) (moved_on after)
 move_taken g l target e d ring after is entered said = direct_taken g l target e d (moved_on after) is tells
   where
@@ -146,7 +146,7 @@ move_taken g l target e d ring after is entered said = direct_taken g l target e
 pub move_found : (g : Control) (l : Line) (target : PointerParts) (e : Element) (d : Descriptor) (ring : ℕ) (found : Option Change)
     → first_want g.registers l ≡ Some (want.Done target) → e.outcome ≡ Entered ring
     → ((r : ℕ) (asked : Reference) (other : Element) → at_target g l target ≡ Asks asked → IsJudged asked d other → other.outcome ≡ Entered r
-        → MatchOption found (after_target g l target d (Entered r) ≡ Nowhere) (λ after. after_target g l target d (Entered r) ≡ moving g after))
+    → MatchOption found (after_target g l target d (Entered r) ≡ Nowhere) (λ after. after_target g l target d (Entered r) ≡ moving g after))
     → IfSome found (λ after. (setting : Setting) → setting.descriptor e ≡ d → IsTaken g l setting (Core (Seen e)) (at.At Before) (moved_on after))
 move_found g l target e d ring None is entered said = tt
 move_found g l target e d ring (Some after) is entered said =

@@ -40,7 +40,7 @@ ends_in p progress l e (Some ends) is taken good = ends_where p progress l e end
 -- so it is with the move that is found at its beginning
 pub moves_in : (p : Process) (l : Line) (e : Element) (d : Descriptor) (found : Option Change) → p.progress ≡ Before
     → IfSome found (λ after. (setting : Setting) → setting.descriptor e ≡ d
-        → IsTaken p.control l setting (Core (Seen e)) (at.At Before) (moved_on after))
+    → IsTaken p.control l setting (Core (Seen e)) (at.At Before) (moved_on after))
     → IfSome found (λ after. IsGoodWork p.control (moved_on after)) → IfSome found (HasPlainMove p l e d)
 moves_in p l e d None is taken good = tt
 moves_in p l e d (Some after) is taken good = record {

@@ -477,7 +477,7 @@ fn move_at(line: &Line, control: &Control, target: &Pointer, desc: &Desc) -> Opt
     ensures said { (ring : ℕ) (asked : Reference) (e : PlainElement) → at_target control.now line.now target.now ≡ Asks asked
         → IsJudged asked desc.now e → e.outcome ≡ HasEntered ring
         → MatchOption result (after_target control.now line.now target.now desc.now (HasEntered ring) ≡ AsksNothing)
-            (λ after. after_target control.now line.now target.now desc.now (HasEntered ring) ≡ moving control.now after) }
+        (λ after. after_target control.now line.now target.now desc.now (HasEntered ring) ≡ moving control.now after) }
     ensures good { IfSome result (λ after. IsGoodWork control.now (moved_on after)) }
     ensures some { (ring : ℕ) (asked : Reference) (e : PlainElement) → at_target control.now line.now target.now ≡ Asks asked
         → IsJudged asked desc.now e → e.outcome ≡ HasEntered ring → IsMover line.now → IsSome result }
@@ -504,7 +504,12 @@ fn move_at(line: &Line, control: &Control, target: &Pointer, desc: &Desc) -> Opt
 /// What a granted call or return makes of the registers and return gates, where the operand of its line is not indirect; none
 /// for every other element.
 #[inline(always)]
-pub(crate) fn first_move(line: &Line, control: &Control, element: &Element, desc: &Desc) -> Option<Change>
+pub(crate) fn first_move(
+    line: &Line,
+    control: &Control,
+    element: &Element,
+    desc: &Desc,
+) -> Option<Change>
     requires line { IsSayable line.now }
     requires packable { IsPackableControl control.now }
     requires desc { IsAdmissible desc.now }

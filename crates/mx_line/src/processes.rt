@@ -102,10 +102,8 @@ impl Process {
     {
         match &self.progress {
             Progress::Before => first_move(line, &self.control, element, desc),
-            Progress::Walking(_)
-            | Progress::AtLink(_)
-            | Progress::Waiting
-            | Progress::Filling(_) => None,
+            Progress::Walking(_) | Progress::AtLink(_) | Progress::Waiting | Progress::Filling(_) =>
+                None,
         }
     }
 
@@ -118,8 +116,11 @@ impl Process {
         requires fits { Fits self.old.control.gates after.now.gates }
         ensures first { self.new.first ≡ self.old.first }
         ensures done { self.new.control ≡ changed self.old.control after.now }
-        ensures steps { self.new.recording.steps ≡ self.old.recording.steps ++ (self.old.first + length self.old.recording.steps,
-            self.old.recording.events ++ event ∷ [], Moved after.now.registers.ring after.now.registers.procedure) ∷ [] }
+        ensures steps { self.new.recording.steps ≡ self.old.recording.steps ++ (
+          self.old.first + length self.old.recording.steps,
+          self.old.recording.events ++ event ∷ [],
+          Moved after.now.registers.ring after.now.registers.procedure,
+        ) ∷ [] }
         ensures idle { self.new.recording.events ≡ [] }
         ensures spare { self.old.recording.spare ≤ self.new.recording.spare + 1 }
         ensures fresh { self.new.progress ≡ Before }
