@@ -1,15 +1,16 @@
 -- What the top call did without auditors over an empty sink: under `run` it printed a run of the session that its source held, under
 -- `drill` the summary of a drill.
-use Rattle.std.proofs.Common.{◌≡◌, ℕ, ◌≤◌, List, [], ◌∷◌, length, subst, ap, Option, Some, None, Result, Ok, Err, IfOk, refl, inl, inr}
+use Rattle.std.proofs.Common.{◌≡◌, ℕ, ◌≤◌, List, [], ◌∷◌, length, subst, ap, sym, Option, Some, None, Result, Ok, Err, IfOk, refl, inl, inr}
 use Rattle.std.specs.Prelude.{codes, IfSome}
 use Rattle.mx_audit.specs.Accounts.{Account}
+use Rattle.mx_check.specs.Judgements.{IsLegalText}
 use Rattle.mx_run.proofs.VerdictLaws.{run_done}
 use Rattle.mx_run.specs.Commands.{IsCheck, IsRun}
 use Rattle.mx_run.specs.Done.{IsDrilled, IsDoneBy}
 use Rattle.mx_run.specs.Statuses.{IsDueStatus}
 use Rattle.mx_script.specs.Sessions.{Outline}
 use Rattle.mx_script.specs.SessionTexts.{IsText}
-use Rattle.session_files.specs.Runs.{IsRunOf, IsPrintedOf, IsSummaryOf, IsEnded, IsDrillEnded, IsEndedBy}
+use Rattle.session_files.specs.Runs.{IsRunOf, IsPrintedOf, IsSummaryOf, IsCheckEnded, IsEnded, IsDrillEnded, IsEndedBy}
 use Rattle.session_files.specs.declared.runs.Ended.{Ended}
 use Rattle.session_files.specs.declared.runs.Ended.TheVariants.{Ran, Otherwise}
 
@@ -86,6 +87,31 @@ summary_of words number text printed are done =
     drilled_of number (Some text) done.0 (Some []) (Some printed)
     (subst (λ (those : List (List ℕ)). IsDoneBy those (Some text) done.0 (Some []) (Some printed) [] []) are done.1)
 
+-- `check` is neither `run` nor `drill` and a word
+check_is_no_run : IsRun (codes "check" ∷ []) → ⊥
+check_is_no_run run = cc
+
+check_is_no_drill : (digits : List ℕ) → codes "check" ∷ [] ≡ codes "drill" ∷ digits ∷ [] → ⊥
+check_is_no_drill digits are = cc
+
+same_bytes : (printed bytes : List ℕ) → Some printed ≡ Some bytes → printed ≡ bytes
+same_bytes printed bytes e = cc
+
+checked_of : (text printed : List ℕ) (left : Option (List ℕ))
+    → IsDoneBy (codes "check" ∷ []) (Some text) left (Some []) (Some printed) [] [] → IsLegalText text × (printed ≡ codes "legal\n")
+checked_of text printed left (inl done) = absurd (check_is_no_run done.0)
+checked_of text printed left (inr (inl drilled)) = absurd (check_is_no_drill drilled.words_are.digits drilled.words_are.words_are)
+checked_of text printed left (inr (inr checked)) =
+    (subst IsLegalText (sym checked.read.0) checked.legal, same_bytes printed (codes "legal\n") checked.printed)
+
+-- under `check`
+pub legal_of : (words : List (List ℕ)) (text printed : List ℕ) → words ≡ codes "check" ∷ []
+    → (left : Option (List ℕ)) × IsDoneBy words (Some text) left (Some []) (Some printed) [] []
+    → IsLegalText text × (printed ≡ codes "legal\n")
+legal_of words text printed are done =
+    checked_of text printed done.0
+    (subst (λ (those : List (List ℕ)). IsDoneBy those (Some text) done.0 (Some []) (Some printed) [] []) are done.1)
+
 -- what was printed of a session that has this text
 pub printed_of : (text printed : List ℕ) (session : Outline) → length text ≤ 4194304 → IsText text session → IsPrintedOf session printed
     → IsRunOf text printed
@@ -108,7 +134,7 @@ printed_of text printed session within spelled told = (
   },
 )
 
--- what a command came to, under `run` and under `drill`
+-- what a command came to, under `run`, `drill` and `check`
 pub ended_of : {E : Type 0} (words : List (List ℕ)) (session : List ℕ) (r : Result Ended E) → words ≡ codes "run" ∷ []
     → IfOk r (IsEndedBy words session) → IfOk r (IsEnded session)
 ended_of words session (Ok (Ran printed)) are told = run_of words session printed.items are told
@@ -126,6 +152,18 @@ pub drill_ended_of : {E : Type 0} (words : List (List ℕ)) (number text : List 
 drill_ended_of words number text (Ok (Ran printed)) are told = summary_of words number text printed.items are told
 drill_ended_of words number text (Ok (Otherwise status printed)) are told = told.0
 drill_ended_of words number text (Err error) are told = told
+
+pub check_ended_of : {E : Type 0} (words : List (List ℕ)) (both : List ℕ) (r : Result Ended E) → words ≡ codes "check" ∷ []
+    → IfOk r (IsEndedBy words both) → IfOk r (IsCheckEnded both)
+check_ended_of words both (Ok (Ran printed)) are told = legal_of words both printed.items are told
+check_ended_of words both (Ok (Otherwise status printed)) are told = (
+  told.0,
+  elim told.1 [
+    | inl stopped ↦ inl stopped
+    | inr due ↦ inr (subst (λ (those : List (List ℕ)). IsDueStatus those both status) are due)
+  ],
+)
+check_ended_of words both (Err error) are told = told
 
 -- what a session prints in an order
 pub in_order_of : {E V : Type 0} (items : V → List ℕ) (text : List ℕ) (session : Outline) (r : Result (Option V) E)

@@ -2,6 +2,7 @@
 use Rattle.std.specs.Prelude.{◌≡◌, ◌≢◌, ◌⊎◌, ℕ, List, [], ◌∷◌, Option, Some, codes}
 use Rattle.mx_transcript.specs.Runs as legal
 use Rattle.mx_transcript.specs.Transcripts.{Step}
+use Rattle.mx_check.specs.Judgements.{IsLegalText}
 use Rattle.mx_run.specs.Done.{IsDone, IsDrilled, IsDoneBy}
 use Rattle.mx_run.specs.Statuses.{IsStopped, IsDueStatus}
 use Rattle.mx_script.specs.Sessions.{Outline}
@@ -41,6 +42,11 @@ IsSummaryOf number printed = IsDrilled (codes "drill" ∷ number ∷ []) (Some [
 abbrev pub IsDrillEnded : List ℕ → Ended → Type 0
 IsDrillEnded number (Ran printed) = IsSummaryOf number printed.items
 IsDrillEnded number (Otherwise status printed) = status ≢ 0
+
+-- what is told of a printed run is right
+abbrev pub IsCheckEnded : List ℕ → Ended → Type 0
+IsCheckEnded both (Ran printed) = IsLegalText both × (printed.items ≡ codes "legal\n")
+IsCheckEnded both (Otherwise status printed) = (status ≢ 0) × (IsStopped status ⊎ IsDueStatus (codes "check" ∷ []) both status)
 
 -- Helper, which only a private contract cites: what is told of any command is right.
 abbrev pub IsEndedBy : List (List ℕ) → List ℕ → Ended → Type 0

@@ -1,8 +1,8 @@
 //! One run of a session, or of a drill.
 
-ghost use Rattle.std.specs.Prelude.{map, IfOk};
+ghost use Rattle.std.specs.Prelude.{◌++◌, map, IfOk};
 ghost use Rattle.std.specs.String.{string_bytes};
-ghost use Rattle.session_files.specs.Runs.{IsEnded, IsDrillEnded, IsEndedBy};
+ghost use Rattle.session_files.specs.Runs.{IsCheckEnded, IsDrillEnded, IsEnded, IsEndedBy};
 
 use mx_io::{MemorySink, MemorySource};
 use mx_run::{NoGate, multics};
@@ -34,6 +34,21 @@ pub fn run_once<R: Threads + Wait + Sync>(
 {
     let words = [String::from_str(alloc, "run")?];
     command(rt, alloc, &words, session, room)
+}
+
+/// Judges the printed run of a session once: what is printed is `legal` where it ends with status 0, and else what is wrong with it.
+pub fn check_once<R: Threads + Wait + Sync>(
+    rt: &R,
+    alloc: Global,
+    session: &[u8],
+    run: &[u8],
+) -> Result<Ended, AllocError>
+    ensures { IfOk result (IsCheckEnded (session.now ++ run.now)) }
+{
+    let words = [String::from_str(alloc, "check")?];
+    let mut text = Vec::from_slice(alloc, session)?;
+    text.extend_from_slice(run)?;
+    command(rt, alloc, &words, &text, PIECE)
 }
 
 /// Runs the drill that this word asks for once, with room for so many bytes of its summary.

@@ -1,5 +1,6 @@
 //! What is found of a row: what came of each thing that is stored of it.
 
+use crate::judging::judge;
 use crate::outcome::{
     Outcome, drill_and_compare, order_and_compare, refuse_and_compare, run_and_compare,
     show_and_compare,
@@ -75,6 +76,9 @@ fn find_in_session<R: Threads + Wait + Sync>(
     match text_of(parts, "order") {
         Some(order) => find_in_order(rt, alloc, session, order, parts, findings)?,
         None => find_in_run(rt, alloc, session, parts, findings)?,
+    }
+    if let Some(outcome) = judge(rt, alloc, session, parts)? {
+        findings.push(found("check", outcome))?;
     }
     if let Some(stored) = text_of(parts, "shared") {
         let outcome = repeat(rt, alloc, session, stored, Compared::Outline)?;

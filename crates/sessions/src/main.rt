@@ -1,7 +1,7 @@
 //! The program: it runs stored sessions and drills, and compares what they print with what is stored. Each word of its command
 //! line names an item of the folder that it is started in: `NAME.rows`, an archive, or else `NAME.session` or `NAME.drill`; what
 //! lies beside says what is compared. A line for each item says what came of it; for an archive also one for each row that was not
-//! as stored. Then the journals of the stored runs are played before both plain supervisors, and a line for each item with such a run
+//! as stored. A stored run is also judged by `check`. Then the journals of the stored runs are played before both plain supervisors, and a line for each item with such a run
 //! says what came of it. Behind the word `store` it writes the lines and the picture of each session anew instead. Status 0 means that all
 //! were as stored, 1 that something was not, 2 that nothing was named.
 #![tactic(auto)]
@@ -9,6 +9,7 @@
 mod comparison;
 mod findings;
 mod items;
+mod judging;
 mod outcome;
 mod outlines;
 mod repeats;

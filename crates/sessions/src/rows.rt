@@ -4,8 +4,9 @@ use std::alloc::{AllocError, Global};
 use std::str;
 
 /// The kinds of stored files.
-pub const KINDS: [&str; 10] = [
-    "session", "drill", "run", "status", "shared", "order", "lint", "lines", "svg", "about",
+pub const KINDS: [&str; 12] = [
+    "session", "drill", "run", "status", "shared", "order", "printed", "check", "lint", "lines",
+    "svg", "about",
 ];
 
 /// A stored file: the row that it is of, its kind, and its text.
