@@ -8,7 +8,7 @@ use Rattle.mx_closing.specs.Views.{kept_in, marked_in, view_in}
 use Rattle.mx_core.specs.AssociativeMemory.{recalled}
 use Rattle.mx_core.specs.declared.elements.Kept.{Kept as Recorded}
 use Rattle.mx_core.specs.declared.words.Triple.{Triple}
-use Rattle.mx_desc.specs.Passes.{PassValue}
+use Rattle.mx_desc.specs.Passes.{PassValue, without_trace}
 use Rattle.mx_line.specs.AtWork.{IsCome, IsFree}
 use Rattle.mx_line.specs.Fills.{IsNoRequest}
 use Rattle.mx_line.specs.Operands.{IsGoodProgress}
@@ -125,6 +125,10 @@ module _ (x : Outline) (setup : List journaled.Entry) (state : LineState) (o : P
         where
           tail_of : (lines : List (ℕ × Line)) (l : ℕ × Line) (more : List (ℕ × Line)) → lines ≡ l ∷ more → more ≡ drop 1 lines
           tail_of lines l more e = sym (ap (drop 1) e)
+
+-- a pass that did nothing yet did nothing where it keeps no trace
+pub new_untraced : (x : Outline) (o : PassValue journaled.Entry) → IsNewPass x o → IsNewPass x (without_trace o)
+new_untraced x o new = record { process = new.process; view = new.view; amount = new.amount }
 
 pub first_process : (x : Outline) (setup : List journaled.Entry) (accounts : List Account) (script : List Line) (state : LineState)
     (o : PassValue journaled.Entry) → IsSession x → IsFirst x setup state o → script ≡ script_of x o.view.process

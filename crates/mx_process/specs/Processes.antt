@@ -7,7 +7,7 @@ use Rattle.mx_core.specs.declared.elements.Kept.{Kept}
 use Rattle.mx_core.specs.declared.elements.Kept.TheVariants.{Missed}
 use Rattle.mx_core.specs.declared.words.Stage.TheVariants.{Outside}
 use Rattle.mx_core.specs.declared.words.Triple.{Triple}
-use Rattle.mx_desc.specs.Passes.{PassValue}
+use Rattle.mx_desc.specs.Passes.{PassValue, without_trace}
 use Rattle.mx_line.specs.AtWork.{IsCome}
 use Rattle.mx_line.specs.Operands.{IsGoodProgress}
 use Rattle.mx_line.specs.Fills.{write_of}
@@ -162,14 +162,14 @@ pub record IsNewPass (x : Outline) (o : PassValue journaled.Entry) : Type 0 wher
   pub view : o.view ≡ fresh_view (setup_entries x) o.view.process
   pub amount : o.amount ≡ 0
 
--- before its first line, without an auditor
+-- before its first line, without an auditor; its pass keeps no trace
 pub record IsNew (x : Outline) (o : PassValue journaled.Entry) (v : ProcessValue) : Type 0 where
   pub control : v.state.control ≡ opening_control x o.view.process
   pub steps : v.state.recording.steps ≡ []
   pub events : v.state.recording.events ≡ []
   pub progress : v.state.progress ≡ Before
   pub settled : v.missing ≡ None
-  pub pass : v.pass ≡ o
+  pub pass : v.pass ≡ without_trace o
   pub unaudited : v.account ≡ None
 
 -- a line is left, and it is this one
@@ -187,7 +187,7 @@ pub record HasLine (x : Outline) (v : ProcessValue) : Type 0 where
 abbrev pub attempt_events : ℕ
 attempt_events = 10
 
--- there is room for an attempt in the trace and in the transcript, and for the line's end
+-- there is room for an attempt at the pass and in the transcript, and for the line's end
 pub record HasRoom (v : ProcessValue) : Type 0 where
   pub trace : attempt_events ≤ v.pass.spare
   pub events : attempt_events ≤ v.state.recording.spare

@@ -59,7 +59,8 @@ impl<'a, B: Attending, A: Auditor> Model for Process<'a, B, A> {
 
 impl<'a, B: Attending, A: Auditor> Process<'a, B, A> {
     /// The process of a pass before its first line, without an auditor. Condition: the pass is that of a process of the
-    /// session, and did nothing yet. The only error is want of memory; then the pass is given up.
+    /// session, and did nothing yet. From then on the pass keeps no trace: what the process does is recorded by its lines.
+    /// The only error is want of memory; then the pass is given up.
     pub fn new(
         alloc: Global,
         session: &'a Session,
@@ -69,6 +70,8 @@ impl<'a, B: Attending, A: Auditor> Process<'a, B, A> {
         requires fresh { IsNewPass B.session pass }
         ensures { IfOk result (λ process. IsNew B.session pass process) }
     {
+        let mut pass = pass;
+        pass.forget_trace();
         let p = pass.process();
         let script = script_at(session.scripts().items(), usize::from(p) - 1);
         Ok(Process {
@@ -98,7 +101,8 @@ impl<'a, B: Attending, A: Auditor> Process<'a, B, A> {
         self.auditor = Some(auditor);
     }
 
-    /// Makes room for one attempt at a line, and for the line's end. Want of memory changes nothing but room.
+    /// Makes room for one attempt at a line, and for the line's end. Want of memory changes nothing but room. The pass, which
+    /// keeps no trace, takes none.
     pub fn reserve(&mut self) -> Result<(), AllocError>
         ensures room { OnOk result (HasRoom self.new) }
         ensures still { IsStill self.old self.new }
