@@ -280,6 +280,33 @@ deed_found law session journal transcripts p own changes setup entries read miss
     (subst (λ (n : ℕ). IsFirstBad (ArePointsTo n (length journal) own) (length own) point) setup_is
     (subst (λ (n : ℕ). IsFirstBad (ArePointsTo setup n own) (length own) point) entries_are points)))
 
+-- the miss rule and the point rule alone
+pub miss_found : {Y : Type 0} (law : ChangedLaw) (session : Outline) (journal : List journaled.Entry) (transcripts : List (List Step)) (p : ℕ)
+    (own : List Deed) (changes : List Bool) (r : Result (Option ℕ) Y) → own ≡ deeds session journal transcripts p
+    → changes ≡ map (missed_changed (is_changed session journal p)) (events_of (part transcripts p))
+    → IfOk r (λ miss. (s : Outline) → AreChanges s journal p own changes
+    → IsFirstBad (AreRightMissesTo journal (IsChanged s journal p) p own) (length own) miss)
+    → IfOk r (IsFirstBad (AreRightMissesTo journal (IsChanged session journal p) p (deeds session journal transcripts p))
+    (length (deeds session journal transcripts p)))
+miss_found law session journal transcripts p own changes r own_is changes_are misses =
+    subst (λ (d : List Deed). IfOk r (IsFirstBad (AreRightMissesTo journal (IsChanged session journal p) p d) (length d))) own_is
+    (IfOk-weaker r (λ miss. (s : Outline) → AreChanges s journal p own changes
+    → IsFirstBad (AreRightMissesTo journal (IsChanged s journal p) p own) (length own) miss)
+    (IsFirstBad (AreRightMissesTo journal (IsChanged session journal p) p own) (length own))
+    (λ miss found. found session (are_changes law session journal p (cell_of (use_of session journal) (descriptor_of session journal p))
+    (events_of (part transcripts p)) own changes own_is changes_are))
+    misses)
+
+pub point_found : (session : Outline) (journal : List journaled.Entry) (transcripts : List (List Step)) (p : ℕ) (own : List Deed)
+    (setup entries : ℕ) (point : Option ℕ) → own ≡ deeds session journal transcripts p → setup ≡ setup_entries session
+    → entries ≡ length journal → IsFirstBad (ArePointsTo setup entries own) (length own) point
+    → IsFirstBad (ArePointsTo (setup_entries session) (length journal) (deeds session journal transcripts p))
+    (length (deeds session journal transcripts p)) point
+point_found session journal transcripts p own setup entries point own_is setup_is entries_are points =
+    subst (λ (d : List Deed). IsFirstBad (ArePointsTo (setup_entries session) (length journal) d) (length d) point) own_is
+    (subst (λ (n : ℕ). IsFirstBad (ArePointsTo n (length journal) own) (length own) point) setup_is
+    (subst (λ (n : ℕ). IsFirstBad (ArePointsTo setup n own) (length own) point) entries_are points))
+
 pub initial_first : (session : Outline) (p setup : ℕ) (steps : List Step) (found : Option ℕ) → p ≡ 0 → setup ≡ setup_entries session
     → IsFirstBad (AreSetupLinesTo setup steps) (length steps) found → IsFirstBad (AreInitialTo session p steps) (length steps) found
 initial_first session p setup steps found first setup_is are =

@@ -123,8 +123,8 @@ struct Judged {
     is_named: bool,
 }
 
-// The lines of process `p`'s part; none where it has no part.
-fn part_of<'a>(
+/// The lines of process `p`'s part; none where it has no part.
+pub(crate) fn part_of<'a>(
     alloc: Global,
     transcripts: &'a Transcripts,
     p: usize,

@@ -45,9 +45,9 @@ pub fn first_bad_entry<S: PlainSupervisor>(
     Ok(None)
 }
 
-// Whether the entry at this place is good, where those before it are and the supervisor has answered them. Then it has
+/// Whether the entry at this place is good, where those before it are and the supervisor has answered them. Then it has
 // answered this one too.
-fn is_good_at<S: PlainSupervisor>(
+pub(crate) fn is_good_at<S: PlainSupervisor>(
     alloc: Global,
     supervisor: &mut S,
     session: &Session,

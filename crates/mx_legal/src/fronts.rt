@@ -25,8 +25,8 @@ use mx_stores::Breach as WrongRead;
 use mx_transcript::{Event2, Result2, Transcripts, setup_entries};
 use std::alloc::{AllocError, Global};
 
-// The row of process `p`, empty beyond the last.
-fn row<T>(rows: &[Sequence<T>], p: usize) -> &[T]
+/// The row of process `p`, empty beyond the last.
+pub(crate) fn row<T>(rows: &[Sequence<T>], p: usize) -> &[T]
     ensures { result.now ≡ slice_index_or rows.now p [] }
 {
     match rows.get(p) {
@@ -35,7 +35,7 @@ fn row<T>(rows: &[Sequence<T>], p: usize) -> &[T]
     }
 }
 
-// The place of the first wrong read, where it is process `p`'s.
+/// The place of the first wrong read, where it is process `p`'s.
 pub(crate) fn place_of(wrong: Option<WrongRead>, p: usize) -> Option<usize>
     ensures { result ≡ place_of wrong p }
 {
@@ -70,8 +70,8 @@ fn first_bad_deed(
     Ok(earlier(wrong_read, earlier(miss, point)))
 }
 
-// The place of process `p`'s first line that is not the session's line there, or departs from the line rule.
-fn first_undone(
+/// The place of process `p`'s first line that is not the session's line there, or departs from the line rule.
+pub(crate) fn first_undone(
     alloc: Global,
     session: &Session,
     journal: &Journal,
@@ -142,9 +142,9 @@ fn first_entered(lines: &[Line<'_>], from: usize) -> Option<usize>
     None
 }
 
-// The place of the first line that found the journal full before a line that has an entry.
+/// The place of the first line that found the journal full before a line that has an entry.
 #[tactic(auto, using(crate::proofs::EarlyLaws::no_early, crate::proofs::EarlyLaws::no_entry_after, crate::proofs::EarlyLaws::early))]
-fn first_early_full(lines: &[Line<'_>]) -> Option<usize>
+pub(crate) fn first_early_full(lines: &[Line<'_>]) -> Option<usize>
     ensures { IsFirstBad (HasNoEarlyFullTo lines.now) (length lines.now) result }
 {
     match first_full(lines) {
@@ -156,8 +156,8 @@ fn first_early_full(lines: &[Line<'_>]) -> Option<usize>
     }
 }
 
-// The place of the first line of the initializer that is not as it should be in a setup.
-fn first_bad_initial(session: &Session, p: usize, lines: &[Line<'_>]) -> Option<usize>
+/// The place of the first line of the initializer that is not as it should be in a setup.
+pub(crate) fn first_bad_initial(session: &Session, p: usize, lines: &[Line<'_>]) -> Option<usize>
     ensures { IsFirstBad (AreInitialTo session.now p lines.now) (length lines.now) result }
 {
     if p == 0 {
@@ -200,7 +200,7 @@ fn first_bad_step(
     Ok(earlier(earlier(undone, misnamed(naming)), earlier(initial, full)))
 }
 
-// Whether the lines name all entries of their process.
+/// Whether the lines name all entries of their process.
 pub(crate) fn is_whole(naming: Naming) -> bool
     ensures { result ≡ is_whole naming }
 {

@@ -6,19 +6,24 @@
 //! (`specs/Fronts.antt`), so that no rule is written a second time. Laws say that a run is legal exactly where nothing in it
 //! is a breach ([`legal_law`], [`no_breach_law`]), and that it has one breach at most ([`one_breach_law`]). Each rule has one
 //! decider, most of them in crates below (`mx_access`, `mx_parts`, `mx_points`, `mx_stores`); the breach is the least place
-//! that they give. It is written over the trait of plain supervisors, so that either may judge. It takes what a text can say,
+//! that they give. [`failing_of`] has these places one beside the other, and [`supervisor_at`] the plain supervisor at a place, for
+//! who tells why a run is not legal. It is written over the trait of plain supervisors, so that either may judge. It takes what a text can say,
 //! and tells two replies apart by their texts.
 #![tactic(auto)]
 
 mod checking;
 mod entries;
+mod failing;
 mod fronts;
 mod laws;
 mod places;
 mod sameness;
+mod supervisors;
 
 pub use checking::{Breach, legal};
 pub use entries::first_bad_entry;
+pub use failing::{Failing, failing_of};
 pub use laws::{
     front_law, good_entries_law, legal_law, no_breach_law, one_breach_law, reads_to_law,
 };
+pub use supervisors::supervisor_at;

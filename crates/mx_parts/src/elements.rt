@@ -61,8 +61,8 @@ fn is_judged(asked: &Reference, element: &Element, desc: &Desc) -> bool
         && agrees(asked, desc, &element.outcome)
 }
 
-// Under which kind an operation is printed.
-fn kind_of(op: Op) -> Kind
+/// Under which kind an operation is printed.
+pub fn kind_of(op: Op) -> Kind
     ensures { result ≡ kind_of op }
 {
     match op {

@@ -40,8 +40,13 @@ pub(crate) fn is_ended(
     }
 }
 
-// The end of a line that stands here, where it has one.
-fn end_at(process: &mut Process, is_full: bool, line: &Line, work: LineAtWork) -> Option<End>
+/// The end of a line that stands here, where it has one.
+pub(crate) fn end_at(
+    process: &mut Process,
+    is_full: bool,
+    line: &Line,
+    work: LineAtWork,
+) -> Option<End>
     requires line { IsSayable line.now }
     requires packable { IsPackableControl process.old.control }
     requires good { IsGoodWork process.old.control work }

@@ -7,6 +7,7 @@
 #![tactic(auto)]
 
 mod answers;
+mod departures;
 mod elements;
 mod ends;
 mod lines;
@@ -15,4 +16,6 @@ mod requests;
 mod scripts;
 mod settings;
 
+pub use departures::{Departure, departure_at};
+pub use elements::kind_of;
 pub use parts::first_bad_line;

@@ -128,8 +128,8 @@ fn first_bad(
     Ok(None)
 }
 
-// Whether a printed line is the line at this place of a script. The process has its registers and gates after it then.
-fn is_right_step(
+/// Whether a printed line is the line at this place of a script. The process has its registers and gates after it then.
+pub(crate) fn is_right_step(
     alloc: Global,
     setting: &Setting<'_>,
     process: &mut Process,
@@ -157,15 +157,15 @@ fn is_right_step(
     is_right_line(alloc, setting, process, line, printed)
 }
 
-// A line of a script, counted from 0.
-fn line_at(script: &[Line], place: usize) -> Option<&Line>
+/// A line of a script, counted from 0.
+pub(crate) fn line_at(script: &[Line], place: usize) -> Option<&Line>
     ensures { option_map (λ line. line.now) result ≡ slice_get script.now place }
 {
     script.get(place)
 }
 
-// The script of a process, counted from 0.
-fn script_at(scripts: &[Script], place: usize) -> Option<&Script>
+/// The script of a process, counted from 0.
+pub(crate) fn script_at(scripts: &[Script], place: usize) -> Option<&Script>
     ensures { option_map (λ script. script.now) result ≡ slice_get scripts.now place }
 {
     scripts.get(place)
