@@ -82,6 +82,19 @@ good_entries session journal = (
     below : (place : ℕ) (entry : journaled.Entry) → slice_get journal place ≡ Some entry → place < length journal
     below place entry at = slice_get_within journal place entry at
 
+-- of good entries those before one of them are good, and it is not the first bad one
+pub good_before : (session : Outline) (journal entries : List journaled.Entry) (count place : ℕ) → entries ≡ journal → place < count
+    → AreGoodTo session journal count → AreGoodTo session entries place
+good_before session journal entries count place same l good =
+    subst (λ (es : List journaled.Entry). AreGoodTo session es place) (sym same)
+    (record { each = λ other entry h at. good.each other entry (omega (arith, h, l)) at })
+
+pub not_first_bad : (session : Outline) (journal entries : List journaled.Entry) (count place : ℕ) → entries ≡ journal → place < count
+    → AreGoodTo session journal count → IsFirstBad session entries place → ⊥
+not_first_bad session journal entries count place same l good first =
+    let first' : IsFirstBad session journal place = subst (λ (es : List journaled.Entry). IsFirstBad session es place) same first in
+    first'.bad (good.each place first'.entry l first'.at)
+
 -- one good entry more
 pub good_more : (session : Outline) (journal : List journaled.Entry) (place : ℕ) (entry : journaled.Entry) → slice_get journal place ≡ Some entry
     → AreGoodTo session journal place → IsGoodAt session journal place entry → AreGoodTo session journal (place + 1)
