@@ -1,8 +1,9 @@
-use Rattle.std.proofs.Common.{◌≡◌, ◌-◌, ◌≤◌, ◌∙◌, List, Some, ap, refl, sym, subst, rules}
+use Rattle.std.proofs.Common.{◌≡◌, ◌-◌, ◌≤◌, ◌∙◌, List, None, Some, ap, refl, sym, subst, rules}
 use Rattle.std.specs.List.{slice_get}
 use Rattle.mx_core.specs.declared.words.Triple.{Triple}
 use Rattle.mx_desc.specs.Passes.{PassValue, without_trace}
 use Rattle.mx_line.proofs.ScriptLaws.{script_is}
+use Rattle.mx_line.specs.declared.operands.Progress.TheVariants.{Before}
 use Rattle.mx_request.specs.Versions.{most_gates}
 use Rattle.mx_script.specs.Sessions.{IsSession, Outline}
 use Rattle.mx_state.specs.declared.journal.Entry as journaled
@@ -26,11 +27,11 @@ invariant_of-result g c =
         first = c.first_line.result;
         control = c.opening.result;
         recording = c.in_ok-with_room.field-0;
-        progress = _;
+        progress = Before;
       };
-      missing = _;
+      missing = None;
       pass = z.1;
-      account = _;
+      account = None;
     })) (λ i. (sym c.new.ensures i, sym forgotten i))
     (first_process x g.B.Sitting.setup g.B.Attending.accounts c.script_at-script.result.now _ (without_trace c.args.pass)
     (subst IsSession c.requires.session c.scripts.ensures.session) (record {
