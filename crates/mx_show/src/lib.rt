@@ -27,4 +27,4 @@ pub use parts::{NOTHING, Part, add_parts, add_printable, ring};
 pub use reasons::{Bracket, Reason, explain};
 pub use replays::{Changed, Judged};
 pub use sources::{StoredBy, source_of};
-pub use words::{kind_word, modes};
+pub use words::{access_word, extent, kind_word, modes};

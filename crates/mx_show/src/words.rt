@@ -47,7 +47,7 @@ pub(crate) fn walk_words(denial: Denial) -> &'static str {
 }
 
 /// The modes of an access, or why there are none.
-pub(crate) fn access_word(desc: &Desc) -> &'static str {
+pub fn access_word(desc: &Desc) -> &'static str {
     match desc.kind() {
         DescKind::Unknown => "no segment",
         DescKind::Gone => "a deleted segment",
@@ -57,7 +57,7 @@ pub(crate) fn access_word(desc: &Desc) -> &'static str {
 
 /// The brackets of a segment, its size, its gates, and how the authorization stands to its class where they are not equal;
 /// nothing where there is none.
-pub(crate) fn extent(desc: &Desc) -> [Part<'static>; 12] {
+pub fn extent(desc: &Desc) -> [Part<'static>; 12] {
     let brackets = desc.brackets();
     let bound = desc.bound();
     let words = if bound == 1 { " word" } else { " words" };

@@ -1,0 +1,4 @@
+mod alone;
+mod changes;
+mod full;
+mod sharing;

@@ -1,0 +1,2 @@
+mod CauseLaws
+mod RuleLaws

@@ -1,0 +1,242 @@
+//! What is told of a breach.
+
+ghost use Rattle.std.specs.Prelude.{◌≡◌, true, length};
+ghost use Rattle.std.specs.List.{list_all};
+ghost use Rattle.mx_access.specs.Answers.{IsAccess};
+ghost use Rattle.mx_breach.specs.Rules.{AreFailing};
+ghost use Rattle.mx_legal.specs.Entries.{AreGoodTo};
+ghost use Rattle.mx_script.specs.SessionTexts.{fits, rows_of};
+ghost use Rattle.mx_spelling.specs.Spelling.{fits_entry};
+ghost use Rattle.mx_state.specs.History.{IsRight};
+ghost use Rattle.mx_transcript.specs.Opened.{opening_of};
+
+use crate::entries::add_bad_entry;
+use crate::lines::{BadLine, add_bad_line};
+use crate::printed::add_request;
+use crate::probes::row;
+use crate::rules::{bad_line, broken_at, events_before, named_before, own_entry};
+use crate::runs::Run;
+use mx_access::{Access, access_of};
+use mx_legal::{Failing, failing_of, first_bad_entry, good_entries_law};
+use mx_parts::{Departure, departure_at};
+use mx_script::Session;
+use mx_show::Part::{self, Decimal, Text};
+use mx_show::add_parts;
+use mx_state::{Journal, State};
+use mx_stores::first_breach;
+use mx_transcript::{Transcripts, entry_at};
+use std::alloc::{AllocError, Global};
+
+/// What is told of the breach of a run, which is this process's.
+pub(crate) fn told_of(
+    alloc: Global,
+    session: &Session,
+    journal: &Journal,
+    transcripts: &Transcripts,
+    p: usize,
+) -> Result<String, AllocError>
+    requires session { list_all fits (rows_of session.now) ≡ true }
+    requires journal { list_all fits_entry journal.now ≡ true }
+{
+    let mut out = String::new(alloc);
+    match first_bad_entry::<State>(alloc, session, journal)? {
+        Some(place) => add_bad_entry(alloc, &mut out, session, journal, place)?,
+        None => add_bad_part(alloc, &mut out, session, journal, transcripts, p)?,
+    }
+    Ok(out)
+}
+
+// Adds why a part is bad, where all entries are good.
+fn add_bad_part(
+    alloc: Global,
+    out: &mut String,
+    session: &Session,
+    journal: &Journal,
+    transcripts: &Transcripts,
+    p: usize,
+) -> Result<(), AllocError>
+    requires session { list_all fits (rows_of session.now) ≡ true }
+    requires journal { list_all fits_entry journal.now ≡ true }
+    requires good { AreGoodTo session.now journal.now (length journal.now) }
+{
+    good_entries_law();
+    let run = Run {
+        session,
+        journal,
+        transcripts,
+    };
+    let access = access_of::<State>(alloc, session, journal, transcripts)?;
+    let wrong = first_breach(alloc, &access.deeds)?;
+    let failing = failing_of(alloc, session, journal, transcripts, &access, p, wrong)?;
+    match bad_line(&failing) {
+        None => add_missing(alloc, out, &run, p, failing.lines.len()),
+        Some(place) => {
+            let departure = departure_of(alloc, session, journal, transcripts, &access, p, place)?;
+            add_bad(alloc, out, &run, &access, p, &failing, place, departure)
+        }
+    }
+}
+
+// Where the line at a place of process `p`'s part departs from the line rule.
+fn departure_of(
+    alloc: Global,
+    session: &Session,
+    journal: &Journal,
+    transcripts: &Transcripts,
+    access: &Access,
+    p: usize,
+    place: usize,
+) -> Result<Option<Departure>, AllocError>
+    requires session { list_all fits (rows_of session.now) ≡ true }
+    requires journal { list_all fits_entry journal.now ≡ true }
+    requires access { IsAccess session.now journal.now transcripts.now access.now }
+{
+    match transcripts.items().get(p) {
+        None => Ok(None),
+        Some(transcript) => departure_at(
+            alloc,
+            session,
+            journal,
+            p,
+            transcript,
+            row(&access.descriptors, p),
+            place,
+        ),
+    }
+}
+
+// At which event of its line a departure is; past the last it is the line's end.
+fn event_of(departure: Option<&Departure>, events: usize) -> usize {
+    match departure {
+        None => events,
+        Some(Departure::NoLine) => 0,
+        Some(Departure::Number { .. }) => events,
+        Some(Departure::Event { place, .. }) => *place,
+        Some(Departure::End { .. }) => events,
+    }
+}
+
+// Adds why the line at this place of a part is bad.
+fn add_bad(
+    alloc: Global,
+    out: &mut String,
+    run: &Run<'_>,
+    access: &Access,
+    p: usize,
+    failing: &Failing<'_>,
+    place: usize,
+    departure: Option<Departure>,
+) -> Result<(), AllocError>
+    requires right { IsRight (opening_of run.now.session.now) run.now.journal.now }
+    requires failing { AreFailing run.now.session.now run.now.journal.now run.now.transcripts.now p failing.now }
+{
+    let lines = failing.lines.as_slice();
+    let Some(line) = lines.get(place) else {
+        return Ok(());
+    };
+    let departure = departure.as_ref();
+    let departs = event_of(departure, line.events.len());
+    let Some(broken) = broken_at(run, failing, p, place, departs) else {
+        return Ok(());
+    };
+    add_heading(alloc, out, run, p, place)?;
+    let bad = BadLine {
+        run,
+        access,
+        p,
+        place,
+        number: line.number,
+        events: line.events,
+        ends: line.ends,
+        start: events_before(lines, place),
+        named: named_before(lines, place),
+    };
+    add_bad_line(alloc, out, &bad, &broken, departure)
+}
+
+// Adds which line of the session it is.
+fn add_heading(
+    alloc: Global,
+    out: &mut String,
+    run: &Run<'_>,
+    p: usize,
+    place: usize,
+) -> Result<(), AllocError> {
+    let process = process(p);
+    if place < run.line_count(p) {
+        let number = Decimal(run.line_number(p, place));
+        add_parts(
+            out,
+            &[
+                Text("line "),
+                number,
+                Text(" of process "),
+                process,
+                Text(": "),
+            ],
+        )?;
+        run.add_line(alloc, out, p, place)?;
+        out.push_str("\n")
+    } else {
+        let behind = Text("behind the last line of process ");
+        add_parts(out, &[behind, process, Text("\n")])
+    }
+}
+
+// The number of a process.
+fn process(p: usize) -> Part<'static> {
+    Decimal(u32::try_from(p).unwrap_or(u32::MAX))
+}
+
+// Adds what is wanting of a part whose lines, so many, keep all rules: the process itself, lines, or entries that no line names.
+fn add_missing(
+    alloc: Global,
+    out: &mut String,
+    run: &Run<'_>,
+    p: usize,
+    lines: usize,
+) -> Result<(), AllocError> {
+    let processes = run.session.principals().items().len();
+    if p > processes {
+        return add_parts(
+            out,
+            &[
+                Text("the part of process "),
+                process(p),
+                Text("\n  the processes: those of this session are 1 to "),
+                process(processes),
+                Text(", and 0, the initializer\n"),
+            ],
+        );
+    }
+    if lines < run.line_count(p) {
+        add_heading(alloc, out, run, p, lines)?;
+        return out.push_str(
+            "  printed: nothing\n  the session's lines: each is printed, in order\n",
+        );
+    }
+    add_unnamed(alloc, out, run, p)
+}
+
+// Adds the first entry of a process that no line names.
+fn add_unnamed(alloc: Global, out: &mut String, run: &Run<'_>, p: usize) -> Result<(), AllocError> {
+    let Some(number) = own_entry(run.journal, p, run.named_by(p)) else {
+        return Ok(());
+    };
+    add_parts(
+        out,
+        &[
+            Text("entry "),
+            Decimal(number),
+            Text(" of process "),
+            process(p),
+            Text(": "),
+        ],
+    )?;
+    if let Some(entry) = entry_at(run.journal, number) {
+        add_request(alloc, out, &entry.request)?;
+    }
+    out.push_str(
+        "\n  the journal's order: the lines of a process name each of its entries, and none names this one\n",
+    )
+}
