@@ -1,2 +1,3 @@
+mod BesideLaws
 mod CauseLaws
 mod RuleLaws

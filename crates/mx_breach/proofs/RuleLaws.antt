@@ -5,8 +5,8 @@ use Rattle.mx_breach.specs.Rules.{AreFailing, IsBroken, IsOther, IsWithin}
 use Rattle.mx_breach.specs.declared.rules.Broken.{Broken}
 use Rattle.mx_breach.specs.declared.rules.Rule.{Rule}
 use Rattle.mx_breach.specs.declared.rules.Rule.TheVariants.{Full, Lines, Misses, Naming, Points, Reads, Setup}
-use Rattle.mx_legal.specs.Deciding.{AreOwnReadsTo, misnamed}
-use Rattle.mx_legal.specs.Fronts.{IsGoodPart, events_to}
+use Rattle.mx_legal.specs.Deciding.{AreInitialTo, AreOwnReadsTo, misnamed}
+use Rattle.mx_legal.specs.Fronts.{AreDoneTo, HasNoEarlyFullTo, events_to}
 use Rattle.mx_legal.specs.declared.failing.Failing.{Failing}
 use Rattle.mx_points.specs.Fronts.{AreNamedTo, ArePointsTo, AreRightMissesTo, IsFirstBad, IsNaming}
 use Rattle.mx_points.specs.declared.naming.Naming.{Naming as HowNamed}
@@ -68,7 +68,30 @@ module _ (session : Outline) (journal : List journaled.Entry) (transcripts : Lis
     right = λ read has same below. are.right read has same (omega (arith, below, l));
   }
 
-  pub is_broken : (failing : Failing) → AreFailing session journal transcripts p failing → k < length (part transcripts p)
+  abbrev Done : ℕ → Type 0
+  Done = AreDoneTo session journal p (part transcripts p)
+
+  abbrev Pointing : ℕ → Type 0
+  Pointing = ArePointsTo (setup_entries session) (length journal) (deeds session journal transcripts p)
+
+  abbrev Missing' : ℕ → Type 0
+  Missing' = AreRightMissesTo journal (IsChanged session journal p) p (deeds session journal transcripts p)
+
+  abbrev Reading' : ℕ → Type 0
+  Reading' = AreOwnReadsTo session journal transcripts p
+
+  abbrev count : ℕ
+  count = length (part transcripts p)
+
+  abbrev deed_count : ℕ
+  deed_count = length (deeds session journal transcripts p)
+
+  -- the same lines
+  same_within : (lines : List Step) (told failed : Option ℕ) → lines ≡ part transcripts p → IfSome told (λ e. IsWithin lines k failed)
+      → IfSome told (λ e. IsWithin (part transcripts p) k failed)
+  same_within lines told failed same is = subst (λ (l : List Step). IfSome told (λ e. IsWithin l k failed)) same is
+
+  is_broken : (failing : Failing) → AreFailing session journal transcripts p failing → k < length (part transcripts p)
       → (name point undone naming miss read setup full : Option ℕ)
       → IfSome point (λ e. IsWithin (part transcripts p) k failing.point) → IfSome undone (λ e. failing.line ≡ Some k)
       → name ≡ misnamed failing.naming → IfSome naming (λ e. name ≡ Some k)
@@ -88,12 +111,28 @@ module _ (session : Outline) (journal : List journaled.Entry) (transcripts : Lis
       (more Misses third fourth miss
       (more Naming second third naming
       (more Lines first second undone
-      (more Points None first point tt (λ at is. deed_there _ fewer_points (part transcripts p) _ k failing.point are.point
-      (if_some _ point at points is) there) a)
-      (λ at is. bad_there _ _ k failing.line are.line (if_some _ undone at lines is)) b)
+      (more Points None first point tt (λ at is. deed_there Pointing fewer_points (part transcripts p) deed_count k failing.point are.point
+      (if_some (IsWithin (part transcripts p) k failing.point) point at points is) there) a)
+      (λ at is. bad_there Done count k failing.line are.line (if_some (failing.line ≡ Some k) undone at lines is)) b)
       (λ at is. named_there journal p (part transcripts p) failing.naming k are.naming
-      (subst (λ (o : Option ℕ). o ≡ Some k) name_is (if_some _ naming at names is))) c)
-      (λ at is. deed_there _ fewer_misses (part transcripts p) _ k failing.miss are.miss (if_some _ miss at misses is) there) d)
-      (λ at is good. deed_there _ fewer_reads (part transcripts p) _ k failing.read (are.read good) (if_some _ read at reads is) there) e)
-      (λ at is. bad_there _ _ k failing.setup are.setup (if_some _ setup at setups is)) f)
-      (λ at is. bad_there _ _ k failing.full are.full (if_some _ full at fulls is)) g
+      (subst (λ (o : Option ℕ). o ≡ Some k) name_is (if_some (name ≡ Some k) naming at names is))) c)
+      (λ at is. deed_there Missing' fewer_misses (part transcripts p) deed_count k failing.miss are.miss (if_some (IsWithin (part transcripts p) k failing.miss) miss at misses is) there) d)
+      (λ at is good. deed_there Reading' fewer_reads (part transcripts p) deed_count k failing.read (are.read good) (if_some (IsWithin (part transcripts p) k failing.read) read at reads is) there) e)
+      (λ at is. bad_there (AreInitialTo session p (part transcripts p)) count k failing.setup are.setup (if_some (failing.setup ≡ Some k) setup at setups is)) f)
+      (λ at is. bad_there (HasNoEarlyFullTo (part transcripts p)) count k failing.full are.full (if_some (failing.full ≡ Some k) full at fulls is)) g
+
+  -- the same, where the lines are those that were listed
+  pub is_broken_in : (lines : List Step) (failing : Failing) → AreFailing session journal transcripts p failing → lines ≡ part transcripts p
+      → k < length lines → (name point undone naming miss read setup full : Option ℕ)
+      → IfSome point (λ e. IsWithin lines k failing.point) → IfSome undone (λ e. failing.line ≡ Some k)
+      → name ≡ misnamed failing.naming → IfSome naming (λ e. name ≡ Some k) → IfSome miss (λ e. IsWithin lines k failing.miss)
+      → IfSome read (λ e. IsWithin lines k failing.read) → IfSome setup (λ e. failing.setup ≡ Some k)
+      → IfSome full (λ e. failing.full ≡ Some k) → (first second third fourth fifth sixth told : Option Broken)
+      → (first ≡ None) ⊎ IsOther Points point first → (second ≡ first) ⊎ IsOther Lines undone second
+      → (third ≡ second) ⊎ IsOther Naming naming third → (fourth ≡ third) ⊎ IsOther Misses miss fourth
+      → (fifth ≡ fourth) ⊎ IsOther Reads read fifth → (sixth ≡ fifth) ⊎ IsOther Setup setup sixth
+      → (told ≡ sixth) ⊎ IsOther Full full told → IsTold told
+  is_broken_in lines failing are same there name point undone naming miss read setup full points undones name_is names misses reads setups fulls =
+      is_broken failing are (subst (λ (l : List Step). k < length l) same there) name point undone naming miss read setup full
+      (same_within lines point failing.point same points) undones name_is names (same_within lines miss failing.miss same misses)
+      (same_within lines read failing.read same reads) setups fulls

@@ -2,7 +2,6 @@
 
 ghost use Rattle.std.specs.Prelude.{◌≡◌, true, length};
 ghost use Rattle.std.specs.List.{list_all};
-ghost use Rattle.mx_access.specs.Answers.{IsAccess};
 ghost use Rattle.mx_breach.specs.Rules.{AreFailing};
 ghost use Rattle.mx_legal.specs.Entries.{AreGoodTo};
 ghost use Rattle.mx_script.specs.SessionTexts.{fits, rows_of};
@@ -10,15 +9,15 @@ ghost use Rattle.mx_spelling.specs.Spelling.{fits_entry};
 ghost use Rattle.mx_state.specs.History.{IsRight};
 ghost use Rattle.mx_transcript.specs.Opened.{opening_of};
 
+use crate::departing::departure_of;
 use crate::entries::add_bad_entry;
 use crate::lines::{BadLine, add_bad_line};
 use crate::printed::add_request;
-use crate::probes::row;
 use crate::rules::{bad_line, broken_at, events_before, named_before, own_entry};
 use crate::runs::Run;
 use mx_access::{Access, access_of};
 use mx_legal::{Failing, failing_of, first_bad_entry, good_entries_law};
-use mx_parts::{Departure, departure_at};
+use mx_parts::Departure;
 use mx_script::Session;
 use mx_show::Part::{self, Decimal, Text};
 use mx_show::add_parts;
@@ -71,37 +70,22 @@ fn add_bad_part(
     match bad_line(&failing) {
         None => add_missing(alloc, out, &run, p, failing.lines.len()),
         Some(place) => {
-            let departure = departure_of(alloc, session, journal, transcripts, &access, p, place)?;
-            add_bad(alloc, out, &run, &access, p, &failing, place, departure)
+            match departure_of(alloc, session, journal, transcripts, &access, p, place) {
+                Ok(departure) => {
+                    add_bad(
+                        alloc,
+                        out,
+                        &run,
+                        &access,
+                        p,
+                        &failing,
+                        place,
+                        departure.as_ref(),
+                    )
+                }
+                Err(error) => Err(error),
+            }
         }
-    }
-}
-
-// Where the line at a place of process `p`'s part departs from the line rule.
-fn departure_of(
-    alloc: Global,
-    session: &Session,
-    journal: &Journal,
-    transcripts: &Transcripts,
-    access: &Access,
-    p: usize,
-    place: usize,
-) -> Result<Option<Departure>, AllocError>
-    requires session { list_all fits (rows_of session.now) ≡ true }
-    requires journal { list_all fits_entry journal.now ≡ true }
-    requires access { IsAccess session.now journal.now transcripts.now access.now }
-{
-    match transcripts.items().get(p) {
-        None => Ok(None),
-        Some(transcript) => departure_at(
-            alloc,
-            session,
-            journal,
-            p,
-            transcript,
-            row(&access.descriptors, p),
-            place,
-        ),
     }
 }
 
@@ -125,7 +109,7 @@ fn add_bad(
     p: usize,
     failing: &Failing<'_>,
     place: usize,
-    departure: Option<Departure>,
+    departure: Option<&Departure>,
 ) -> Result<(), AllocError>
     requires right { IsRight (opening_of run.now.session.now) run.now.journal.now }
     requires failing { AreFailing run.now.session.now run.now.journal.now run.now.transcripts.now p failing.now }
@@ -134,7 +118,6 @@ fn add_bad(
     let Some(line) = lines.get(place) else {
         return Ok(());
     };
-    let departure = departure.as_ref();
     let departs = event_of(departure, line.events.len());
     let Some(broken) = broken_at(run, failing, p, place, departs) else {
         return Ok(());

@@ -9,7 +9,9 @@
 #![tactic(auto)]
 
 mod asked;
+mod bounds;
 mod breaches;
+mod departing;
 mod entries;
 mod lines;
 mod misses;

@@ -2,7 +2,7 @@
 
 ghost use Rattle.std.specs.Prelude.{◌≡◌, ◌↔◌, ◌+◌, ◌<◌, IsTrue, drop, length};
 ghost use Rattle.mx_reads.specs.Deeds.{point_of};
-ghost use Rattle.mx_points.specs.Seen.{IsBelow, first_entry, missed, seen};
+ghost use Rattle.mx_points.specs.Seen.{IsBelow, first_entry, seen};
 
 use mx_stores::{Deed, Form};
 
@@ -27,16 +27,6 @@ pub(crate) fn seen(deed: &Deed) -> u32
         Form::Stores { point, .. } | Form::Refers { point } => *point,
         Form::Loads { stamp, point, .. } => (*stamp).max(*point),
         Form::Misses { by, .. } => *by,
-    }
-}
-
-/// The entry by which a deed missed a segment number, 0 where it did not.
-pub(crate) fn missed(deed: &Deed, segno: u16) -> u32
-    ensures { result ≡ missed segno deed.now }
-{
-    match deed.form() {
-        Form::Enters { .. } | Form::Stores { .. } | Form::Loads { .. } | Form::Refers { .. } => 0,
-        Form::Misses { segno: own, by } => if *own == segno { *by } else { 0 },
     }
 }
 

@@ -5,11 +5,10 @@
 //! Each rule is said of the first n deeds or lines (`specs/Fronts.antt`), and what holds of n holds of fewer
 //! ([`fewer_law`]). Deciders over deeds are [`first_bad_point`] and [`first_bad_miss`], those over lines are
 //! [`first_misnamed`], [`first_after_full`] and [`first_bad_setup`]; [`line_of_event`] turns a place among the events into
-//! one among the lines, and [`bounds_at`] and [`last_miss`] tell what a point and a miss are compared with. Each takes time in proportion to its list. Stands on the deeds of `mx_stores`, on the journal of `mx_state` and
+//! one among the lines. Each takes time in proportion to its list. Stands on the deeds of `mx_stores`, on the journal of `mx_state` and
 //! on the rules of `mx_transcript`.
 #![tactic(auto)]
 
-mod bounds;
 mod deeds;
 mod full;
 mod laws;
@@ -21,7 +20,6 @@ mod setup;
 #[cfg(test)]
 mod tests;
 
-pub use bounds::{Bounds, bounds_at, last_miss};
 pub use full::first_after_full;
 pub use laws::fewer_law;
 pub use lines::{Line, line_of_event, lines_of};
