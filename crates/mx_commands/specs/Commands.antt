@@ -51,6 +51,9 @@ IsPicture words = IsNamed (codes "picture") IsTurns words
 abbrev pub IsPlain : List (List ℕ) → Type 0
 IsPlain words = IsNamed (codes "plain") IsNothing words
 
+abbrev pub IsBreach : List (List ℕ) → Type 0
+IsBreach words = IsNamed (codes "breach") IsNothing words
+
 abbrev pub IsDrill : List (List ℕ) → ℕ → Type 0
 IsDrill words number = IsNamed (codes "drill") (λ rest. IsOneNumber rest number) words
 
@@ -63,7 +66,7 @@ IsShowing words = IsLint words ⊎ (IsLines words ⊎ IsPicture words)
 
 -- the commands that read the source
 abbrev pub IsReading : List (List ℕ) → Type 0
-IsReading words = IsShowing words ⊎ IsPlain words
+IsReading words = IsShowing words ⊎ (IsPlain words ⊎ IsBreach words)
 
 -- the commands that do not
 abbrev pub IsAnswered : List (List ℕ) → Type 0

@@ -1,7 +1,7 @@
 -- Helpers that private contracts cite: what words are read as.
 use Rattle.std.specs.Prelude.{◌≡◌, ℕ, ◌≤◌, true, List, map, Option, None, Some, codes}
 use Rattle.std.specs.String.{string_bytes}
-use Rattle.mx_commands.specs.Commands.{is_order, IsNothing, IsOneNumber, IsNamed, IsSeed, IsLint, IsPlain, IsDrill, IsHelp, IsCommand}
+use Rattle.mx_commands.specs.Commands.{is_order, IsNothing, IsOneNumber, IsNamed, IsSeed, IsLint, IsPlain, IsBreach, IsDrill, IsHelp, IsCommand}
 use Rattle.mx_commands.specs.declared.words.Turns.{Turns}
 use Rattle.mx_commands.specs.declared.words.Turns.TheVariants.{Threads, Chosen, Named}
 use Rattle.mx_commands.specs.declared.words.View.{View}
@@ -9,7 +9,7 @@ use Rattle.mx_commands.specs.declared.words.View.TheVariants.{Lint, Lines, Pictu
 use Rattle.mx_commands.specs.declared.words.Reading.{Reading}
 use Rattle.mx_commands.specs.declared.words.Reading.TheVariants.{Session, Plain}
 use Rattle.mx_commands.specs.declared.words.Command.{Command}
-use Rattle.mx_commands.specs.declared.words.Command.TheVariants.{Read, Drill, Help, Other}
+use Rattle.mx_commands.specs.declared.words.Command.TheVariants.{Read, Breach, Drill, Help, Other}
 
 -- the number that words are, or that they are none
 abbrev pub IsOneNumberOf : List (List ℕ) → Option ℕ → Type 0
@@ -40,6 +40,7 @@ IsReadSo Plain words = IsPlain words
 -- what words ask for
 abbrev pub IsMeant : List (List ℕ) → Command → Type 0
 IsMeant words (Read reading) = IsReadSo reading words
+IsMeant words Breach = IsBreach words
 IsMeant words (Drill number) = IsDrill words number × (number ≤ 999999)
 IsMeant words Help = IsHelp words
 IsMeant words Other = IsCommand words → ⊥

@@ -8,13 +8,14 @@ usage =
     ++ codes "  lines [TURNS]    runs the session, and tells each line of the run in words\n"
     ++ codes "  picture [TURNS]  runs the session, and draws the run as an SVG\n"
     ++ codes "  plain            the text without the lines that begin with #\n"
+    ++ codes "  breach           of a session with a printed run behind it: legal, or why not\n"
     ++ codes "  drill N          the session of drill N, 1 to 6 digits; nothing is read\n"
     ++ codes "  help             this text; nothing is read\n"
     ++ codes "TURNS: who makes the next line, as 2 1 1 2, and then all in turn; or seed N, an\n"
     ++ codes "order that N chooses; without it each process runs on a thread of its own.\n"
     ++ codes "Example: show lines 2 1 1 2 < FILE\n"
-    ++ codes "Status: 0 written, 1 out of memory, 2 bad words, 3 input failed, 4 output failed,\n"
-    ++ codes "5 no session, 6 more than 4,194,304 bytes\n"
+    ++ codes "Status: 0 written, 1 out of memory, 2 bad words, 3 input failed,\n"
+    ++ codes "4 output failed, 5 no session (breach: no session with a run), 6 too many bytes\n"
 
 -- what is written where the words are not accepted
 abbrev pub refusal : List ℕ

@@ -48,6 +48,8 @@ pub enum Reading<'a> {
 pub enum Command<'a> {
     /// The source is read so.
     Read(Reading<'a>),
+    /// The source is read as a session and a printed run of it, and what is wrong with the run is told.
+    Breach,
     /// The session of the drill of this number is printed.
     Drill(u32),
     /// How to use the program is printed.
@@ -103,6 +105,7 @@ impl<'a> Command<'a> {
         match name {
             "lint" => Command::Read(Reading::Session(View::Lint)),
             "plain" => Command::Read(Reading::Plain),
+            "breach" => Command::Breach,
             "help" => Command::Help,
             _ => Command::Other,
         }
