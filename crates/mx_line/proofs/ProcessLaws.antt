@@ -1,23 +1,25 @@
 -- What the line of a process asks for, and how it ends plainly, by where it stands.
-use Rattle.std.proofs.Common.{◌≡◌, Option, Some, None, IfSome, refl, sym, ◌∙◌, subst}
+use Rattle.std.proofs.Common.{◌≡◌, ℕ, Option, Some, None, IfSome, refl, sym, ◌∙◌, subst}
 use Rattle.mx_core.specs.declared.elements.Element.{Element}
 use Rattle.mx_core.specs.declared.elements.Event.TheVariants.{Seen}
 use Rattle.mx_effring.specs.Chains as chains
 use Rattle.mx_effring.specs.Walks.{wanted}
 use Rattle.mx_line.proofs.StandingLaws.{walking_asks, walking_refers}
 use Rattle.mx_line.specs.AtWork.{IsCome, IsGoodWork, IsStorableBy, IsTaken, IsTakenTo, left, moved_on, reference_in}
-use Rattle.mx_line.specs.Processes.{HasPlainEnd, HasPlainMove, IsReferring}
+use Rattle.mx_line.specs.Processes.{HasPlainEnd, HasPlainMove, HasPlainReply, IsReferring}
 use Rattle.mx_line.specs.declared.asking.Reference as asked
 use Rattle.mx_line.specs.declared.at_work.LineAtWork.TheVariants as at
 use Rattle.mx_line.specs.declared.operands.Progress.{Progress}
 use Rattle.mx_line.specs.declared.operands.Progress.TheVariants.{Before, Walking}
 use Rattle.mx_line.specs.declared.processes.Process.{Process}
+use Rattle.mx_request.specs.declared.replies.Reply.{Reply}
 use Rattle.mx_script.specs.declared.lines.Line.{Line}
 use Rattle.mx_sdw.specs.Descriptors.{Descriptor}
 use Rattle.mx_transcript.specs.Attempts.{wants}
 use Rattle.mx_transcript.specs.Next.{Asks}
-use Rattle.mx_transcript.specs.Settings.{Setting}
-use Rattle.mx_transcript.specs.declared.transcripts.Event2.TheVariants.{Core}
+use Rattle.mx_state.specs.declared.journal.Entry as journaled
+use Rattle.mx_transcript.specs.Settings.{Setting, entry_at}
+use Rattle.mx_transcript.specs.declared.transcripts.Event2.TheVariants.{Core, Entry}
 use Rattle.mx_transcript.specs.declared.transcripts.Result2.{Result2}
 use Rattle.mx_upcall.specs.declared.controls.Change.{Change}
 
@@ -36,6 +38,19 @@ pub ends_in : (p : Process) (progress : Progress) (l : Line) (e : Element) (foun
     → IfSome found (λ ends. IsGoodWork p.control (left p.control (Some ends))) → IfSome found (HasPlainEnd p l e)
 ends_in p progress l e None is taken good = tt
 ends_in p progress l e (Some ends) is taken good = ends_where p progress l e ends is taken good
+
+-- so it is with the end by the reply to its own request
+pub replies_in : (p : Process) (l : Line) (given : Reply) (found : Option Result2) → p.progress ≡ Before
+    → IfSome found (λ ends. (setting : Setting) (number : ℕ) (entry : journaled.Entry) → entry_at setting.journal number ≡ Some entry
+    → entry.reply ≡ given → IsTaken p.control l setting (Entry number) (at.At Before) (left p.control (Some ends)))
+    → IfSome found (λ ends. IsGoodWork p.control (left p.control (Some ends))) → IfSome found (HasPlainReply p l given)
+replies_in p l given None is taken good = tt
+replies_in p l given (Some ends) is taken good = record {
+  taken = subst (λ (r : Progress). (setting : Setting) (number : ℕ) (entry : journaled.Entry)
+      → entry_at setting.journal number ≡ Some entry → entry.reply ≡ given
+      → IsTaken p.control l setting (Entry number) (at.At r) (left p.control (Some ends))) (sym is) taken;
+  good = good;
+}
 
 -- so it is with the move that is found at its beginning
 pub moves_in : (p : Process) (l : Line) (e : Element) (d : Descriptor) (found : Option Change) → p.progress ≡ Before

@@ -1,5 +1,5 @@
 -- An event that answers leads to where the line stands after it.
-use Rattle.std.proofs.Common.{◌≡◌, inl, inr, ℕ, ◌<◌, ◌≤◌, ◌==◌, Bool, true, false, if◌then◌else◌, List, [], ◌∷◌, ◌++◌, length, Option, Some, None, Result, Ok, Err, refl, sym, ◌∙◌, ap, subst, arith}
+use Rattle.std.proofs.Common.{◌≡◌, inl, inr, ℕ, ◌<◌, ◌≤◌, ◌==◌, Bool, true, false, if◌then◌else◌, List, [], ◌∷◌, ◌++◌, length, Option, Some, None, Result, Ok, Err, refl, sym, ◌∙◌, ap, subst, IfSome, arith}
 use Rattle.std.proofs.lemmas.Bool.{eqb-true}
 use Rattle.std.specs.List.{slice_get}
 use Rattle.mx_core.specs.declared.elements.Element.{Element}
@@ -37,12 +37,13 @@ use Rattle.mx_transcript.specs.Operands.{walk_of}
 use Rattle.mx_transcript.specs.Settings.{Setting, entry_at, judged}
 use Rattle.mx_transcript.specs.Standing.{IsWalked}
 use Rattle.mx_transcript.specs.declared.transcripts.Event2.TheVariants.{Core, Entry}
+use Rattle.mx_transcript.specs.declared.transcripts.Result2.{Result2}
 use Rattle.mx_transcript.specs.declared.transcripts.Result2.TheVariants as result
 use Rattle.mx_upcall.proofs.ChangeLaws.{kept_all}
 use Rattle.mx_upcall.specs.Control.{Control, calling, returning}
 use Rattle.mx_line.proofs.FillLaws.{Bounds, IsAfter, after_write}
 use Rattle.mx_line.proofs.StandingLaws.{walk_asks, no_walk_asks, wants_calls, memory_calls, begun_fills, refers, memory_attempts, before_asks, walking_asks, link_calls, link_refers, waiting_calls, waiting_blocks, filling_asks}
-use Rattle.mx_line.specs.AtWork.{IsCome, StandsAt, IsTaken, IsWithin, IsOver, IsReader, IsWriter, IsMover, IsMet, HasSeen, IsUnlinked, OneCourseLaw, after_writing, beside, standing}
+use Rattle.mx_line.specs.AtWork.{IsCome, StandsAt, IsTaken, IsWithin, IsOver, IsReader, IsWriter, IsMover, IsMet, HasSeen, IsUnlinked, EndsByReply, OneCourseLaw, after_writing, beside, left, standing}
 use Rattle.mx_line.specs.Fills.{IsFilling, after_fill, counted, write_of}
 use Rattle.mx_line.specs.Operands.{IsMemoryLine, IsOnward, IsSayable, IsWalker}
 use Rattle.mx_line.specs.declared.at_work.LineAtWork.{LineAtWork}
@@ -442,3 +443,13 @@ linking_met g l place e d m =
 pub waiting_met : (g : Control) (l : Line) (e : Element) (d : Descriptor) → IsMet g l (at.At Waiting) e d → ⊥
 waiting_met g l e d m =
     calls_asks (next g l m.course) g.registers.ring Resume m.asked (waiting_calls g l m.course m.stands) m.asks
+
+-- so a line ends by the reply to its own request
+pub request_ends : (g : Control) (l : Line) (given : Reply) (found : Option Result2) → IsSayable l → IfSome found (EndsByReply g given)
+    → IfSome found (λ ends. (setting : Setting) (number : ℕ) (entry : journaled.Entry)
+    → entry_at setting.journal number ≡ Some entry → entry.reply ≡ given
+    → IsTaken g l setting (Entry number) (at.At Before) (left g (Some ends)))
+request_ends g l given None sayable ends = tt
+request_ends g l given (Some result) sayable ends = asked_taken g l given (left g (Some result))
+    (λ request entry own is said. subst (λ (m : Line). StandsAt g m (Answer entry []) (left g (Some result))) (sym own)
+    (ends request entry (subst IsUnlinked (sym is) (sayable_unlinked request (subst IsSayable own sayable))) said))

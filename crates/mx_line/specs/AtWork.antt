@@ -1,6 +1,6 @@
 -- Helpers: the line at work. Where a process stands within its line, by what the line has done; what the line asks for there;
 -- and what an event that answers makes of it.
-use Rattle.std.specs.Prelude.{◌≡◌, ℕ, ◌<◌, List, Option, Some, None, IsSome}
+use Rattle.std.specs.Prelude.{◌≡◌, ℕ, ◌<◌, List, [], Option, Some, None, IsSome}
 use Rattle.mx_call.specs.Registers.{Registers}
 use Rattle.mx_core.specs.declared.elements.Element.{Element}
 use Rattle.mx_core.specs.declared.elements.Event.TheVariants.{Seen}
@@ -9,6 +9,7 @@ use Rattle.mx_ptr.specs.Pointers.{PointerParts}
 use Rattle.mx_sdw.specs.Descriptors.{Descriptor}
 use Rattle.mx_sdw.specs.declared.operations.Op.{Op}
 use Rattle.mx_sdw.specs.declared.operations.Op.TheVariants.{Write}
+use Rattle.mx_request.specs.declared.replies.Reply.{Reply}
 use Rattle.mx_request.specs.declared.replies.Reply.TheVariants as reply
 use Rattle.mx_request.specs.declared.requests.Request.{Request}
 use Rattle.mx_request.specs.declared.requests.Request.TheVariants as ask
@@ -240,6 +241,15 @@ abbrev pub EndsAt : Line → Outcome → Result2 → Type 0
 EndsAt l outcome ends = (g : Control) (target : PointerParts) (d : Descriptor)
     → after_target g l target d outcome ≡ ending g (Some ends)
 
+-- no link is to be snapped by it
+abbrev pub IsUnlinked : Request → Type 0
+IsUnlinked request = (segno word : ℕ) → request ≡ ask.Link segno word → ⊥
+
+-- by this reply to its own request, which is no link to be snapped, a line ends so, whatever the request
+abbrev pub EndsByReply : Control → Reply → Result2 → Type 0
+EndsByReply g given ends = (own : Request) (entry : journaled.Entry) → IsUnlinked entry.request → entry.reply ≡ given
+    → StandsAt g (line.Ask own) (Answer entry []) (left g (Some ends))
+
 -- so it ends by this element, which it has on some descriptor
 abbrev pub IsTakenTo : Control → Line → Element → LineAtWork → LineAtWork → Type 0
 IsTakenTo g l e before after = (d : Descriptor) (setting : Setting) → setting.descriptor e ≡ d
@@ -275,10 +285,6 @@ filling_or after (Some fill) = at.At (Filling fill)
 abbrev pub begun : Option ℕ → Option (ℕ × ℕ)
 begun None = None
 begun (Some section) = Some (section, 1)
-
--- no link is to be snapped by it
-abbrev pub IsUnlinked : Request → Type 0
-IsUnlinked request = (segno word : ℕ) → request ≡ ask.Link segno word → ⊥
 
 -- an event leaves exactly one course
 abbrev pub OneCourseLaw : Type 0

@@ -1,13 +1,15 @@
 -- Helpers: what the line of a process asks for, and what an element makes of it.
-use Rattle.std.specs.Prelude.{◌≡◌, Some}
+use Rattle.std.specs.Prelude.{◌≡◌, ℕ, Some}
 use Rattle.mx_upcall.specs.Control.{Control}
 use Rattle.mx_upcall.specs.declared.controls.Change.{Change}
 use Rattle.mx_core.specs.declared.elements.Element.{Element}
 use Rattle.mx_core.specs.declared.elements.Event.TheVariants.{Seen}
 use Rattle.mx_transcript.specs.Asking.{next}
 use Rattle.mx_transcript.specs.Courses.{Course}
-use Rattle.mx_transcript.specs.Settings.{Setting}
-use Rattle.mx_transcript.specs.declared.transcripts.Event2.TheVariants.{Core}
+use Rattle.mx_request.specs.declared.replies.Reply.{Reply}
+use Rattle.mx_state.specs.declared.journal.Entry as journaled
+use Rattle.mx_transcript.specs.Settings.{Setting, entry_at}
+use Rattle.mx_transcript.specs.declared.transcripts.Event2.TheVariants.{Core, Entry}
 use Rattle.mx_transcript.specs.declared.transcripts.Result2.{Result2}
 use Rattle.mx_script.specs.declared.lines.Line.{Line}
 use Rattle.mx_sdw.specs.Descriptors.{Descriptor}
@@ -37,6 +39,12 @@ pub record IsReferring (p : Process) (l : Line) (r : asked.Reference) : Type 0 w
 -- its line at work ends so by this element, which it has on some descriptor
 pub record HasPlainEnd (p : Process) (l : Line) (e : Element) (ends : Result2) : Type 0 where
   pub taken : IsTakenTo p.control l e (works.At p.progress) (left p.control (Some ends))
+  pub good : IsGoodWork p.control (left p.control (Some ends))
+
+-- its line at work ends so by this reply to the call for which it asks
+pub record HasPlainReply (p : Process) (l : Line) (given : Reply) (ends : Result2) : Type 0 where
+  pub taken : (setting : Setting) (number : ℕ) (entry : journaled.Entry) → entry_at setting.journal number ≡ Some entry
+      → entry.reply ≡ given → IsTaken p.control l setting (Entry number) (works.At p.progress) (left p.control (Some ends))
   pub good : IsGoodWork p.control (left p.control (Some ends))
 
 -- its line at work ends by this element on this descriptor, and the process goes on so

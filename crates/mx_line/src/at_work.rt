@@ -28,7 +28,7 @@ ghost use Rattle.mx_transcript.specs.declared.transcripts.Event2.TheVariants.{Co
 ghost use Rattle.mx_upcall.specs.Changes.{changed};
 ghost use Rattle.mx_upcall.specs.Control.{Control as Parts};
 ghost use Rattle.mx_upcall.specs.Soundness.{IsPackableControl};
-ghost use Rattle.mx_line.specs.AtWork.{EndsAt, IsTakenTo, ending, left, left_in, HasSeen, IsCome, IsFree, IsGoodNext, IsGoodWork, IsKnown, IsMet, IsMover, IsNearer, IsOver, IsPlain, IsReader, IsSaid, IsStorable, IsTaken, IsUnlinked, IsWithin, IsWriter, OneCourseLaw, StandsAt, after_writing, begun, beside, end_of, ended, filling_or, meant, moved_on, moving, standing};
+ghost use Rattle.mx_line.specs.AtWork.{EndsAt, EndsByReply, IsTakenTo, ending, left, left_in, HasSeen, IsCome, IsFree, IsGoodNext, IsGoodWork, IsKnown, IsMet, IsMover, IsNearer, IsOver, IsPlain, IsReader, IsSaid, IsStorable, IsTaken, IsUnlinked, IsWithin, IsWriter, OneCourseLaw, StandsAt, after_writing, begun, beside, end_of, ended, filling_or, meant, moved_on, moving, standing};
 ghost use Rattle.mx_line.specs.Fills.{IsNoRequest, IsShort, after_fill, counted, first_fill, steps_to_fill};
 ghost use Rattle.mx_line.specs.Looks.{looks};
 ghost use Rattle.mx_line.specs.Operands.{IsGoodProgress, IsGoodWalk, IsMemoryLine, IsSayable, IsTarget};
@@ -620,6 +620,53 @@ fn replied(control: &Control, request: &Request, reply: &Reply) -> LineAtWork
         | Reply::Sent
         | Reply::Message { .. }
         | Reply::Nobody => ended(Result2::of(reply), control),
+    }
+}
+
+/// How a line that is a request, and has made no call yet, ends by this reply to it, where that is all: no write is due first, and
+/// its process is not told to wait. None for every other line.
+#[inline(always)]
+pub(crate) fn request_end(line: &Line, control: &Control, reply: &Reply) -> Option<Result2>
+    requires line { IsSayable line.now }
+    requires packable { IsPackableControl control.now }
+    ensures taken { IfSome result (λ ends. (setting : Setting) (number : ℕ) (entry : PlainEntry)
+        → entry_at setting.journal number ≡ Some entry → entry.reply ≡ reply.now
+        → IsTaken control.now line.now setting (EntryOf number) (At Before) (left control.now (Some ends))) }
+    ensures good { IfSome result (λ ends. IsGoodWork control.now (left control.now (Some ends))) }
+{
+    match line {
+        Line::Ask(_) => reply_end(control, reply),
+        Line::Set { .. }
+        | Line::Epp { .. }
+        | Line::Lda { .. }
+        | Line::Sta { .. }
+        | Line::Spri { .. }
+        | Line::Fetch
+        | Line::Call { .. }
+        | Line::Return { .. } => None,
+    }
+}
+
+// How a line that is a request ends by this reply to it, where that is all.
+#[inline(always)]
+fn reply_end(control: &Control, reply: &Reply) -> Option<Result2>
+    requires packable { IsPackableControl control.now }
+    ensures ends { IfSome result (EndsByReply control.now reply.now) }
+    ensures good { IfSome result (λ ends. IsGoodWork control.now (left control.now (Some ends))) }
+{
+    match reply {
+        Reply::Refused(_) => Some(Result2::Refused),
+        Reply::Segno(known) => match known.linkage {
+            None => Some(Result2::Done),
+            Some(_) => None,
+        },
+        Reply::Done
+        | Reply::Status(_)
+        | Reply::Names(_)
+        | Reply::Sent
+        | Reply::Message { .. }
+        | Reply::Nobody => Some(Result2::Done),
+        Reply::Linked { .. } | Reply::Waiting => None,
     }
 }
 

@@ -8,12 +8,13 @@ ghost use Rattle.mx_upcall.specs.Control.{with_registers};
 ghost use Rattle.mx_upcall.specs.Soundness.{IsPackableControl};
 ghost use Rattle.mx_line.specs.AtWork.{left_in};
 ghost use Rattle.mx_line.specs.Operands.{IsGoodProgress, IsSayable};
-ghost use Rattle.mx_line.specs.Processes.{HasPlainEnd, HasPlainMove, IsAsking, IsReferring};
+ghost use Rattle.mx_line.specs.Processes.{HasPlainEnd, HasPlainMove, HasPlainReply, IsAsking, IsReferring};
 ghost use Rattle.mx_line.specs.declared.operands.Progress.TheVariants.{Before};
 
 use crate::asking::{Next, Reference, first_reference, next_reference};
-use crate::at_work::{first_end, first_move, leave, next_at, walked_end};
+use crate::at_work::{first_end, first_move, leave, next_at, request_end, walked_end};
 use crate::operands::Progress;
+use mx_request::Reply;
 use mx_script::Line;
 use mx_sdw::Desc;
 use mx_transcript::{Element, Event2, Recording, Result2, Transcript};
@@ -66,6 +67,21 @@ impl Process {
             Progress::Before => first_end(line, &self.control, element),
             Progress::Walking(walk) => walked_end(line, &self.control, walk, element),
             Progress::AtLink(_) | Progress::Waiting | Progress::Filling(_) => None,
+        }
+    }
+
+    /// How its line ends by this reply to the call for which it asks, where that call is for its own request and the reply is all:
+    /// none where a write is due first, where the process is told to wait, and for a link to be snapped.
+    #[inline(always)]
+    pub fn plain_reply(&self, line: &Line, reply: &Reply) -> Option<Result2>
+        requires packable { IsPackableControl self.now.control }
+        requires line { IsSayable line.now }
+        ensures { IfSome result (HasPlainReply self.now line.now reply.now) }
+    {
+        match &self.progress {
+            Progress::Before => request_end(line, &self.control, reply),
+            Progress::Walking(_) | Progress::AtLink(_) | Progress::Waiting | Progress::Filling(_) =>
+                None,
         }
     }
 

@@ -92,3 +92,17 @@ none_below x (u ∷ row) zero w at none below (suc i) v less there = absurd (ome
 none_below x (u ∷ row) (suc n) w at none below zero v less there = below zero v (omega arith) there
 none_below x (u ∷ row) (suc n) w at none below (suc i) v less there =
     none_below x row n w at none (λ j z l t. below (suc j) z (omega (arith, l)) t) i v (omega (arith, less)) there
+
+-- a row of one process, which has done all its lines
+pub alone_done : (x : Outline) (row : List ProcessValue) (v : ProcessValue) → length row ≤ 1 → HasNoLine x v
+    → HaveNoLine x (slice_set row 0 v)
+alone_done x [] v few done place w at = absurd (none at)
+  where
+    none : slice_get {X = ProcessValue} [] place ≡ Some w → ⊥
+    none at = cc
+alone_done x (u ∷ []) v few done zero w at = let same : v ≡ w = cc in subst (HasNoLine x) same done
+alone_done x (u ∷ []) v few done (suc place) w at = absurd (none at)
+  where
+    none : slice_get {X = ProcessValue} [] place ≡ Some w → ⊥
+    none at = cc
+alone_done x (u ∷ t ∷ row) v few done place w at = absurd (omega arith)

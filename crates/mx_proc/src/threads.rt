@@ -100,7 +100,7 @@ fn work_from<
 {
     if row.len() <= 1 {
         start.begin(rt);
-        return take_turns(rt, alloc, office, gate, row);
+        return work_alone(rt, alloc, office, gate, row);
     }
     let Some(process) = row.pop() else {
         unreachable!()
@@ -136,4 +136,26 @@ fn work_from<
             take_turns(rt, alloc, office, gate, row)
         }
     }
+}
+
+// All lines of the one process of a row, if it has one.
+fn work_alone<R: Wait, G: Gate, B: Attending, A: Auditor>(
+    rt: &R,
+    alloc: Global,
+    office: &Office<'_, B>,
+    gate: &G,
+    row: &mut Vec<Process<'_, B, A>>,
+) -> Result<(), AllocError>
+    requires place { AreInPlace B.accounts row.old.items }
+    requires awake { AreAwake row.old.items }
+    requires few { vec_len row.old ≤ 1 }
+    ensures place { AreInPlace B.accounts row.new.items }
+    ensures done { OnOk result (HaveNoLine B.session row.new.items) }
+    ensures len { vec_len row.new ≡ vec_len row.old }
+    ensures capacity { vec_capacity row.new ≡ vec_capacity row.old }
+{
+    if row.is_empty() {
+        return Ok(());
+    }
+    row[0].run(rt, alloc, office, gate)
 }

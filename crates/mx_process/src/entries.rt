@@ -290,6 +290,30 @@ fn take_answer(state: &mut LineState, line: &Line, number: u32, answer: &Answer)
     ensures packable { IsPackableControl state.new.control }
 {
     let reply = reply_like(answer);
+    match state.plain_reply(line, &reply) {
+        Some(ends) => {
+            state.end_plainly(Event2::Entry(number), ends);
+            Answered::Done
+        }
+        None => take_reply(state, line, number, answer),
+    }
+}
+
+// The same by the line at work itself.
+#[inline(never)]
+fn take_reply(state: &mut LineState, line: &Line, number: u32, answer: &Answer) -> Answered
+    requires room { 1 ≤ state.old.recording.spare }
+    requires end { IsTrue state.old.recording.line_room }
+    requires countable { number_in state.old < 2 ^ 32 }
+    requires line { IsSayable line.now }
+    requires packable { IsPackableControl state.old.control }
+    requires good { IsGoodProgress state.old.control.registers state.old.progress }
+    requires replied { HasReply state.old line.now answer.now }
+    ensures answered { HasAnswered state.old line.now number answer.now result state.new }
+    ensures good { IsGoodProgress state.new.control.registers state.new.progress }
+    ensures packable { IsPackableControl state.new.control }
+{
+    let reply = reply_like(answer);
     let event = Event2::Entry(number);
     let progress = mem::replace(&mut state.progress, Progress::Before);
     let work = LineAtWork::At(progress).answered(line, &state.control, &reply);

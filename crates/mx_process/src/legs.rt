@@ -8,7 +8,7 @@ ghost use Rattle.mx_process.specs.Filling.{IsDue};
 ghost use Rattle.mx_process.specs.Lines.{HasGoneOn, HasMadeLeg, IsAwake, IsCalling, IsIdle};
 ghost use Rattle.mx_process.specs.Processes.{HasLine, IsAtLine};
 ghost use Rattle.mx_process.specs.declared.legs.Leg.TheVariants.{Waits};
-ghost use Rattle.mx_request.specs.declared.requests.Request.TheVariants.{Block, Resume};
+ghost use Rattle.mx_request.specs.declared.requests.Request.TheVariants.{Block, Link, Resume};
 ghost use Rattle.mx_script.specs.declared.lines.Line.TheVariants.{Ask};
 
 use crate::entries::Answered;
@@ -150,11 +150,34 @@ impl<'a, B: Attending, A: Auditor> Process<'a, B, A> {
                 Ok(Leg::More)
             }
             Fast::Link { segno, word, ring } => {
-                let request = Request::Link { segno, word };
-                self.make_call(rt, alloc, office, line, ring, &request)
+                self.make_snap(rt, alloc, office, line, ring, segno, word)
             }
             Fast::Journal => unreachable!(),
         }
+    }
+
+    // The call by which the line has this link snapped.
+    #[inline(never)]
+    fn make_snap<R: Wait>(
+        &mut self,
+        rt: &R,
+        alloc: Global,
+        office: &Office<'_, B>,
+        line: &Line,
+        ring: Ring,
+        segno: u16,
+        word: u16,
+    ) -> Result<Leg, AllocError>
+        requires at { (number : ℕ) × IsAtLine B.session self.old number line.now }
+        requires awake { line.now ≡ Ask Block → ⊥ }
+        requires calls { IsCalling B.session self.old ring (Link segno word) }
+        requires settled { self.old.missing ≡ None }
+        ensures came { IfOk result (λ leg. HasMadeLeg B.session self.old leg self.new) }
+        ensures awake { result ≡ Ok Waits → ⊥ }
+        ensures err { OnErr result (HasGoneOn self.old self.new) }
+    {
+        let request = Request::Link { segno, word };
+        self.make_call(rt, alloc, office, line, ring, &request)
     }
 
     // A call of the line that is no `block`.
