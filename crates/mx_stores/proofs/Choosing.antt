@@ -1,10 +1,10 @@
 -- What the reader finds in the tables is the choice.
-use Rattle.std.proofs.Common.{◌≡◌, inl, inr, ℕ, zero, suc, ◌+◌, ◌*◌, ◌<◌, ◌≤◌, ◌==◌, ◌&&◌, nat_le, not, Bool, true, false, if◌then◌else◌, List, [], ◌∷◌, ◌++◌, length, Option, Some, None, IsSome, refl, ap, sym, ◌∙◌, subst, arith}
+use Rattle.std.proofs.Common.{◌≡◌, inl, inr, ℕ, zero, suc, ◌+◌, ◌*◌, ◌<◌, ◌≤◌, ◌&&◌, nat_le, not, Bool, true, false, List, [], ◌∷◌, ◌++◌, length, Option, Some, None, IsSome, refl, ap, sym, ◌∙◌, subst, arith}
 use Rattle.std.specs.Bool.{MatchBool}
 use Rattle.std.specs.List.{slice_get, slice_index_or}
 use Rattle.std.specs.List.Sorted.{IsNonDecreasingBy}
-use Rattle.std.proofs.lemmas.Option.{slice_get_within, slice_get-get_or, slice_get_past}
-use Rattle.std.proofs.lemmas.Bool.{cases_Bool, cases_eq, cases_lt, leb-true, le-leb}
+use Rattle.std.proofs.lemmas.Option.{slice_get_within, slice_get-get_or}
+use Rattle.std.proofs.lemmas.Bool.{cases_eq, cases_lt, leb-true, le-leb}
 use Rattle.mx_reads.specs.Deeds.{CellUse, Deed, Deeds, Stores}
 use Rattle.mx_reads.specs.ReadRule.{Reading}
 use Rattle.mx_reads.specs.Sightings.{Source}
@@ -14,8 +14,7 @@ use Rattle.mx_stores.specs.Least.{is_by}
 use Rattle.mx_stores.specs.Sighted.{floor}
 use Rattle.mx_stores.specs.SightedTables.{AreSightings, IsReading}
 use Rattle.mx_stores.specs.Since.{is_same, stores_from}
-use Rattle.mx_stores.specs.StoreLaws.{AreBelow}
-use Rattle.mx_stores.specs.Tables.{before, AreStores, IsFrom, IsStoreOf, IsTable, number_of, order_of}
+use Rattle.mx_stores.specs.Tables.{before, AreStores, IsFrom, IsStoreOf, number_of, order_of}
 use Rattle.mx_stores.specs.Until.{until}
 use Rattle.mx_stores.specs.declared.sightings.Sightings.{Sightings}
 use Rattle.mx_stores.specs.declared.stores.Store.{Store}

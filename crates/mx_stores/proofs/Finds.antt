@@ -1,17 +1,17 @@
 -- What the searches in a table of stores find, in the words of the deeds.
-use Rattle.std.proofs.Common.{◌≡◌, inl, inr, ℕ, zero, suc, ◌+◌, ◌*◌, ◌<◌, ◌≤◌, ◌==◌, Bool, true, false, if◌then◌else◌, List, drop, length, Option, Some, None, refl, ap, sym, ◌∙◌, subst, arith}
+use Rattle.std.proofs.Common.{◌≡◌, inl, inr, ℕ, suc, ◌+◌, ◌*◌, ◌<◌, ◌≤◌, List, drop, length, Option, Some, None, refl, ap, sym, ◌∙◌, subst, arith}
 use Rattle.std.specs.List.{slice_get, slice_index_or}
 use Rattle.std.specs.List.Sorted.{IsNonDecreasingBy}
 use Rattle.std.proofs.lemmas.Option.{slice_get_within, slice_get-get_or, get_or_from_slice_get}
-use Rattle.std.proofs.lemmas.Bool.{cases_lt}
-use Rattle.mx_reads.specs.Deeds.{CellUse, Deed, Deeds, Stores}
+use Rattle.std.proofs.lemmas.Bool.{cases_eq, cases_lt}
+use Rattle.mx_reads.specs.Deeds.{CellUse, Deed, Stores}
 use Rattle.mx_stores.specs.Since.{is_same, least_since, since}
-use Rattle.mx_stores.specs.Least.{IsBy, least, least_of}
+use Rattle.mx_stores.specs.Least.{IsBy}
 use Rattle.mx_stores.specs.Tables.{AreStores, HasStore, IsFrom, IsLevelFrom, IsStoreOf, level_of, number_of, order_of, since_of}
-use Rattle.mx_stores.specs.Until.{overwritten, replaced, until}
+use Rattle.mx_stores.specs.Until.{replaced}
 use Rattle.mx_stores.specs.declared.stores.Store.{Store}
 use Rattle.mx_stores.proofs.LeastLaws.{chosen, choose_then}
-use Rattle.mx_stores.proofs.SightedLaws.{none_some, some_same}
+use Rattle.mx_stores.proofs.SightedLaws.{some_same}
 use Rattle.mx_stores.proofs.SinceLaws.{since_law}
 use Rattle.mx_stores.proofs.StoresFrom.{same_told, same_test}
 use Rattle.mx_stores.proofs.Tables.{held, place_in}
@@ -219,6 +219,34 @@ module _ (deeds : List Deed) (ts : List Store) (stores : AreStores deeds 0 ts)
           let st : HasStoreBy cell from deeds q = by_least_since cell from deeds q h in
           by_first cell k st.at q (level_found cell fits from k first st.at st.value st.point st.stored st.after) st.by
 
+  -- orders up to the one of a store
+  pub not_above : (here : ℕ) (s : Store) → slice_get ts here ≡ Some s → (j : ℕ) (t : Store) → j < here
+      → slice_get ts j ≡ Some t → t.order < suc s.order
+  not_above here s e j t l f = let up = rises j here t s (omega arith) f e in omega arith
+
+  pub not_above_next : (order next : ℕ) (s : Store) → slice_get ts next ≡ Some s → s.order ≤ order
+      → ((j : ℕ) (t : Store) → j < next → slice_get ts j ≡ Some t → t.order < suc order)
+      → (j : ℕ) (t : Store) → j < next + 1 → slice_get ts j ≡ Some t → t.order < suc order
+  not_above_next order next s e l below j t m f = elim (cases_eq j next) [
+    | inl same ↦ subst (λ (x : Store). x.order < suc order)
+        (some_same s t (sym e ∙ ap (λ (i : ℕ). slice_get ts i) (sym same) ∙ f)) (omega arith)
+    | inr before ↦ below j t (omega arith) f
+  ]
+
+  pub none_above : (order end k : ℕ) → length ts ≤ end → k ≡ length ts
+      → ((j : ℕ) (t : Store) → j < end → slice_get ts j ≡ Some t → t.order < suc order) → IsFrom ts (suc order) k
+  none_above order end k l e below = record {
+    below = λ j t m f. below j t (omega arith) f;
+    from = λ j t m f. let within = slice_get_within ts j t f in absurd (omega arith);
+  }
+
+  pub above_from : (order k : ℕ) (s : Store) → slice_get ts k ≡ Some s → order < s.order
+      → ((j : ℕ) (t : Store) → j < k → slice_get ts j ≡ Some t → t.order < suc order) → IsFrom ts (suc order) k
+  above_from order k s e l below = record {
+    below = below;
+    from = λ j t m f. let up = rises k j s t m e f in omega arith;
+  }
+
   pub replaced_found : (s : Store) → IsStoreOf deeds s → (k : ℕ) → IsFrom ts (suc s.order) k
       → since_of s.cell (slice_get ts k) ≡ replaced s.cell (drop (suc s.place) deeds)
   replaced_found s own k first =
@@ -246,16 +274,3 @@ module _ (deeds : List Deed) (ts : List Store) (stores : AreStores deeds 0 ts)
           let later = r.later in
           by_first s.cell k r.at q
           (order_found s.cell own.fits_use (suc s.place) k from r.at r.value r.point r.stored (omega arith)) r.by
-
-pub least_of_next : (f : ℕ → Option ℕ) (count next : ℕ) (x y : Option ℕ) → next ≡ suc count → x ≡ f count
-    → y ≡ least_of f count → least x y ≡ least_of f next
-least_of_next f count next x y n a b = (λ i. least (a i) (b i)) ∙ ap (λ (k : ℕ). least_of f k) (sym n)
-
-pub until_is : (done : Deeds) (count end storer : ℕ) (s : Store) (next others : Option ℕ) → end ≡ count
-    → next ≡ replaced s.cell (drop (suc s.place) (done storer))
-    → others ≡ least_of (λ other. if other == storer then None else overwritten s.cell s.since (done other)) end
-    → s.since ≡ since (done storer) s.place → least next others ≡ until done count storer s.place s.cell
-until_is done count end storer s next others n a b k =
-    (λ i. least (a i) (b i))
-    ∙ (λ i. least (replaced s.cell (drop (suc s.place) (done storer)))
-    (least_of (λ other. if other == storer then None else overwritten s.cell (k i) (done other)) (n i)))

@@ -11,3 +11,4 @@ pub mod WholeRuns
 mod Tables
 mod Finds
 mod Choosing
+mod EndLaws

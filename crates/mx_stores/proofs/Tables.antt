@@ -1,24 +1,20 @@
 -- Tables of stores: what the searches in them find.
-use Rattle.std.proofs.Common.{◌≡◌, ◌⊎◌, inl, inr, ℕ, zero, suc, ◌+◌, ◌-◌, ◌*◌, ◌<◌, ◌≤◌, max, Bool, true, false, leb, ltb, if◌then◌else◌, List, [], ◌∷◌, ◌++◌, drop, length, Option, Some, None, refl, ap, sym, ◌∙◌, subst, arith}
+use Rattle.std.proofs.Common.{◌≡◌, ◌⊎◌, inl, inr, ℕ, zero, suc, ◌+◌, ◌<◌, ◌≤◌, max, true, false, leb, ltb, List, [], ◌∷◌, ◌++◌, drop, length, Option, Some, None, refl, ap, sym, ◌∙◌, subst, arith}
 use Rattle.std.specs.List.{slice_get, slice_index_or, Contains}
 use Rattle.std.specs.List.Sorted.{IsNonDecreasingBy, IsPartitionPoint, IsPermutation}
-use Rattle.std.proofs.lemmas.Option.{slice_get_within, slice_get-get_or, slice_get_past, get_or_from_slice_get}
-use Rattle.std.proofs.lemmas.Bool.{cases_Bool, cases_eq, cases_lt, leb-true, leb-false, ltb-true, ltb-false}
+use Rattle.std.proofs.lemmas.Option.{slice_get_within, slice_get-get_or, get_or_from_slice_get}
+use Rattle.std.proofs.lemmas.Bool.{cases_eq, cases_lt, leb-true, leb-false, ltb-true, ltb-false}
 use Rattle.std.proofs.lemmas.List.Elements.{Contains-push, Contains-push_cases, Contains-append_left}
 use Rattle.std.proofs.lemmas.List.Sorted.{Contains-permutation, IsPermutation-sym}
 use Rattle.std.proofs.Math.Nat.{le-max_left, le-max_right, max-eq_left, max_comm}
-use Rattle.mx_reads.specs.Deeds.{CellUse, Deed, Enters, Stores, Loads, Refers, Misses}
+use Rattle.mx_reads.specs.Deeds.{CellUse, Deed, Stores}
 use Rattle.mx_stores.specs.Parts.{deeds_of}
-use Rattle.mx_stores.specs.Since.{entry_of, is_same, least_entry, least_since, since}
-use Rattle.mx_stores.specs.Least.{least, IsBy}
-use Rattle.mx_stores.specs.Tables.{AreReaches, AreStores, HasLevel, HasStore, IsFrom, IsLevelFrom, IsNoStore, IsStoreHere, IsStoreOf, IsTable, level_of, number_of, order_of}
-use Rattle.mx_stores.specs.Until.{replaced}
+use Rattle.mx_stores.specs.Since.{entry_of, least_entry, since}
+use Rattle.mx_stores.specs.Least.{least}
+use Rattle.mx_stores.specs.Tables.{AreLower, AreReaches, AreStores, HasLevel, HasStore, IsFrom, IsLevelFrom, IsNoStore, IsReachFrom, IsStoreHere, IsStoreOf, IsTable}
 use Rattle.mx_stores.specs.declared.stores.Store.{Store}
 use Rattle.mx_stores.specs.declared.stores.Table.{Table}
 use Rattle.mx_stores.proofs.SightedLaws.{none_some, some_same}
-use Rattle.mx_stores.proofs.SinceLaws.{since_law}
-use Rattle.mx_stores.proofs.StoresFrom.{same_told, same_test}
-use Rattle.mx_stores.proofs.UntilLaws.{HasStoreBy, least_since_by, by_least_since, replaced_from, IsReplaced, is_replaced}
 
 -- lists that grow by one
 pub get_pushed : {A : Type 0} (xs : List A) (x y : A) (k : ℕ) → slice_get (xs ++ x ∷ []) k ≡ Some y
@@ -217,18 +213,41 @@ reaches_rise stores count reaches a i j d l b =
     subst (λ (n : ℕ). n ≤ slice_index_or reaches j d) has.same
     (a.above has.at j has.store (slice_index_or reaches j d) (omega arith) has.is next)
 
-pub level_point : (stores : List Store) (reaches : List ℕ) (level k : ℕ) → AreReaches stores (length stores) reaches
+-- numbers below a level
+pub all_lower : (reaches : List ℕ) → IsNonDecreasingBy (λ n. n) reaches → (level k reach : ℕ)
+    → slice_get reaches k ≡ Some reach → reach < level → AreLower reaches level (suc k)
+all_lower reaches rises level k reach e l j other m f =
+    let within = slice_get_within reaches k reach e in
+    let up : other ≤ reach =
+    subst (λ (n : ℕ). n ≤ reach) (get_or_from_slice_get reaches j other other f)
+    (subst (λ (n : ℕ). slice_index_or reaches j other ≤ n) (get_or_from_slice_get reaches k reach other e)
+    (rises j k other (omega arith) within)) in omega arith
+
+pub lower_next : (reaches : List ℕ) (level k reach : ℕ) → AreLower reaches level k → slice_get reaches k ≡ Some reach
+    → reach < level → AreLower reaches level (k + 1)
+lower_next reaches level k reach lower e l j other m f = elim (cases_eq j k) [
+  | inl same ↦ subst (λ (n : ℕ). n < level)
+      (some_same reach other (sym e ∙ ap (λ (i : ℕ). slice_get reaches i) (sym same) ∙ f)) l
+  | inr before ↦ lower j other (omega arith) f
+]
+
+pub reach_point : (reaches : List ℕ) (level k : ℕ)
     → IsPartitionPoint (λ (n : ℕ). ltb n level ≡ true) (λ (n : ℕ). ltb n level ≡ false) reaches k
-    → IsLevelFrom stores level k
-level_point stores reaches level k a point = record {
+    → IsReachFrom reaches level k
+reach_point reaches level k point = record {
+  below = λ j reach l e. subst (λ (n : ℕ). n < level) (get_or_from_slice_get reaches j reach reach e)
+      (ltb-true _ _ (point.0 j reach (omega arith) l));
+  from = λ reach e. subst (λ (n : ℕ). level ≤ n) (get_or_from_slice_get reaches k reach reach e)
+      (ltb-false _ _ (point.1 k reach (omega arith) (slice_get_within reaches k reach e)));
+}
+
+pub level_from : (stores : List Store) (reaches : List ℕ) (level k : ℕ) → AreReaches stores (length stores) reaches
+    → IsReachFrom reaches level k → IsLevelFrom stores level k
+level_from stores reaches level k a point = record {
   below = λ j s l e. below j s l e (slice_get reaches j) refl;
   from = from;
 }
   where
-    low : (j reach : ℕ) → j < k → slice_get reaches j ≡ Some reach → reach < level
-    low j reach l e = subst (λ (n : ℕ). n < level) (get_or_from_slice_get reaches j reach reach e)
-        (ltb-true _ _ (point.0 j reach (omega arith) l))
-
     below : (j : ℕ) (s : Store) → j < k → slice_get stores j ≡ Some s → (o : Option ℕ) → slice_get reaches j ≡ o
         → s.level < level
     below j s l e None h =
@@ -237,14 +256,14 @@ level_point stores reaches level k a point = record {
         none_some (slice_index_or reaches j 0) (sym h ∙ slice_get-get_or reaches j 0 (omega arith))
     below j s l e (Some reach) h =
         let most = a.above j j s reach (omega arith) e h in
-        let under = low j reach l h in omega arith
+        let under = point.below j reach l h in omega arith
 
     from : (s : Store) → slice_get stores k ≡ Some s → level ≤ s.level
     from s e =
         let within = slice_get_within stores k s e in
         let long = a.long in
         let is : slice_get reaches k ≡ Some (slice_index_or reaches k 0) = slice_get-get_or reaches k 0 (omega arith) in
-        let high : level ≤ slice_index_or reaches k 0 = ltb-false _ _ (point.1 k 0 (omega arith) (omega arith)) in
+        let high : level ≤ slice_index_or reaches k 0 = point.from (slice_index_or reaches k 0) is in
         let has : HasLevel stores k (slice_index_or reaches k 0) = a.one k (slice_index_or reaches k 0) is in
         let same = has.same in
         let up = has.up_to in

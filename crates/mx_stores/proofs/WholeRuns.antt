@@ -1,5 +1,5 @@
 -- Runs as lists of parts: all reads are right exactly where each part has its choices.
-use Rattle.std.proofs.Common.{◌≡◌, ◌↔◌, inl, inr, ℕ, zero, suc, ◌<◌, ◌≤◌, List, [], ◌∷◌, Option, Some, None, IsSome, ◌∙◌, length, refl, ap, sym, subst, arith}
+use Rattle.std.proofs.Common.{◌≡◌, ◌↔◌, inl, inr, ℕ, zero, suc, ◌+◌, ◌<◌, ◌≤◌, List, [], ◌∷◌, Option, Some, None, IsSome, length, refl, ap, sym, subst, arith}
 use Rattle.std.specs.List.{slice_index_or}
 use Rattle.std.proofs.lemmas.Bool.{cases_eq, cases_lt}
 use Rattle.mx_reads.specs.Deeds.{Deed, Deeds}
@@ -26,6 +26,12 @@ no_some (Some x) e s = absurd cc
 module _ (parts : List (List Deed)) where
   abbrev AreChosen : ℕ → Type 0
   AreChosen u = IsSome (choices (deeds_of parts) (length parts) u (length (deeds_of parts u)))
+
+  pub chosen_next : (p : ℕ) → ((u : ℕ) → u < p → AreChosen u) → AreChosen p → (u : ℕ) → u < p + 1 → AreChosen u
+  chosen_next p before here u l = elim (cases_eq u p) [
+    | inl same ↦ subst (λ (v : ℕ). AreChosen v) (sym same) here
+    | inr other ↦ before u (omega arith)
+  ]
 
   pub of_each : ((u : ℕ) → u < length parts → AreChosen u) → AreRightReads (deeds_of parts) (IsKnown (deeds_of parts))
   of_each each = (right_reads_law (length parts) (deeds_of parts) (parts_below parts)).1 each

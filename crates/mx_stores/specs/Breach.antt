@@ -1,10 +1,7 @@
 -- The first deed at which the read rule fails.
-use Rattle.std.specs.Prelude.{◌↔◌, ◌≡◌, ℕ, suc, ◌<◌, length}
+use Rattle.std.specs.Prelude.{◌≡◌, ℕ, suc, ◌<◌, length}
 use Rattle.mx_reads.specs.Deeds.{Deeds}
-use Rattle.mx_reads.specs.ReadRule.{AreRightReads}
 use Rattle.mx_stores.specs.Deciding.{AreRightTo}
-use Rattle.mx_stores.specs.Known.{IsKnown}
-use Rattle.mx_stores.specs.StoreLaws.{AreBelow}
 
 -- All reads of the processes before this one are right, and so are this one's below the place, but not with the one there.
 pub record IsBreach (done : Deeds) (process place : ℕ) : Type 0 where

@@ -14,3 +14,4 @@ pub mod Parts
 pub mod Tables
 pub mod Sights
 pub mod SightedTables
+pub mod Ends

@@ -81,6 +81,15 @@ pub record IsTable (deeds : List Deed) (table : Table) : Type 0 where
   pub sorted : IsNonDecreasingBy (λ s. s.order) table.stores.items
   pub reach : AreReaches table.stores.items (length table.stores.items) table.reaches.items
 
+-- the numbers before a place are below this level
+abbrev pub AreLower : List ℕ → ℕ → ℕ → Type 0
+AreLower reaches level k = (j reach : ℕ) → j < k → slice_get reaches j ≡ Some reach → reach < level
+
+-- the first number that is at least this level
+pub record IsReachFrom (reaches : List ℕ) (level k : ℕ) : Type 0 where
+  pub below : AreLower reaches level k
+  pub from : (reach : ℕ) → slice_get reaches k ≡ Some reach → level ≤ reach
+
 -- the first store that has at least this level
 pub record IsLevelFrom (stores : List Store) (level k : ℕ) : Type 0 where
   pub below : (j : ℕ) (s : Store) → j < k → slice_get stores j ≡ Some s → s.level < level

@@ -4,11 +4,13 @@ ghost use Rattle.std.specs.Prelude.{◌≡◌, ◌↔◌, length, IfOk, IsSome, 
 ghost use Rattle.mx_reads.specs.ReadRule.{AreRightReads};
 ghost use Rattle.mx_stores.specs.Breach.{IsBreach};
 ghost use Rattle.mx_stores.specs.Deciding.{IsWrong, choices};
+ghost use Rattle.mx_stores.specs.Ends.{AreEnds};
 ghost use Rattle.mx_stores.specs.Known.{IsKnown};
 ghost use Rattle.mx_stores.specs.Parts.{deeds_of};
 ghost use Rattle.mx_stores.specs.Tables.{ArePartTables};
 
 use crate::deeds::Deed;
+use crate::ends::{Ends, ends_of};
 use crate::numbers::part_of;
 use crate::reader::Reader;
 use crate::stores::{Table, tables_of};
@@ -19,15 +21,16 @@ use std::alloc::{AllocError, Global};
 fn wrong_place(
     alloc: Global,
     tables: &[Table],
+    ends: &[Ends],
     parts: &[Sequence<Deed>],
     p: usize,
 ) -> Result<Option<usize>, AllocError>
-    ensures { IfOk result (λ found. ArePartTables parts.now tables.now → MatchOption found (IsSome (choices (deeds_of parts.now) (length parts.now) p (length (deeds_of parts.now p)))) (IsWrong (deeds_of parts.now) (length parts.now) p)) }
+    ensures { IfOk result (λ found. ArePartTables parts.now tables.now → AreEnds (deeds_of parts.now) tables.now ends.now → MatchOption found (IsSome (choices (deeds_of parts.now) (length parts.now) p (length (deeds_of parts.now p)))) (IsWrong (deeds_of parts.now) (length parts.now) p)) }
 {
     let deeds = part_of(parts, p);
     let mut reader = Reader::new(alloc, p);
     for here in 0..deeds.len() {
-        if !reader.take(tables, here, &deeds[here])? {
+        if !reader.take(tables, ends, here, &deeds[here])? {
             return Ok(Some(here));
         }
     }
@@ -53,8 +56,9 @@ pub fn first_breach(alloc: Global, parts: &[Sequence<Deed>]) -> Result<Option<Br
     ensures { IfOk result (λ found. MatchOption found (AreRightReads (deeds_of parts.now) (IsKnown (deeds_of parts.now))) (λ breach. IsBreach (deeds_of parts.now) breach.process breach.place)) }
 {
     let tables = tables_of(alloc, parts)?;
+    let ends = ends_of(alloc, tables.as_slice())?;
     for p in 0..parts.len() {
-        if let Some(place) = wrong_place(alloc, tables.as_slice(), parts, p)? {
+        if let Some(place) = wrong_place(alloc, tables.as_slice(), ends.as_slice(), parts, p)? {
             return Ok(Some(Breach { process: p, place }));
         }
     }

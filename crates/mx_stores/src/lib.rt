@@ -4,13 +4,15 @@
 //! A store is known from one number on (`since`) and superseded from one on (`until`), and laws say that neither falls
 //! along the stores of one process. The stores of each process stand in a table, in order of cells and within each cell in
 //! order, with the greatest point up to each: so the first with a point from one on, the next and the last before a place
-//! are found by binary searches. What a process has sighted of a cell is one place, from which on a store is beyond that.
-//! The store that a read stands for is the first from there that will do, and no other choice is right; since that place
-//! never falls, a process goes over each other's stores in a cell once.
+//! are found by binary searches. From when on each store is superseded is found once, before any read: along one table what
+//! is sought in another never falls, so two tables are walked side by side. What a process has sighted of a cell is one
+//! place, from which on a store is beyond that. The store that a read stands for is the first from there that will do, and
+//! no other choice is right; since that place never falls, a process goes over each other's stores in a cell once.
 #![tactic(auto)]
 
 mod deciding;
 mod deeds;
+mod ends;
 mod laws;
 mod numbers;
 mod reader;

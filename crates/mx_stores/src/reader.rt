@@ -7,14 +7,17 @@ ghost use Rattle.mx_reads.specs.Deeds.{Deeds, Stores};
 ghost use Rattle.mx_reads.specs.Sightings.{Source};
 ghost use Rattle.mx_stores.specs.Choices.{choice, first_below, is_such, is_unwritten, other_choice, own_choice, stores_word};
 ghost use Rattle.mx_stores.specs.Deciding.{choice_for, choices, source_of};
+ghost use Rattle.mx_stores.specs.Ends.{AreEnds};
 ghost use Rattle.mx_stores.specs.SightedTables.{AreSightings, IsReading};
 ghost use Rattle.mx_stores.specs.StoreLaws.{AreBelow};
 ghost use Rattle.mx_stores.specs.Tables.{AreTables, IsFrom, IsStoreOf, order_of};
+ghost use Rattle.mx_stores.specs.declared.stores.Table.{Table as TableValue};
 
 use crate::deeds::{Deed, Read, Sight};
+use crate::ends::{Ends, end_at};
 use crate::numbers::is_by;
 use crate::sightings::Sightings;
-use crate::stores::{Store, Table, first, order_of, until};
+use crate::stores::{Store, Table, first, order_of};
 use std::alloc::{AllocError, Global};
 
 // Whether it is a store of what the read gave.
@@ -24,26 +27,28 @@ fn stores_word(store: &Store, read: &Read) -> bool
     store.cell.is(&read.cell) && (store.value == read.value && store.point == read.stamp)
 }
 
-// A store of process `storer` that the read can stand for.
-fn is_such(tables: &[Table], storer: usize, store: &Store, read: &Read) -> bool
-    ensures { (done : Deeds) → AreTables done tables.now → storer < length tables.now → IsStoreOf (done storer) store.now
-        → storer ≡ read.now.writer → result ≡ is_such done (length tables.now) read.now store.now.place }
+// The store of process `storer` that stands here in its table is one that the read can stand for.
+fn is_such(ends: &[Ends], storer: usize, here: usize, store: &Store, read: &Read) -> bool
+    ensures { (done : Deeds) (tables : List TableValue) (table : TableValue) → AreEnds done tables ends.now
+        → slice_get tables storer ≡ Some table → slice_get table.stores.items here ≡ Some store.now
+        → IsStoreOf (done storer) store.now → storer ≡ read.now.writer
+        → result ≡ is_such done (length tables) read.now store.now.place }
 {
-    stores_word(store, read) && !is_by(until(tables, storer, store), read.point)
+    stores_word(store, read) && !is_by(end_at(ends, storer, here), read.point)
 }
 
 // The first store from `start` on in the table of process `storer` that the read can stand for.
 fn first_such(
-    tables: &[Table],
+    ends: &[Ends],
     table: &Table,
     storer: usize,
     start: usize,
     read: &Read,
 ) -> Option<usize>
-    ensures { (done : Deeds) (floor : ℕ) → AreTables done tables.now → slice_get tables.now storer ≡ Some table.now
-        → storer ≡ read.now.writer → read.now.cell.since < 4294967296
+    ensures { (done : Deeds) (tables : List TableValue) (floor : ℕ) → AreTables done tables → AreEnds done tables ends.now
+        → slice_get tables storer ≡ Some table.now → storer ≡ read.now.writer → read.now.cell.since < 4294967296
         → IsFrom table.now.stores.items (order_of read.now.cell floor) start
-        → result ≡ first_below (λ place. nat_le floor place && is_such done (length tables.now) read.now place) (length (done read.now.writer)) }
+        → result ≡ first_below (λ place. nat_le floor place && is_such done (length tables) read.now place) (length (done read.now.writer)) }
 {
     for here in start..table.stores.len() {
         let Some(store) = table.at(here) else {
@@ -52,7 +57,7 @@ fn first_such(
         if !store.cell.is(&read.cell) {
             return None;
         }
-        if is_such(tables, storer, store, read) {
+        if is_such(ends, storer, here, store, read) {
             return Some(store.place);
         }
     }
@@ -62,26 +67,27 @@ fn first_such(
 // The first store of another process that will do.
 fn other_choice(
     tables: &[Table],
+    ends: &[Ends],
     sightings: &Sightings,
     storer: usize,
     read: &Read,
 ) -> Option<usize>
-    ensures { (done : Deeds) (source : Source) → AreTables done tables.now → AreBelow (length tables.now) done
+    ensures { (done : Deeds) (source : Source) → AreTables done tables.now → AreEnds done tables.now ends.now → AreBelow (length tables.now) done
         → AreSightings done source read.now.process read.now.place sightings.now → storer ≡ read.now.writer
         → result ≡ other_choice done (length tables.now) source read.now }
 {
     if storer < tables.len() {
         let table = &tables[storer];
         let start = sightings.start(table, &read.cell, storer);
-        first_such(tables, table, storer, start, read)
+        first_such(ends, table, storer, start, read)
     } else {
         None
     }
 }
 
 // The process's last store in the cell before the read, if the read can stand for it.
-fn own_choice(tables: &[Table], storer: usize, read: &Read) -> Option<usize>
-    ensures { (done : Deeds) → AreTables done tables.now → AreBelow (length tables.now) done → storer ≡ read.now.writer
+fn own_choice(tables: &[Table], ends: &[Ends], storer: usize, read: &Read) -> Option<usize>
+    ensures { (done : Deeds) → AreTables done tables.now → AreEnds done tables.now ends.now → AreBelow (length tables.now) done → storer ≡ read.now.writer
         → result ≡ own_choice done (length tables.now) read.now }
 {
     if storer >= tables.len() {
@@ -95,7 +101,7 @@ fn own_choice(tables: &[Table], storer: usize, read: &Read) -> Option<usize>
     if !store.cell.is(&read.cell) {
         return None;
     }
-    if is_such(tables, storer, store, read) {
+    if is_such(ends, storer, end - 1, store, read) {
         Some(store.place)
     } else {
         None
@@ -113,8 +119,8 @@ fn is_unwritten(tables: &[Table], sightings: &Sightings, read: &Read) -> bool
 }
 
 // The place of the store that the read stands for (0 where it is nobody's), none where it is wrong.
-fn choice(tables: &[Table], sightings: &Sightings, read: &Read) -> Option<usize>
-    ensures { (done : Deeds) (source : Source) → AreTables done tables.now → AreBelow (length tables.now) done
+fn choice(tables: &[Table], ends: &[Ends], sightings: &Sightings, read: &Read) -> Option<usize>
+    ensures { (done : Deeds) (source : Source) → AreTables done tables.now → AreEnds done tables.now ends.now → AreBelow (length tables.now) done
         → AreSightings done source read.now.process read.now.place sightings.now
         → result ≡ choice done (length tables.now) source read.now }
 {
@@ -126,9 +132,9 @@ fn choice(tables: &[Table], sightings: &Sightings, read: &Read) -> Option<usize>
             None
         }
     } else if storer == read.process {
-        own_choice(tables, storer, read)
+        own_choice(tables, ends, storer, read)
     } else {
-        other_choice(tables, sightings, storer, read)
+        other_choice(tables, ends, sightings, storer, read)
     }
 }
 
@@ -136,18 +142,19 @@ fn choice(tables: &[Table], sightings: &Sightings, read: &Read) -> Option<usize>
 // none where it is a wrong read.
 fn choice_for(
     tables: &[Table],
+    ends: &[Ends],
     sightings: &Sightings,
     p: usize,
     here: usize,
     deed: &Deed,
 ) -> Option<usize>
-    ensures { (done : Deeds) (chosen : List ℕ) → AreTables done tables.now → AreBelow (length tables.now) done
+    ensures { (done : Deeds) (chosen : List ℕ) → AreTables done tables.now → AreEnds done tables.now ends.now → AreBelow (length tables.now) done
         → AreSightings done (source_of chosen) p here sightings.now
         → result ≡ choice_for done (length tables.now) p here chosen (Some deed.now) }
 {
     match deed.read(p, here) {
         None => Some(0),
-        Some(read) => choice(tables, sightings, &read),
+        Some(read) => choice(tables, ends, sightings, &read),
     }
 }
 
@@ -195,17 +202,18 @@ impl Reader {
     pub(crate) fn take(
         &mut self,
         tables: &[Table],
+        ends: &[Ends],
         here: usize,
         deed: &Deed,
     ) -> Result<bool, AllocError>
         ensures process { self.new.process ≡ self.old.process }
-        ensures taken { IfOk result (λ right. (done : Deeds) → AreTables done tables.now → AreBelow (length tables.now) done
+        ensures taken { IfOk result (λ right. (done : Deeds) → AreTables done tables.now → AreEnds done tables.now ends.now → AreBelow (length tables.now) done
             → slice_get (done self.old.process) here ≡ Some deed.now
             → IsReading done (length tables.now) self.old.process here self.old.sightings
             → MatchBool right (IsReading done (length tables.now) self.old.process (suc here) self.new.sightings)
             (choices done (length tables.now) self.old.process (suc here) ≡ None)) }
     {
-        match choice_for(tables, &self.sightings, self.process, here, deed) {
+        match choice_for(tables, ends, &self.sightings, self.process, here, deed) {
             None => Ok(false),
             Some(chosen) => {
                 note(&mut self.sightings, self.process, here, deed, chosen)?;

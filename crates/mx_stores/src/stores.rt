@@ -1,10 +1,10 @@
 //! The stores of a process in order of cells, and within a cell in order: so that they are found by binary searches.
 
-ghost use Rattle.std.specs.Prelude.{◌≡◌, ◌≤◌, ◌==◌, if◌then◌else◌, ◌<◌, suc, drop, IfOk, List, Some, None, MatchOption, option_map, slice_get, length};
+ghost use Rattle.std.specs.Prelude.{◌≡◌, ◌≤◌, ◌<◌, suc, drop, IfOk, IsTrue, List, Some, option_map, slice_get, length};
 ghost use Rattle.mx_reads.specs.Deeds.{Deed as DeedValue, Deeds};
 ghost use Rattle.mx_stores.specs.Since.{first, least_since};
-ghost use Rattle.mx_stores.specs.Until.{overwritten, replaced, until};
-ghost use Rattle.mx_stores.specs.Tables.{before, ArePartTables, AreReaches, AreStores, AreTables, since_of, IsStoreOf, IsFrom, IsLevelFrom, IsTable, level_of, order_of};
+ghost use Rattle.mx_stores.specs.Until.{overwritten, replaced};
+ghost use Rattle.mx_stores.specs.Tables.{before, AreLower, ArePartTables, AreReaches, AreStores, AreTables, since_of, IsFrom, IsLevelFrom, IsReachFrom, IsTable, level_of, order_of};
 
 use crate::deeds::{CellUse, Deed};
 use crate::numbers::least;
@@ -99,6 +99,42 @@ impl Table {
         self.reaches.partition_point(|reach| *reach < level)
     }
 
+    // Whether it is seen by one look that all stores before this one are below this level.
+    fn are_lower(&self, hint: usize, level: u128) -> bool
+        ensures { (deeds : List DeedValue) → IsTable deeds self.now → IsTrue result → AreLower self.now.reaches.items level hint }
+    {
+        if hint == 0 {
+            return true;
+        }
+        match self.reaches.get(hint - 1) {
+            None => false,
+            Some(reach) => *reach < level,
+        }
+    }
+
+    // The first store from `start` on that is reached by at least this level, step by step.
+    fn step_to(&self, level: u128, start: usize) -> usize
+        ensures { AreLower self.now.reaches.items level start → IsReachFrom self.now.reaches.items level result }
+    {
+        for here in start..self.reaches.len() {
+            if self.reaches[here] >= level {
+                return here;
+            }
+        }
+        self.reaches.len()
+    }
+
+    // The first store that has at least this level, where it likely stands at the hint or soon after.
+    fn first_near(&self, level: u128, hint: usize) -> usize
+        ensures { (deeds : List DeedValue) → IsTable deeds self.now → IsLevelFrom self.now.stores.items level result }
+    {
+        if self.are_lower(hint, level) {
+            self.step_to(level, hint)
+        } else {
+            self.first_at(level)
+        }
+    }
+
     /// The first store in the order from this number on.
     pub(crate) fn first_from(&self, order: u128) -> usize
         ensures bound { result ≤ length self.now.stores.items }
@@ -149,34 +185,44 @@ impl Table {
         self.since_at(self.first_at(level_of(cell, from)), cell)
     }
 
-    /// From when on a later store of the process in the same cell is known.
-    pub(crate) fn replaced(&self, store: &Store) -> Option<u32>
-        ensures { (deeds : List DeedValue) → IsTable deeds self.now → IsStoreOf deeds store.now
-            → result ≡ replaced store.now.cell (drop (suc store.now.place) deeds) }
+    // The first store in the order after this one, which stands here.
+    fn next(&self, here: usize, store: &Store) -> usize
+        ensures { (deeds : List DeedValue) → IsTable deeds self.now → slice_get self.now.stores.items here ≡ Some store.now
+            → IsFrom self.now.stores.items (suc store.now.order) result }
     {
-        self.since_at(self.first_after(store.order), &store.cell)
+        for next in here..self.stores.len() {
+            if self.stores[next].order > store.order {
+                return next;
+            }
+        }
+        self.stores.len()
     }
 
-    /// From when on some store in the cell is known at whose point one with this `since` was.
-    pub(crate) fn overwritten(&self, cell: &CellUse, from: Option<u32>) -> Option<u32>
+    /// From when on a later store of the process in the same cell is known than this one, which stands here.
+    pub(crate) fn replaced(&self, here: usize, store: &Store) -> Option<u32>
+        ensures { (deeds : List DeedValue) → IsTable deeds self.now → slice_get self.now.stores.items here ≡ Some store.now
+            → result ≡ replaced store.now.cell (drop (suc store.now.place) deeds) }
+    {
+        self.since_at(self.next(here, store), &store.cell)
+    }
+
+    /// From when on some store in the cell is known at whose point one with this `since` was. The hint is where it was
+    /// found last, and is then where it is found.
+    pub(crate) fn overwritten(
+        &self,
+        cell: &CellUse,
+        from: Option<u32>,
+        hint: &mut usize,
+    ) -> Option<u32>
         ensures { (deeds : List DeedValue) → IsTable deeds self.now → result ≡ overwritten cell.now from deeds }
     {
         match from {
             None => None,
-            Some(from) => self.least_since(cell, from),
+            Some(from) => {
+                *hint = self.first_near(level_of(cell, from), *hint);
+                self.since_at(*hint, cell)
+            }
         }
-    }
-}
-
-// From when on a store of process `storer` is superseded by one of the process `other`.
-fn by_other(table: &Table, other: usize, storer: usize, store: &Store) -> Option<u32>
-    ensures { (deeds : List DeedValue) → IsTable deeds table.now
-        → result ≡ (if other == storer then None else overwritten store.now.cell store.now.since deeds) }
-{
-    if other == storer {
-        None
-    } else {
-        table.overwritten(&store.cell, store.since)
     }
 }
 
@@ -189,22 +235,6 @@ pub(crate) fn tables_of(alloc: Global, parts: &[Sequence<Deed>]) -> Result<Vec<T
         tables.push(Table::new(alloc, part.items())?)?;
     }
     Ok(tables)
-}
-
-/// From when on a store of process `storer` is superseded, by the tables of all processes.
-pub(crate) fn until(tables: &[Table], storer: usize, store: &Store) -> Option<u32>
-    ensures { (done : Deeds) → AreTables done tables.now → storer < length tables.now → IsStoreOf (done storer) store.now
-        → result ≡ until done (length tables.now) storer store.now.place store.now.cell }
-{
-    let mut others = None;
-    for other in 0..tables.len() {
-        others = least(by_other(&tables[other], other, storer, store), others);
-    }
-    if storer < tables.len() {
-        least(tables[storer].replaced(store), others)
-    } else {
-        others
-    }
 }
 
 /// From when on any store in the cell is known, by the tables of all processes.

@@ -1,4 +1,4 @@
-use Rattle.std.proofs.Common.{◌≡◌, ◌+◌, ◌<◌, ℕ, suc, Bool, true, false, Some, List, length, refl, ap, sym, subst, ◌∙◌, rules, arith}
+use Rattle.std.proofs.Common.{◌≡◌, ◌+◌, ◌<◌, ℕ, suc, true, false, Some, List, length, refl, ap, sym, subst, ◌∙◌, rules, arith}
 use Rattle.std.specs.List.{slice_get}
 use Rattle.std.proofs.lemmas.Option.{slice_get-get_or}
 use Rattle.mx_reads.specs.Deeds.{Deed}
@@ -9,7 +9,7 @@ use Rattle.mx_stores.proofs.WholeRuns.{parts_below}
 use Rattle.mx_stores.proofs.deciding.wrong_place.Goals as goal
 
 pub returns-then-not-branch : goal.returns-then-not-branch
-returns-then-not-branch c = λ parts.
+returns-then-not-branch c = λ parts ends.
     let deeds : c.part_of-deeds.result.now ≡ deeds_of c.args.parts.now c.args.p = search rules in
     let within : c.loop-here.here < length c.part_of-deeds.result.now = search rules in
     let at : slice_get (deeds_of c.args.parts.now c.args.p) c.loop-here.here ≡ Some c.index-deeds-here.result =
@@ -21,16 +21,16 @@ returns-then-not-branch c = λ parts.
     let wrong : c.in_ok-take.field-0 ≡ false = search rules in
     let told = taken_at (deeds_of c.args.parts.now) (length c.args.tables.now) c.args.p c.loop-here.reader.process
     c.loop-here.here (suc c.loop-here.here) c.in_ok-take.field-0 c.index-deeds-here.result c.loop-here.reader.sightings
-    c.take.new.self.sightings c.loop-here.invariant.process refl at (c.loop-here.invariant.reading parts)
-    (λ e r. c.in_ok-take.ensures.taken (deeds_of c.args.parts.now) parts.each below e r) in
+    c.take.new.self.sightings c.loop-here.invariant.process refl at (c.loop-here.invariant.reading parts ends)
+    (λ e r. c.in_ok-take.ensures.taken (deeds_of c.args.parts.now) parts.each ends below e r) in
     wrong_here (deeds_of c.args.parts.now) (length c.args.parts.now) (length c.args.tables.now) c.args.p c.loop-here.here
-    c.index-deeds-here.result c.loop-here.reader.sightings parts.long at (c.loop-here.invariant.reading parts)
+    c.index-deeds-here.result c.loop-here.reader.sightings parts.long at (c.loop-here.invariant.reading parts ends)
     (unmatched c.in_ok-take.field-0 _ _ wrong told)
 
 pub loop-here-preserved : goal.loop-here-preserved
 loop-here-preserved c = record {
   process = c.in_ok-take.ensures.process ∙ c.loop-here.invariant.process;
-  reading = λ parts.
+  reading = λ parts ends.
       let deeds : c.part_of-deeds.result.now ≡ deeds_of c.args.parts.now c.args.p = search rules in
       let within : c.loop-here.here < length c.part_of-deeds.result.now = search rules in
       let at : slice_get (deeds_of c.args.parts.now c.args.p) c.loop-here.here ≡ Some c.index-deeds-here.result =
@@ -42,7 +42,7 @@ loop-here-preserved c = record {
       let right : c.in_ok-take.field-0 ≡ true = search rules in
       let told = taken_at (deeds_of c.args.parts.now) (length c.args.tables.now) c.args.p c.loop-here.reader.process
       c.loop-here.here (c.loop-here.here + 1) c.in_ok-take.field-0 c.index-deeds-here.result c.loop-here.reader.sightings
-      c.take.new.self.sightings c.loop-here.invariant.process (omega arith) at (c.loop-here.invariant.reading parts)
-      (λ e r. c.in_ok-take.ensures.taken (deeds_of c.args.parts.now) parts.each below e r) in
+      c.take.new.self.sightings c.loop-here.invariant.process (omega arith) at (c.loop-here.invariant.reading parts ends)
+      (λ e r. c.in_ok-take.ensures.taken (deeds_of c.args.parts.now) parts.each ends below e r) in
       matched c.in_ok-take.field-0 _ _ right told;
 }

@@ -1,59 +1,56 @@
-use Rattle.std.proofs.Common.{◌≡◌, ◌+◌, ◌≤◌, ◌<◌, ℕ, true, false, Some, None, length, ap, sym, subst, ◌∙◌, rules, arith}
+use Rattle.std.proofs.Common.{◌≡◌, ◌≤◌, ℕ, true, false, Some, length, ap, sym, subst, ◌∙◌, rules, arith}
 use Rattle.std.specs.List.{slice_get}
-use Rattle.std.proofs.lemmas.Option.{slice_get_past, slice_get_within}
+use Rattle.std.proofs.lemmas.Option.{slice_get_past}
 use Rattle.mx_reads.specs.Deeds.{CellUse}
 use Rattle.mx_stores.specs.Choices.{is_such}
 use Rattle.mx_stores.specs.Since.{is_same}
-use Rattle.mx_stores.specs.Tables.{IsStoreOf, IsTable}
-use Rattle.mx_stores.specs.declared.stores.Table.{Table}
+use Rattle.mx_stores.specs.Tables.{IsTable}
 use Rattle.mx_stores.proofs.Choosing.{at_end, clear_next, found_here, past_cell}
 use Rattle.mx_stores.proofs.Finds.{of}
 use Rattle.mx_stores.proofs.reader.first_such.Goals as goal
 
 pub returns-then-not-is : goal.returns-then-not-is
-returns-then-not-is c = λ done floor tables at w fits first.
+returns-then-not-is c = λ done all floor tables ends at w fits first.
     let own : IsTable (done c.args.read.now.writer) c.args.table.now =
     subst (λ (u : ℕ). IsTable (done u) c.args.table.now) w (tables c.args.storer c.args.table.now at) in
     let here : slice_get c.args.table.now.stores.items c.loop-here.here ≡ Some c.in-Some.store.now = search rules in
     let cell : c.read.inside.cell ≡ c.args.read.now.cell = search rules in
     let other : is_same c.in-Some.store.now.cell c.read.inside.cell ≡ false = search rules in
     past_cell done _ c.args.read.now _ own.stores own.sorted fits floor c.args.start first c.loop-here.here c.in-Some.store.now
-    (c.loop-here.invariant.clear done tables at w) c.loop-here.invariant.from here
+    (c.loop-here.invariant.clear done all tables ends at w) c.loop-here.invariant.from here
     (ap (λ (x : CellUse). is_same c.in-Some.store.now.cell x) (sym cell) ∙ other)
 
 pub returns-then-is_such : goal.returns-then-is_such
-returns-then-is_such c = λ done floor tables at w fits first.
+returns-then-is_such c = λ done all floor tables ends at w fits first.
     let own : IsTable (done c.args.read.now.writer) c.args.table.now =
     subst (λ (u : ℕ). IsTable (done u) c.args.table.now) w (tables c.args.storer c.args.table.now at) in
     let theirs : IsTable (done c.args.storer) c.args.table.now = tables c.args.storer c.args.table.now at in
     let here : slice_get c.args.table.now.stores.items c.loop-here.here ≡ Some c.in-Some.store.now = search rules in
     let cell : c.read.inside.cell ≡ c.args.read.now.cell = search rules in
     let same : is_same c.in-Some.store.now.cell c.read.inside.cell ≡ true = search rules in
-    let within = slice_get_within c.args.tables.now c.args.storer c.args.table.now at in
-    let such : is_such done (length c.args.tables.now) c.args.read.now c.in-Some.store.now.place ≡ true =
-    sym (c.if-is_such.ensures done tables within (of (done c.args.storer) _ theirs.stores theirs.sorted c.loop-here.here c.in-Some.store.now here) w) in
+    let such : is_such done (length all) c.args.read.now c.in-Some.store.now.place ≡ true =
+    sym (c.if-is_such.ensures done all c.args.table.now ends at here (of (done c.args.storer) _ theirs.stores theirs.sorted c.loop-here.here c.in-Some.store.now here) w) in
     found_here done _ c.args.read.now _ own.stores own.sorted fits floor c.args.start first c.loop-here.here c.in-Some.store.now
-    (c.loop-here.invariant.clear done tables at w) c.loop-here.invariant.from here
+    (c.loop-here.invariant.clear done all tables ends at w) c.loop-here.invariant.from here
     (ap (λ (x : CellUse). is_same c.in-Some.store.now.cell x) (sym cell) ∙ same) such
 
 pub loop-here-preserved : goal.loop-here-preserved
 loop-here-preserved c =
     let from = c.loop-here.invariant.from in record {
       from = omega arith;
-      clear = λ done tables at w.
+      clear = λ done all tables ends at w.
           let theirs : IsTable (done c.args.storer) c.args.table.now = tables c.args.storer c.args.table.now at in
           let here : slice_get c.args.table.now.stores.items c.loop-here.here ≡ Some c.in-Some.store.now = search rules in
-          let within = slice_get_within c.args.tables.now c.args.storer c.args.table.now at in
-          let fails : is_such done (length c.args.tables.now) c.args.read.now c.in-Some.store.now.place ≡ false =
-          sym (c.if-is_such.ensures done tables within (of (done c.args.storer) _ theirs.stores theirs.sorted c.loop-here.here c.in-Some.store.now here) w) in
+          let fails : is_such done (length all) c.args.read.now c.in-Some.store.now.place ≡ false =
+          sym (c.if-is_such.ensures done all c.args.table.now ends at here (of (done c.args.storer) _ theirs.stores theirs.sorted c.loop-here.here c.in-Some.store.now here) w) in
           clear_next done _ c.args.read.now _ c.args.start c.loop-here.here c.in-Some.store.now
-          (c.loop-here.invariant.clear done tables at w) here fails;
+          (c.loop-here.invariant.clear done all tables ends at w) here fails;
     }
 
 pub returns : goal.returns
-returns c = λ done floor tables at w fits first.
+returns c = λ done all floor tables ends at w fits first.
     let own : IsTable (done c.args.read.now.writer) c.args.table.now =
     subst (λ (u : ℕ). IsTable (done u) c.args.table.now) w (tables c.args.storer c.args.table.now at) in
     let end : length c.args.table.now.stores.items ≤ c.loop-here.here = search rules in
     at_end done _ c.args.read.now _ own.stores own.sorted fits floor c.args.start first c.loop-here.here
-    (c.loop-here.invariant.clear done tables at w) (slice_get_past c.args.table.now.stores.items c.loop-here.here end)
+    (c.loop-here.invariant.clear done all tables ends at w) (slice_get_past c.args.table.now.stores.items c.loop-here.here end)

@@ -1,4 +1,4 @@
-use Rattle.std.proofs.Common.{◌≡◌, ◌<◌, Some, length, ap, sym, subst, ◌∙◌, ℕ, rules}
+use Rattle.std.proofs.Common.{◌≡◌, ◌<◌, Some, ap, sym, subst, ◌∙◌, ℕ, rules}
 use Rattle.std.specs.List.{slice_get}
 use Rattle.std.proofs.lemmas.Option.{slice_get-get_or}
 use Rattle.mx_reads.specs.Deeds.{CellUse}
@@ -8,7 +8,7 @@ use Rattle.mx_stores.specs.declared.stores.Table.{Table}
 use Rattle.mx_stores.proofs.reader.other_choice.Goals as goal
 
 pub returns-then-storer-tables : goal.returns-then-storer-tables
-returns-then-storer-tables c = λ done source tables below sightings w.
+returns-then-storer-tables c = λ done source tables ends below sightings w.
     let at : slice_get c.args.tables.now c.args.storer ≡ Some c.index-tables-storer.result =
     slice_get-get_or c.args.tables.now c.args.storer c.index-tables-storer.result c.if-storer-tables.true
     ∙ ap (λ (t : Table). Some t) (sym c.index-tables-storer.is) in
@@ -17,7 +17,7 @@ returns-then-storer-tables c = λ done source tables below sightings w.
     subst (λ (x : CellUse). x.since < 4294967296) cell c.start-start.ensures.fits in
     let start = c.start-start.ensures.start done source c.args.read.now.process c.args.read.now.place
     (done c.args.storer) sightings (tables c.args.storer c.index-tables-storer.result at) in
-    c.first_such.ensures done (floor done source c.args.read.now.process c.args.read.now.cell c.args.read.now.writer c.args.read.now.place)
-    tables at w fits
+    c.first_such.ensures done c.args.tables.now (floor done source c.args.read.now.process c.args.read.now.cell c.args.read.now.writer c.args.read.now.place)
+    tables ends at w fits
     (subst (λ (x : CellUse). IsFrom c.index-tables-storer.result.stores.items (order_of x (floor done source c.args.read.now.process x c.args.read.now.writer c.args.read.now.place)) c.start-start.result) cell
     (subst (λ (u : ℕ). IsFrom c.index-tables-storer.result.stores.items (order_of c.read.inside.cell (floor done source c.args.read.now.process c.read.inside.cell u c.args.read.now.place)) c.start-start.result) w start))

@@ -1,17 +1,16 @@
-use Rattle.std.proofs.Common.{◌≡◌, ◌<◌, ◌≤◌, ℕ, true, false, Some, None, length, ap, sym, subst, ◌∙◌, rules}
+use Rattle.std.proofs.Common.{◌≡◌, ◌-◌, ◌<◌, ℕ, true, false, Some, None, length, ap, sym, subst, ◌∙◌, rules, arith}
 use Rattle.std.specs.List.{slice_get}
 use Rattle.std.proofs.lemmas.Option.{slice_get-get_or}
-use Rattle.mx_reads.specs.Deeds.{CellUse, Deeds}
-use Rattle.mx_stores.specs.Choices.{is_such}
+use Rattle.mx_reads.specs.Deeds.{CellUse}
 use Rattle.mx_stores.specs.Since.{is_same}
-use Rattle.mx_stores.specs.Tables.{before, AreTables, IsFrom, IsTable, order_of}
+use Rattle.mx_stores.specs.Tables.{before, IsFrom, IsTable, order_of}
 use Rattle.mx_stores.specs.declared.stores.Table.{Table}
 use Rattle.mx_stores.proofs.Choosing.{another_before, ends, last_before, none_before, own_fails, own_none, own_some}
 use Rattle.mx_stores.proofs.Finds.{of}
 use Rattle.mx_stores.proofs.reader.own_choice.Goals as goal
 
 pub returns-in_default : goal.returns-in_default
-returns-in_default c = λ done tables below w.
+returns-in_default c = λ done tables found below w.
     let within : c.args.storer < length c.args.tables.now = search rules in
     let at : slice_get c.args.tables.now c.args.storer ≡ Some c.index-tables-storer.result =
     slice_get-get_or c.args.tables.now c.args.storer c.index-tables-storer.result within
@@ -35,7 +34,7 @@ returns-in_default c = λ done tables below w.
     c.first_from-end.ensures.bound small first none)
 
 pub returns-then-not-is : goal.returns-then-not-is
-returns-then-not-is c = λ done tables below w.
+returns-then-not-is c = λ done tables found below w.
     let within : c.args.storer < length c.args.tables.now = search rules in
     let at : slice_get c.args.tables.now c.args.storer ≡ Some c.index-tables-storer.result =
     slice_get-get_or c.args.tables.now c.args.storer c.index-tables-storer.result within
@@ -61,7 +60,7 @@ returns-then-not-is c = λ done tables below w.
     (ap (λ (x : CellUse). is_same c.in-Some.store.now.cell x) (sym cell) ∙ other))
 
 pub returns-then-is_such : goal.returns-then-is_such
-returns-then-is_such c = λ done tables below w.
+returns-then-is_such c = λ done tables found below w.
     let within : c.args.storer < length c.args.tables.now = search rules in
     let at : slice_get c.args.tables.now c.args.storer ≡ Some c.index-tables-storer.result =
     slice_get-get_or c.args.tables.now c.args.storer c.index-tables-storer.result within
@@ -86,13 +85,17 @@ returns-then-is_such c = λ done tables below w.
     ap (λ (x : CellUse). is_same c.in-Some.store.now.cell x) (sym cell) ∙ same in
     let stands = ends done (length c.args.tables.now) c.args.read.now _ own.stores own.sorted fits c.first_from-end.result
     c.first_from-end.ensures.bound small first c.in-Some.store.now here in
-    let such = sym (c.if-is_such.ensures done tables within
+    let place_before = stands.1.0 in
+    let last : stands.0 ≡ c.first_from-end.result - 1 = omega arith in
+    let there : slice_get c.index-tables-storer.result.stores.items (c.first_from-end.result - 1) ≡ Some c.in-Some.store.now =
+    ap (λ (n : ℕ). slice_get c.index-tables-storer.result.stores.items n) (sym last) ∙ stands.1.1 in
+    let such = sym (c.if-is_such.ensures done c.args.tables.now c.index-tables-storer.result found at there
     (of (done c.args.storer) _ theirs.stores theirs.sorted stands.0 c.in-Some.store.now stands.1.1) w) in
     own_some done _ c.args.read.now c.in-Some.store.now.place (last_before done (length c.args.tables.now) c.args.read.now _ own.stores own.sorted fits c.first_from-end.result
     c.first_from-end.ensures.bound small first c.in-Some.store.now here is) such
 
 pub returns-else-is_such : goal.returns-else-is_such
-returns-else-is_such c = λ done tables below w.
+returns-else-is_such c = λ done tables found below w.
     let within : c.args.storer < length c.args.tables.now = search rules in
     let at : slice_get c.args.tables.now c.args.storer ≡ Some c.index-tables-storer.result =
     slice_get-get_or c.args.tables.now c.args.storer c.index-tables-storer.result within
@@ -117,7 +120,11 @@ returns-else-is_such c = λ done tables below w.
     ap (λ (x : CellUse). is_same c.in-Some.store.now.cell x) (sym cell) ∙ same in
     let stands = ends done (length c.args.tables.now) c.args.read.now _ own.stores own.sorted fits c.first_from-end.result
     c.first_from-end.ensures.bound small first c.in-Some.store.now here in
-    let such = sym (c.if-is_such.ensures done tables within
+    let place_before = stands.1.0 in
+    let last : stands.0 ≡ c.first_from-end.result - 1 = omega arith in
+    let there : slice_get c.index-tables-storer.result.stores.items (c.first_from-end.result - 1) ≡ Some c.in-Some.store.now =
+    ap (λ (n : ℕ). slice_get c.index-tables-storer.result.stores.items n) (sym last) ∙ stands.1.1 in
+    let such = sym (c.if-is_such.ensures done c.args.tables.now c.index-tables-storer.result found at there
     (of (done c.args.storer) _ theirs.stores theirs.sorted stands.0 c.in-Some.store.now stands.1.1) w) in
     own_fails done _ c.args.read.now c.in-Some.store.now.place (last_before done (length c.args.tables.now) c.args.read.now _ own.stores own.sorted fits c.first_from-end.result
     c.first_from-end.ensures.bound small first c.in-Some.store.now here is) such

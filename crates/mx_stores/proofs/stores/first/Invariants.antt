@@ -1,4 +1,4 @@
-use Rattle.std.proofs.Common.{◌≡◌, ℕ}
+use Rattle.std.proofs.Common.{◌≡◌}
 use Rattle.mx_reads.specs.Deeds.{Deeds}
 use Rattle.mx_stores.specs.Since.{first}
 use Rattle.mx_stores.specs.Tables.{AreTables}

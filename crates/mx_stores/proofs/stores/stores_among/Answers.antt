@@ -1,10 +1,10 @@
-use Rattle.std.proofs.Common.{◌≡◌, ◌-◌, ◌<◌, ◌≤◌, ◌++◌, ◌∷◌, [], List, ℕ, suc, Some, None, drop, length, rules, subst, sym, ap, arith, ◌∙◌}
+use Rattle.std.proofs.Common.{◌≡◌, ◌-◌, ◌<◌, [], List, ℕ, suc, Some, drop, length, rules, subst, sym, ap, arith, ◌∙◌}
 use Rattle.std.specs.List.{slice_get}
 use Rattle.std.proofs.lemmas.Option.{slice_get-get_or}
 use Rattle.mx_reads.specs.Deeds.{Deed}
 use Rattle.mx_stores.specs.Least.{least}
-use Rattle.mx_stores.specs.Since.{entry_of, least_entry, since}
-use Rattle.mx_stores.specs.Tables.{AreStores, IsNoStore, IsStoreHere}
+use Rattle.mx_stores.specs.Since.{least_entry, since}
+use Rattle.mx_stores.specs.Tables.{AreStores}
 use Rattle.mx_stores.specs.declared.stores.Store.{Store}
 use Rattle.mx_stores.proofs.Tables.{added, no_stores, none_left, one_entry_more, skipped}
 use Rattle.mx_stores.proofs.stores.stores_among.Goals as goal

@@ -1,4 +1,4 @@
-use Rattle.std.proofs.Common.{◌≡◌, ◌≤◌, ℕ, drop, length}
+use Rattle.std.proofs.Common.{◌≡◌, ◌≤◌, drop, length}
 use Rattle.mx_stores.specs.Since.{least_entry}
 use Rattle.mx_stores.specs.Tables.{AreStores}
 use Rattle.mx_stores.proofs.stores.stores_among.Given as goal

@@ -1,9 +1,5 @@
-use Rattle.std.proofs.Common.{◌≡◌, ◌+◌, ◌<◌, ◌++◌, ◌∷◌, [], ℕ, List, Some, inl, inr, length, ap, sym, subst, ◌∙◌, rules, arith}
-use Rattle.std.specs.List.{slice_get, slice_index_or}
-use Rattle.mx_reads.specs.Deeds.{Deed}
-use Rattle.mx_stores.specs.Parts.{deeds_of}
+use Rattle.std.proofs.Common.{◌≡◌, ◌+◌, ◌<◌, ◌++◌, ◌∷◌, [], length, rules, arith}
 use Rattle.mx_stores.specs.Tables.{IsTable}
-use Rattle.mx_stores.specs.declared.stores.Table.{Table}
 use Rattle.mx_stores.proofs.Tables.{tables_grow}
 use Rattle.mx_stores.proofs.stores.tables_of.Goals as goal
 

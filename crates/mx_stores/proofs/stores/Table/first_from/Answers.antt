@@ -1,4 +1,4 @@
-use Rattle.std.proofs.Common.{◌≡◌, ℕ, List, Bool, true, false, ltb, rules, subst, sym}
+use Rattle.std.proofs.Common.{◌≡◌, List, true, false, ltb, rules, subst, sym}
 use Rattle.std.specs.List.Sorted.{IsNonDecreasingBy, IsPartitionPoint}
 use Rattle.std.proofs.lemmas.List.Sorted.{IsPartitionPoint-from_clause, IsPartitionedBy-ltb}
 use Rattle.mx_stores.specs.declared.stores.Store.{Store}

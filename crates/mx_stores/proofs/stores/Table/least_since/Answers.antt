@@ -1,6 +1,5 @@
-use Rattle.std.proofs.Common.{◌≡◌, ℕ, ap, sym, subst, ◌∙◌, rules}
-use Rattle.std.specs.List.{slice_get}
-use Rattle.mx_stores.specs.Tables.{IsLevelFrom, since_of}
+use Rattle.std.proofs.Common.{ℕ, subst, ◌∙◌}
+use Rattle.mx_stores.specs.Tables.{IsLevelFrom}
 use Rattle.mx_stores.proofs.Finds.{least_since_found}
 use Rattle.mx_stores.proofs.stores.Table.least_since.Goals as goal
 
