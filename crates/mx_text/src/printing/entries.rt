@@ -22,7 +22,19 @@ pub(super) fn add_entry(out: &mut Vec<u8>, number: u64, entry: &Entry) -> Result
 }
 
 // A number and a blank.
+#[tactic(auto, using(std::proofs::lemmas::Fmt::decimal_digit))]
 fn add_field(out: &mut Vec<u8>, n: u64) -> Result<(), AllocError>
+    ensures { OnOk result (out.new.items ≡ out.old.items ++ (decimal n ++ codes " ")) }
+{
+    if n < 10 {
+        out.extend_from_slice(&[b'0' + n as u8, b' '])
+    } else {
+        add_long_field(out, n)
+    }
+}
+
+#[inline(never)]
+fn add_long_field(out: &mut Vec<u8>, n: u64) -> Result<(), AllocError>
     ensures { OnOk result (out.new.items ≡ out.old.items ++ (decimal n ++ codes " ")) }
 {
     add_decimal(out, n)?;
