@@ -1,1 +1,2 @@
 pub mod Cams
+pub mod Turns

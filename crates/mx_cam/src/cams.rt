@@ -91,7 +91,7 @@ impl Cam {
         ensures spare { pass.old.spare ≤ pass.new.spare + 1 }
     {
         match self.places.recall(segno) {
-            Some(on) => Referred::Seen(pass.recall(shared, on, op, ring, word, value)),
+            Some(on) => Referred::Seen(pass.recall(shared, &on, op, ring, word, value)),
             None => {
                 match pass.refer(shared, segno, op, ring, word, value) {
                     Referred::Seen(element) => {
@@ -104,9 +104,10 @@ impl Cam {
         }
     }
 
-    /// Remembers what was judged on last.
+    /// Remembers what was judged on last. Condition: the memory has nothing of the number.
     fn remember<E, B: Naming>(&mut self, pass: &Pass<E, B>, segno: u16)
         requires based { HasBasis pass.now.view }
+        requires none { recalled segno self.old ≡ None }
         ensures { (on : TripleValue) → pass.now.view.basis ≡ Some on → self.new
             ≡ pick (nat_lt segno B.layout.numbers) (remembered (record on { segno = segno }) self.old) self.old }
     {
@@ -116,7 +117,7 @@ impl Cam {
                 number: pass.basis_number(),
                 desc: pass.desc(),
             };
-            self.places.remember(&triple);
+            self.places.add(&triple);
         }
     }
 }

@@ -1,28 +1,38 @@
 //! Sixteen places for triples, of which the first so many are taken.
 
-ghost use Rattle.std.specs.Prelude.{◌≡◌, ◌≤◌, [], None, Some, MatchOption, length};
-ghost use Rattle.mx_core.specs.AssociativeMemory.{HasNot, IsAt, recalled, remembered};
+ghost use Rattle.std.specs.Prelude.{◌≡◌, ◌≤◌, ◌<◌, [], None, Some, MatchOption, IfSome, length, option_map};
+ghost use Rattle.mx_core.specs.AssociativeMemory.{HasNotBefore, IsAt, recalled, remembered};
 
 use mx_core::Triple;
 use mx_sdw::Desc;
 use std::marker::Model;
 
-/// At most sixteen triples, one for each number that it has.
+/// At most sixteen triples, one for each number that it has, in a ring: where all places are taken, the next triple goes
+/// into the place of the first.
 #[derive(Debug, Drop)]
 pub(crate) struct Places {
     triples: [Triple; 16],
     len: usize,
+    /// The place of the first.
+    first: usize,
+    /// The place that was asked for or written last.
+    latest: usize,
     ghost few: { len ≤ 16 },
     ghost sixteen: { length triples ≡ 16 },
+    ghost within: { first ≤ 15 },
+    ghost near: { latest ≤ 15 },
 }
 
 impl Model for Places {
-    ghost use Rattle.std.specs.Prelude.{List, take};
+    ghost use Rattle.std.specs.Prelude.{List};
+    ghost use Rattle.mx_cam.specs.Turns.{IsRing, in_turn};
     ghost use Rattle.mx_core.specs.declared.words.Triple.{Triple as TripleValue};
 
     ghost Value = { List TripleValue };
 
-    ghost view = { λ a. take a.len a.triples };
+    ghost view = { λ a. in_turn a.len a.first a.triples };
+
+    ghost invariant = { λ a. IsRing a.len a.first a.triples };
 }
 
 impl Places {
@@ -37,56 +47,69 @@ impl Places {
         Places {
             triples: [blank; 16],
             len: 0,
+            first: 0,
+            latest: 0,
         }
     }
 
     /// What it has of a number.
     #[inline(always)]
-    pub(crate) fn recall(&self, segno: u16) -> Option<&Triple>
-        ensures { MatchOption result (recalled segno self.now ≡ None) (λ on. recalled segno self.now ≡ Some on.now) }
+    pub(crate) fn recall(&mut self, segno: u16) -> Option<Triple>
+        ensures told { result ≡ recalled segno self.old }
+        ensures kept { self.new ≡ self.old }
     {
-        match self.place(segno) {
-            Some(place) => Some(&self.triples[place]),
+        match self.find(segno) {
+            Some((place, triple)) => {
+                self.latest = place;
+                Some(triple)
+            },
             None => None,
         }
     }
 
-    /// The place of a number.
+    /// What it has of a number, and at which place. The place of the last answer is looked at first.
     #[inline(always)]
-    fn place(&self, segno: u16) -> Option<usize>
-        ensures { MatchOption result (HasNot segno self.now) (IsAt segno self.now) }
+    fn find(&self, segno: u16) -> Option<(usize, Triple)>
+        ensures told { option_map (λ found. found.1) result ≡ recalled segno self.now }
+        ensures near { IfSome result (λ found. found.0 ≤ 15) }
     {
-        for place in 0..self.len {
-            if self.triples[place].segno == segno {
-                return Some(place);
-            }
+        if self.latest < self.len && self.triples[self.latest].segno == segno {
+            return Some((self.latest, self.triples[self.latest]));
         }
-        None
-    }
-
-    /// Puts a triple in the place of that of its number, or last; a seventeenth pushes the first out.
-    pub(crate) fn remember(&mut self, triple: &Triple)
-        ensures { self.new ≡ remembered triple.now self.old }
-    {
-        match self.place(triple.segno) {
-            Some(place) => {
-                self.triples[place] = *triple;
-            },
-            None => self.add(triple),
+        match place_of(&self.triples, self.len, segno) {
+            Some(place) => Some((place, self.triples[place])),
+            None => None,
         }
     }
 
-    /// Puts a triple last.
-    fn add(&mut self, triple: &Triple)
-        requires { HasNot triple.now.segno self.old }
+    /// Puts a triple last; a seventeenth pushes the first out. Condition: it has nothing of the number.
+    pub(crate) fn add(&mut self, triple: &Triple)
+        requires { recalled triple.now.segno self.old ≡ None }
         ensures { self.new ≡ remembered triple.now self.old }
     {
         if self.len < 16 {
             self.triples[self.len] = *triple;
+            self.latest = self.len;
             self.len += 1;
         } else {
-            self.triples.rotate_left(1);
-            self.triples[15] = *triple;
+            self.triples[self.first] = *triple;
+            self.latest = self.first;
+            self.first = (self.first + 1) % 16;
         }
     }
+}
+
+/// The place of a number among the first so many triples.
+#[inline(always)]
+fn place_of(triples: &[Triple; 16], len: usize, segno: u16) -> Option<usize>
+    requires { len ≤ 16 }
+    ensures found { MatchOption result (HasNotBefore segno triples.now len) (IsAt segno triples.now) }
+    ensures under { IfSome result (λ place. place < len) }
+{
+    for place in 0..len {
+        if triples[place].segno == segno {
+            return Some(place);
+        }
+    }
+    None
 }

@@ -10,9 +10,9 @@ use Rattle.mx_cam.proofs.cams.Cam.refer.Goals as goal
 pub recall-requires-in-Some-clause-recall : goal.recall-requires-in-Some-clause-recall
 recall-requires-in-Some-clause-recall g c =
     let n = c.args.segno in
-    let on = c.in-Some.on.now in
+    let on = c.in-Some.on in
     let memory : c.self.inside.places ≡ c.args.pass.now.view.memory = c.self.view_is ∙ c.requires.same in
-    let at = sym (ap (recalled n) memory) ∙ c.in-Some.ensures in
+    let at = sym (ap (recalled n) memory) ∙ sym c.in-Some.ensures.told in
     subst (λ (k : ℕ). recalled k c.args.pass.now.view.memory ≡ Some on)
     (sym (recalled_number n c.args.pass.now.view.memory on at)) at
 
@@ -20,6 +20,7 @@ pub remember-requires : goal.remember-requires
 remember-requires g c = record {
   based = has_basis g.B.Naming.layout.numbers c.args.segno _ c.args.value c.args.pass.now.view c.refer.new.self.view
       c.in-Seen.element (c.refer.ensures.seen c.in-Seen.element c.in-Seen.is);
+  none = ap (recalled c.args.segno) c.in-None.ensures.kept ∙ sym c.in-None.ensures.told;
 }
 
 same_seen : (e f : Element) → Seen e ≡ Seen f → e ≡ f
@@ -28,11 +29,11 @@ same_seen e f h = cc
 pub returns-in-Some-clause-seen : goal.returns-in-Some-clause-seen
 returns-in-Some-clause-seen g c e is =
     let n = c.args.segno in
-    let on = c.in-Some.on.now in
+    let on = c.in-Some.on in
     let memory : c.self.inside.places ≡ c.args.pass.now.view.memory = c.self.view_is ∙ c.requires.same in
     inl (record {
       on = on;
-      at = sym (ap (recalled n) memory) ∙ c.in-Some.ensures;
+      at = sym (ap (recalled n) memory) ∙ sym c.in-Some.ensures.told;
       admissible = c.recall-in-Some.ensures.admissible;
       seen = subst (λ (z : Element). HasSeen on (record { op = c.args.op; ring = c.args.ring; word = c.args.word })
           c.args.value c.args.pass.now.view z c.recall-in-Some.new.self.view) (same_seen c.recall-in-Some.result e is)
@@ -42,12 +43,12 @@ returns-in-Some-clause-seen g c e is =
 pub returns-in-Seen-clause-same : goal.returns-in-Seen-clause-same
 returns-in-Seen-clause-same g c =
     memory_is g.B.Naming.layout.numbers c.args.segno _ c.args.value c.args.pass.now.view c.refer.new.self.view
-    c.in-Seen.element (c.refer.ensures.seen c.in-Seen.element c.in-Seen.is) c.args.self.now c.remember.new.self
-    c.requires.same c.remember.ensures
+    c.in-Seen.element (c.refer.ensures.seen c.in-Seen.element c.in-Seen.is) c.recall.new.self c.remember.new.self
+    (c.in-None.ensures.kept ∙ c.self.view_is ∙ c.requires.same) c.remember.ensures
 
 pub returns-in-Missing-clause-same : goal.returns-in-Missing-clause-same
 returns-in-Missing-clause-same g c =
-    c.requires.same
+    c.in-None.ensures.kept ∙ c.self.view_is ∙ c.requires.same
     ∙ memory_missed c.args.segno c.in-Missing.by c.args.pass.now.view c.refer.new.self.view
     (c.refer.ensures.missing c.in-Missing.by c.in-Missing.is)
 

@@ -1,5 +1,0 @@
-use Rattle.mx_core.specs.AssociativeMemory.{HasNotBefore}
-use Rattle.mx_cam.proofs.places.Places.place.Given as goal
-
-abbrev pub invariant-loop-place : goal.invariant-loop-place
-invariant-loop-place l = HasNotBefore l.segno l.self l.place
