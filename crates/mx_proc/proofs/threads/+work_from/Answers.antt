@@ -73,8 +73,8 @@ work-process-requires-clause-awake g t c κs within =
     (subst (λ (l : List ProcessValue). AreAwake l) c.in-Some.ensures.items c.requires.awake)
     ((λ i. (sym kept i).state.progress) ∙ waits)
 
-pub take_turns-requires-in-Err-after_bounds : goal.take_turns-requires-in-Err-after_bounds
-take_turns-requires-in-Err-after_bounds g t c κs within =
+pub take_turns-requires-after_bounds : goal.take_turns-requires-after_bounds
+take_turns-requires-after_bounds g t c κs within =
     let accounts = g.B.Attending.accounts in
     let process = c.work-process.result.process in
     let row = c.pop.new.self.items in
