@@ -1,3 +1,4 @@
 mod BesideLaws
 mod CauseLaws
 mod RuleLaws
+mod SourceLaws

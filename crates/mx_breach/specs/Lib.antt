@@ -1,3 +1,4 @@
 pub mod Verdicts
 pub mod Causes
 pub mod Rules
+pub mod Sources

@@ -1,7 +1,7 @@
 -- What is told of a run: that it is legal, or its breach, and behind that any words.
 use Rattle.std.specs.Prelude.{◌≡◌, ◌⊎◌, ◌++◌, ℕ, List, Option, codes}
 use Rattle.std.specs.Fmt.{decimal}
-use Rattle.mx_io.specs.Bytes.{Appends}
+use Rattle.mx_io.specs.Bytes.{Appends, AppendsPart}
 use Rattle.mx_legal.specs.Breach.{IsBreach}
 use Rattle.mx_script.specs.Sessions.{Outline}
 use Rattle.mx_state.specs.declared.journal.Entry as journaled
@@ -31,3 +31,10 @@ pub record GainsVerdict (before after : Option (List ℕ)) (session : Outline) (
   pub text : List ℕ
   pub verdict : IsVerdict session journal transcripts text
   pub gained : Appends before after text
+
+-- the sink gained a front of such a text, and not all of it
+pub record GainsVerdictFront (before after : Option (List ℕ)) (session : Outline) (journal : List journaled.Entry)
+    (transcripts : List (List Step)) : Type 0 where
+  pub text : List ℕ
+  pub verdict : IsVerdict session journal transcripts text
+  pub part : AppendsPart before after text

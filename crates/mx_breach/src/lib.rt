@@ -21,8 +21,10 @@ mod probes;
 mod reads;
 mod rules;
 mod runs;
+mod sources;
 mod verdicts;
 mod wrong_reads;
 
 pub use entries::{EntryCause, entry_cause};
+pub use sources::tell_source;
 pub use verdicts::tell_breach;

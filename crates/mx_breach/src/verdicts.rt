@@ -2,7 +2,7 @@
 
 ghost use Rattle.std.specs.Prelude.{◌≡◌, ◌++◌, ◌≤◌, true, codes, IfOk, OnOk, IsErrOf};
 ghost use Rattle.std.specs.List.{list_all};
-ghost use Rattle.mx_breach.specs.Verdicts.{GainsVerdict, IsBreachText, IsVerdict, breach_line};
+ghost use Rattle.mx_breach.specs.Verdicts.{GainsVerdict, GainsVerdictFront, IsBreachText, IsVerdict, breach_line};
 ghost use Rattle.mx_io.specs.Faults.{Rose};
 ghost use Rattle.mx_legal.specs.Breach.{IsBreach};
 ghost use Rattle.mx_script.specs.SessionTexts.{fits, rows_of};
@@ -20,8 +20,8 @@ use std::alloc::{AllocError, Global};
 
 /// Tells that a run is a legal one of a session, or why it is none: `legal`; or the breach of the run, `breach P L`, and
 /// behind it, in sentences, what is printed there, which rule fails, and what could stand there (`Verdicts`). The session and
-/// the journal are such as texts can say. On an error a part was sent: `Fault` where the sink failed, `Memory` where memory
-/// was wanting.
+/// the journal are such as texts can say. On an error a front was written, and not all: `Fault` where the sink failed, `Memory`
+/// where memory was wanting.
 pub fn tell_breach<K: Sink>(
     alloc: Global,
     session: &Session,
@@ -32,6 +32,8 @@ pub fn tell_breach<K: Sink>(
     requires session { list_all fits (rows_of session.now) ≡ true }
     requires journal { list_all fits_entry journal.now ≡ true }
     ensures told { OnOk result (GainsVerdict (K.out sink.old) (K.out sink.new) session.now journal.now transcripts.now) }
+    ensures front { IsErrOf result ShowError.Fault
+        → GainsVerdictFront (K.out sink.old) (K.out sink.new) session.now journal.now transcripts.now }
     ensures cause { IsErrOf result ShowError.Fault → Rose (K.faults sink.old) (K.faults sink.new) }
     ensures only { (IsErrOf result ShowError.Fault → ⊥) → K.faults sink.new ≡ K.faults sink.old }
     ensures later { K.faults sink.old ≤ K.faults sink.new }
