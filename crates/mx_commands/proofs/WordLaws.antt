@@ -1,5 +1,5 @@
 -- Laws on the words of a command line.
-use Rattle.std.proofs.Common.{◌≡◌, ◌⊎◌, ℕ, ◌+◌, ◌<◌, Bool, true, false, List, [], ◌∷◌, length, map, get_or, drop, codes, Option, None, Some, is_some, inl, inr, refl, ap, sym, subst, ◌∙◌, add-one, drop-cons}
+use Rattle.std.proofs.Common.{◌≡◌, ℕ, ◌+◌, ◌<◌, Bool, true, false, List, [], ◌∷◌, length, map, get_or, drop, codes, Option, None, Some, is_some, inl, inr, refl, ap, sym, subst, ◌∙◌, add-one, drop-cons}
 use Rattle.std.specs.List.{list_all}
 use Rattle.std.specs.Prelude.{◌≢◌, ◌&&◌, nat_eq}
 use Rattle.std.specs.Cmp.Lexicographic.{pointwise, told_text}

@@ -1,17 +1,17 @@
--- What is due on the words, of a text and of too many bytes.
+-- What is due on the words, of a text, of a session and a run, and of too many bytes.
 use Rattle.std.proofs.Common.{◌≡◌, ◌⊎◌, ℕ, ◌≤◌, ◌<◌, false, Result, IfOk, List, [], ◌∷◌, length, codes, Option, Some, inl, inr, refl, sym, ◌∙◌, subst, arith}
 use Rattle.std.specs.Prelude.{nat_eq}
 use Rattle.std.specs.Cmp.Lexicographic.{pointwise}
 use Rattle.mx_commands.proofs.WordLaws.{clash}
+use Rattle.mx_breach.specs.Sources as breach
 use Rattle.mx_drill.specs.Drills.{drill_session}
 use Rattle.mx_script.specs.SessionTexts.{session_text}
-use Rattle.mx_io.specs.Bytes.{TakesAll, TakesTooMany, Appends, AppendsPart}
+use Rattle.mx_io.specs.Bytes.{TakesAll, TakesTooMany, AppendsPart}
 use Rattle.mx_script.specs.Sessions.{Outline}
-use Rattle.mx_commands.specs.Commands.{IsNothing, IsTurns, IsOneNumber, IsNamed, IsLint, IsLines, IsPicture, IsPlain, IsDrill, IsHelp, IsShowing, IsReading, IsAnswered, IsCommand}
-use Rattle.mx_commands.specs.PlainTexts.{plain_text}
-use Rattle.mx_explain.specs.Statuses.{Shows, IsShown, IsPrintedPlain, IsDone, IsRefused, GainsFront, GainsFrontOfSource, IsStopped, IsDueStatus}
+use Rattle.mx_commands.specs.Commands.{IsNothing, IsTurns, IsOneNumber, IsNamed, IsLint, IsLines, IsPicture, IsPlain, IsBreach, IsDrill, IsHelp, IsShowing, IsReading, IsAnswered, IsCommand}
+use Rattle.mx_explain.specs.Statuses.{Shows, IsDone, GainsFront, GainsFrontOfSource, IsStopped, IsDueStatus}
 use Rattle.mx_commands.specs.Readings.{TakesTurns, IsAsked, IsReadSo}
-use Rattle.mx_explain.specs.Views.{ShowsOf, TellsSession, Tells, TellsFrontOfSession, TellsFront}
+use Rattle.mx_explain.specs.Views.{ShowsOf, TellsSession, Tells, TellsFront}
 use Rattle.mx_commands.specs.declared.words.Turns.{Turns}
 use Rattle.mx_commands.specs.declared.words.Turns.TheVariants.{Threads, Chosen, Named}
 use Rattle.mx_commands.specs.declared.words.View.{View}
@@ -38,9 +38,17 @@ showing_of Lint words e = inl e
 showing_of (Lines turns) words e = inr (inl (lines_of turns words e))
 showing_of (Picture turns) words e = inr (inr (picture_of turns words e))
 
+-- words that ask for the source to be read as a session or as a text
+pub text_of_reading : (reading : Reading) (words : List (List ℕ)) → IsReadSo reading words → IsShowing words ⊎ IsPlain words
+text_of_reading (Session view) words e = inl (showing_of view words e)
+text_of_reading Plain words e = inr e
+
+read_as_text : (words : List (List ℕ)) → IsShowing words ⊎ IsPlain words → IsReading words
+read_as_text words (inl e) = inl e
+read_as_text words (inr e) = inr (inl e)
+
 pub reading_of : (reading : Reading) (words : List (List ℕ)) → IsReadSo reading words → IsReading words
-reading_of (Session view) words e = inl (showing_of view words e)
-reading_of Plain words e = inr e
+reading_of reading words e = read_as_text words (text_of_reading reading words e)
 
 -- words have one name
 two_names : (P Q : List (List ℕ) → Type 0) (a b : List ℕ) (words : List (List ℕ)) → false ≡ pointwise nat_eq a b → IsNamed a P words
@@ -53,6 +61,18 @@ showing_or_plain words (inl e) f = two_names IsNothing IsNothing (codes "lint") 
 showing_or_plain words (inr (inl e)) f = two_names IsTurns IsNothing (codes "lines") (codes "plain") words refl e f
 showing_or_plain words (inr (inr e)) f = two_names IsTurns IsNothing (codes "picture") (codes "plain") words refl e f
 
+showing_or_breach : (words : List (List ℕ)) → IsShowing words → IsBreach words → ⊥
+showing_or_breach words (inl e) f = two_names IsNothing IsNothing (codes "lint") (codes "breach") words refl e f
+showing_or_breach words (inr (inl e)) f = two_names IsTurns IsNothing (codes "lines") (codes "breach") words refl e f
+showing_or_breach words (inr (inr e)) f = two_names IsTurns IsNothing (codes "picture") (codes "breach") words refl e f
+
+text_or_breach : (words : List (List ℕ)) → IsShowing words ⊎ IsPlain words → IsBreach words → ⊥
+text_or_breach words (inl e) f = showing_or_breach words e f
+text_or_breach words (inr e) f = two_names IsNothing IsNothing (codes "plain") (codes "breach") words refl e f
+
+pub reading_or_breach : (reading : Reading) (words : List (List ℕ)) → IsReadSo reading words → IsBreach words → ⊥
+reading_or_breach reading words e f = text_or_breach words (text_of_reading reading words e) f
+
 reading_or_drill : (words : List (List ℕ)) (number : ℕ) → IsReading words → IsDrill words number → ⊥
 reading_or_drill words number (inl (inl e)) f =
     two_names IsNothing (λ rest. IsOneNumber rest number) (codes "lint") (codes "drill") words refl e f
@@ -60,14 +80,17 @@ reading_or_drill words number (inl (inr (inl e))) f =
     two_names IsTurns (λ rest. IsOneNumber rest number) (codes "lines") (codes "drill") words refl e f
 reading_or_drill words number (inl (inr (inr e))) f =
     two_names IsTurns (λ rest. IsOneNumber rest number) (codes "picture") (codes "drill") words refl e f
-reading_or_drill words number (inr e) f =
+reading_or_drill words number (inr (inl e)) f =
     two_names IsNothing (λ rest. IsOneNumber rest number) (codes "plain") (codes "drill") words refl e f
+reading_or_drill words number (inr (inr e)) f =
+    two_names IsNothing (λ rest. IsOneNumber rest number) (codes "breach") (codes "drill") words refl e f
 
 reading_or_help : (words : List (List ℕ)) → IsReading words → IsHelp words → ⊥
 reading_or_help words (inl (inl e)) f = two_names IsNothing IsNothing (codes "lint") (codes "help") words refl e f
 reading_or_help words (inl (inr (inl e))) f = two_names IsTurns IsNothing (codes "lines") (codes "help") words refl e f
 reading_or_help words (inl (inr (inr e))) f = two_names IsTurns IsNothing (codes "picture") (codes "help") words refl e f
-reading_or_help words (inr e) f = two_names IsNothing IsNothing (codes "plain") (codes "help") words refl e f
+reading_or_help words (inr (inl e)) f = two_names IsNothing IsNothing (codes "plain") (codes "help") words refl e f
+reading_or_help words (inr (inr e)) f = two_names IsNothing IsNothing (codes "breach") (codes "help") words refl e f
 
 pub reading_or_answered : (words : List (List ℕ)) → IsReading words → IsAnswered words → ⊥
 reading_or_answered words e (inl f) = reading_or_drill words f.0 e f.1
@@ -108,17 +131,6 @@ done_at Plain words spelled source source' sink sink' status e taken within told
   printed = told.1;
 }))
 
--- what was told of a text that is no session's
-pub refused_at : (reading : Reading) (spelled : List ℕ) (source source' sink sink' : Option (List ℕ)) (status : ℕ) → TakesAll source source' spelled
-    → length spelled ≤ 4194304 → Tells reading spelled sink sink' status → status ≡ 5 → IsRefused source source' sink sink'
-refused_at (Session view) spelled source source' sink sink' status taken within (inl told) five = none 0 5 (omega arith) (sym told.0 ∙ five)
-refused_at (Session view) spelled source source' sink sink' status taken within (inr told) five = record {
-  spelled = spelled;
-  read = record { taken = taken; within = within };
-  bad = told.1;
-}
-refused_at Plain spelled source source' sink sink' status taken within told five = none 0 5 (omega arith) (sym told.0 ∙ five)
-
 -- the status that is due of a text
 due_of_session : (view : View) (words : List (List ℕ)) (bytes : List ℕ) (sink sink' : Option (List ℕ)) (status : ℕ)
     → IsAsked view words → length bytes ≤ 4194304 → TellsSession view bytes sink sink' status → IsDueStatus words bytes status
@@ -129,6 +141,9 @@ due_of_session view words bytes sink sink' status e within (inl shown) = record 
   no_session = λ asked few no. absurd (no (shown.1.session, shown.1.text));
   plain = λ asked few. absurd (showing_or_plain words (showing_of view words e) asked);
   too_long = λ asked more. absurd (omega (arith, more, within));
+  run = λ asked few some. absurd (showing_or_breach words (showing_of view words e) asked);
+  no_run = λ asked few no. absurd (showing_or_breach words (showing_of view words e) asked);
+  run_too_long = λ asked more. absurd (showing_or_breach words (showing_of view words e) asked);
 }
 due_of_session view words bytes sink sink' status e within (inr bad) = record {
   bad_words = λ other. absurd (other (inl (inl (showing_of view words e))));
@@ -137,18 +152,24 @@ due_of_session view words bytes sink sink' status e within (inr bad) = record {
   no_session = λ asked few no. bad.0;
   plain = λ asked few. absurd (showing_or_plain words (showing_of view words e) asked);
   too_long = λ asked more. absurd (omega (arith, more, within));
+  run = λ asked few some. absurd (showing_or_breach words (showing_of view words e) asked);
+  no_run = λ asked few no. absurd (showing_or_breach words (showing_of view words e) asked);
+  run_too_long = λ asked more. absurd (showing_or_breach words (showing_of view words e) asked);
 }
 
 due_of_reading : (reading : Reading) (words : List (List ℕ)) (bytes : List ℕ) (sink sink' : Option (List ℕ)) (status : ℕ)
     → IsReadSo reading words → length bytes ≤ 4194304 → Tells reading bytes sink sink' status → IsDueStatus words bytes status
 due_of_reading (Session view) words bytes sink sink' status e within told = due_of_session view words bytes sink sink' status e within told
 due_of_reading Plain words bytes sink sink' status e within told = record {
-  bad_words = λ other. absurd (other (inl (inr e)));
-  answered = λ asked. absurd (reading_or_answered words (inr e) asked);
+  bad_words = λ other. absurd (other (inl (inr (inl e))));
+  answered = λ asked. absurd (reading_or_answered words (inr (inl e)) asked);
   session = λ asked few some. absurd (showing_or_plain words asked e);
   no_session = λ asked few no. absurd (showing_or_plain words asked e);
   plain = λ asked few. told.0;
   too_long = λ asked more. absurd (omega (arith, more, within));
+  run = λ asked few some. absurd (text_or_breach words (inr e) asked);
+  no_run = λ asked few no. absurd (text_or_breach words (inr e) asked);
+  run_too_long = λ asked more. absurd (text_or_breach words (inr e) asked);
 }
 
 pub due_of_text : (reading : Reading) (words : List (List ℕ)) (spelled bytes : List ℕ) (source source' sink sink' : Option (List ℕ)) (status : ℕ)
@@ -186,7 +207,7 @@ pub front_of_text : (reading : Reading) (words : List (List ℕ)) (spelled : Lis
     → IsReadSo reading words → TakesAll source source' spelled → length spelled ≤ 4194304 → TellsFront reading spelled sink sink'
     → GainsFront words source source' sink sink'
 front_of_text reading words spelled source source' sink sink' e taken within cut =
-    inl (reading_of reading words e, front_of_reading reading words spelled source source' sink sink' e taken within cut)
+    inl (text_of_reading reading words e, front_of_reading reading words spelled source source' sink sink' e taken within cut)
 
 -- the status that is due of too many bytes
 pub due_too_long : (reading : Reading) (words : List (List ℕ)) (spelled : List ℕ) (source source' : Option (List ℕ)) (status : ℕ)
@@ -203,6 +224,9 @@ due_too_long reading words spelled source source' status e taken (inl six) is =
       no_session = λ asked few no. absurd (omega (arith, more, few));
       plain = λ asked few. absurd (omega (arith, more, few));
       too_long = λ asked beyond. six;
+      run = λ asked few some. absurd (reading_or_breach reading words e asked);
+      no_run = λ asked few no. absurd (reading_or_breach reading words e asked);
+      run_too_long = λ asked beyond. absurd (reading_or_breach reading words e asked);
     })
 
 -- the status that is due where no source is read
@@ -214,8 +238,11 @@ due_answered words spelled status e (inl zero) = inr (record {
   answered = λ asked. zero;
   session = λ asked few some. absurd (reading_or_answered words (inl asked) e);
   no_session = λ asked few no. absurd (reading_or_answered words (inl asked) e);
-  plain = λ asked few. absurd (reading_or_answered words (inr asked) e);
-  too_long = λ asked more. absurd (reading_or_answered words asked e);
+  plain = λ asked few. absurd (reading_or_answered words (inr (inl asked)) e);
+  too_long = λ asked more. absurd (reading_or_answered words (read_as_text words asked) e);
+  run = λ asked few some. absurd (reading_or_answered words (inr (inr asked)) e);
+  no_run = λ asked few no. absurd (reading_or_answered words (inr (inr asked)) e);
+  run_too_long = λ asked more. absurd (reading_or_answered words (inr (inr asked)) e);
 })
 
 -- and where the words are bad
@@ -227,9 +254,32 @@ due_bad words spelled status bad (inl two) = inr (record {
   answered = λ asked. absurd (bad (inr asked));
   session = λ asked few some. absurd (bad (inl (inl asked)));
   no_session = λ asked few no. absurd (bad (inl (inl asked)));
-  plain = λ asked few. absurd (bad (inl (inr asked)));
-  too_long = λ asked more. absurd (bad (inl asked));
+  plain = λ asked few. absurd (bad (inl (inr (inl asked))));
+  too_long = λ asked more. absurd (bad (inl (read_as_text words asked)));
+  run = λ asked few some. absurd (bad (inl (inr (inr asked))));
+  no_run = λ asked few no. absurd (bad (inl (inr (inr asked))));
+  run_too_long = λ asked more. absurd (bad (inl (inr (inr asked))));
 })
+
+-- the status that is due of a session and a run
+due_of_run : (words : List (List ℕ)) (spelled : List ℕ) (status : ℕ) → IsBreach words → breach.IsDueStatus spelled status
+    → IsDueStatus words spelled status
+due_of_run words spelled status e due = record {
+  bad_words = λ other. absurd (other (inl (inr (inr e))));
+  answered = λ asked. absurd (reading_or_answered words (inr (inr e)) asked);
+  session = λ asked few some. absurd (showing_or_breach words asked e);
+  no_session = λ asked few no. absurd (showing_or_breach words asked e);
+  plain = λ asked few. absurd (text_or_breach words (inr asked) e);
+  too_long = λ asked more. absurd (text_or_breach words asked e);
+  run = λ asked few some. due.run few some;
+  no_run = λ asked few no. due.no_run few no;
+  run_too_long = λ asked more. due.too_long more;
+}
+
+pub due_of_source : (words : List (List ℕ)) (spelled : List ℕ) (status : ℕ) → IsBreach words
+    → IsStopped status ⊎ breach.IsDueStatus spelled status → IsStopped status ⊎ IsDueStatus words spelled status
+due_of_source words spelled status e (inl stopped) = inl stopped
+due_of_source words spelled status e (inr due) = inr (due_of_run words spelled status e due)
 
 -- the text of a session that is known
 pub text_of : {E : Type 0} (told : Result (List ℕ) E) (x y : Outline) → x ≡ y → IfOk told (λ text. text ≡ session_text x)
@@ -242,4 +292,4 @@ pub drill_front : (words : List (List ℕ)) (number : ℕ) (source source' sink 
     → GainsFront words source source' sink sink'
 drill_front words number source source' sink sink' text told asked same is part =
     let P : List ℕ → Type 0 = λ t. AppendsPart sink sink' t in
-    inr (inr (inl (record { number = number; asked = asked.0; part = subst P (same ∙ is) part })))
+    inr (inr (inr (inl (record { number = number; asked = asked.0; part = subst P (same ∙ is) part }))))

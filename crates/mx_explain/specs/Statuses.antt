@@ -1,7 +1,9 @@
 -- What the statuses of the top call mean. A source's bytes and a sink's are spoken of where they are told.
 use Rattle.std.specs.Prelude.{◌≡◌, ◌⊎◌, ℕ, ◌≤◌, ◌<◌, List, length, Option, codes}
+use Rattle.mx_both.specs.BothTexts.{IsSomeBoth}
+use Rattle.mx_breach.specs.Sources as breach
 use Rattle.mx_drill.specs.Drills.{drill_session}
-use Rattle.mx_commands.specs.Commands.{IsLint, IsLines, IsPicture, IsPlain, IsDrill, IsHelp, IsShowing, IsReading, IsAnswered, IsCommand}
+use Rattle.mx_commands.specs.Commands.{IsLint, IsLines, IsPicture, IsPlain, IsBreach, IsDrill, IsHelp, IsShowing, IsAnswered, IsCommand}
 use Rattle.mx_commands.specs.PlainTexts.{plain_text}
 use Rattle.mx_commands.specs.Usage.{usage, refusal}
 use Rattle.mx_io.specs.Bytes.{TakesAll, TakesTooMany, Appends, AppendsPart}
@@ -15,7 +17,7 @@ use Rattle.mx_script.specs.SessionTexts.{IsText, IsSomeSession, session_text}
 use Rattle.mx_show.specs.Lines.{GainsLines}
 use Rattle.mx_state.specs.declared.journal.Entry as journaled
 
--- at most so many bytes are read
+-- at most so many bytes are read; under `breach`, of a session and a run, as many as `mx_breach` says
 abbrev pub most_bytes : ℕ
 most_bytes = 4194304
 
@@ -65,12 +67,13 @@ pub record IsPrintedDrill (words : List (List ℕ)) (sink sink' : Option (List �
   pub asked : IsDrill words number
   pub printed : Appends sink sink' (session_text (drill_session number))
 
--- status 0
+-- Status 0. Under `breach` the source held the texts of a session and a run, and the sink gained that the run is legal, or its breach.
 abbrev pub IsDone : List (List ℕ) → Option (List ℕ) → Option (List ℕ) → Option (List ℕ) → Option (List ℕ) → Type 0
 IsDone words source source' sink sink' =
     IsShown words source source' sink sink'
     ⊎ (IsPrintedPlain words source source' sink sink'
-    ⊎ (IsPrintedDrill words sink sink' ⊎ (IsHelp words × Appends sink sink' usage)))
+    ⊎ ((IsBreach words × breach.IsToldSource source source' sink sink')
+    ⊎ (IsPrintedDrill words sink sink' ⊎ (IsHelp words × Appends sink sink' usage))))
 
 -- the sink gained words about this line
 pub record IsToldOf (sink sink' : Option (List ℕ)) (number : ℕ) : Type 0 where
@@ -84,11 +87,16 @@ pub record IsBadText (spelled : List ℕ) (sink sink' : Option (List ℕ)) : Typ
   pub first : IsFirstBad spelled number
   pub told : IsToldOf sink sink' number
 
--- status 5
-pub record IsRefused (source source' sink sink' : Option (List ℕ)) : Type 0 where
+-- the source held no session
+pub record IsRefusedText (source source' sink sink' : Option (List ℕ)) : Type 0 where
   pub spelled : List ℕ
   pub read : IsRead source source' spelled
   pub bad : IsBadText spelled sink sink'
+
+-- Status 5. Under `breach` the source held no session followed by a run, and the sink gained the number of the first bad line.
+abbrev pub IsRefused : List (List ℕ) → Option (List ℕ) → Option (List ℕ) → Option (List ℕ) → Option (List ℕ) → Type 0
+IsRefused words source source' sink sink' =
+    (IsShowing words × IsRefusedText source source' sink sink') ⊎ (IsBreach words × breach.IsBadSource source source' sink sink')
 
 -- the sink gained a front of words about this line, and not all of them
 pub record IsCutOffOf (sink sink' : Option (List ℕ)) (number : ℕ) : Type 0 where
@@ -128,7 +136,7 @@ pub record IsDrillCut (words : List (List ℕ)) (sink sink' : Option (List ℕ))
   pub asked : IsDrill words number
   pub part : AppendsPart sink sink' (session_text (drill_session number))
 
--- a front of what is due of the source
+-- a front of what is due of the source, as a session or as a text
 abbrev pub GainsFrontOfSource : List (List ℕ) → Option (List ℕ) → Option (List ℕ) → Option (List ℕ) → Option (List ℕ) → Type 0
 GainsFrontOfSource words source source' sink sink' =
     (TakesTooMany most_bytes source source' × AppendsPart sink sink' (codes "too long\n"))
@@ -143,7 +151,8 @@ GainsFrontOfAnswer words sink sink' =
 -- Status 4: a front of what is due was written, and not all of it.
 abbrev pub GainsFront : List (List ℕ) → Option (List ℕ) → Option (List ℕ) → Option (List ℕ) → Option (List ℕ) → Type 0
 GainsFront words source source' sink sink' =
-    (IsReading words × GainsFrontOfSource words source source' sink sink') ⊎ GainsFrontOfAnswer words sink sink'
+    ((IsShowing words ⊎ IsPlain words) × GainsFrontOfSource words source source' sink sink')
+    ⊎ ((IsBreach words × breach.GainsSourceFront source source' sink sink') ⊎ GainsFrontOfAnswer words sink sink')
 
 -- Statuses 1, 3 and 4: memory ran out, or the source or the sink failed.
 abbrev pub IsStopped : ℕ → Type 0
@@ -156,4 +165,7 @@ pub record IsDueStatus (words : List (List ℕ)) (spelled : List ℕ) (status : 
   pub session : IsShowing words → length spelled ≤ most_bytes → IsSomeSession spelled → status ≡ 0
   pub no_session : IsShowing words → length spelled ≤ most_bytes → (IsSomeSession spelled → ⊥) → status ≡ 5
   pub plain : IsPlain words → length spelled ≤ most_bytes → status ≡ 0
-  pub too_long : IsReading words → most_bytes < length spelled → status ≡ 6
+  pub too_long : IsShowing words ⊎ IsPlain words → most_bytes < length spelled → status ≡ 6
+  pub run : IsBreach words → length spelled ≤ breach.most_bytes → IsSomeBoth spelled → status ≡ 0
+  pub no_run : IsBreach words → length spelled ≤ breach.most_bytes → (IsSomeBoth spelled → ⊥) → status ≡ 5
+  pub run_too_long : IsBreach words → breach.most_bytes < length spelled → status ≡ 6

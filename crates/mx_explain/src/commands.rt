@@ -7,13 +7,14 @@ ghost use Rattle.mx_io.specs.Bytes.{Appends, AppendsPart, TakesTooMany};
 ghost use Rattle.mx_io.specs.Faults.{Rose};
 ghost use Rattle.mx_script.specs.SessionTexts.{session_text};
 ghost use Rattle.mx_transcript.specs.Runs.{IsRunOf};
-ghost use Rattle.mx_commands.specs.Commands.{IsReading, IsAnswered, IsCommand};
+ghost use Rattle.mx_commands.specs.Commands.{IsReading, IsBreach, IsAnswered, IsCommand};
 ghost use Rattle.mx_commands.specs.PlainTexts.{plain_text};
 ghost use Rattle.mx_lint.specs.Diagnoses.{IsBadLine};
 ghost use Rattle.mx_explain.specs.Statuses.{IsDone, IsRefused, IsToldOf, IsCutOffOf, IsBadText, IsBadTextCut, GainsFront, IsStopped, IsDueStatus};
 ghost use Rattle.mx_commands.specs.Usage.{usage, refusal};
 ghost use Rattle.mx_explain.specs.Views.{ShowsOf, TellsSession, Tells, CutsOff, TellsFrontOfSession, TellsFront};
 
+use mx_breach::tell_source;
 use mx_commands::{
     Command, Reading, Turns, View, chosen_order, named_order, plain_text, refusal, usage,
 };
@@ -57,18 +58,19 @@ const TOO_LONG: u8 = 6;
 /// runs the session and shows line by line what it came to; `picture` draws the same run. Behind `lines` and `picture` may stand
 /// 1 to 4,096 process numbers, or `seed N`, which chooses as many: the lines of the processes are then made in that order, on one
 /// thread. Else each process has a thread of its own. `plain` reads the source to its end and prints it without the lines that begin
-/// with `#`; `drill N`, with N of 1 to 6 decimal digits, prints the session of that drill, and `help` how to use the program. The call
+/// with `#`; `breach` reads it as the text of a session and, at once behind it, that of a printed run, and says that the run is a legal one of
+/// the session, or which breach it has, and why that is one; `drill N`, with N of 1 to 6 decimal digits, prints the session of that drill, and `help` how to use the program. The call
 /// may wait for the threads of a run.
 ///
 /// | Status | Comes | Written |
 /// |---|---|---|
-/// | 0 | the text is a session's, or is not to be one, or none is read | `good`, the lines, the drawing, or what is printed |
+/// | 0 | the text is a session's, or a session's and a run's, or is not to be one, or none is read | `good`, the lines, the drawing, `legal` or the breach, or what is printed |
 /// | 1 | memory ran out | a part of it, or nothing |
 /// | 2 | the words are not accepted; the source is not read | `bad words`, and how to use the program |
 /// | 3 | the source failed | nothing |
 /// | 4 | the sink failed | a front of what was due |
-/// | 5 | the bytes are no session | the first bad line, explained |
-/// | 6 | the source gave more than 4,194,304 bytes | `too long` |
+/// | 5 | the bytes are no session, or under `breach` no session followed by a run | the first bad line, explained; under `breach` `bad line N` |
+/// | 6 | the source gave more than 4,194,304 bytes, or under `breach` than 33,554,432 | `too long` |
 pub fn show<R: Threads + Wait + Sync, S: Source, K: Sink>(
     rt: &R,
     alloc: Global,
@@ -77,14 +79,16 @@ pub fn show<R: Threads + Wait + Sync, S: Source, K: Sink>(
     sink: &mut K,
 ) -> u8
     // Status 0: what the words ask for was written. Where the source is read, it was read to its end, and its bytes are the text of a
-    // session, of which `good`, or a legal run line by line, or one drawn was shown; or the text was printed without its titles.
+    // session, of which `good`, or a legal run line by line, or one drawn was shown; or the text was printed without its titles; or they
+    // are the texts of a session and a run, and it was told that the run is legal, or its breach.
     ensures done { result ≡ 0 → IsDone (map string_bytes words.now) (S.left source.old) (S.left source.new) (K.out sink.old) (K.out sink.new) }
 
-    // Status 5: its bytes are the text of none, and the line that is named is the first bad one.
-    ensures bad_line { result ≡ 5 → IsRefused (S.left source.old) (S.left source.new) (K.out sink.old) (K.out sink.new) }
+    // Status 5: its bytes are the text of none, or not the texts of a session and a run, and the line that is named is the first bad one.
+    ensures bad_line { result ≡ 5 → IsRefused (map string_bytes words.now) (S.left source.old) (S.left source.new) (K.out sink.old) (K.out sink.new) }
 
     // Status 6: there are too many of them.
-    ensures too_long { result ≡ 6 → TakesTooMany 4194304 (S.left source.old) (S.left source.new) }
+    ensures too_long { result ≡ 6 → (IsBreach (map string_bytes words.now) → ⊥) → TakesTooMany 4194304 (S.left source.old) (S.left source.new) }
+    ensures run_too_long { result ≡ 6 → IsBreach (map string_bytes words.now) → TakesTooMany 33554432 (S.left source.old) (S.left source.new) }
     ensures too_long_told { result ≡ 6 → Appends (K.out sink.old) (K.out sink.new) (codes "too long\n") }
 
     // Status 2, or a failing sink, where the words are not accepted. They are told to be bad, and how to use the program.
@@ -121,6 +125,7 @@ pub fn show<R: Threads + Wait + Sync, S: Source, K: Sink>(
             Err(ReadError::Fault) => SOURCE_FAULT,
             Err(ReadError::Memory) => OUT_OF_MEMORY,
         },
+        Command::Breach => tell_source(alloc, source, sink),
         Command::Drill(number) => match drill_text(alloc, number) {
             Ok(text) => told(sink, text.items(), 0),
             Err(AllocError) => OUT_OF_MEMORY,

@@ -1,5 +1,5 @@
-use Rattle.std.proofs.Common.{Err, ap}
-use Rattle.mx_explain.proofs.StatusLaws.{done_at, front_of_text, due_of_text, due_too_long, drill_front}
+use Rattle.std.proofs.Common.{Err, ap, inl, inr}
+use Rattle.mx_explain.proofs.StatusLaws.{done_at, front_of_text, due_of_text, due_too_long, due_of_source, drill_front, reading_or_breach}
 use Rattle.mx_explain.proofs.commands.show.Goals as goal
 
 pub returns-in-Ok-tell-clause-done : goal.returns-in-Ok-tell-clause-done
@@ -22,6 +22,16 @@ pub returns-in-Err-TooLong-clause-due : goal.returns-in-Err-TooLong-clause-due
 returns-in-Err-TooLong-clause-due g c = λ spelled is.
     due_too_long c.in-Read.reading _ spelled _ _ _ c.in-Read.ensures (c.in-Err-TooLong.ensures.too_long (ap Err c.in-Err-TooLong.field-0-is))
     c.told.ensures.told is
+
+pub returns-in-Err-TooLong-clause-run_too_long : goal.returns-in-Err-TooLong-clause-run_too_long
+returns-in-Err-TooLong-clause-run_too_long g c = λ six asked. absurd (reading_or_breach c.in-Read.reading _ c.in-Read.ensures asked)
+
+pub returns-in-Breach-clause-front : goal.returns-in-Breach-clause-front
+returns-in-Breach-clause-front g c = λ four. inr (inl (c.in-Breach.ensures, c.tell_source.ensures.front four))
+
+pub returns-in-Breach-clause-due : goal.returns-in-Breach-clause-due
+returns-in-Breach-clause-due g c = λ spelled is.
+    due_of_source _ spelled c.tell_source.result c.in-Breach.ensures (c.tell_source.ensures.due spelled is)
 
 pub returns-in-Ok-drill_text-clause-front : goal.returns-in-Ok-drill_text-clause-front
 returns-in-Ok-drill_text-clause-front g c = λ four.
