@@ -1,4 +1,4 @@
-//! Two tables: what each command comes to, and what each denial is explained by.
+//! Three tables: what each command comes to, what is told of a printed run, and what each denial is explained by.
 
 use mx_explain::show;
 use mx_io::{MemorySink, MemorySource};
@@ -47,13 +47,14 @@ const USAGE: &str = "Usage: show COMMAND < SESSION\n\
     \x20 lines [TURNS]    runs the session, and tells each line of the run in words\n\
     \x20 picture [TURNS]  runs the session, and draws the run as an SVG\n\
     \x20 plain            the text without the lines that begin with #\n\
+    \x20 breach           of a session with a printed run behind it: legal, or why not\n\
     \x20 drill N          the session of drill N, 1 to 6 digits; nothing is read\n\
     \x20 help             this text; nothing is read\n\
     TURNS: who makes the next line, as 2 1 1 2, and then all in turn; or seed N, an\n\
     order that N chooses; without it each process runs on a thread of its own.\n\
     Example: show lines 2 1 1 2 < FILE\n\
-    Status: 0 written, 1 out of memory, 2 bad words, 3 input failed, 4 output failed,\n\
-    5 no session, 6 more than 4,194,304 bytes\n";
+    Status: 0 written, 1 out of memory, 2 bad words, 3 input failed,\n\
+    4 output failed, 5 no session (breach: no session with a run), 6 too many bytes\n";
 
 const BAD: &[&str] = &["bad words\n", USAGE];
 
@@ -97,6 +98,10 @@ const COMMANDS: &[Row] = &[
     ("plain", b"#", false, 4096, 0, &[""]),
     ("plain", TITLED, true, 4096, 3, &[""]),
     ("plain", TITLED, false, 5, 4, &["multi"]),
+    ("breach", SMALLEST, false, 4096, 5, &["bad line 11\n"]),
+    ("breach", b"", true, 4096, 3, &[""]),
+    ("breach", b"", false, 5, 4, &["bad l"]),
+    ("breach 1", b"", true, 4096, 2, BAD),
     ("drill 7", b"", true, 9, 4, &["multics 1"]),
     ("lines", SMALLEST, true, 4096, 3, &[""]),
     ("lint", SMALLEST, false, 3, 4, &["goo"]),
@@ -148,6 +153,79 @@ fn is_made_of(bytes: &[u8], parts: &[&str]) -> bool {
         }
     }
     rest.is_empty()
+}
+
+// The run of the smallest session.
+const SMALLEST_RUN: &str = "journal 4\n\
+    1 0 0 create_seg >a 64 1 4 4 = ok\n\
+    2 0 0 set_acl >a Jones.Faculty.a rw = ok\n\
+    3 1 4 initiate >a = segno 10 new\n\
+    4 1 4 logout = ok\n\
+    process 0\n\
+    entry 1\n\
+    line 2 done\n\
+    entry 2\n\
+    line 3 done\n\
+    process 1\n\
+    entry 3\n\
+    line 5 done\n\
+    line 6 done\n\
+    write 10|5 ring 4 point 3 denied write_bracket\n\
+    line 7 denied write_bracket\n\
+    read 10|5 ring 4 point 3 word 0 from 0 stamp 0\n\
+    line 8 a 0\n\
+    entry 4\n\
+    line 9 done\n\
+    end\n";
+
+// What is changed in that run, and by what; the status that `breach` comes to, and what it tells.
+type Change = (&'static str, &'static str, u8, &'static str);
+
+const CHANGES: &[Change] = &[
+    ("", "", 0, "legal\n"),
+    (
+        "line 8 a 0",
+        "line 8 a 1",
+        0,
+        "breach 1 8\n\
+        line 8 of process 1: lda 10|5\n\
+        \x20 printed: line 8 a 1\n\
+        \x20 the line rule: its events give the line's end\n\
+        \x20 could stand there: line 8 a 0\n",
+    ),
+    ("line 9 done", "line 9 don", 5, "bad line 30\n"),
+];
+
+#[test]
+fn a_printed_run_is_judged(rt: HostRuntime) -> Result<(), Fail> {
+    let mut wrong = None;
+    for (i, change) in CHANGES.iter().enumerate() {
+        if !is_told_so(&rt, rt.alloc(), change)? {
+            wrong = Some(i);
+        }
+    }
+    assert_eq!(rt; wrong, None);
+    Ok(())
+}
+
+// Whether `breach` comes to the status and the bytes of this change.
+fn is_told_so<R: Threads + Wait + Sync>(
+    rt: &R,
+    alloc: Global,
+    change: &Change,
+) -> Result<bool, AllocError> {
+    let (old, new, wanted, told) = *change;
+    let Some((before, after)) = SMALLEST_RUN.split_once(old) else {
+        return Ok(false);
+    };
+    let mut text = Vec::from_slice(alloc, SMALLEST)?;
+    for part in [before, new, after] {
+        text.extend_from_slice(part.as_bytes())?;
+    }
+    let mut source = source(alloc, &text, false)?;
+    let mut sink = sink(alloc, 4096)?;
+    let status = show(rt, alloc, &words(alloc, "breach")?, &mut source, &mut sink);
+    Ok(status == wanted && sink.bytes() == told.as_bytes())
 }
 
 #[test]
