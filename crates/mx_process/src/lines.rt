@@ -134,8 +134,9 @@ impl<'a, B: Attending, A: Auditor> Process<'a, B, A> {
         }
     }
 
-    /// Does all lines that are left. The gate is told of each before it begins. Condition: it does not wait. The only error is
-    /// want of memory, or that the run is to end: then the run is to end for all.
+    /// Does all lines that are left. The gate is told of each before it begins; but where it holds nobody, several lines are
+    /// done in one stay inside. Condition: it does not wait. The only error is want of memory, or that the run is to end: then
+    /// the run is to end for all.
     pub fn run<R: Wait, G: Gate>(
         &mut self,
         rt: &R,
