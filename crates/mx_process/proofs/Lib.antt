@@ -13,4 +13,3 @@ pub mod AnswerLaws
 pub mod EntryLaws
 pub mod CallLaws
 pub mod LegLaws
-pub mod StayLaws

@@ -18,7 +18,6 @@ mod misses;
 mod naming;
 mod processes;
 mod settling;
-mod stays;
 mod turns;
 
 pub use filling::Wrote;
