@@ -1,5 +1,5 @@
 -- The auditor of one process, as lines end.
-use Rattle.std.proofs.Common.{◌≡◌, ◌↔◌, ℕ, ◌<◌, ◌≤◌, ◌-◌, List, [], ◌∷◌, ◌++◌, length, Option, Some, None, refl, sym, ◌∙◌, ap, subst, arith}
+use Rattle.std.proofs.Common.{◌≡◌, ◌↔◌, ℕ, ◌+◌, ◌<◌, ◌≤◌, ◌-◌, List, [], ◌∷◌, ◌++◌, length, length-append, Option, Some, None, refl, sym, ◌∙◌, ap, subst, arith}
 use Rattle.std.specs.Option.{IsSome, option_map}
 use Rattle.mx_audit.proofs.AccountLaws.{with_both, with_none}
 use Rattle.mx_audit.specs.Accounts.{Account, with_denials}
@@ -12,15 +12,15 @@ use Rattle.mx_transcript.specs.declared.transcripts.Result2.{Result2}
 use Rattle.mx_transcript.specs.declared.transcripts.Result2.TheVariants as result
 use Rattle.mx_process.specs.Audited.{IsAudited, as_list}
 
-one_line : (step : Step) → denials (step ∷ []) ≡ as_list (denial_of step)
-one_line step = by_denial (denial_of step) refl
+pub one_denial : (step : Step) → denials (step ∷ []) ≡ as_list (denial_of step)
+one_denial step = by_denial (denial_of step) refl
   where
     by_denial : (told : Option (ℕ × Denial)) → denial_of step ≡ told → denials (step ∷ []) ≡ as_list (denial_of step)
     by_denial None e = rw e refl
     by_denial (Some told) e = rw e refl
 
 line_more : (steps : List Step) (step : Step) → denials (steps ++ step ∷ []) ≡ denials steps ++ as_list (denial_of step)
-line_more steps step = denials_append steps (step ∷ []) ∙ ap (λ (l : List (ℕ × Denial)). denials steps ++ l) (one_line step)
+line_more steps step = denials_append steps (step ∷ []) ∙ ap (λ (l : List (ℕ × Denial)). denials steps ++ l) (one_denial step)
 
 abbrev pub told_more : Option (ℕ × Denial) → Account → Account
 told_more told account = with_denials account (as_list told)
@@ -52,6 +52,37 @@ audited_more lines before steps step (Some account) account' is e =
           ∙ ap (with_denials is.opening) (sym (line_more steps step));
     })
 
+-- and of all denials of some lines more
+pub audited_all : (lines : ℕ) (before : Option Account) (steps more : List Step) (told : Option (ℕ × Denial))
+    (account account' : Option Account) → IsAudited lines before steps account → denials more ≡ as_list told
+    → account' ≡ option_map (told_more told) account → IsAudited lines before (steps ++ more) account'
+audited_all lines before steps more told None account' is all e = subst (IsAudited lines before (steps ++ more)) (sym e) tt
+audited_all lines before steps more told (Some account) account' is all e =
+    subst (IsAudited lines before (steps ++ more)) (sym e) (record {
+      opening = is.opening;
+      had = is.had;
+      room = is.room;
+      told = ap (told_more told) is.told
+          ∙ with_both is.opening (denials steps) (as_list told)
+          ∙ ap (λ (l : List (ℕ × Denial)). with_denials is.opening (denials steps ++ l)) (sym all)
+          ∙ ap (with_denials is.opening) (sym (denials_append steps more));
+    })
+
+-- it has room for a denial of which it was not told
+pub room_left : (lines : ℕ) (before : Option Account) (steps more : List Step) (told : ℕ × Denial) (account : Option Account)
+    → IsAudited lines before steps account → denials more ≡ told ∷ [] → length (steps ++ more) ≤ lines
+    → (a : Account) → account ≡ Some a → 1 ≤ a.room
+room_left lines before steps more told None is all within a e = absurd (cc)
+room_left lines before steps more told (Some account) is all within a e =
+    let same : account ≡ a = cc in
+    let few = few_denials (steps ++ more) in
+    let count = ap (λ (l : List (ℕ × Denial)). length l) (denials_append steps more)
+    ∙ length-append (denials steps) (denials more)
+    ∙ ap (λ (l : List (ℕ × Denial)). length (denials steps) + length l) all in
+    let room : account.room ≡ is.opening.room - length (denials steps) = ap (λ (b : Account). b.room) is.told in
+    let most = is.room in
+    subst (λ (b : Account). 1 ≤ b.room) same (omega (arith, few, count, room, most, within))
+
 -- before any line
 pub audited_first : (lines : ℕ) (before : Option Account) (steps : List Step) (account : Account) → before ≡ Some account
     → lines ≤ account.room → steps ≡ [] → IsAudited lines before steps (Some account)
@@ -81,7 +112,7 @@ undenied_none number (result.Denied denial) never = absurd (never denial refl)
 undenied_none number result.Refused never = refl
 undenied_none number result.HistoryFull never = refl
 
-none_more : (account : Option Account) → account ≡ option_map (told_more None) account
+pub none_more : (account : Option Account) → account ≡ option_map (told_more None) account
 none_more None = refl
 none_more (Some account) = ap Some (sym (with_none account))
 

@@ -13,3 +13,4 @@ pub mod AnswerLaws
 pub mod EntryLaws
 pub mod CallLaws
 pub mod LegLaws
+pub mod StayLaws

@@ -12,3 +12,5 @@ pub mod Filling
 pub mod Entries
 -- a line by all that it takes
 pub mod Lines
+-- several lines in one stay inside
+pub mod Stays

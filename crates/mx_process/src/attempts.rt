@@ -30,7 +30,7 @@ use mx_sdw::Denial;
 use mx_state::Entry;
 
 /// So many turns at most.
-fn turns<B: Sitting>(
+pub(crate) fn turns<B: Sitting>(
     state: &mut LineState,
     pass: &mut Pass<Entry, B>,
     cam: &mut Cam,
@@ -171,7 +171,7 @@ impl<'a, B: Attending, A: Auditor> Process<'a, B, A> {
 }
 
 // A line of a script, counted from 0.
-fn line_at(script: &[Line], place: usize) -> Option<&Line>
+pub(crate) fn line_at(script: &[Line], place: usize) -> Option<&Line>
     ensures { option_map (λ line. line.now) result ≡ slice_get script.now place }
 {
     script.get(place)
@@ -194,7 +194,7 @@ pub(crate) fn tell<A: Auditor>(auditor: &mut Option<A>, told: Option<(u32, Denia
 }
 
 // Whether a line is a request.
-fn is_request(line: &Line) -> bool
+pub(crate) fn is_request(line: &Line) -> bool
     ensures yes { IsTrue result → (request : Request) × (line.now ≡ Ask request) }
     ensures no { IsFalse result → IsNoRequest line.now }
 {

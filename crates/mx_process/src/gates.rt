@@ -5,6 +5,11 @@
 pub trait Gate: Sync {
     /// Process `process`, from 1 on, is about to begin the line with this number in the session text.
     fn pass(&self, process: u32, line: u32);
+
+    /// Whether it lets every line begin at once, so that it need not be told of each.
+    fn holds_nobody(&self) -> bool {
+        false
+    }
 }
 
 /// The gate that holds nobody.
@@ -13,4 +18,8 @@ pub struct NoGate;
 
 impl Gate for NoGate {
     fn pass(&self, _process: u32, _line: u32) {}
+
+    fn holds_nobody(&self) -> bool {
+        true
+    }
 }

@@ -18,6 +18,7 @@ mod misses;
 mod naming;
 mod processes;
 mod settling;
+mod stays;
 mod turns;
 
 pub use filling::Wrote;

@@ -5,6 +5,7 @@ ghost use Rattle.std.specs.Option.{option_map};
 ghost use Rattle.mx_line.specs.declared.operands.Progress.TheVariants.{Waiting};
 ghost use Rattle.mx_process.specs.Lines.{HasEnded, HasGoneOn, HasNoLine, HasTurnedTo, IsAtBlock, IsAwake, IsOwn};
 ghost use Rattle.mx_process.specs.Processes.{HasLine, IsAtLine};
+ghost use Rattle.mx_process.specs.Stays.{HasFewerLines};
 ghost use Rattle.mx_process.specs.declared.lines.Turned.TheVariants.{Done, Waits};
 ghost use Rattle.mx_script.specs.declared.lines.Line.{Line};
 
@@ -133,8 +134,9 @@ impl<'a, B: Attending, A: Auditor> Process<'a, B, A> {
         }
     }
 
-    /// Does all lines that are left. The gate is told of each before it begins. Condition: it does not wait. The only error is
-    /// want of memory, or that the run is to end: then the run is to end for all.
+    /// Does all lines that are left. The gate is told of each before it begins; but where it holds nobody, several lines are
+    /// done in one stay inside. Condition: it does not wait. The only error is want of memory, or that the run is to end: then
+    /// the run is to end for all.
     pub fn run<R: Wait, G: Gate>(
         &mut self,
         rt: &R,
@@ -147,11 +149,52 @@ impl<'a, B: Attending, A: Auditor> Process<'a, B, A> {
         ensures own { IsOwn self.old self.new }
     {
         while let Some(number) = self.beginning() {
-            gate.pass(u32::from(self.number()), number);
-            if let Err(error) = self.line(rt, alloc, office) {
+            if let Err(error) = self.go_on(rt, alloc, office, gate, number) {
                 office.stop(rt);
                 return Err(error);
             }
+        }
+        Ok(())
+    }
+
+    // The next line, of which the gate is told; or, where the gate holds nobody, lines in one stay and the one after them.
+    fn go_on<R: Wait, G: Gate>(
+        &mut self,
+        rt: &R,
+        alloc: Global,
+        office: &Office<'_, B>,
+        gate: &G,
+        number: u32,
+    ) -> Result<(), AllocError>
+        requires left { HasLine B.session self.old }
+        requires awake { IsAwake self.old }
+        ensures fewer { OnOk result (HasFewerLines B.session self.old self.new) }
+        ensures awake { OnOk result (IsAwake self.new) }
+        ensures own { IsOwn self.old self.new }
+    {
+        if gate.holds_nobody() {
+            return self.hurry_on(rt, alloc, office);
+        }
+        gate.pass(u32::from(self.number()), number);
+        self.line(rt, alloc, office)
+    }
+
+    // Lines in one stay, and the one after them, if one is left, by all that it takes.
+    fn hurry_on<R: Wait>(
+        &mut self,
+        rt: &R,
+        alloc: Global,
+        office: &Office<'_, B>,
+    ) -> Result<(), AllocError>
+        requires left { HasLine B.session self.old }
+        requires awake { IsAwake self.old }
+        ensures fewer { OnOk result (HasFewerLines B.session self.old self.new) }
+        ensures awake { OnOk result (IsAwake self.new) }
+        ensures own { IsOwn self.old self.new }
+    {
+        self.hurry(office.shared())?;
+        if self.has_line() {
+            return self.line(rt, alloc, office);
         }
         Ok(())
     }

@@ -23,7 +23,7 @@ use std::alloc::{AllocError, Global};
 use std::marker::Model;
 
 /// How many events an attempt at a line has at most.
-const ATTEMPT: u32 = 10;
+pub(crate) const ATTEMPT: u32 = 10;
 
 /// A process of the run that `B` names, with its pass. Its auditor is told of each of its denials.
 #[derive(Drop)]
