@@ -30,11 +30,12 @@ kind_word Terminate = codes "terminate"
 kind_word Wakeup = codes "wakeup"
 kind_word Link = codes "link"
 
+-- each kind once, and first what processes ask for most often
 abbrev pub all_kinds : List Kind
 all_kinds =
-    CreateDir ∷ CreateSeg ∷ CreateObject ∷ CreateLink ∷ Rename ∷ Delete ∷ SetAcl ∷ DelAcl ∷ SetIaclSeg ∷ SetIaclDir
-    ∷ DelIaclSeg ∷ DelIaclDir ∷ SetBrackets ∷ SetDirBrackets ∷ SetClass ∷ Status ∷ ListNames ∷ ChangeWdir ∷ SetRules
-    ∷ Initiate ∷ Terminate ∷ Wakeup ∷ Link ∷ []
+    Initiate ∷ Terminate ∷ Wakeup ∷ Link ∷ Status ∷ ListNames ∷ SetAcl ∷ DelAcl ∷ CreateDir ∷ CreateSeg ∷ CreateObject
+    ∷ CreateLink ∷ Rename ∷ Delete ∷ SetIaclSeg ∷ SetIaclDir ∷ DelIaclSeg ∷ DelIaclDir ∷ SetBrackets ∷ SetDirBrackets
+    ∷ SetClass ∷ ChangeWdir ∷ SetRules ∷ []
 
 -- the kind that a word names
 abbrev pub kind_of : List ℕ → Option Kind

@@ -33,15 +33,22 @@ pub(crate) enum Kind {
     Link,
 }
 
+// What processes ask for most often is looked for first.
 const ALL: [Kind; 23] = [
+    Kind::Initiate,
+    Kind::Terminate,
+    Kind::Wakeup,
+    Kind::Link,
+    Kind::Status,
+    Kind::List,
+    Kind::SetAcl,
+    Kind::DelAcl,
     Kind::CreateDir,
     Kind::CreateSeg,
     Kind::CreateObject,
     Kind::CreateLink,
     Kind::Rename,
     Kind::Delete,
-    Kind::SetAcl,
-    Kind::DelAcl,
     Kind::SetIaclSeg,
     Kind::SetIaclDir,
     Kind::DelIaclSeg,
@@ -49,14 +56,8 @@ const ALL: [Kind; 23] = [
     Kind::SetBrackets,
     Kind::SetDirBrackets,
     Kind::SetClass,
-    Kind::Status,
-    Kind::List,
     Kind::ChangeWdir,
     Kind::SetRules,
-    Kind::Initiate,
-    Kind::Terminate,
-    Kind::Wakeup,
-    Kind::Link,
 ];
 
 impl Kind {
