@@ -91,7 +91,11 @@ impl Cam {
         ensures spare { pass.old.spare ≤ pass.new.spare + 1 }
     {
         match self.places.recall(segno) {
-            Some(on) => Referred::Seen(pass.recall(shared, &on, op, ring, word, value)),
+            Some((place, on)) => {
+                let element = pass.recall(shared, on, op, ring, word, value);
+                self.places.note(place);
+                Referred::Seen(element)
+            },
             None => {
                 match pass.refer(shared, segno, op, ring, word, value) {
                     Referred::Seen(element) => {

@@ -15,7 +15,7 @@ pub(crate) struct Places {
     len: usize,
     /// The place of the first.
     first: usize,
-    /// The place that was asked for or written last.
+    /// The place of the last answer that was noted, or that was written since.
     latest: usize,
     ghost few: { len ≤ 16 },
     ghost sixteen: { length triples ≡ 16 },
@@ -52,34 +52,28 @@ impl Places {
         }
     }
 
-    /// What it has of a number.
+    /// What it has of a number, and at which place. The place that was noted last is looked at first.
     #[inline(always)]
-    pub(crate) fn recall(&mut self, segno: u16) -> Option<Triple>
-        ensures told { result ≡ recalled segno self.old }
-        ensures kept { self.new ≡ self.old }
+    pub(crate) fn recall(&self, segno: u16) -> Option<(usize, &Triple)>
+        ensures told { option_map (λ found. found.1.now) result ≡ recalled segno self.now }
+        ensures near { IfSome result (λ found. found.0 ≤ 15) }
     {
-        match self.find(segno) {
-            Some((place, triple)) => {
-                self.latest = place;
-                Some(triple)
-            },
+        if self.latest < self.len && self.triples[self.latest].segno == segno {
+            return Some((self.latest, &self.triples[self.latest]));
+        }
+        match place_of(&self.triples, self.len, segno) {
+            Some(place) => Some((place, &self.triples[place])),
             None => None,
         }
     }
 
-    /// What it has of a number, and at which place. The place of the last answer is looked at first.
+    /// Notes the place of an answer: there the next is looked for first.
     #[inline(always)]
-    fn find(&self, segno: u16) -> Option<(usize, Triple)>
-        ensures told { option_map (λ found. found.1) result ≡ recalled segno self.now }
-        ensures near { IfSome result (λ found. found.0 ≤ 15) }
+    pub(crate) fn note(&mut self, place: usize)
+        requires { place ≤ 15 }
+        ensures { self.new ≡ self.old }
     {
-        if self.latest < self.len && self.triples[self.latest].segno == segno {
-            return Some((self.latest, self.triples[self.latest]));
-        }
-        match place_of(&self.triples, self.len, segno) {
-            Some(place) => Some((place, self.triples[place])),
-            None => None,
-        }
+        self.latest = place;
     }
 
     /// Puts a triple last; a seventeenth pushes the first out. Condition: it has nothing of the number.
@@ -106,9 +100,9 @@ fn place_of(triples: &[Triple; 16], len: usize, segno: u16) -> Option<usize>
     ensures found { MatchOption result (HasNotBefore segno triples.now len) (IsAt segno triples.now) }
     ensures under { IfSome result (λ place. place < len) }
 {
-    for place in 0..len {
+    for place in 0..16 {
         if triples[place].segno == segno {
-            return Some(place);
+            return if place < len { Some(place) } else { None };
         }
     }
     None

@@ -2,7 +2,7 @@ use Rattle.std.proofs.Common.{arith, sym, ap, ◌∙◌}
 use Rattle.std.proofs.lemmas.Option.{slice_get_read}
 use Rattle.mx_core.specs.declared.words.Triple.{Triple}
 use Rattle.mx_cam.proofs.PlaceLaws.{misses, recalls}
-use Rattle.mx_cam.proofs.places.Places.find.Goals as goal
+use Rattle.mx_cam.proofs.places.Places.recall.Goals as goal
 
 pub returns-then-self-segno-clause-told : goal.returns-then-self-segno-clause-told
 returns-then-self-segno-clause-told c =
