@@ -11,12 +11,15 @@ use Rattle.mx_reads.specs.Sightings.{Source}
 use Rattle.mx_stores.specs.Choices.{first_below, is_deed, is_such, kept, last_below, other_choice, own_choice, stores_word}
 use Rattle.mx_stores.specs.Deciding.{IsWrong, choice_for, choices, next_choice, source_of, with_choice}
 use Rattle.mx_stores.specs.Least.{is_by}
-use Rattle.mx_stores.specs.Sighted.{floor}
-use Rattle.mx_stores.specs.SightedTables.{AreSightings, IsReading}
+use Rattle.mx_stores.specs.Sighted.{Sighted, floor}
+use Rattle.mx_stores.specs.SightedTables.{AreCursors, AreSightings, IsLatestKept, IsReading}
 use Rattle.mx_stores.specs.Since.{is_same, stores_from}
 use Rattle.mx_stores.specs.Tables.{before, AreStores, IsFrom, IsStoreOf, number_of, order_of}
 use Rattle.mx_stores.specs.Until.{until}
+use Rattle.mx_stores.specs.declared.groups.Groups.{Groups}
+use Rattle.mx_stores.specs.declared.rows.Rows.{Rows}
 use Rattle.mx_stores.specs.declared.sightings.Sightings.{Sightings}
+use Rattle.mx_stores.specs.declared.stores.Table.{Table}
 use Rattle.mx_stores.specs.declared.stores.Store.{Store}
 use Rattle.mx_stores.proofs.ChoiceLaws.{word_told, IsStored, stored_told, stored_test}
 use Rattle.mx_stores.proofs.ChoicesInOrder.{index_kept, index_last, length_with, latest_agrees, after_agrees, equal_agree}
@@ -272,45 +275,65 @@ pub own_fails : (done : Deeds) (count : ℕ) (read : Reading) (place : ℕ)
     → is_such done count read place ≡ false → None ≡ own_choice done count read
 own_fails done count read place e t = sym (kept_not (is_such done count read) _ place e t)
 
+-- what is kept stands for sources that agree
+resourced : (done : Deeds) (p here : ℕ) (old new : Source) (tables : List Table) (groups : List Groups) (numbers : List ℕ)
+    (s : Sightings) → ((i : ℕ) → i < here → old p i ≡ new p i) → AreSightings done old tables groups numbers p here s
+    → AreSightings done new tables groups numbers p here s
+resourced done p here old new tables groups numbers s same are =
+    let a = equal_agree done p old new here same in record {
+      long = are.long;
+      latests = λ k cell kept f e g. subst (λ (o : Option Sighted). IsLatestKept tables p cell o kept)
+          (latest_agrees done p old new cell here a) (are.latests k cell kept f e g);
+      absent = λ cell f e. sym (latest_agrees done p old new cell here a) ∙ are.absent cell f e;
+      wide = are.wide;
+      cursors = λ u table own c n t g e.
+          let was : AreCursors done old p here u table own c = are.cursors u table own c n t g e in record {
+            long = was.long;
+            from = λ k at cell f h i. subst (λ (n : ℕ). IsFrom table.stores.items (order_of cell n) at)
+                (after_agrees done p old new cell u here a) (was.from k at cell f h i);
+          };
+    }
+
 -- the next deed is taken
-pub taken : (done : Deeds) (count p here place : ℕ) (deed : Deed) (old new : Sightings)
-    → slice_get (done p) here ≡ Some deed → (r : IsReading done count p here old)
-    → Some place ≡ choice_for done count p here r.chosen (Some deed)
-    → ((source : Source) → source p here ≡ place → AreSightings done source p here old
-    → AreSightings done source p (suc here) new)
-    → IsReading done count p (suc here) new
-taken done count p here place deed old new e r c noted =
+pub taken : (done : Deeds) (rows : Rows) (p here place : ℕ) (deed : Deed) (old new : Sightings)
+    → slice_get (done p) here ≡ Some deed → (r : IsReading done rows p here old)
+    → Some place ≡ choice_for done (length rows.tables.items) p here r.chosen (Some deed)
+    → ((source : Source) → source p here ≡ place
+    → AreSightings done source rows.tables.items rows.groups.items rows.cells.numbers.items p here old
+    → AreSightings done source rows.tables.items rows.groups.items rows.cells.numbers.items p (suc here) new)
+    → IsReading done rows p (suc here) new
+taken done rows p here place deed old new e r c noted =
     let long = r.long in
-    let longer : List ℕ = r.chosen ++ place ∷ [] in
-    let a = equal_agree done p (source_of r.chosen) (source_of (r.chosen ++ place ∷ [])) here
-    (λ i l. sym (index_kept r.chosen place i (omega arith))) in
-    let old_sighted : AreSightings done (source_of r.chosen) p here old = r.sighted in
-    let sighted : AreSightings done (source_of (r.chosen ++ place ∷ [])) p here old = record {
-      latests = λ cell f. old_sighted.latests cell f
-          ∙ latest_agrees done p (source_of r.chosen) (source_of (r.chosen ++ place ∷ [])) cell here a;
-      lasts = λ cell w f l. old_sighted.lasts cell w f l
-          ∙ after_agrees done p (source_of r.chosen) (source_of (r.chosen ++ place ∷ [])) cell w here a;
-    } in
     let grown = length_with r.chosen place in record {
       chosen = r.chosen ++ place ∷ [];
       long = omega arith;
-      is = ap (λ (o : Option (List ℕ)). next_choice done count p here o) r.is
-          ∙ ap (λ (o : Option Deed). with_choice r.chosen (choice_for done count p here r.chosen o)) e
+      is = ap (λ (o : Option (List ℕ)). next_choice done (length rows.tables.items) p here o) r.is
+          ∙ ap (λ (o : Option Deed). with_choice r.chosen (choice_for done (length rows.tables.items) p here r.chosen o)) e
           ∙ ap (λ (o : Option ℕ). with_choice r.chosen o) (sym c);
       sighted = noted (source_of (r.chosen ++ place ∷ []))
-          (ap (λ (n : ℕ). slice_index_or (r.chosen ++ place ∷ []) n 0) (sym long) ∙ index_last r.chosen place) sighted;
+          (ap (λ (n : ℕ). slice_index_or (r.chosen ++ place ∷ []) n 0) (sym long) ∙ index_last r.chosen place)
+          (resourced done p here (source_of r.chosen) (source_of (r.chosen ++ place ∷ [])) _ _ _ old
+          (λ i l. sym (index_kept r.chosen place i (omega arith))) r.sighted);
     }
 
+pub not_taken : (done : Deeds) (rows : Rows) (p here : ℕ) (deed : Deed) (old : Sightings) → slice_get (done p) here ≡ Some deed
+    → (r : IsReading done rows p here old) → None ≡ choice_for done (length rows.tables.items) p here r.chosen (Some deed)
+    → choices done (length rows.tables.items) p (suc here) ≡ None
+not_taken done rows p here deed old e r c =
+    ap (λ (o : Option (List ℕ)). next_choice done (length rows.tables.items) p here o) r.is
+    ∙ ap (λ (o : Option Deed). with_choice r.chosen (choice_for done (length rows.tables.items) p here r.chosen o)) e
+    ∙ ap (λ (o : Option ℕ). with_choice r.chosen o) (sym c)
+
 -- what taking a deed tells, of a reader of this process
-pub taken_at : (done : Deeds) (count p q here next : ℕ) (right : Bool) (deed : Deed) (old new : Sightings) → q ≡ p
-    → next ≡ suc here → slice_get (done p) here ≡ Some deed → IsReading done count p here old
-    → (slice_get (done q) here ≡ Some deed → IsReading done count q here old
-    → MatchBool right (IsReading done count q (suc here) new) (choices done count q (suc here) ≡ None))
-    → MatchBool right (IsReading done count p next new) (choices done count p next ≡ None)
-taken_at done count p q here next right deed old new e n at r f =
-    subst (λ (k : ℕ). MatchBool right (IsReading done count p k new) (choices done count p k ≡ None)) (sym n)
-    (subst (λ (u : ℕ). slice_get (done u) here ≡ Some deed → IsReading done count u here old
-    → MatchBool right (IsReading done count u (suc here) new) (choices done count u (suc here) ≡ None)) e f at r)
+pub taken_at : (done : Deeds) (rows : Rows) (p q here next : ℕ) (right : Bool) (deed : Deed) (old new : Sightings) → q ≡ p
+    → next ≡ suc here → slice_get (done p) here ≡ Some deed → IsReading done rows p here old
+    → (slice_get (done q) here ≡ Some deed → IsReading done rows q here old
+    → MatchBool right (IsReading done rows q (suc here) new) (choices done (length rows.tables.items) q (suc here) ≡ None))
+    → MatchBool right (IsReading done rows p next new) (choices done (length rows.tables.items) p next ≡ None)
+taken_at done rows p q here next right deed old new e n at r f =
+    subst (λ (k : ℕ). MatchBool right (IsReading done rows p k new) (choices done (length rows.tables.items) p k ≡ None)) (sym n)
+    (subst (λ (u : ℕ). slice_get (done u) here ≡ Some deed → IsReading done rows u here old
+    → MatchBool right (IsReading done rows u (suc here) new) (choices done (length rows.tables.items) u (suc here) ≡ None)) e f at r)
 
 pub matched : (b : Bool) (A B : Type 0) → b ≡ true → MatchBool b A B → A
 matched true A B e m = m
@@ -320,15 +343,14 @@ pub unmatched : (b : Bool) (A B : Type 0) → b ≡ false → MatchBool b A B �
 unmatched true A B e m = absurd cc
 unmatched false A B e m = m
 
-pub wrong_here : (done : Deeds) (count tables p here : ℕ) (deed : Deed) (old : Sightings) → tables ≡ count
-    → slice_get (done p) here ≡ Some deed → IsReading done tables p here old → choices done tables p (suc here) ≡ None
-    → IsWrong done count p here
-wrong_here done count tables p here deed old e at r none =
-    subst (λ (n : ℕ). IsWrong done n p here) e (record {
-      within = slice_get_within (done p) here deed at;
-      chosen = some_chosen (choices done tables p here) r.chosen r.is;
-      wrong = none;
-    })
-  where
-    some_chosen : (o : Option (List ℕ)) (x : List ℕ) → o ≡ Some x → IsSome o
-    some_chosen o x h = subst (λ (y : Option (List ℕ)). IsSome y) (sym h) refl
+pub some_chosen : (o : Option (List ℕ)) (x : List ℕ) → o ≡ Some x → IsSome o
+some_chosen o x h = subst (λ (y : Option (List ℕ)). IsSome y) (sym h) refl
+
+pub wrong_here : (done : Deeds) (rows : Rows) (p here : ℕ) (deed : Deed) (old : Sightings)
+    → slice_get (done p) here ≡ Some deed → IsReading done rows p here old
+    → choices done (length rows.tables.items) p (suc here) ≡ None → IsWrong done (length rows.tables.items) p here
+wrong_here done rows p here deed old at r none = record {
+  within = slice_get_within (done p) here deed at;
+  chosen = some_chosen (choices done (length rows.tables.items) p here) r.chosen r.is;
+  wrong = none;
+}

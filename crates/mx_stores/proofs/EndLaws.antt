@@ -51,12 +51,12 @@ until_same done u storer place cell e =
     (sym (picks (u == storer) None (overwritten cell (since (done storer) place) (done u)) e))
 
 -- lists that are pushed to or written to
-pushed_before : {A : Type 0} (xs : List A) (x y : A) (k : ℕ) → slice_get xs k ≡ Some y → slice_get (xs ++ x ∷ []) k ≡ Some y
+pub pushed_before : {A : Type 0} (xs : List A) (x y : A) (k : ℕ) → slice_get xs k ≡ Some y → slice_get (xs ++ x ∷ []) k ≡ Some y
 pushed_before [] x y k e = none_some y e
 pushed_before (z ∷ xs) x y zero e = e
 pushed_before (z ∷ xs) x y (suc k) e = pushed_before xs x y k e
 
-pushed_last : {A : Type 0} (xs : List A) (x : A) → slice_get (xs ++ x ∷ []) (length xs) ≡ Some x
+pub pushed_last : {A : Type 0} (xs : List A) (x : A) → slice_get (xs ++ x ∷ []) (length xs) ≡ Some x
 pushed_last [] x = refl
 pushed_last (z ∷ xs) x = pushed_last xs x
 
@@ -68,12 +68,12 @@ longer {A = A} xs pushed x n p long = ap (λ (l : List A). length l) p ∙ grown
     grown [] = refl
     grown (y ∷ l) = let g = grown l in omega arith
 
-set_here : {A : Type 0} (xs : List A) (i : ℕ) (x : A) → i < length xs → slice_get (slice_set xs i x) i ≡ Some x
+pub set_here : {A : Type 0} (xs : List A) (i : ℕ) (x : A) → i < length xs → slice_get (slice_set xs i x) i ≡ Some x
 set_here [] i x l = absurd (omega arith)
 set_here (z ∷ xs) zero x l = refl
 set_here (z ∷ xs) (suc i) x l = set_here xs i x (omega arith)
 
-set_other : {A : Type 0} (xs : List A) (i k : ℕ) (x : A) → (k ≡ i → ⊥) → slice_get (slice_set xs i x) k ≡ slice_get xs k
+pub set_other : {A : Type 0} (xs : List A) (i k : ℕ) (x : A) → (k ≡ i → ⊥) → slice_get (slice_set xs i x) k ≡ slice_get xs k
 set_other [] i k x n = refl
 set_other (z ∷ xs) zero zero x n = absurd (n refl)
 set_other (z ∷ xs) zero (suc k) x n = refl

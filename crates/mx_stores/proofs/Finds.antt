@@ -81,6 +81,37 @@ module _ (deeds : List Deed) (ts : List Store) (stores : AreStores deeds 0 ts)
       (subst (λ (x : Store). (slice_index_or ts j s).order ≤ x.order) (get_or_from_slice_get ts k t s f)
       (sorted j k s l within))
 
+  places : (a b i j : ℕ) → a * 18446744073709551616 + i ≡ b * 18446744073709551616 + j → i < 18446744073709551616
+      → j < 18446744073709551616 → i ≡ j
+  places a b i j e l m = omega arith
+
+  -- each store is before all that stand after it
+  pub strict : (j k : ℕ) (s t : Store) → j < k → slice_get ts j ≡ Some s → slice_get ts k ≡ Some t → s.order < t.order
+  strict j k s t l e f =
+      let o : IsStoreOf deeds s = of j s e in
+      let p : IsStoreOf deeds t = of k t f in
+      let up = rises j k s t (omega arith) e f in
+      let so = o.ordered in
+      let to = p.ordered in
+      elim (cases_eq s.order t.order) [
+        | inr other ↦ omega arith
+        | inl same ↦
+            let place : s.place ≡ t.place =
+            places (number_of s.cell) (number_of t.cell) s.place t.place (sym so ∙ same ∙ to) o.fits_place p.fits_place in
+            let at = stores.apart j k s t e f place in absurd (omega arith)
+      ]
+
+  -- where a store stands, and where it is passed
+  pub stands_from : (k : ℕ) (s : Store) → slice_get ts k ≡ Some s → IsFrom ts s.order k
+  stands_from k s e =
+      record { below = λ j t l f. strict j k t s l f e; from = λ j t l f. rises k j s t l e f }
+
+  pub stands_after : (k : ℕ) (s : Store) → slice_get ts k ≡ Some s → IsFrom ts (suc s.order) (suc k)
+  stands_after k s e = record {
+    below = λ j t l f. let up = rises j k t s (omega arith) f e in omega arith;
+    from = λ j t l f. let up = strict k j s t (omega arith) e f in omega arith;
+  }
+
   pub find : (i : ℕ) (cell : CellUse) (value point : ℕ) → slice_get deeds i ≡ Some (Stores cell value point)
       → IsFound ts i cell value point
   find i cell value point e =

@@ -12,3 +12,9 @@ mod Tables
 mod Finds
 mod Choosing
 mod EndLaws
+mod Grouping
+mod FirstLaws
+mod Noting
+mod Unstored
+mod CellLaws
+mod Placing

@@ -43,7 +43,7 @@ none_some x h = absurd cc
 pub some_same : {A : Type 0} (x y : A) → Some x ≡ Some y → x ≡ y
 some_same x y h = cc
 
-some_sighted : (b : Bool) (x s : Sighted) → (if b then Some x else None) ≡ Some s → (b ≡ true) × (x ≡ s)
+pub some_sighted : (b : Bool) (x s : Sighted) → (if b then Some x else None) ≡ Some s → (b ≡ true) × (x ≡ s)
 some_sighted true x s h = (refl, some_same x s h)
 some_sighted false x s h = none_some s h
 

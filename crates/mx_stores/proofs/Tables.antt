@@ -1,9 +1,10 @@
 -- Tables of stores: what the searches in them find.
-use Rattle.std.proofs.Common.{◌≡◌, ◌⊎◌, inl, inr, ℕ, zero, suc, ◌+◌, ◌<◌, ◌≤◌, max, true, false, leb, ltb, List, [], ◌∷◌, ◌++◌, drop, length, Option, Some, None, refl, ap, sym, ◌∙◌, subst, arith}
-use Rattle.std.specs.List.{slice_get, slice_index_or, Contains}
+use Rattle.std.proofs.Common.{◌≡◌, ◌⊎◌, inl, inr, ℕ, zero, suc, ◌+◌, ◌<◌, ◌≤◌, max, ◌==◌, Bool, true, false, ltb, List, [], ◌∷◌, ◌++◌, drop, length, Option, Some, None, refl, ap, sym, ◌∙◌, subst, arith}
+use Rattle.std.specs.List.{slice_get, slice_index_or, Contains, IsDistinct}
 use Rattle.std.specs.List.Sorted.{IsNonDecreasingBy, IsPartitionPoint, IsPermutation}
 use Rattle.std.proofs.lemmas.Option.{slice_get_within, slice_get-get_or, get_or_from_slice_get}
-use Rattle.std.proofs.lemmas.Bool.{cases_eq, cases_lt, leb-true, leb-false, ltb-true, ltb-false}
+use Rattle.std.proofs.lemmas.Bool.{cases_Bool, cases_eq, cases_lt, eqb-true, ltb-true, ltb-false}
+use Rattle.std.proofs.lemmas.Map.Keys.{IsDistinct-IsPermutation, IsDistinct-from_apart, apart_from_distinct}
 use Rattle.std.proofs.lemmas.List.Elements.{Contains-push, Contains-push_cases, Contains-append_left}
 use Rattle.std.proofs.lemmas.List.Sorted.{Contains-permutation, IsPermutation-sym}
 use Rattle.std.proofs.Math.Nat.{le-max_left, le-max_right, max-eq_left, max_comm}
@@ -11,7 +12,7 @@ use Rattle.mx_reads.specs.Deeds.{CellUse, Deed, Stores}
 use Rattle.mx_stores.specs.Parts.{deeds_of}
 use Rattle.mx_stores.specs.Since.{entry_of, least_entry, since}
 use Rattle.mx_stores.specs.Least.{least}
-use Rattle.mx_stores.specs.Tables.{AreLower, AreReaches, AreStores, HasLevel, HasStore, IsFrom, IsLevelFrom, IsNoStore, IsReachFrom, IsStoreHere, IsStoreOf, IsTable}
+use Rattle.mx_stores.specs.Tables.{AreApart, AreLower, AreReaches, AreStores, HasLevel, HasStore, IsFrom, IsLevelFrom, IsNoStore, IsReachFrom, IsStoreHere, IsStoreOf, IsTable}
 use Rattle.mx_stores.specs.declared.stores.Store.{Store}
 use Rattle.mx_stores.specs.declared.stores.Table.{Table}
 use Rattle.mx_stores.proofs.SightedLaws.{none_some, some_same}
@@ -43,6 +44,8 @@ no_store deed cell value point n e = subst (λ (d : Deed). IsNoStore d) e n
 pub skipped : (deeds : List Deed) (place : ℕ) (deed : Deed) (stores : List Store) → slice_get deeds place ≡ Some deed
     → IsNoStore deed → AreStores deeds (suc place) stores → AreStores deeds place stores
 skipped deeds place deed stores e n a = record {
+  after = λ s c. let l = a.after s c in omega arith;
+  apart = a.apart;
   each = a.each;
   whole = λ at cell value point l h. elim (cases_eq place at) [
     | inl same ↦ absurd (no_store deed cell value point n
@@ -54,8 +57,32 @@ skipped deeds place deed stores e n a = record {
 pub added : (deeds : List Deed) (place : ℕ) (deed : Deed) (from : Option ℕ) (s : Store) (stores : List Store)
     → slice_get deeds place ≡ Some deed → from ≡ since deeds place → IsStoreHere deed place from s
     → AreStores deeds (suc place) stores → AreStores deeds place (stores ++ s ∷ [])
-added deeds place deed from s stores e f h a = record { each = each; whole = whole }
+added deeds place deed from s stores e f h a = record { after = after; apart = apart; each = each; whole = whole }
   where
+    after : (t : Store) → Contains (stores ++ s ∷ []) t → place ≤ t.place
+    after t c = elim (Contains-push_cases stores s t c) [
+      | inl before ↦ let l = a.after t before in omega arith
+      | inr same ↦
+          let at : t.place ≡ place = ap (λ (x : Store). x.place) (sym same) ∙ h.at in omega arith
+    ]
+
+    later : (j : ℕ) (t u : Store) → slice_get stores j ≡ Some t → s ≡ u → t.place ≡ u.place → ⊥
+    later j t u e same f =
+        let l : suc place ≤ t.place = a.after t (held stores j t e) in
+        let at : u.place ≡ place = ap (λ (x : Store). x.place) (sym same) ∙ h.at in omega arith
+
+    apart : AreApart (stores ++ s ∷ [])
+    apart j k t u e f same = elim (get_pushed stores s t j e) [
+      | inl old ↦ elim (get_pushed stores s u k f) [
+        | inl older ↦ a.apart j k t u old older same
+        | inr new ↦ absurd (later j t u old new.1 same)
+      ]
+      | inr new ↦ elim (get_pushed stores s u k f) [
+        | inl older ↦ absurd (later k u t older new.1 (sym same))
+        | inr again ↦ new.0 ∙ sym again.0
+      ]
+    ]
+
     own : IsStoreOf deeds s
     own = record {
       stored = ap (λ (i : ℕ). slice_get deeds i) h.at ∙ e ∙ ap (λ (d : Deed). Some d) h.stored;
@@ -84,14 +111,61 @@ added deeds place deed from s stores e f h a = record { each = each; whole = who
 
 pub no_stores : (deeds : List Deed) → AreStores deeds (length deeds) []
 no_stores deeds = record {
+  after = λ s c. let l = c.1 in absurd (omega arith);
+  apart = λ j k s t e f same. none_some s e;
   each = λ s c. let l = c.1 in absurd (omega arith);
   whole = λ at cell value point l e.
       let within = slice_get_within deeds at (Stores cell value point) e in absurd (omega arith);
 }
 
+-- whether two stores have one place
+abbrev at_once : Store → Store → Bool
+at_once s t = s.place == t.place
+
+at_once_flips : (s t : Store) → at_once s t ≡ at_once t s
+at_once_flips s t = grind arith
+
+not_at_once : (s t : Store) → (s.place ≡ t.place → ⊥) → at_once s t ≡ false
+not_at_once s t n = elim (cases_Bool (s.place == t.place)) [
+  | inl e ↦ absurd (n (eqb-true s.place t.place e))
+  | inr e ↦ e
+]
+
+at_two : (s t : Store) → at_once s t ≡ false → s.place ≡ t.place → ⊥
+at_two s t e same = grind arith
+
+distinct_apart : (xs : List Store) → AreApart xs → IsDistinct at_once xs
+distinct_apart xs a = IsDistinct-from_apart at_once xs (λ i j d l m.
+    not_at_once (slice_index_or xs i d) (slice_index_or xs j d) (λ same.
+    let e = a i j (slice_index_or xs i d) (slice_index_or xs j d) (slice_get-get_or xs i d (omega arith))
+    (slice_get-get_or xs j d m) same in omega arith))
+
+apart_distinct : (xs : List Store) → IsDistinct at_once xs → AreApart xs
+apart_distinct xs d j k s t e f same =
+    let jl = slice_get_within xs j s e in
+    let kl = slice_get_within xs k t f in
+    elim (cases_eq j k) [
+      | inl here ↦ here
+      | inr other ↦ elim (cases_lt j k) [
+        | inl l ↦ absurd (at_two s t (two j k s t s l kl (get_or_from_slice_get xs j s s e) (get_or_from_slice_get xs k t s f)) same)
+        | inr l ↦ absurd (at_two t s (two k j t s s (omega arith) jl (get_or_from_slice_get xs k t s f) (get_or_from_slice_get xs j s s e)) (sym same))
+      ]
+    ]
+  where
+    two : (i n : ℕ) (a b d' : Store) → i < n → n < length xs → slice_index_or xs i d' ≡ a → slice_index_or xs n d' ≡ b
+        → at_once a b ≡ false
+    two i n a b d' l m g h = subst (λ (x : Store). at_once x b ≡ false) g
+        (subst (λ (x : Store). at_once (slice_index_or xs i d') x ≡ false) h (apart_from_distinct at_once xs i n d' d l m))
+
+pub apart_sorted : (xs ys : List Store) → IsPermutation xs ys → AreApart xs → AreApart ys
+apart_sorted xs ys p a =
+    apart_distinct ys (IsDistinct-IsPermutation at_once at_once_flips xs ys p (distinct_apart xs a))
+
 pub sorted_stores : (deeds : List Deed) (xs ys : List Store) → IsPermutation xs ys → AreStores deeds 0 xs
     → AreStores deeds 0 ys
 sorted_stores deeds xs ys p a = record {
+  after = λ s c. a.after s (Contains-permutation ys xs s (IsPermutation-sym xs ys p) c);
+  apart = apart_sorted xs ys p a.apart;
   each = λ s c. a.each s (Contains-permutation ys xs s (IsPermutation-sym xs ys p) c);
   whole = λ at cell value point l e.
       let has : HasStore xs at = a.whole at cell value point l e in
@@ -190,16 +264,6 @@ order_point stores order k point = record {
       (ltb-true _ _ (point.0 j s (omega arith) l));
   from = λ j s l e. subst (λ (t : Store). order ≤ t.order) (get_or_from_slice_get stores j s s e)
       (ltb-false _ _ (point.1 j s l (slice_get_within stores j s e)));
-}
-
-pub after_point : (stores : List Store) (order k : ℕ)
-    → IsPartitionPoint (λ (s : Store). leb s.order order ≡ true) (λ (s : Store). leb s.order order ≡ false) stores k
-    → IsFrom stores (suc order) k
-after_point stores order k point = record {
-  below = λ j s l e. let at = leb-true _ _ (point.0 j s (omega arith) l) in
-      subst (λ (t : Store). t.order < suc order) (get_or_from_slice_get stores j s s e) (omega arith);
-  from = λ j s l e. subst (λ (t : Store). suc order ≤ t.order) (get_or_from_slice_get stores j s s e)
-      (leb-false _ _ (point.1 j s l (slice_get_within stores j s e)));
 }
 
 -- the greatest levels up to the stores never fall

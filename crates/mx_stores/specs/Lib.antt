@@ -15,3 +15,7 @@ pub mod Tables
 pub mod Sights
 pub mod SightedTables
 pub mod Ends
+pub mod Cells
+pub mod Groups
+pub mod Rows
+pub mod Placed

@@ -54,8 +54,15 @@ pub record HasStore (stores : List Store) (place : ℕ) : Type 0 where
   pub is_in : Contains stores store
   pub there : store.place ≡ place
 
--- all stores among the deeds from a place on, and nothing else
+-- no two stores have one place
+abbrev pub AreApart : List Store → Type 0
+AreApart stores = (j k : ℕ) (s t : Store) → slice_get stores j ≡ Some s → slice_get stores k ≡ Some t
+    → s.place ≡ t.place → j ≡ k
+
+-- all stores among the deeds from a place on, each once, and nothing else
 pub record AreStores (deeds : List Deed) (from : ℕ) (stores : List Store) : Type 0 where
+  pub after : (s : Store) → Contains stores s → from ≤ s.place
+  pub apart : AreApart stores
   pub each : (s : Store) → Contains stores s → IsStoreOf deeds s
   pub whole : (place : ℕ) (cell : CellUse) (value point : ℕ) → from ≤ place
       → slice_get deeds place ≡ Some (Stores cell value point) → HasStore stores place

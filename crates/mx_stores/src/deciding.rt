@@ -1,40 +1,85 @@
 //! The reads of all processes, decided in order: the first deed at which the read rule fails.
 
 ghost use Rattle.std.specs.Prelude.{◌≡◌, ◌↔◌, length, IfOk, IsSome, IsTrue, MatchOption};
+ghost use Rattle.mx_reads.specs.Deeds.{Deeds};
 ghost use Rattle.mx_reads.specs.ReadRule.{AreRightReads};
 ghost use Rattle.mx_stores.specs.Breach.{IsBreach};
 ghost use Rattle.mx_stores.specs.Deciding.{IsWrong, choices};
-ghost use Rattle.mx_stores.specs.Ends.{AreEnds};
 ghost use Rattle.mx_stores.specs.Known.{IsKnown};
 ghost use Rattle.mx_stores.specs.Parts.{deeds_of};
-ghost use Rattle.mx_stores.specs.Tables.{ArePartTables};
+ghost use Rattle.mx_stores.specs.Rows.{AreRows};
+ghost use Rattle.mx_stores.specs.StoreLaws.{AreBelow};
 
 use crate::deeds::Deed;
-use crate::ends::{Ends, ends_of};
 use crate::numbers::part_of;
 use crate::reader::Reader;
-use crate::stores::{Table, tables_of};
+use crate::rows::Rows;
 use mx_list::Sequence;
 use std::alloc::{AllocError, Global};
+use std::marker::Model;
 
-// The first place at which a read of process `p` is wrong, if any is.
-fn wrong_place(
+// The first place at which a read of process `p` is wrong, if any is, where its deeds are these.
+fn first_wrong(
     alloc: Global,
-    tables: &[Table],
-    ends: &[Ends],
-    parts: &[Sequence<Deed>],
+    rows: &Rows,
+    deeds: &[Deed],
     p: usize,
 ) -> Result<Option<usize>, AllocError>
-    ensures { IfOk result (λ found. ArePartTables parts.now tables.now → AreEnds (deeds_of parts.now) tables.now ends.now → MatchOption found (IsSome (choices (deeds_of parts.now) (length parts.now) p (length (deeds_of parts.now p)))) (IsWrong (deeds_of parts.now) (length parts.now) p)) }
+    ensures { IfOk result (λ found. (done : Deeds) → AreRows done rows.now → AreBelow (length rows.now.tables.items) done → done p ≡ deeds.now
+        → MatchOption found (IsSome (choices done (length rows.now.tables.items) p (length deeds.now))) (IsWrong done (length rows.now.tables.items) p)) }
 {
-    let deeds = part_of(parts, p);
-    let mut reader = Reader::new(alloc, p);
+    let mut reader = Reader::new(alloc, rows, p)?;
     for here in 0..deeds.len() {
-        if !reader.take(tables, ends, here, &deeds[here])? {
+        if !reader.take(rows, here, &deeds[here]) {
             return Ok(Some(here));
         }
     }
     Ok(None)
+}
+
+/// The stores of all processes, made once for the reads of each: then the reads of one are decided apart from those of the
+/// others.
+#[derive(Debug, Drop)]
+pub struct Stores<'a> {
+    parts: &'a [Sequence<Deed>],
+    rows: Rows,
+}
+
+impl<'a> Model for Stores<'a> {
+    ghost use Rattle.std.specs.Prelude.{List};
+    ghost use Rattle.mx_reads.specs.Deeds.{Deed as DeedValue};
+    ghost use Rattle.mx_stores.specs.Rows.{ArePartRows};
+
+    ghost Value = { List (List DeedValue) };
+
+    ghost view = { λ a. a.parts.now };
+
+    ghost invariant = { λ a. ArePartRows a.parts.now a.rows };
+}
+
+impl<'a> Stores<'a> {
+    /// The stores of process 0, 1, .., which did what the parts say, each in this order.
+    ///
+    /// # Errors
+    ///
+    /// Want of memory.
+    pub fn new(alloc: Global, parts: &'a [Sequence<Deed>]) -> Result<Stores<'a>, AllocError>
+        ensures { IfOk result (λ stores. stores ≡ parts.now) }
+    {
+        let rows = Rows::new(alloc, parts)?;
+        Ok(Stores { parts, rows })
+    }
+
+    /// The first place at which a read of process `p` is wrong, if any is.
+    ///
+    /// # Errors
+    ///
+    /// Want of memory.
+    pub fn first_wrong(&self, alloc: Global, p: usize) -> Result<Option<usize>, AllocError>
+        ensures { IfOk result (λ found. MatchOption found (IsSome (choices (deeds_of self.now) (length self.now) p (length (deeds_of self.now p)))) (IsWrong (deeds_of self.now) (length self.now) p)) }
+    {
+        first_wrong(alloc, &self.rows, part_of(self.parts, p), p)
+    }
 }
 
 /// The first deed at which the read rule fails.
@@ -55,10 +100,9 @@ pub struct Breach {
 pub fn first_breach(alloc: Global, parts: &[Sequence<Deed>]) -> Result<Option<Breach>, AllocError>
     ensures { IfOk result (λ found. MatchOption found (AreRightReads (deeds_of parts.now) (IsKnown (deeds_of parts.now))) (λ breach. IsBreach (deeds_of parts.now) breach.process breach.place)) }
 {
-    let tables = tables_of(alloc, parts)?;
-    let ends = ends_of(alloc, tables.as_slice())?;
+    let stores = Stores::new(alloc, parts)?;
     for p in 0..parts.len() {
-        if let Some(place) = wrong_place(alloc, tables.as_slice(), ends.as_slice(), parts, p)? {
+        if let Some(place) = stores.first_wrong(alloc, p)? {
             return Ok(Some(Breach { process: p, place }));
         }
     }

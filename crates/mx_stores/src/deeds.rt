@@ -40,6 +40,17 @@ impl CellUse {
         self.cell == other.cell && self.since == other.since
     }
 
+    /// The cell in the use of this number.
+    pub(crate) fn of_number(number: u64) -> CellUse
+        ensures number { number_of result ≡ number }
+        ensures fits { result.since < 4294967296 }
+    {
+        CellUse {
+            cell: (number / 4_294_967_296) as u32,
+            since: (number % 4_294_967_296) as u32,
+        }
+    }
+
     /// Its number among all cells in all uses.
     pub(crate) fn number(&self) -> u64
         ensures number { result ≡ number_of self.now }

@@ -10,18 +10,22 @@
 //! no other choice is right; since that place never falls, a process goes over each other's stores in a cell once.
 #![tactic(auto)]
 
+mod cells;
 mod deciding;
 mod deeds;
 mod ends;
+mod firsts;
+mod groups;
 mod laws;
 mod numbers;
 mod reader;
+mod rows;
 mod sightings;
 mod stores;
 #[cfg(test)]
 mod tests;
 
-pub use deciding::{Breach, are_reads_right, first_breach};
+pub use deciding::{Breach, Stores, are_reads_right, first_breach};
 pub use deeds::{CellUse, Deed, Form, Read};
 pub use laws::{
     beyond_law, choice_law, first_law, known_law, one_breach_law, right_reads_law, right_to_law,

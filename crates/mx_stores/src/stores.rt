@@ -2,7 +2,6 @@
 
 ghost use Rattle.std.specs.Prelude.{◌≡◌, ◌≤◌, ◌<◌, suc, drop, IfOk, IsTrue, List, Some, option_map, slice_get, length};
 ghost use Rattle.mx_reads.specs.Deeds.{Deed as DeedValue, Deeds};
-ghost use Rattle.mx_stores.specs.Since.{first, least_since};
 ghost use Rattle.mx_stores.specs.Until.{overwritten, replaced};
 ghost use Rattle.mx_stores.specs.Tables.{before, AreLower, ArePartTables, AreReaches, AreStores, AreTables, since_of, IsFrom, IsLevelFrom, IsReachFrom, IsTable, level_of, order_of};
 
@@ -143,13 +142,6 @@ impl Table {
         self.stores.partition_point(|store| store.order < order)
     }
 
-    /// The first store in the order after this number.
-    pub(crate) fn first_after(&self, order: u128) -> usize
-        ensures { (deeds : List DeedValue) → IsTable deeds self.now → IsFrom self.now.stores.items (suc order) result }
-    {
-        self.stores.partition_point(|store| store.order <= order)
-    }
-
     /// The store that stands here.
     pub(crate) fn at(&self, here: usize) -> Option<&Store>
         ensures { option_map (λ store. store.now) result ≡ slice_get self.now.stores.items here }
@@ -176,13 +168,6 @@ impl Table {
                 None
             },
         }
-    }
-
-    /// From when on some store in the cell with a point from this one on is known.
-    pub(crate) fn least_since(&self, cell: &CellUse, from: u32) -> Option<u32>
-        ensures { (deeds : List DeedValue) → IsTable deeds self.now → result ≡ least_since cell.now from deeds }
-    {
-        self.since_at(self.first_at(level_of(cell, from)), cell)
     }
 
     // The first store in the order after this one, which stands here.
@@ -235,15 +220,4 @@ pub(crate) fn tables_of(alloc: Global, parts: &[Sequence<Deed>]) -> Result<Vec<T
         tables.push(Table::new(alloc, part.items())?)?;
     }
     Ok(tables)
-}
-
-/// From when on any store in the cell is known, by the tables of all processes.
-pub(crate) fn first(tables: &[Table], cell: &CellUse) -> Option<u32>
-    ensures { (done : Deeds) → AreTables done tables.now → result ≡ first done (length tables.now) cell.now }
-{
-    let mut first = None;
-    for storer in 0..tables.len() {
-        first = least(tables[storer].least_since(cell, 0), first);
-    }
-    first
 }

@@ -1,9 +1,9 @@
-use Rattle.std.proofs.Common.{◌≡◌, ◌≤◌, ◌<◌, ℕ, Option, Some, length, length-set, ap, ◌∙◌, rules, arith}
+use Rattle.std.proofs.Common.{◌≡◌, ◌≤◌, ◌<◌, ℕ, Option, Some, None, length, length-set, ap, ◌∙◌, rules, arith}
 use Rattle.std.specs.List.{slice_get}
 use Rattle.std.proofs.lemmas.Option.{get_or_from_slice_get}
 use Rattle.mx_stores.specs.Tables.{IsStoreOf}
 use Rattle.mx_stores.specs.Until.{overwritten, until}
-use Rattle.mx_stores.proofs.EndLaws.{AreBroughtIn, one_brought, past_ends, until_next}
+use Rattle.mx_stores.proofs.EndLaws.{AreBroughtIn, one_brought, past_ends, past_stores, until_next}
 use Rattle.mx_stores.proofs.Finds.{of}
 use Rattle.mx_stores.proofs.ends.bring_in.Goals as goal
 
@@ -33,4 +33,10 @@ pub returns : goal.returns
 returns c = λ done storer u n table other are.
     let end : length c.loop-here.ends ≤ c.loop-here.here = search rules in
     past_ends done u storer c.loop-here.here c.args.table.now.stores.items c.loop-here.ends end
+    (c.loop-here.invariant.each done storer u n table other are)
+
+pub returns-in_default : goal.returns-in_default
+returns-in_default c = λ done storer u n table other are.
+    let none : slice_get c.args.table.now.stores.items c.loop-here.here ≡ None = search rules in
+    past_stores done u storer c.loop-here.here c.args.table.now.stores.items c.loop-here.ends none
     (c.loop-here.invariant.each done storer u n table other are)

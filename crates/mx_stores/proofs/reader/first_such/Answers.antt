@@ -7,10 +7,11 @@ use Rattle.mx_stores.specs.Since.{is_same}
 use Rattle.mx_stores.specs.Tables.{IsTable}
 use Rattle.mx_stores.proofs.Choosing.{at_end, clear_next, found_here, past_cell}
 use Rattle.mx_stores.proofs.Finds.{of}
+use Rattle.mx_stores.proofs.StoresFrom.{same_told}
 use Rattle.mx_stores.proofs.reader.first_such.Goals as goal
 
-pub returns-then-not-is : goal.returns-then-not-is
-returns-then-not-is c = λ done all floor tables ends at w fits first.
+pub returns-then-not-is-clause-place : goal.returns-then-not-is-clause-place
+returns-then-not-is-clause-place c = λ done all floor tables ends at w fits first.
     let own : IsTable (done c.args.read.now.writer) c.args.table.now =
     subst (λ (u : ℕ). IsTable (done u) c.args.table.now) w (tables c.args.storer c.args.table.now at) in
     let here : slice_get c.args.table.now.stores.items c.loop-here.here ≡ Some c.in-Some.store.now = search rules in
@@ -20,8 +21,8 @@ returns-then-not-is c = λ done all floor tables ends at w fits first.
     (c.loop-here.invariant.clear done all tables ends at w) c.loop-here.invariant.from here
     (ap (λ (x : CellUse). is_same c.in-Some.store.now.cell x) (sym cell) ∙ other)
 
-pub returns-then-is_such : goal.returns-then-is_such
-returns-then-is_such c = λ done all floor tables ends at w fits first.
+pub returns-then-is_such-clause-place : goal.returns-then-is_such-clause-place
+returns-then-is_such-clause-place c = λ done all floor tables ends at w fits first.
     let own : IsTable (done c.args.read.now.writer) c.args.table.now =
     subst (λ (u : ℕ). IsTable (done u) c.args.table.now) w (tables c.args.storer c.args.table.now at) in
     let theirs : IsTable (done c.args.storer) c.args.table.now = tables c.args.storer c.args.table.now at in
@@ -47,10 +48,23 @@ loop-here-preserved c =
           (c.loop-here.invariant.clear done all tables ends at w) here fails;
     }
 
-pub returns : goal.returns
-returns c = λ done all floor tables ends at w fits first.
+pub returns-clause-place : goal.returns-clause-place
+returns-clause-place c = λ done all floor tables ends at w fits first.
     let own : IsTable (done c.args.read.now.writer) c.args.table.now =
     subst (λ (u : ℕ). IsTable (done u) c.args.table.now) w (tables c.args.storer c.args.table.now at) in
     let end : length c.args.table.now.stores.items ≤ c.loop-here.here = search rules in
     at_end done _ c.args.read.now _ own.stores own.sorted fits floor c.args.start first c.loop-here.here
     (c.loop-here.invariant.clear done all tables ends at w) (slice_get_past c.args.table.now.stores.items c.loop-here.here end)
+
+pub returns-then-is_such-clause-at : goal.returns-then-is_such-clause-at
+returns-then-is_such-clause-at c =
+    let here : slice_get c.args.table.now.stores.items c.loop-here.here ≡ Some c.in-Some.store.now = search rules in
+    let cell : c.read.inside.cell ≡ c.args.read.now.cell = search rules in
+    let same : is_same c.in-Some.store.now.cell c.read.inside.cell ≡ true = search rules in
+    record {
+      store = c.in-Some.store.now;
+      is = here;
+      there = search rules;
+      same = same_told c.in-Some.store.now.cell c.read.inside.cell same ∙ cell;
+      small = search rules;
+    }

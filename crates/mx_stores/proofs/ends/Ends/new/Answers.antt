@@ -36,3 +36,9 @@ loop-other-preserved c = λ done tables at.
           (λ here s e. old here s e
           ∙ ap (λ (o : Option ℕ). Some o) (until_same done c.loop-other.other c.args.storer s.place s.cell same))
     ])
+
+pub returns : goal.returns
+returns c = λ done tables at.
+    let end : c.loop-other.other ≡ length c.args.tables.now = search rules in
+    subst (λ (n : ℕ). AreEndsOf done n c.args.storer c.args.table.now.stores.items c.loop-other.of.items) end
+    (c.loop-other.invariant done tables at)
