@@ -1,5 +1,6 @@
 -- Helpers that only private contracts cite: how the plain supervisor goes through a journal and is asked.
-use Rattle.std.specs.Prelude.{◌≡◌, ℕ, ◌≤◌, ◌<◌, Bool, true, false, if◌then◌else◌, List, length, take, Option, Some, slice_get, slice_index_or, slice_set}
+use Rattle.std.specs.Prelude.{◌≡◌, ℕ, ◌≤◌, ◌<◌, Bool, true, false, if◌then◌else◌, List, length, take, Option, None, Some, slice_get, slice_index_or, slice_set}
+use Rattle.mx_access.specs.declared.passing.Asked.{Asked}
 use Rattle.mx_access.specs.declared.questions.Question.{Question}
 use Rattle.mx_access.specs.declared.questions.Told.{Told}
 use Rattle.mx_access.specs.declared.questions.Turn.{Turn}
@@ -33,6 +34,15 @@ pub record IsAt (session : Outline) (journal : List journaled.Entry) (at : ℕ) 
   pub state : now ≡ replay (opening_of session) (take at journal)
   pub processes : length now.processes ≡ length session.principals
   pub uses : AreUses session journal at held
+
+-- what was asked last is what this state says
+abbrev pub IsAsked : Plain → Option Asked → Type 0
+IsAsked state None = Unit {0}
+IsAsked state (Some asked) = asked.desc ≡ descriptor state asked.process asked.segno
+
+-- what is left of it at another point: what holds of it at the one holds at the other
+abbrev pub IsAskedTo : ℕ → ℕ → Option Asked → Option Asked → Type 0
+IsAskedTo at point old new = (state : ℕ → Plain) → IsAsked (state at) old → IsAsked (state point) new
 
 -- what it says there: the descriptor before, or the descriptor and the use of the word's page
 abbrev pub told_by : Plain → List ℕ → Question → Bool → Told → Told

@@ -1,7 +1,7 @@
 //! The plain supervisor goes through a journal, and is asked on the way.
 
 ghost use Rattle.std.specs.Prelude.{◌≡◌, ◌+◌, ◌^◌, ◌-◌, ◌≤◌, ◌<◌, length, IfOk, IfSome, OnOk, slice_index_or, slice_set};
-ghost use Rattle.mx_access.specs.Passing.{AreNoted, AreTold, IsAt, IsToldAt, told_by};
+ghost use Rattle.mx_access.specs.Passing.{AreNoted, AreTold, IsAsked, IsAskedTo, IsAt, IsToldAt, told_by};
 ghost use Rattle.std.specs.List.Sorted.{IsNonDecreasingBy};
 ghost use Rattle.mx_access.specs.Questions.{AreTurns, AreWithin};
 ghost use Rattle.mx_core.specs.Pages.{cell_at, page_of};
@@ -20,6 +20,14 @@ use std::alloc::{AllocError, Global};
 
 /// How many pages memory has.
 const PAGES: usize = 1024;
+
+/// The descriptor that was asked for last.
+#[derive(Clone, Copy)]
+pub(crate) struct Asked {
+    pub(crate) process: usize,
+    pub(crate) segno: u16,
+    pub(crate) desc: Desc,
+}
 
 // An entry of this number gave out a run of pages.
 fn note(uses: &mut [u32], given: &Option<PageRun>, number: u32)
@@ -94,6 +102,40 @@ fn descriptor_of<S: PlainSupervisor>(
     supervisor.descriptor(p as u8, segno)
 }
 
+// The same, taken from what was asked last where that was the same.
+fn descriptor_again<S: PlainSupervisor>(
+    supervisor: &S,
+    session: &Session,
+    latest: &mut Option<Asked>,
+    p: usize,
+    segno: u16,
+) -> Desc
+    requires processes { length (S.state supervisor.now).processes ≡ length session.now.principals }
+    requires latest { IsAsked (S.state supervisor.now) latest.old }
+    ensures desc { result ≡ descriptor (S.state supervisor.now) p segno }
+    ensures latest { IsAsked (S.state supervisor.now) latest.new }
+{
+    if let Some(asked) = latest {
+        if asked.process == p && asked.segno == segno {
+            return asked.desc;
+        }
+    }
+    let desc = descriptor_of(supervisor, session, p, segno);
+    *latest = Some(Asked {
+        process: p,
+        segno,
+        desc,
+    });
+    desc
+}
+
+// What was asked last is of use at another point only where that is the same.
+fn asked_at(latest: Option<Asked>, at: u32, point: u32) -> Option<Asked>
+    ensures { IsAskedTo at point latest result }
+{
+    if at == point { latest } else { None }
+}
+
 // The entry that gave out the page of a word last.
 fn since_of(uses: &[u32], desc: &Desc, word: u16) -> u32
     ensures { result ≡ slice_index_or uses.now (page_of (cell_at desc.now word)) 0 }
@@ -110,14 +152,23 @@ fn told<S: PlainSupervisor>(
     supervisor: &S,
     uses: &[u32],
     session: &Session,
+    latest: &mut Option<Asked>,
     question: &Question,
     is_before: bool,
     told: &Told,
 ) -> Told
-    requires { length (S.state supervisor.now).processes ≡ length session.now.principals }
-    ensures { result ≡ told_by (S.state supervisor.now) uses.now question.now is_before told.now }
+    requires processes { length (S.state supervisor.now).processes ≡ length session.now.principals }
+    requires latest { IsAsked (S.state supervisor.now) latest.old }
+    ensures told { result ≡ told_by (S.state supervisor.now) uses.now question.now is_before told.now }
+    ensures latest { IsAsked (S.state supervisor.now) latest.new }
 {
-    let desc = descriptor_of(supervisor, session, question.process, question.segno);
+    let desc = descriptor_again(
+        supervisor,
+        session,
+        latest,
+        question.process,
+        question.segno,
+    );
     if is_before {
         Told {
             before: desc,
@@ -138,6 +189,7 @@ fn tell<S: PlainSupervisor>(
     supervisor: &S,
     uses: &[u32],
     session: &Session,
+    latest: &mut Option<Asked>,
     questions: &[Question],
     turn: &Turn,
     answers: &mut [Told],
@@ -145,12 +197,15 @@ fn tell<S: PlainSupervisor>(
     requires processes { length (S.state supervisor.now).processes ≡ length session.now.principals }
     requires question { turn.now.at < length questions.now }
     requires answer { turn.now.at < length answers.old }
-    ensures { IsToldAt (S.state supervisor.now) uses.now questions.now turn.now answers.old answers.new }
+    requires latest { IsAsked (S.state supervisor.now) latest.old }
+    ensures told { IsToldAt (S.state supervisor.now) uses.now questions.now turn.now answers.old answers.new }
+    ensures latest { IsAsked (S.state supervisor.now) latest.new }
 {
     let answer = told(
         supervisor,
         uses,
         session,
+        latest,
         &questions[turn.at],
         turn.is_before,
         &answers[turn.at],
@@ -178,11 +233,21 @@ fn answer_turns<S: PlainSupervisor>(
     ensures { OnOk result (AreTold session.now entries.now questions.now answers.new) }
 {
     let mut at = 0u32;
+    let mut latest = None;
     for k in 0..turns.len() {
         let turn = &turns[k];
         go_to(alloc, supervisor, uses, session, entries, at, turn.point)?;
+        latest = asked_at(latest, at, turn.point);
         at = turn.point;
-        tell(supervisor, uses, session, questions, turn, answers);
+        tell(
+            supervisor,
+            uses,
+            session,
+            &mut latest,
+            questions,
+            turn,
+            answers,
+        );
     }
     Ok(())
 }

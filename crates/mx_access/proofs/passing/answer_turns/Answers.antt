@@ -1,7 +1,12 @@
-use Rattle.std.proofs.Common.{false, length, arith}
+use Rattle.std.proofs.Common.{ℕ, false, length, subst, sym, arith, rules}
+use Rattle.std.specs.Prelude.{take}
 use Rattle.std.proofs.lemmas.Option.{slice_get-get_or}
 use Rattle.std.specs.List.{slice_index_or}
 use Rattle.mx_access.specs.declared.questions.Turn.{Turn}
+use Rattle.mx_access.specs.Passing.{IsAsked}
+use Rattle.mx_state.specs.History.{replay}
+use Rattle.mx_state.specs.Plain.{Plain}
+use Rattle.mx_transcript.specs.Opened.{opening_of}
 use Rattle.mx_access.proofs.PassLaws.{all_told, none_told, not_before_next, told_more, turn_asked, turn_there, turn_within}
 use Rattle.mx_access.proofs.passing.answer_turns.Goals as goal
 
@@ -9,6 +14,7 @@ pub loop-k-init : goal.loop-k-init
 loop-k-init g c = record {
   is_at = c.requires.is_at;
   onward = λ k t after found. omega arith;
+  latest = search rules;
   told = none_told _ _ _ _ _ c.requires.long;
 }
 
@@ -27,6 +33,13 @@ go_to-requires-clause-within g c =
 
 pub tell-requires-clause-processes : goal.tell-requires-clause-processes
 tell-requires-clause-processes g c = c.in_ok-go_to.ensures.processes
+
+pub tell-requires-clause-latest : goal.tell-requires-clause-latest
+tell-requires-clause-latest g c =
+    let at : ℕ → Plain = λ k. replay (opening_of c.args.session.now) (take k c.args.entries.now) in
+    subst (λ (s : Plain). IsAsked s c.asked_at-latest.result) (sym c.in_ok-go_to.ensures.state)
+    (c.asked_at-latest.ensures at
+    (subst (λ (s : Plain). IsAsked s c.loop-k.latest) c.loop-k.invariant.is_at.state c.loop-k.invariant.latest))
 
 pub tell-requires-clause-question : goal.tell-requires-clause-question
 tell-requires-clause-question g c =
@@ -54,7 +67,8 @@ loop-k-preserved g c =
       onward = not_before_next c.args.turns.now c.loop-k.k t c.requires.ordered found;
       told = told_more _ _ c.args.questions.now c.args.turns.now c.loop-k.k t _ _ _ _ found
           (turn_there c.args.questions.now (length c.args.questions.now) c.args.turns.now c.loop-k.k none c.requires.turns c.loop-k-test.true)
-          c.in_ok-go_to.ensures c.tell.ensures c.loop-k.invariant.told;
+          c.in_ok-go_to.ensures c.tell.ensures.told c.loop-k.invariant.told;
+      latest = c.tell.ensures.latest;
     }
 
 pub returns : goal.returns

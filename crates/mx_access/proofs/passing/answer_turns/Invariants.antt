@@ -1,9 +1,10 @@
-use Rattle.mx_access.specs.Passing.{AreNotBefore, AreToldTo, IsAt}
+use Rattle.mx_access.specs.Passing.{AreNotBefore, AreToldTo, IsAsked, IsAt}
 use Rattle.mx_access.proofs.passing.answer_turns.Given as goal
 
 abbrev pub invariant-loop-k : goal.invariant-loop-k
 invariant-loop-k g l = record {
   is_at : IsAt l.session l.entries l.at (g.S.PlainSupervisor.state l.supervisor) l.uses;
   onward : AreNotBefore l.turns l.k l.at;
+  latest : IsAsked (g.S.PlainSupervisor.state l.supervisor) l.latest;
   told : AreToldTo l.session l.entries l.questions l.turns l.k l.answers;
 }
