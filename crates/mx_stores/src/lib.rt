@@ -3,11 +3,16 @@
 //!
 //! A store is known from one number on (`since`) and superseded from one on (`until`), and laws say that neither falls
 //! along the stores of one process. The stores of each process stand in a table, in order of cells and within each cell in
-//! order, with the greatest point up to each: so the first with a point from one on, the next and the last before a place
-//! are found by binary searches. From when on each store is superseded is found once, before any read: along one table what
-//! is sought in another never falls, so two tables are walked side by side. What a process has sighted of a cell is one
-//! place, from which on a store is beyond that. The store that a read stands for is the first from there that will do, and
-//! no other choice is right; since that place never falls, a process goes over each other's stores in a cell once.
+//! order, with the greatest point up to each. What is asked of all stores is found once, before any read: from when on each
+//! is superseded, and from when on any in a cell is known. Along one table or the cells what is sought in another table
+//! never falls, so the two are walked side by side. The cells are numbered once for all, and in each table it is kept where
+//! the stores in each begin.
+//!
+//! The reads of one process are then decided apart from those of the others ([`Stores`]). What a process has sighted of a
+//! cell is one place in each table, from which on a store is beyond that; these places stand in rows, by the number of the
+//! cell and its group in the table, so that no search is left. The store that a read stands for is the first from there that
+//! will do, and no other choice is right; since that place never falls, a process goes over each other's stores in a cell
+//! once.
 #![tactic(auto)]
 
 mod cells;
