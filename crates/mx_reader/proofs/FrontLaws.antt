@@ -1,5 +1,8 @@
 -- Laws of readings by fronts, and of readings that are exact.
-use Rattle.std.proofs.Common.{◌≡◌, ℕ, ◌==◌, Bool, true, false, cond, List, ◌++◌, Option, Some, None, Result, Ok, Err, refl, sym, ◌∙◌, subst}
+use Rattle.std.proofs.Common.{◌≡◌, ◌≢◌, ℕ, suc, ◌+◌, ◌-◌, ◌==◌, ◌<◌, ◌≤◌, Bool, true, false, cond, List, [], ◌∷◌, ◌++◌, length, get_or, take, drop, Option, Some, None, Result, Ok, Err, refl, sym, ◌∙◌, subst, arith, drop-cons}
+use Rattle.std.proofs.Math.Seq.{drop-length}
+use Rattle.std.proofs.lemmas.Bool.{eqb-true, eq-eqb}
+use Rattle.std.proofs.lemmas.List.{take_rest}
 use Rattle.std.specs.Cmp.Lexicographic.{pointwise}
 use Rattle.std.specs.Prelude.{IfOk, IfSome}
 use Rattle.mx_reader.specs.Exact.{IsExact}
@@ -48,3 +51,41 @@ module _ {A : Type 0} {Is : List ℕ → A → Type 0} {read : List ℕ → Opti
       → (a : A) → Is text a → IfOk result (λ told. told ≡ Some a)
   only_in text (Ok told) e a is = only text told e a is
   only_in text (Err x) e a is = tt
+
+-- a text that is shorter than a front does not begin with it
+pub none_after : (front text : List ℕ) → length text < length front → after front text ≡ None
+unfolding after
+none_after [] text e = absurd (omega (arith, e))
+none_after (f ∷ fs) [] e = refl
+none_after (f ∷ fs) (c ∷ cs) e = by_test (f == c) (none_after fs cs (omega (arith, e)))
+  where
+    by_test : (test : Bool) → after fs cs ≡ None → cond test (after fs cs) None ≡ None
+    by_test true e = e
+    by_test false e = refl
+
+-- along a front and a text, byte by byte
+pub one_along : (front text : List ℕ) (i : ℕ) → i < length front → length front ≤ length text → get_or front i 0 ≡ get_or text i 0
+    → after (drop (i + 1) front) (drop (i + 1) text) ≡ after (drop i front) (drop i text)
+unfolding after
+one_along front text i low short same =
+    let next : i + 1 ≡ suc i = omega arith in
+    let test : (get_or front i 0 == get_or text i 0) ≡ true = eq-eqb (get_or front i 0) (get_or text i 0) same in
+    rw (next, drop-cons front i 0 low, drop-cons text i 0 (omega (arith, low, short)), test) refl
+
+pub none_along : (front text : List ℕ) (i : ℕ) → i < length front → length front ≤ length text → get_or front i 0 ≢ get_or text i 0
+    → after (drop i front) (drop i text) ≡ None
+unfolding after
+none_along front text i low short other =
+    rw (drop-cons front i 0 low, drop-cons text i 0 (omega (arith, low, short)))
+    (by_test (get_or front i 0 == get_or text i 0) refl)
+  where
+    by_test : (test : Bool) → (get_or front i 0 == get_or text i 0) ≡ test
+        → cond test (after (drop (suc i) front) (drop (suc i) text)) None ≡ None
+    by_test true t = absurd (other (eqb-true (get_or front i 0) (get_or text i 0) t))
+    by_test false t = refl
+
+pub all_along : (front text : List ℕ) (i : ℕ) → length front ≡ i → length front ≤ length text
+    → after (drop i front) (drop i text) ≡ Some (take (length text - length front) (drop (length front) text))
+unfolding after
+all_along front text i end short =
+    rw (sym end, drop-length front, take_rest text (length front)) refl

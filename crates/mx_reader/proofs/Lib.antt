@@ -1,4 +1,6 @@
 pub mod FrontLaws
+pub mod NumberLaws
+pub mod HeadLaws
 pub mod FieldLaws
 pub mod NameLaws
 pub mod ReplyLaws

@@ -3,6 +3,8 @@ pub mod FirstBadLine
 pub mod Lines
 pub mod Exact
 pub mod Fields
+pub mod Numbers
+pub mod Heads
 pub mod ReadingReplies
 pub mod ReadingEvents
 pub mod ReadingEntries

@@ -113,7 +113,8 @@ impl Draft {
                 let Some(heading) = read_heading(self.transcripts.items().len() + 1, line) else {
                     return Ok(false);
                 };
-                let recording = replace(&mut self.recording, Recording::with_room(alloc, 0)?);
+                let room = Recording::with_room(alloc, self.recording.lines())?;
+                let recording = replace(&mut self.recording, room);
                 self.transcripts.push(recording.finish())?;
                 self.stage = stage_of(heading);
                 Ok(true)
@@ -170,19 +171,20 @@ fn add_entry(
 }
 
 // One more event, or the end of the line at work: whether a line is at work then. `None` where the line is neither.
+#[tactic(auto, using(crate::proofs::HeadLaws::end_first))]
 fn add_line(recording: &mut Recording, line: &[u8]) -> Result<Option<bool>, AllocError>
     ensures goes { IfOk result (λ went. Follows recording.old line.now recording.new went) }
     ensures still { OnErr result (recording.new.events ≡ recording.old.events) }
 {
-    if let Some(event) = read_any(line) {
-        recording.reserve()?;
-        recording.push(event);
-        return Ok(Some(true));
-    }
     if let Some((number, ends)) = cut_end(line) {
         recording.reserve()?;
         recording.end_line(number, ends);
         return Ok(Some(false));
+    }
+    if let Some(event) = read_any(line) {
+        recording.reserve()?;
+        recording.push(event);
+        return Ok(Some(true));
     }
     Ok(None)
 }

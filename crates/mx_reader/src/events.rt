@@ -7,10 +7,12 @@ ghost use Rattle.mx_transcript.specs.declared.transcripts.Event2.{Event2 as Even
 ghost use Rattle.mx_transcript.specs.declared.transcripts.Result2.{Result2 as ResultValue};
 
 use crate::cutting::after;
-use crate::decimals::read_line_number;
 use crate::fields::{
-    read_address, read_denial, read_entry_number, read_kind, read_process, read_ring_number,
-    read_segno, read_word,
+    read_address, read_denial, read_entry_number, read_ring_number, read_segno, read_word,
+};
+use crate::heads::{
+    cut_address, cut_entry_number, cut_kind, cut_line_number, cut_process, cut_ring_number,
+    cut_word,
 };
 use mx_name::cut;
 use mx_ptr::Pointer;
@@ -65,17 +67,17 @@ fn read_missing(text: &[u8]) -> Option<Event2>
 }
 
 // `KIND S|W ring R point K ..`
+#[inline(always)]
+#[tactic(auto, using(crate::proofs::HeadLaws::element_steps))]
 fn read_element(line: &[u8]) -> Option<Event2>
     ensures { result ≡ element_at line.now }
 {
-    let (kind, rest) = cut(b' ', line)?;
-    let kind = read_kind(kind)?;
-    let (address, rest) = cut(b' ', rest)?;
-    let (segno, word) = read_address(address)?;
-    let (ring, rest) = cut(b' ', after(b"ring ", rest)?)?;
-    let ring = read_ring_number(ring)?;
-    let (point, rest) = cut(b' ', after(b"point ", rest)?)?;
-    let point = read_entry_number(point)?;
+    let (kind, rest) = cut_kind(line)?;
+    let ((segno, word), rest) = cut_address(rest)?;
+    let Some((ring, rest)) = cut_ring_number(after(b"ring ", rest)?) else {
+        return None;
+    };
+    let (point, rest) = cut_entry_number(after(b"point ", rest)?)?;
     let outcome = read_outcome(kind, rest)?;
     Some(Event2::Core(Event::Seen(Element {
         kind,
@@ -88,6 +90,7 @@ fn read_element(line: &[u8]) -> Option<Event2>
 }
 
 // What a reference of the kind came to.
+#[inline(always)]
 fn read_outcome(kind: Kind, text: &[u8]) -> Option<Outcome>
     ensures { result ≡ outcome_at kind text.now }
 {
@@ -105,6 +108,7 @@ fn read_denied(text: &[u8]) -> Option<Outcome>
     Some(Outcome::Denied(denial))
 }
 
+#[inline(always)]
 fn read_granted(kind: Kind, text: &[u8]) -> Option<Outcome>
     ensures { result ≡ granted_at kind text.now }
 {
@@ -119,13 +123,15 @@ fn read_granted(kind: Kind, text: &[u8]) -> Option<Outcome>
 }
 
 // `word V from P stamp K`
+#[inline(always)]
+#[tactic(auto, using(crate::proofs::HeadLaws::read_steps))]
 fn read_read(text: &[u8]) -> Option<Outcome>
     ensures { result ≡ read_at text.now }
 {
-    let (value, rest) = cut(b' ', after(b"word ", text)?)?;
-    let value = read_word(value)?;
-    let (writer, rest) = cut(b' ', after(b"from ", rest)?)?;
-    let writer = read_process(writer)?;
+    let Some((value, rest)) = cut_word(after(b"word ", text)?) else {
+        return None;
+    };
+    let (writer, rest) = cut_process(after(b"from ", rest)?)?;
     let stamp = read_entry_number(after(b"stamp ", rest)?)?;
     Some(Outcome::Read {
         value,
@@ -135,6 +141,7 @@ fn read_read(text: &[u8]) -> Option<Outcome>
 }
 
 // `word V`
+#[inline(always)]
 fn read_written(text: &[u8]) -> Option<Outcome>
     ensures { result ≡ written_at text.now }
 {
@@ -151,12 +158,11 @@ fn read_entered(text: &[u8]) -> Option<Outcome>
 }
 
 // `line N RESULT`
-#[tactic(auto, unfolding(crate::specs::ReadingEvents::end_at))]
+#[tactic(auto, using(crate::proofs::HeadLaws::end_steps))]
 pub(crate) fn cut_end(line: &[u8]) -> Option<(u32, Result2)>
     ensures { result ≡ end_at line.now }
 {
-    let (number, rest) = cut(b' ', after(b"line ", line)?)?;
-    let number = read_line_number(number)?;
+    let (number, rest) = cut_line_number(after(b"line ", line)?)?;
     let ends = read_result(rest)?;
     Some((number, ends))
 }

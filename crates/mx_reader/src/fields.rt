@@ -15,13 +15,13 @@ ghost use Rattle.mx_sdw.specs.Octal.{octal_number};
 ghost use Rattle.mx_text.specs.RunText.{kind_text};
 
 use crate::cutting::after;
+use crate::numbers;
 use mx_acl::Modes;
 use mx_aim::Class;
 use mx_hier::{Names, Refusal};
 use mx_name::{EntryName, NameError, Path, PathError, Pathname, cut};
 use mx_request::{read_decimal, read_word_number};
 use mx_sdw::{Brackets, Denial, Ring, Word, read_octal_number};
-use mx_transcript::Kind;
 use std::alloc::{AllocError, Global};
 
 /// How many there are: a decimal number up to 65535.
@@ -52,7 +52,7 @@ pub(crate) fn read_segno(text: &[u8]) -> Option<u16>
 pub(crate) fn read_word(text: &[u8]) -> Option<Word>
     ensures { result ≡ word_at text.now }
 {
-    Word::new(read_octal_number(text, 12)?)
+    Word::new(numbers::read_octal(12, text)?)
 }
 
 /// How many there are, and what stands behind the blank.
@@ -288,8 +288,8 @@ pub(crate) fn read_ring_number(text: &[u8]) -> Option<Ring>
 pub(crate) fn read_entry_number(text: &[u8]) -> Option<u32>
     ensures { result ≡ entry_number_at text.now }
 {
-    let n = read_decimal(text, 6)?;
-    if n <= 262_143 { Some(n) } else { None }
+    let n = numbers::read_decimal(6, text)?;
+    if n <= 262_143 { Some(n as u32) } else { None }
 }
 
 /// `S|W`
@@ -340,45 +340,4 @@ fn denial_with(all: &[Denial], text: &[u8]) -> Option<Denial>
         }
     }
     None
-}
-
-const KINDS: [Kind; 6] = [
-    Kind::Read,
-    Kind::Ind,
-    Kind::Write,
-    Kind::Fetch,
-    Kind::Call,
-    Kind::Return,
-];
-
-/// The kind of reference that a word names.
-pub(crate) fn read_kind(text: &[u8]) -> Option<Kind>
-    ensures { result ≡ kind_at text.now }
-{
-    kind_with(&KINDS, text)
-}
-
-// The first of these kinds that has the word.
-fn kind_with(all: &[Kind], text: &[u8]) -> Option<Kind>
-    ensures { result ≡ find (λ kind. pointwise ◌==◌ text.now (kind_text kind)) all.now }
-{
-    for kind in all {
-        if text == word_of(kind).as_bytes() {
-            return Some(*kind);
-        }
-    }
-    None
-}
-
-fn word_of(kind: &Kind) -> &'static str
-    ensures { result.now ≡ kind_text kind.now }
-{
-    match kind {
-        Kind::Read => "read",
-        Kind::Ind => "ind",
-        Kind::Write => "write",
-        Kind::Fetch => "fetch",
-        Kind::Call => "call",
-        Kind::Return => "return",
-    }
 }

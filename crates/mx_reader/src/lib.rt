@@ -10,12 +10,13 @@
 #![tactic(auto)]
 
 mod cutting;
-mod decimals;
 mod drafts;
 mod entries;
 mod events;
 mod fields;
+mod heads;
 mod laws;
+mod numbers;
 mod reading;
 mod replies;
 

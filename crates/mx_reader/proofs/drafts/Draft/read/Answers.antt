@@ -16,12 +16,12 @@ returns-in_ok-push-in-Within c =
     let whole = c.in_ok-push-in-Within.ensures.ok
     ∙ ap (λ ss. d.transcripts ++ ss ∷ [])
     (c.finish.ensures ∙ ap (λ (r : Recorded). r.steps) (c.replace-recording.ensures.value ∙ follows.1)) in
-    let anew = c.in_ok-with_room-in-Within in
+    let anew = c.in_ok-room-in-Within in
     let stage = c.stage_of-self-inside-in-Within.result in
     let next = c.push.new.self in
     let leads =
     ap (λ (r : Recorded). progress_at stage d.count d.journal next r.steps r.events) c.replace-recording.ensures.after
-    ∙ ap (λ ss. progress_at stage d.count d.journal next ss anew.field-0.events) anew.ensures.steps
+    ∙ ap (λ ss. progress_at stage d.count d.journal next ss anew.room.events) anew.ensures.steps
     ∙ ap (λ es. progress_at stage d.count d.journal next [] es) anew.ensures.events
     ∙ c.stage_of-self-inside-in-Within.ensures d.journal next d.count in
     part_read d.journal d.transcripts next d.recording.steps d.recording.events c.args.line.now
