@@ -13,6 +13,7 @@ use mx_both::{Both, ReadBoth, read_both};
 use mx_io::{ReadError, Sink, Source, read_all, write_all};
 use mx_show::ShowError;
 use std::alloc::{AllocError, Global};
+use std::thread::Threads;
 
 /// The greatest size of both texts together, in bytes.
 const MOST_BYTES: usize = 33_554_432;
@@ -39,7 +40,12 @@ const TOO_LONG: u8 = 6;
 /// or why it is none, as [`tell_breach`] does, and answers the status: 0 where that was told, whichever it is; 1 where memory was
 /// wanting; 3 where the source failed; 4 where the sink failed; 5 where the bytes are no such texts, and `bad line N` was
 /// written, with N the first bad line; 6 where they are more than 33,554,432, and `too long` was written.
-pub fn tell_source<S: Source, K: Sink>(alloc: Global, source: &mut S, sink: &mut K) -> u8
+pub fn tell_source<R: Threads + Sync, S: Source, K: Sink>(
+    rt: &R,
+    alloc: Global,
+    source: &mut S,
+    sink: &mut K,
+) -> u8
     ensures told { result ≡ 0 → IsToldSource (S.left source.old) (S.left source.new) (K.out sink.old) (K.out sink.new) }
     ensures bad_line { result ≡ 5 → IsBadSource (S.left source.old) (S.left source.new) (K.out sink.old) (K.out sink.new) }
     ensures too_long { result ≡ 6 → TakesTooMany 33554432 (S.left source.old) (S.left source.new) }
@@ -53,7 +59,7 @@ pub fn tell_source<S: Source, K: Sink>(alloc: Global, source: &mut S, sink: &mut
     ensures due { (spelled : List ℕ) → S.left source.old ≡ Some spelled → IsStopped result ⊎ IsDueStatus spelled result }
 {
     match read_all(alloc, source, MOST_BYTES) {
-        Ok(bytes) => match tell_bytes(alloc, &bytes, sink) {
+        Ok(bytes) => match tell_bytes(rt, alloc, &bytes, sink) {
             Ok(status) => status,
             Err(ShowError::Fault) => SINK_FAULT,
             Err(ShowError::Memory) => OUT_OF_MEMORY,
@@ -78,7 +84,12 @@ fn tell_too_long<K: Sink>(sink: &mut K) -> u8
 }
 
 // Tells of bytes within the limit, and answers the status: 0 where they are both texts, 5 where they are not.
-fn tell_bytes<K: Sink>(alloc: Global, bytes: &[u8], sink: &mut K) -> Result<u8, ShowError>
+fn tell_bytes<R: Threads + Sync, K: Sink>(
+    rt: &R,
+    alloc: Global,
+    bytes: &[u8],
+    sink: &mut K,
+) -> Result<u8, ShowError>
     requires within { length bytes.now ≤ 33554432 }
     ensures told { IfOk result (TellsBytes bytes.now (K.out sink.old) (K.out sink.new)) }
     ensures front { IsErrOf result ShowError.Fault → TellsBytesFront bytes.now (K.out sink.old) (K.out sink.new) }
@@ -87,7 +98,7 @@ fn tell_bytes<K: Sink>(alloc: Global, bytes: &[u8], sink: &mut K) -> Result<u8, 
 {
     match read_both(alloc, bytes) {
         Ok(both) => {
-            tell_run(alloc, bytes, &both, sink)?;
+            tell_run(rt, alloc, bytes, &both, sink)?;
             Ok(TOLD)
         }
         Err(ReadBoth::BadLine(number)) => {
@@ -99,7 +110,8 @@ fn tell_bytes<K: Sink>(alloc: Global, bytes: &[u8], sink: &mut K) -> Result<u8, 
 }
 
 // Tells of the run of which these bytes are the text, behind that of its session.
-fn tell_run<K: Sink>(
+fn tell_run<R: Threads + Sync, K: Sink>(
+    rt: &R,
     alloc: Global,
     _bytes: &[u8],
     both: &Both,
@@ -111,7 +123,14 @@ fn tell_run<K: Sink>(
     ensures cause { IsErrOf result ShowError.Fault → Rose (K.faults sink.old) (K.faults sink.new) }
     ensures only { (IsErrOf result ShowError.Fault → ⊥) → K.faults sink.new ≡ K.faults sink.old }
 {
-    tell_breach(alloc, &both.session, &both.journal, &both.transcripts, sink)
+    tell_breach(
+        rt,
+        alloc,
+        &both.session,
+        &both.journal,
+        &both.transcripts,
+        sink,
+    )
 }
 
 // Tells the first bad line of these bytes.

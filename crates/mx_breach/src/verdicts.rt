@@ -17,12 +17,14 @@ use mx_show::ShowError;
 use mx_state::{Journal, State};
 use mx_transcript::Transcripts;
 use std::alloc::{AllocError, Global};
+use std::thread::Threads;
 
 /// Tells that a run is a legal one of a session, or why it is none: `legal`; or the breach of the run, `breach P L`, and
 /// behind it, in sentences, what is printed there, which rule fails, and what could stand there (`Verdicts`). The session and
 /// the journal are such as texts can say. On an error a front was written, and not all: `Fault` where the sink failed, `Memory`
 /// where memory was wanting.
-pub fn tell_breach<K: Sink>(
+pub fn tell_breach<R: Threads + Sync, K: Sink>(
+    rt: &R,
     alloc: Global,
     session: &Session,
     journal: &Journal,
@@ -38,13 +40,14 @@ pub fn tell_breach<K: Sink>(
     ensures only { (IsErrOf result ShowError.Fault → ⊥) → K.faults sink.new ≡ K.faults sink.old }
     ensures later { K.faults sink.old ≤ K.faults sink.new }
 {
-    let text = verdict(alloc, session, journal, transcripts)?;
+    let text = verdict(rt, alloc, session, journal, transcripts)?;
     write_all(sink, &text)?;
     Ok(())
 }
 
 // What is told of a run.
-fn verdict(
+fn verdict<R: Threads + Sync>(
+    rt: &R,
     alloc: Global,
     session: &Session,
     journal: &Journal,
@@ -54,7 +57,7 @@ fn verdict(
     requires journal { list_all fits_entry journal.now ≡ true }
     ensures { IfOk result (λ text. IsVerdict session.now journal.now transcripts.now text.items) }
 {
-    match legal::<State>(alloc, session, journal, transcripts)? {
+    match legal::<State, R>(rt, alloc, session, journal, transcripts)? {
         None => legal_text(alloc),
         Some(breach) => breach_text(alloc, session, journal, transcripts, breach),
     }

@@ -11,6 +11,7 @@ use mx_legal::{Breach, legal};
 use mx_state::State;
 use mx_transcript::rings_law;
 use std::alloc::{AllocError, Global};
+use std::thread::Threads;
 use thiserror::Error;
 
 /// The greatest size of both texts together, in bytes.
@@ -49,19 +50,24 @@ impl From<AllocError> for Unjudged {
 }
 
 impl Judgement {
-    /// The judgement on a source, which is read to its end, or until it has given one byte more than 33,554,432.
+    /// The judgement on a source, which is read to its end, or until it has given one byte more than 33,554,432. The parts of
+    /// the run are judged on threads, where they can be had.
     ///
     /// # Errors
     ///
     /// The source failed, or memory was wanting.
-    pub fn reach<S: Source>(alloc: Global, source: &mut S) -> Result<Judgement, Unjudged>
+    pub fn reach<R: Threads + Sync, S: Source>(
+        rt: &R,
+        alloc: Global,
+        source: &mut S,
+    ) -> Result<Judgement, Unjudged>
         ensures right { IfOk result (IsJudgement (S.left source.old) (S.left source.new)) }
         ensures cause { IsErrOf result Unjudged.Fault → Rose (S.faults source.old) (S.faults source.new) }
         ensures only { (IsErrOf result Unjudged.Fault → ⊥) → S.faults source.new ≡ S.faults source.old }
     {
         match read_all(alloc, source, MOST_BYTES) {
             Ok(bytes) => {
-                let judgement = Judgement::of_bytes(alloc, &bytes)?;
+                let judgement = Judgement::of_bytes(rt, alloc, &bytes)?;
                 Ok(judgement)
             }
             Err(ReadError::TooLong) => Ok(Judgement::TooLong),
@@ -71,7 +77,11 @@ impl Judgement {
     }
 
     // The judgement on bytes within the limit.
-    fn of_bytes(alloc: Global, bytes: &[u8]) -> Result<Judgement, AllocError>
+    fn of_bytes<R: Threads + Sync>(
+        rt: &R,
+        alloc: Global,
+        bytes: &[u8],
+    ) -> Result<Judgement, AllocError>
         requires within { length bytes.now ≤ 33554432 }
         ensures { IfOk result (IsJudged bytes.now) }
     {
@@ -81,7 +91,7 @@ impl Judgement {
             Err(ReadBoth::Memory) => return Err(AllocError),
         };
         rings_law();
-        match legal::<State>(alloc, &both.session, &both.journal, &both.transcripts)? {
+        match legal::<State, R>(rt, alloc, &both.session, &both.journal, &both.transcripts)? {
             None => Ok(Judgement::Legal),
             Some(breach) => Ok(Judgement::Breach(breach)),
         }

@@ -125,7 +125,7 @@ pub fn show<R: Threads + Wait + Sync, S: Source, K: Sink>(
             Err(ReadError::Fault) => SOURCE_FAULT,
             Err(ReadError::Memory) => OUT_OF_MEMORY,
         },
-        Command::Breach => tell_source(alloc, source, sink),
+        Command::Breach => tell_source(rt, alloc, source, sink),
         Command::Drill(number) => match drill_text(alloc, number) {
             Ok(text) => told(sink, text.items(), 0),
             Err(AllocError) => OUT_OF_MEMORY,

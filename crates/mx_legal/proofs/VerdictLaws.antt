@@ -20,6 +20,7 @@ use Rattle.mx_transcript.specs.Transcripts.{Step, entries_named, events_of, numb
 use Rattle.mx_legal.specs.Breach.{HasNamed, IsBadLine, IsBreach, number_at, parts_in}
 use Rattle.mx_legal.specs.BreachLaws.{LegalLaw, ReadsToLaw}
 use Rattle.mx_legal.specs.Deciding.{AreGoodParts, AreOwnReadsTo, IsUnnamedTo, or_unnamed, place_of}
+use Rattle.mx_legal.specs.Judging.{beside}
 use Rattle.mx_legal.specs.Entries.{AreGoodTo, AreOfProcessesTo, IsFirstBad, IsFirstBadEntry}
 use Rattle.mx_legal.specs.Fronts.{IsGoodPart, events_to}
 use Rattle.mx_legal.proofs.FirstLaws.{all_events}
@@ -31,7 +32,16 @@ eq_true a b e = grind arith
 eq_false : (a b : ℕ) → (a ≡ b → ⊥) → a == b ≡ false
 eq_false a b e = grind arith
 
--- the place of the first wrong read, where the parts before are good
+-- a process is not behind that of the first wrong read, if there is one
+abbrev IsUpTo : ℕ → Option Breach → Type 0
+IsUpTo p None = Unit {0}
+IsUpTo p (Some b) = p ≤ b.process
+
+beside_up_to : (processes p count : ℕ) (found : Option Breach) → count ≡ beside processes found → p < count → IsUpTo p found
+beside_up_to processes p count None is l = tt
+beside_up_to processes p count (Some b) is l = omega (arith, is, l)
+
+-- the place of the first wrong read of a process
 module _ (law : ReadsToLaw) (session : Outline) (journal : List journaled.Entry) (transcripts : List (List Step)) where
   abbrev done : Deeds
   done = deeds session journal transcripts
@@ -42,11 +52,12 @@ module _ (law : ReadsToLaw) (session : Outline) (journal : List journaled.Entry)
   abbrev Found : Option Breach → Type 0
   Found found = MatchOption found (AreRightReads done (decided.IsKnown done)) (λ b. wrong.IsBreach done b.process b.place)
 
-  read_at : (p : ℕ) (found : Option Breach) → Found found → AreGoodParts session journal transcripts p
+  -- of a process that is not behind that of the first wrong read
+  read_up_to : (p : ℕ) (found : Option Breach) → Found found → IsUpTo p found
       → front.IsFirstBad (AreOwnReadsTo session journal transcripts p) (length (done p)) (place_of found p)
-  read_at p None right before =
+  read_up_to p None right up =
       (law done p (length (done p))).1 (record { source = right.source; right = λ read has own below. right.right read has })
-  read_at p (Some b) breach before = elim (cases_eq b.process p) [
+  read_up_to p (Some b) breach up = elim (cases_eq b.process p) [
     | inl same ↦
         let here : wrong.IsBreach done p b.place = subst (λ (q : ℕ). wrong.IsBreach done q b.place) same breach in
         subst (λ (t : Bool). front.IsFirstBad (AreOwnReadsTo session journal transcripts p) (length (done p)) (if t then Some b.place else None))
@@ -58,25 +69,30 @@ module _ (law : ReadsToLaw) (session : Outline) (journal : List journaled.Entry)
         })
     | inr other ↦
         subst (λ (t : Bool). front.IsFirstBad (AreOwnReadsTo session journal transcripts p) (length (done p)) (if t then Some b.place else None))
-        (sym (eq_false b.process p other))
-        (elim (cases_lt p b.process) [
-          | inl l ↦ (law done p (length (done p))).1 (breach.before p l)
-          | inr l ↦
-              let good = (before b.process (apart b.process p other l)).good.reads in
-              let within = breach.within in
-              let count = deed_count b.process in
-              absurd (breach.breaks ((law done b.process (suc b.place)).0 (record {
-                source = good.source;
-                right = λ read has own below. good.right read has own (omega (arith, below, within, count));
-              })))
-        ])
+        (sym (eq_false b.process p other)) ((law done p (length (done p))).1 (breach.before p (apart b.process p other up)))
   ]
     where
-      apart : (a b : ℕ) → (a ≡ b → ⊥) → a ≤ b → a < b
-      apart a b other l = elim (cases_lt a b) [
+      apart : (a b : ℕ) → (a ≡ b → ⊥) → b ≤ a → b < a
+      apart a b other l = elim (cases_lt b a) [
         | inl less ↦ less
         | inr more ↦ absurd (other (omega (arith, l, more)))
       ]
+
+  -- and of one before which all parts are good
+  read_at : (p : ℕ) (found : Option Breach) → Found found → AreGoodParts session journal transcripts p
+      → front.IsFirstBad (AreOwnReadsTo session journal transcripts p) (length (done p)) (place_of found p)
+  read_at p None right before = read_up_to p None right tt
+  read_at p (Some b) breach before = elim (cases_lt b.process p) [
+    | inl l ↦
+        let good = (before b.process l).good.reads in
+        let within = breach.within in
+        let count = deed_count b.process in
+        absurd (breach.breaks ((law done b.process (suc b.place)).0 (record {
+          source = good.source;
+          right = λ read has own below. good.right read has own (omega (arith, below, within, count));
+        })))
+    | inr l ↦ read_up_to p (Some b) breach l
+  ]
 
 pub read_found : (law : ReadsToLaw) (session : Outline) (journal : List journaled.Entry) (transcripts : List (List Step)) (p : ℕ)
     (rows parts : List (List Deed)) (wrong_read : Option Breach) (place : Option ℕ) → rows ≡ parts
@@ -90,6 +106,19 @@ read_found law session journal transcripts p rows parts wrong_read place same_ro
     (read_at law session journal transcripts p wrong_read
     (subst (λ (d : Deeds). MatchOption wrong_read (AreRightReads d (decided.IsKnown d)) (λ b. wrong.IsBreach d b.process b.place))
     (ap deeds_of same_rows ∙ fun_ext same) found) before)
+
+-- where the parts are judged side by side
+pub read_beside : (law : ReadsToLaw) (session : Outline) (journal : List journaled.Entry) (transcripts : List (List Step)) (p count : ℕ)
+    (rows : List (List Deed)) (wrong_read : Option Breach) → ((q : ℕ) → deeds_of rows q ≡ deeds session journal transcripts q)
+    → MatchOption wrong_read (AreRightReads (deeds_of rows) (decided.IsKnown (deeds_of rows)))
+    (λ b. wrong.IsBreach (deeds_of rows) b.process b.place)
+    → count ≡ beside (length session.principals) wrong_read → p < count
+    → front.IsFirstBad (AreOwnReadsTo session journal transcripts p) (length (deeds session journal transcripts p)) (place_of wrong_read p)
+read_beside law session journal transcripts p count rows wrong_read same found count_is below =
+    read_up_to law session journal transcripts p wrong_read
+    (subst (λ (d : Deeds). MatchOption wrong_read (AreRightReads d (decided.IsKnown d)) (λ b. wrong.IsBreach d b.process b.place))
+    (fun_ext same) found)
+    (beside_up_to (length session.principals) p count wrong_read count_is below)
 
 -- one part more
 pub parts_more : (session : Outline) (journal : List journaled.Entry) (transcripts : List (List Step)) (p : ℕ)

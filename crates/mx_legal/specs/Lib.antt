@@ -3,3 +3,4 @@ pub mod Fronts
 pub mod Breach
 pub mod BreachLaws
 pub mod Deciding
+pub mod Judging

@@ -16,8 +16,8 @@ ghost use Rattle.mx_transcript.specs.Legal.{deeds, setup_entries};
 ghost use Rattle.mx_transcript.specs.Misses.{IsChanged};
 ghost use Rattle.mx_transcript.specs.Transcripts.{part};
 
-use crate::checking::part_of;
 use crate::fronts::{first_bad_initial, first_early_full, first_undone, place_of, row};
+use crate::judging::part_of;
 use crate::laws::reads_to_law;
 use mx_access::{Access, change_law};
 use mx_points::{Line, Naming, first_bad_miss, first_bad_point, first_misnamed};

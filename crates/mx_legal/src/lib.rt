@@ -15,6 +15,7 @@ mod checking;
 mod entries;
 mod failing;
 mod fronts;
+mod judging;
 mod laws;
 mod places;
 mod sameness;

@@ -108,7 +108,7 @@ impl Verdict {
                 })
             }
             Command::Check => {
-                let judgement = judged(alloc, source)?;
+                let judgement = judged(rt, alloc, source)?;
                 Ok(Verdict::Checked(judgement))
             }
             Command::Other => Ok(Verdict::BadWords),
@@ -210,12 +210,16 @@ impl Verdict {
 }
 
 // The judgement on a source.
-fn judged<S: Source>(alloc: Global, source: &mut S) -> Result<Judgement, Unreached>
+fn judged<R: Threads + Sync, S: Source>(
+    rt: &R,
+    alloc: Global,
+    source: &mut S,
+) -> Result<Judgement, Unreached>
     ensures right { IfOk result (IsJudgement (S.left source.old) (S.left source.new)) }
     ensures cause { IsErrOf result Unreached.Fault → Rose (S.faults source.old) (S.faults source.new) }
     ensures only { (IsErrOf result Unreached.Fault → ⊥) → S.faults source.new ≡ S.faults source.old }
 {
-    match Judgement::reach(alloc, source) {
+    match Judgement::reach(rt, alloc, source) {
         Ok(judgement) => Ok(judgement),
         Err(Unjudged::Fault) => Err(Unreached::Fault),
         Err(Unjudged::Memory) => Err(Unreached::Memory),

@@ -213,7 +213,7 @@ const ALONE_ROWS: &[Row] = &[
 
 #[test]
 fn each_breach_of_one_process_is_told(rt: HostRuntime) -> Result<(), Fail> {
-    let wrong = first_wrong(rt.alloc(), ALONE_SESSION, ALONE_RUN, ALONE_ROWS)?;
+    let wrong = first_wrong(&rt, rt.alloc(), ALONE_SESSION, ALONE_RUN, ALONE_ROWS)?;
     assert_eq!(rt; wrong, None);
     Ok(())
 }

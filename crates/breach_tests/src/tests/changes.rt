@@ -5,6 +5,7 @@ use mx_io::MemorySink;
 use mx_reader::read;
 use mx_script::read_session;
 use std::alloc::{AllocError, Global};
+use std::thread::Threads;
 
 /// The most bytes of a text here.
 const MOST_BYTES: usize = 65_536;
@@ -27,7 +28,13 @@ fn with(alloc: Global, text: &str, old: &str, new: &str) -> Result<String, Alloc
 }
 
 // Whether this is told of a session and a run.
-fn is_told(alloc: Global, session: &[u8], run: &[u8], words: &str) -> Result<bool, AllocError> {
+fn is_told<R: Threads + Sync>(
+    rt: &R,
+    alloc: Global,
+    session: &[u8],
+    run: &[u8],
+    words: &str,
+) -> Result<bool, AllocError> {
     if session.len() > MOST_BYTES || run.len() > MOST_BYTES {
         return Ok(false);
     }
@@ -40,14 +47,15 @@ fn is_told(alloc: Global, session: &[u8], run: &[u8], words: &str) -> Result<boo
     let Ok(mut sink) = MemorySink::new(alloc, MOST_BYTES, Vec::new(alloc), 4096) else {
         return Err(AllocError);
     };
-    match tell_breach(alloc, &session, &journal, &transcripts, &mut sink) {
+    match tell_breach(rt, alloc, &session, &journal, &transcripts, &mut sink) {
         Ok(()) => Ok(sink.bytes() == words.as_bytes()),
         Err(_) => Ok(false),
     }
 }
 
 /// The first of these changes of a run of which another thing is told; none where each is told of as its row has it.
-pub fn first_wrong(
+pub fn first_wrong<R: Threads + Sync>(
+    rt: &R,
     alloc: Global,
     session: &[u8],
     run: &str,
@@ -55,7 +63,7 @@ pub fn first_wrong(
 ) -> Result<Option<usize>, AllocError> {
     for (place, (old, new, words)) in rows.iter().enumerate() {
         let changed = with(alloc, run, old, new)?;
-        if !is_told(alloc, session, changed.as_bytes(), words)? {
+        if !is_told(rt, alloc, session, changed.as_bytes(), words)? {
             return Ok(Some(place));
         }
     }

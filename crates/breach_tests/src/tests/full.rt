@@ -91,7 +91,7 @@ const FULL_ROWS: &[Row] = &[
 
 #[test]
 fn each_breach_at_the_limit_is_told(rt: HostRuntime) -> Result<(), Fail> {
-    let wrong = first_wrong(rt.alloc(), FULL_SESSION, FULL_RUN, FULL_ROWS)?;
+    let wrong = first_wrong(&rt, rt.alloc(), FULL_SESSION, FULL_RUN, FULL_ROWS)?;
     assert_eq!(rt; wrong, None);
     Ok(())
 }

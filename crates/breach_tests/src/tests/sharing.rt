@@ -215,14 +215,14 @@ const MISS_ROWS: &[Row] = &[
 
 #[test]
 fn each_wrong_word_is_told(rt: HostRuntime) -> Result<(), Fail> {
-    let wrong = first_wrong(rt.alloc(), READ_SESSION, READ_RUN, READ_ROWS)?;
+    let wrong = first_wrong(&rt, rt.alloc(), READ_SESSION, READ_RUN, READ_ROWS)?;
     assert_eq!(rt; wrong, None);
     Ok(())
 }
 
 #[test]
 fn each_wrong_miss_is_told(rt: HostRuntime) -> Result<(), Fail> {
-    let wrong = first_wrong(rt.alloc(), MISS_SESSION, MISS_RUN, MISS_ROWS)?;
+    let wrong = first_wrong(&rt, rt.alloc(), MISS_SESSION, MISS_RUN, MISS_ROWS)?;
     assert_eq!(rt; wrong, None);
     Ok(())
 }

@@ -7,6 +7,7 @@ use mx_script::read_session;
 use mx_state::State;
 use std::alloc::{AllocError, Global};
 use std::test::Fail;
+use std::thread::Threads;
 
 /// The most bytes of a text here.
 const MOST_BYTES: usize = 65_536;
@@ -94,7 +95,8 @@ fn with(alloc: Global, text: &str, old: &str, new: &str) -> Result<String, Alloc
 }
 
 // What is found in a printed run: none where a text is no session's or no run's.
-fn found<S: PlainSupervisor>(
+fn found<S: PlainSupervisor, R: Threads + Sync>(
+    rt: &R,
     alloc: Global,
     session: &[u8],
     run: &[u8],
@@ -108,7 +110,7 @@ fn found<S: PlainSupervisor>(
     let Ok((journal, transcripts)) = read(alloc, run) else {
         return Ok(None);
     };
-    Ok(Some(legal::<S>(alloc, &session, &journal, &transcripts)?))
+    Ok(Some(legal::<S, R>(rt, alloc, &session, &journal, &transcripts)?))
 }
 
 // The process and the line of a breach.
@@ -124,8 +126,8 @@ fn told(found: Option<Option<Breach>>) -> Option<Option<(usize, u32)>> {
 fn each_breach_is_found(rt: HostRuntime) -> Result<(), Fail> {
     for (old, new, breach) in ROWS {
         let run = with(rt.alloc(), RUN, old, new)?;
-        let by_state = told(found::<State>(rt.alloc(), SESSION, run.as_bytes())?);
-        let by_fresh = told(found::<Fresh>(rt.alloc(), SESSION, run.as_bytes())?);
+        let by_state = told(found::<State, _>(&rt, rt.alloc(), SESSION, run.as_bytes())?);
+        let by_fresh = told(found::<Fresh, _>(&rt, rt.alloc(), SESSION, run.as_bytes())?);
         assert_eq!(rt;
             (by_state, by_fresh),
             (Some(*breach), Some(*breach)),

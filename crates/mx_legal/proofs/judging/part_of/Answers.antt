@@ -1,7 +1,7 @@
 use Rattle.std.proofs.Common.{sym, ◌∙◌}
 use Rattle.std.proofs.lemmas.Result.{IfOk-weaker}
 use Rattle.mx_legal.proofs.DeciderLaws.{found_part, none_found}
-use Rattle.mx_legal.proofs.checking.part_of.Goals as goal
+use Rattle.mx_legal.proofs.judging.part_of.Goals as goal
 
 pub returns-in-None : goal.returns-in-None
 returns-in-None c =

@@ -1,7 +1,7 @@
 use Rattle.std.proofs.Common.{sym, subst, ◌∙◌, ◌≡◌, ◌↔◌, Bool, IsTrue}
 use Rattle.mx_legal.specs.Breach.{HasNamed}
 use Rattle.mx_legal.proofs.DeciderLaws.{is_named}
-use Rattle.mx_legal.proofs.checking.judge.Goals as goal
+use Rattle.mx_legal.proofs.judging.judge.Goals as goal
 
 pub returns-clause-named : goal.returns-clause-named
 returns-clause-named c =

@@ -1,0 +1,26 @@
+-- Helpers that only private contracts cite: what is said of judged parts.
+use Rattle.std.specs.Prelude.{◌≡◌, ◌↔◌, ℕ, ◌+◌, min, Bool, IsTrue, List, MatchOption, Ok, Option, Some, None, Result, slice_get}
+use Rattle.std.specs.declared.alloc.AllocError.{AllocError}
+use Rattle.mx_script.specs.Sessions.{Outline}
+use Rattle.mx_state.specs.declared.journal.Entry as journaled
+use Rattle.mx_stores.specs.declared.deciding.Breach.{Breach}
+use Rattle.mx_transcript.specs.Transcripts.{Step}
+use Rattle.mx_legal.specs.Breach.{HasNamed, IsBadLine}
+use Rattle.mx_legal.specs.Fronts.{IsGoodPart}
+use Rattle.mx_legal.specs.declared.judging.Judged.{Judged}
+
+-- the first bad line of process p's part, if any, is at this place, and the part names all of its entries or not
+pub record IsJudged (session : Outline) (journal : List journaled.Entry) (transcripts : List (List Step)) (p : ℕ) (place : Option ℕ)
+    (is_named : Bool) : Type 0 where
+  pub bad : MatchOption place (IsGoodPart session journal transcripts p) (IsBadLine session journal transcripts p)
+  pub named : IsTrue is_named ↔ HasNamed journal transcripts p
+
+-- each judgement of a list that was made is right of the part of its place
+abbrev pub AreJudged : Outline → List journaled.Entry → List (List Step) → List (Result Judged AllocError) → Type 0
+AreJudged session journal transcripts all = (p : ℕ) (judged : Judged) → slice_get all p ≡ Some (Ok judged)
+    → IsJudged session journal transcripts p judged.bad judged.is_named
+
+-- how many parts of a session of so many processes are judged side by side, where the first wrong read is known
+abbrev pub beside : ℕ → Option Breach → ℕ
+beside processes None = processes + 1
+beside processes (Some read) = min processes read.process + 1
