@@ -80,7 +80,8 @@ fn legal_lines<S: PlainSupervisor, R: Threads + Sync>(
     let _scripts = session.scripts();
     let access = access_of::<S>(alloc, session, journal, transcripts)?;
     let wrong = first_breach(alloc, &access.deeds)?;
-    let beside = judge_beside(rt, alloc, session, journal, transcripts, &access, wrong)?;
+    let all = judge_beside(rt, alloc, session, journal, transcripts, &access, wrong)?;
+    let beside = all.as_slice();
     let mut unnamed = None;
     for p in 0..parts_in(session, transcripts) {
         let judged = judged_at(
@@ -91,7 +92,7 @@ fn legal_lines<S: PlainSupervisor, R: Threads + Sync>(
             &access,
             p,
             place_of(wrong, p),
-            &beside,
+            beside,
         )?;
         if let Some(place) = judged.bad {
             return Ok(Some(Breach {

@@ -1,6 +1,6 @@
 //! The parts of a run, judged side by side.
 
-ghost use Rattle.std.specs.Prelude.{◌≡◌, ◌↔◌, ◌×◌, true, length, IfOk, IsTrue, MatchOption};
+ghost use Rattle.std.specs.Prelude.{◌≡◌, ◌↔◌, true, length, IfOk, IsTrue, MatchOption};
 ghost use Rattle.std.specs.List.{list_all};
 ghost use Rattle.mx_access.specs.Answers.{IsAccess};
 ghost use Rattle.mx_legal.specs.Breach.{HasNamed, IsBadLine};
