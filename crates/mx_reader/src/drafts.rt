@@ -113,7 +113,9 @@ impl Draft {
                 let Some(heading) = read_heading(self.transcripts.items().len() + 1, line) else {
                     return Ok(false);
                 };
-                let room = Recording::with_room(alloc, self.recording.lines())?;
+                // the next part mostly has about as many lines; a longer list moves without a copy
+                let lines = self.recording.lines().min(2048);
+                let room = Recording::with_room(alloc, lines)?;
                 let recording = replace(&mut self.recording, room);
                 self.transcripts.push(recording.finish())?;
                 self.stage = stage_of(heading);

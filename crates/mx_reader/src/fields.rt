@@ -7,12 +7,11 @@ ghost use Rattle.std.specs.Option.{option_map};
 ghost use Rattle.mx_hier.specs.Refusals.{refusal_text};
 ghost use Rattle.mx_name.specs.Names.{name_of};
 ghost use Rattle.mx_name.specs.Pathnames.{is_absolute};
-ghost use Rattle.mx_reader.specs.Fields.{address_at, all_names, amount_at, amount_then, brackets_then, denial_at, entry_number_at, fresh_at, kind_at, known_at, labelled_then, map_then, modes_at, names_at, path_at, process_at, refusal_at, ring_number_at};
+ghost use Rattle.mx_reader.specs.Fields.{address_at, all_names, amount_at, amount_then, brackets_then, denial_at, entry_number_at, fresh_at, known_at, labelled_then, map_then, modes_at, names_at, path_at, process_at, refusal_at, ring_number_at};
 ghost use Rattle.mx_request.specs.Reading.{ring_at};
 ghost use Rattle.mx_script.specs.Fields.{word_at};
 ghost use Rattle.mx_sdw.specs.Denials.{denial_text};
 ghost use Rattle.mx_sdw.specs.Octal.{octal_number};
-ghost use Rattle.mx_text.specs.RunText.{kind_text};
 
 use crate::cutting::after;
 use crate::numbers;
