@@ -1,10 +1,11 @@
 -- The verdict on a run, from those on its entries, reads and parts.
-use Rattle.std.proofs.Common.{◌≡◌, ◌↔◌, inl, inr, ℕ, zero, suc, ◌+◌, ◌<◌, ◌≤◌, ◌==◌, Bool, true, false, if◌then◌else◌, IsTrue, List, [], ◌∷◌, length, Option, Some, None, refl, ap, sym, ◌∙◌, subst, arith, slice_get}
+use Rattle.std.proofs.Common.{◌≡◌, ◌↔◌, inl, inr, ℕ, suc, ◌+◌, ◌<◌, ◌≤◌, ◌==◌, Bool, true, false, if◌then◌else◌, IsTrue, List, [], ◌∷◌, length, Option, Some, None, Result, Ok, Err, IfOk, refl, ap, sym, ◌∙◌, subst, arith, slice_get, slice_index_or}
 use Rattle.std.specs.Prelude.{MatchOption, get_or}
 use Rattle.std.proofs.Math.Path.{fun_ext}
 use Rattle.std.proofs.lemmas.Bool.{cases_eq, cases_lt}
 use Rattle.std.proofs.lemmas.List.{length-map}
-use Rattle.std.proofs.lemmas.Option.{slice_get_read, slice_get_within}
+use Rattle.std.proofs.lemmas.Option.{slice_get-get_or, slice_get_read, slice_get_within}
+use Rattle.std.specs.declared.alloc.AllocError.{AllocError}
 use Rattle.mx_points.specs.Fronts as front
 use Rattle.mx_reads.specs.Deeds.{Deed, Deeds}
 use Rattle.mx_reads.specs.ReadRule.{AreRightReads}
@@ -16,13 +17,14 @@ use Rattle.mx_stores.specs.Parts.{deeds_of}
 use Rattle.mx_stores.specs.declared.deciding.Breach.{Breach}
 use Rattle.mx_transcript.specs.Legal.{IsLegal, deeds}
 use Rattle.mx_transcript.specs.Scripts.{lines_of}
-use Rattle.mx_transcript.specs.Transcripts.{Step, entries_named, events_of, numbers_from, numbers_of, part}
+use Rattle.mx_transcript.specs.Transcripts.{Step, entries_named, events_of, numbers_from, part}
 use Rattle.mx_legal.specs.Breach.{HasNamed, IsBadLine, IsBreach, number_at, parts_in}
 use Rattle.mx_legal.specs.BreachLaws.{LegalLaw, ReadsToLaw}
 use Rattle.mx_legal.specs.Deciding.{AreGoodParts, AreOwnReadsTo, IsUnnamedTo, or_unnamed, place_of}
-use Rattle.mx_legal.specs.Judging.{beside}
+use Rattle.mx_legal.specs.Judging.{AreJudged, IsJudged, beside}
 use Rattle.mx_legal.specs.Entries.{AreGoodTo, AreOfProcessesTo, IsFirstBad, IsFirstBadEntry}
 use Rattle.mx_legal.specs.Fronts.{IsGoodPart, events_to}
+use Rattle.mx_legal.specs.declared.judging.Judged.{Judged}
 use Rattle.mx_legal.proofs.FirstLaws.{all_events}
 use Rattle.mx_legal.proofs.LegalLaws.{no_part}
 
@@ -119,6 +121,23 @@ read_beside law session journal transcripts p count rows wrong_read same found c
     (subst (λ (d : Deeds). MatchOption wrong_read (AreRightReads d (decided.IsKnown d)) (λ b. wrong.IsBreach d b.process b.place))
     (fun_ext same) found)
     (beside_up_to (length session.principals) p count wrong_read count_is below)
+
+-- each of so many parts is judged right, and so is the list of judgements
+pub all_judged : {V E : Type 0} (session : Outline) (journal : List journaled.Entry) (transcripts : List (List Step))
+    (items : V → List (Result Judged AllocError)) (count : ℕ) (result : Result V E) → IfOk result (λ v. length (items v) ≡ count)
+    → IfOk result (λ v. (p : ℕ) (d : Result Judged AllocError) → p < count
+    → IfOk (slice_index_or (items v) p d) (λ judged. IsJudged session journal transcripts p judged.bad judged.is_named))
+    → IfOk result (λ v. AreJudged session journal transcripts (items v))
+all_judged session journal transcripts items count (Ok v) len each = λ p judged at.
+    let within : p < length (items v) = slice_get_within (items v) p (Ok judged) at in
+    let read : slice_index_or (items v) p (Ok judged) ≡ Ok judged =
+    some_same (sym (slice_get-get_or (items v) p (Ok judged) within) ∙ at) in
+    subst (λ (r : Result Judged AllocError). IfOk r (λ judged. IsJudged session journal transcripts p judged.bad judged.is_named)) read
+    (each p (Ok judged) (omega (arith, within, len)))
+  where
+    some_same : {a b : Result Judged AllocError} → Some a ≡ Some b → a ≡ b
+    some_same e = cc
+all_judged session journal transcripts items count (Err e) len each = tt
 
 -- one part more
 pub parts_more : (session : Outline) (journal : List journaled.Entry) (transcripts : List (List Step)) (p : ℕ)

@@ -1,12 +1,10 @@
 //! The parts of a run, judged side by side.
 
-ghost use Rattle.std.specs.Prelude.{◌≡◌, ◌↔◌, true, length, IfOk, IsTrue, MatchOption};
+ghost use Rattle.std.specs.Prelude.{◌≡◌, true, length, IfOk, MatchOption};
 ghost use Rattle.std.specs.List.{list_all};
 ghost use Rattle.mx_access.specs.Answers.{IsAccess};
-ghost use Rattle.mx_legal.specs.Breach.{HasNamed, IsBadLine};
 ghost use Rattle.mx_legal.specs.Deciding.{AreOwnReadsTo, or_unnamed, place_of};
 ghost use Rattle.mx_legal.specs.Judging.{AreJudged, IsJudged, beside};
-ghost use Rattle.mx_legal.specs.Fronts.{IsGoodPart};
 ghost use Rattle.mx_points.specs.Fronts.{IsFirstBad};
 ghost use Rattle.mx_reads.specs.ReadRule.{AreRightReads};
 ghost use Rattle.mx_script.specs.SessionTexts.{fits, rows_of};

@@ -1,10 +1,12 @@
-use Rattle.std.proofs.Common.{sym, subst, ◌∙◌, ◌≡◌, ◌↔◌, Bool, IsTrue}
+use Rattle.std.proofs.Common.{sym, subst, ◌∙◌, ◌↔◌, Bool, IsTrue}
 use Rattle.mx_legal.specs.Breach.{HasNamed}
 use Rattle.mx_legal.proofs.DeciderLaws.{is_named}
 use Rattle.mx_legal.proofs.judging.judge.Goals as goal
 
-pub returns-clause-named : goal.returns-clause-named
-returns-clause-named c =
-    subst (λ (named : Bool). IsTrue named ↔ HasNamed c.args.journal.now c.args.transcripts.now c.args.p) (sym c.is_whole.ensures)
-    (is_named c.args.journal.now c.args.transcripts.now c.args.p c.deref.result.now c.first_misnamed-naming.result
-    (c.deref.ensures.value ∙ c.in_ok-lines.ensures) c.first_misnamed-naming.ensures)
+pub returns : goal.returns
+returns c = record {
+  bad = c.in_ok-bad.ensures;
+  named = subst (λ (named : Bool). IsTrue named ↔ HasNamed c.args.journal.now c.args.transcripts.now c.args.p) (sym c.is_whole.ensures)
+      (is_named c.args.journal.now c.args.transcripts.now c.args.p c.deref.result.now c.first_misnamed-naming.result
+      (c.deref.ensures.value ∙ c.in_ok-lines.ensures) c.first_misnamed-naming.ensures);
+}
