@@ -2,3 +2,4 @@ pub mod BothTexts
 pub mod Ends
 pub mod Cutting
 pub mod Laws
+pub mod Reading

@@ -96,7 +96,7 @@ fn tell_bytes<R: Threads + Sync, K: Sink>(
     ensures cause { IsErrOf result ShowError.Fault → Rose (K.faults sink.old) (K.faults sink.new) }
     ensures only { (IsErrOf result ShowError.Fault → ⊥) → K.faults sink.new ≡ K.faults sink.old }
 {
-    match read_both(alloc, bytes) {
+    match read_both(rt, alloc, bytes) {
         Ok(both) => {
             tell_run(rt, alloc, bytes, &both, sink)?;
             Ok(TOLD)

@@ -85,7 +85,7 @@ impl Judgement {
         requires within { length bytes.now ≤ 33554432 }
         ensures { IfOk result (IsJudged bytes.now) }
     {
-        let both = match read_both(alloc, bytes) {
+        let both = match read_both(rt, alloc, bytes) {
             Ok(both) => both,
             Err(ReadBoth::BadLine(line)) => return Ok(Judgement::BadLine(line)),
             Err(ReadBoth::Memory) => return Err(AllocError),

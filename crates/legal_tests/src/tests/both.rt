@@ -3,6 +3,7 @@
 use mx_both::{ReadBoth, read_both};
 use std::alloc::{AllocError, Global};
 use std::test::Fail;
+use std::thread::Threads;
 
 // A text, and the number of its first bad line; 0 where it is both texts.
 const ROWS: &[(&[u8], u32)] = &[
@@ -42,11 +43,11 @@ const ROWS: &[(&[u8], u32)] = &[
 ];
 
 // The number of the first bad line of a text; 0 where it is both texts.
-fn bad_line(alloc: Global, text: &[u8]) -> Result<u32, AllocError> {
+fn bad_line<R: Threads + Sync>(rt: &R, alloc: Global, text: &[u8]) -> Result<u32, AllocError> {
     if text.len() > 4096 {
         return Err(AllocError);
     }
-    match read_both(alloc, text) {
+    match read_both(rt, alloc, text) {
         Ok(_) => Ok(0),
         Err(ReadBoth::BadLine(line)) => Ok(line),
         Err(ReadBoth::Memory) => Err(AllocError),
@@ -56,7 +57,7 @@ fn bad_line(alloc: Global, text: &[u8]) -> Result<u32, AllocError> {
 #[test]
 fn a_bad_line_is_counted_from_the_first(rt: HostRuntime) -> Result<(), Fail> {
     for (text, line) in ROWS {
-        assert_eq!(rt; bad_line(rt.alloc(), text)?, *line, "{text:?}");
+        assert_eq!(rt; bad_line(&rt, rt.alloc(), text)?, *line, "{text:?}");
     }
     Ok(())
 }
