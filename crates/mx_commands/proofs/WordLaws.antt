@@ -3,7 +3,7 @@ use Rattle.std.proofs.Common.{◌≡◌, ℕ, ◌+◌, ◌<◌, Bool, true, fals
 use Rattle.std.specs.List.{list_all}
 use Rattle.std.specs.Prelude.{◌≢◌, ◌&&◌, nat_eq}
 use Rattle.std.specs.Cmp.Lexicographic.{pointwise, told_text}
-use Rattle.mx_commands.specs.Commands.{is_order, IsNothing, IsOneNumber, IsTurns, IsCommand}
+use Rattle.mx_commands.specs.Commands.{is_order, IsNothing, IsOneNumber, IsTurns, LineName, two_lines, AreTwo, AreLines, IsCommand}
 use Rattle.mx_commands.specs.Readings.{IsOneNumberOf, IsSeedOf}
 
 -- one text is not two
@@ -12,47 +12,53 @@ clash a b text other first second = told_text a b false other (sym first ∙ sec
 
 -- what no command is
 not_command : (name : List ℕ) (rest : List (List ℕ)) → (name ≡ codes "lint" → IsNothing rest → ⊥) → (name ≡ codes "lines" → IsTurns rest → ⊥)
-    → (name ≡ codes "picture" → IsTurns rest → ⊥) → (name ≡ codes "plain" → IsNothing rest → ⊥)
+    → (name ≡ codes "picture" → IsTurns rest → ⊥) → (name ≡ codes "outcomes" → AreLines rest → ⊥) → (name ≡ codes "plain" → IsNothing rest → ⊥)
     → (name ≡ codes "breach" → IsNothing rest → ⊥)
     → (name ≡ codes "drill" → (number : ℕ) → IsOneNumber rest number → ⊥) → (name ≡ codes "help" → IsNothing rest → ⊥)
     → IsCommand (name ∷ rest) → ⊥
-not_command name rest lint lines picture plain breach drill help (inl (inl (inl e))) = lint e.0 e.1
-not_command name rest lint lines picture plain breach drill help (inl (inl (inr (inl e)))) = lines e.0 e.1
-not_command name rest lint lines picture plain breach drill help (inl (inl (inr (inr e)))) = picture e.0 e.1
-not_command name rest lint lines picture plain breach drill help (inl (inr (inl e))) = plain e.0 e.1
-not_command name rest lint lines picture plain breach drill help (inl (inr (inr e))) = breach e.0 e.1
-not_command name rest lint lines picture plain breach drill help (inr (inl e)) = drill e.1.0 e.0 e.1.1
-not_command name rest lint lines picture plain breach drill help (inr (inr e)) = help e.0 e.1
+not_command name rest lint lines picture outcomes plain breach drill help (inl (inl (inl e))) = lint e.0 e.1
+not_command name rest lint lines picture outcomes plain breach drill help (inl (inl (inr (inl e)))) = lines e.0 e.1
+not_command name rest lint lines picture outcomes plain breach drill help (inl (inl (inr (inr (inl e))))) = picture e.0 e.1
+not_command name rest lint lines picture outcomes plain breach drill help (inl (inl (inr (inr (inr e))))) = outcomes e.0 e.1
+not_command name rest lint lines picture outcomes plain breach drill help (inl (inr (inl e))) = plain e.0 e.1
+not_command name rest lint lines picture outcomes plain breach drill help (inl (inr (inr e))) = breach e.0 e.1
+not_command name rest lint lines picture outcomes plain breach drill help (inr (inl e)) = drill e.1.0 e.0 e.1.1
+not_command name rest lint lines picture outcomes plain breach drill help (inr (inr e)) = help e.0 e.1
 
 -- `lines` with other words than turns
 pub not_lines : (name : List ℕ) (rest : List (List ℕ)) → name ≡ codes "lines" → (IsTurns rest → ⊥) → IsCommand (name ∷ rest) → ⊥
-not_lines name rest is none = not_command name rest (λ e o. clash _ _ name refl is e) (λ e o. none o) (λ e o. clash _ _ name refl is e)
+not_lines name rest is none = not_command name rest (λ e o. clash _ _ name refl is e) (λ e o. none o) (λ e o. clash _ _ name refl is e) (λ e o. clash _ _ name refl is e)
     (λ e o. clash _ _ name refl is e) (λ e o. clash _ _ name refl is e) (λ e n o. clash _ _ name refl is e) (λ e o. clash _ _ name refl is e)
 
 pub not_picture : (name : List ℕ) (rest : List (List ℕ)) → name ≡ codes "picture" → (IsTurns rest → ⊥) → IsCommand (name ∷ rest) → ⊥
-not_picture name rest is none = not_command name rest (λ e o. clash _ _ name refl is e) (λ e o. clash _ _ name refl is e) (λ e o. none o)
+not_picture name rest is none = not_command name rest (λ e o. clash _ _ name refl is e) (λ e o. clash _ _ name refl is e) (λ e o. none o) (λ e o. clash _ _ name refl is e)
+    (λ e o. clash _ _ name refl is e) (λ e o. clash _ _ name refl is e) (λ e n o. clash _ _ name refl is e) (λ e o. clash _ _ name refl is e)
+
+-- `outcomes` with words that name no two lines
+pub not_outcomes : (name : List ℕ) (rest : List (List ℕ)) → name ≡ codes "outcomes" → (AreLines rest → ⊥) → IsCommand (name ∷ rest) → ⊥
+not_outcomes name rest is none = not_command name rest (λ e o. clash _ _ name refl is e) (λ e o. clash _ _ name refl is e) (λ e o. clash _ _ name refl is e) (λ e o. none o)
     (λ e o. clash _ _ name refl is e) (λ e o. clash _ _ name refl is e) (λ e n o. clash _ _ name refl is e) (λ e o. clash _ _ name refl is e)
 
 pub not_drill : (name : List ℕ) (rest : List (List ℕ)) → name ≡ codes "drill" → ((number : ℕ) → IsOneNumber rest number → ⊥)
     → IsCommand (name ∷ rest) → ⊥
-not_drill name rest is none = not_command name rest (λ e o. clash _ _ name refl is e) (λ e o. clash _ _ name refl is e)
-    (λ e o. clash _ _ name refl is e) (λ e o. clash _ _ name refl is e) (λ e o. clash _ _ name refl is e) (λ e n o. none n o) (λ e o. clash _ _ name refl is e)
+not_drill name rest is none = not_command name rest (λ e o. clash _ _ name refl is e) (λ e o. clash _ _ name refl is e) (λ e o. clash _ _ name refl is e) (λ e o. clash _ _ name refl is e)
+    (λ e o. clash _ _ name refl is e) (λ e o. clash _ _ name refl is e) (λ e n o. none n o) (λ e o. clash _ _ name refl is e)
 
 -- other names, with words behind them
-pub not_followed : (name : List ℕ) (rest : List (List ℕ)) → name ≢ codes "lines" → name ≢ codes "picture" → name ≢ codes "drill" → (rest ≡ [] → ⊥)
-    → IsCommand (name ∷ rest) → ⊥
-not_followed name rest lines picture drill some = not_command name rest (λ e o. some o) (λ e o. lines e) (λ e o. picture e) (λ e o. some o)
-    (λ e o. some o) (λ e n o. drill e) (λ e o. some o)
+pub not_followed : (name : List ℕ) (rest : List (List ℕ)) → name ≢ codes "lines" → name ≢ codes "picture" → name ≢ codes "outcomes" → name ≢ codes "drill"
+    → (rest ≡ [] → ⊥) → IsCommand (name ∷ rest) → ⊥
+not_followed name rest lines picture outcomes drill some = not_command name rest (λ e o. some o) (λ e o. lines e) (λ e o. picture e)
+    (λ e o. outcomes e) (λ e o. some o) (λ e o. some o) (λ e n o. drill e) (λ e o. some o)
 
 -- a number is no empty list of words
 no_number : (number : ℕ) → IsOneNumber [] number → ⊥
 no_number number is = let two : [] ≡ is.digits ∷ [] = is.words_are in cc
 
 -- other names alone
-pub not_alone : (name : List ℕ) → name ≢ codes "lines" → name ≢ codes "picture" → name ≢ codes "lint" → name ≢ codes "plain" → name ≢ codes "breach"
-    → name ≢ codes "help" → IsCommand (name ∷ []) → ⊥
-not_alone name lines picture lint plain breach help = not_command name [] (λ e o. lint e) (λ e o. lines e) (λ e o. picture e) (λ e o. plain e)
-    (λ e o. breach e) (λ e n o. no_number n o) (λ e o. help e)
+pub not_alone : (name : List ℕ) → name ≢ codes "lines" → name ≢ codes "picture" → name ≢ codes "outcomes" → name ≢ codes "lint"
+    → name ≢ codes "plain" → name ≢ codes "breach" → name ≢ codes "help" → IsCommand (name ∷ []) → ⊥
+not_alone name lines picture outcomes lint plain breach help = not_command name [] (λ e o. lint e) (λ e o. lines e) (λ e o. picture e)
+    (λ e o. outcomes e) (λ e o. plain e) (λ e o. breach e) (λ e n o. no_number n o) (λ e o. help e)
 
 -- `seed` and a number
 seed_on : (name : List ℕ) (rest : List (List ℕ)) (told : Option ℕ) → name ≡ codes "seed" → IsOneNumberOf rest told → IsSeedOf (name ∷ rest) told
@@ -69,6 +75,11 @@ pub not_turns : (words : List (List ℕ)) → (words ≡ [] → ⊥) → IsSeedO
 not_turns words some seed order (inl e) = some e
 not_turns words some seed order (inr (inl e)) = seed e.0 e.1
 not_turns words some seed order (inr (inr e)) = let both : true ≡ false = sym e ∙ order in cc
+
+-- words that ask for no outcomes
+pub not_asked : (words : List (List ℕ)) → (words ≡ [] → ⊥) → two_lines words ≡ None → AreLines words → ⊥
+not_asked words some none (inl e) = some e
+not_asked words some none (inr e) = let both : Some e.0 ≡ None = sym e.1 ∙ none in cc
 
 pub filled : {A : Type 0} (f : A → List ℕ) (words : List A) → (length words ≡ 0 → ⊥) → map f words ≡ [] → ⊥
 filled f [] some e = some refl

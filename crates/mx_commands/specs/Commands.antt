@@ -1,6 +1,7 @@
 -- The words of a command line that are accepted.
-use Rattle.std.specs.Prelude.{◌≡◌, ◌⊎◌, ℕ, nat_le, Bool, true, ◌&&◌, List, [], ◌∷◌, length, Option, is_some, codes}
+use Rattle.std.specs.Prelude.{◌≡◌, ◌⊎◌, ℕ, nat_le, Bool, true, ◌&&◌, List, [], ◌∷◌, length, Option, None, Some, is_some, codes}
 use Rattle.std.specs.List.{list_all}
+use Rattle.mx_name.specs.Cuts.{cut_at}
 use Rattle.mx_request.specs.Decimals.{decimal_number}
 use Rattle.mx_request.specs.Steps.{◌>>=◌, when}
 use Rattle.mx_drill.specs.Numbers.{IsNumber}
@@ -48,6 +49,50 @@ IsLines words = IsNamed (codes "lines") IsTurns words
 abbrev pub IsPicture : List (List ℕ) → Type 0
 IsPicture words = IsNamed (codes "picture") IsTurns words
 
+-- a line of a script: its process, and its number in the text of the session
+abbrev pub LineName : Type 0
+LineName = ℕ × ℕ
+
+abbrev pub with_number : ℕ → ℕ → LineName
+with_number process number = (process, number)
+
+-- the line that two texts name: of a process 1 to 15, and a number of at most 7 decimal digits, neither with a leading zero
+abbrev pub numbered_in : List ℕ → ℕ → Option LineName
+numbered_in word process = decimal_number 7 word >>= λ number. Some (with_number process number)
+
+abbrev pub named_in : List ℕ × List ℕ → Option LineName
+named_in parts = process_of parts.0 >>= numbered_in parts.1
+
+-- the line that a word `P.L` names
+abbrev pub line_of : List ℕ → Option LineName
+line_of word = cut_at 46 word >>= named_in
+
+-- the lines that two words name
+abbrev pub with_other : List ℕ → LineName → Option (LineName × LineName)
+with_other word one = line_of word >>= λ other. Some (one, other)
+
+abbrev pub two_lines : List (List ℕ) → Option (LineName × LineName)
+two_lines [] = None
+two_lines (word ∷ []) = None
+two_lines (word ∷ other ∷ []) = line_of word >>= with_other other
+two_lines (word ∷ other ∷ third ∷ words) = None
+
+abbrev pub AreTwo : List (List ℕ) → LineName × LineName → Type 0
+AreTwo words two = two_lines words ≡ Some two
+
+-- `outcomes` of all lines, of two, and of either
+abbrev pub IsOutcomes : List (List ℕ) → Type 0
+IsOutcomes words = IsNamed (codes "outcomes") IsNothing words
+
+abbrev pub IsPair : List (List ℕ) → LineName × LineName → Type 0
+IsPair words two = IsNamed (codes "outcomes") (λ rest. AreTwo rest two) words
+
+abbrev pub AreLines : List (List ℕ) → Type 0
+AreLines words = IsNothing words ⊎ ((two : LineName × LineName) × AreTwo words two)
+
+abbrev pub IsTelling : List (List ℕ) → Type 0
+IsTelling words = IsNamed (codes "outcomes") AreLines words
+
 abbrev pub IsPlain : List (List ℕ) → Type 0
 IsPlain words = IsNamed (codes "plain") IsNothing words
 
@@ -62,7 +107,7 @@ IsHelp words = IsNamed (codes "help") IsNothing words
 
 -- what is told of a session: the source is read
 abbrev pub IsShowing : List (List ℕ) → Type 0
-IsShowing words = IsLint words ⊎ (IsLines words ⊎ IsPicture words)
+IsShowing words = IsLint words ⊎ (IsLines words ⊎ (IsPicture words ⊎ IsTelling words))
 
 -- the commands that read the source
 abbrev pub IsReading : List (List ℕ) → Type 0

@@ -1,11 +1,11 @@
 -- Helpers that private contracts cite: what words are read as.
 use Rattle.std.specs.Prelude.{◌≡◌, ℕ, ◌≤◌, true, List, map, Option, None, Some, codes}
 use Rattle.std.specs.String.{string_bytes}
-use Rattle.mx_commands.specs.Commands.{is_order, IsNothing, IsOneNumber, IsNamed, IsSeed, IsLint, IsPlain, IsBreach, IsDrill, IsHelp, IsCommand}
+use Rattle.mx_commands.specs.Commands.{is_order, IsNothing, IsOneNumber, IsNamed, IsSeed, LineName, AreTwo, AreLines, IsLint, IsPlain, IsBreach, IsDrill, IsHelp, IsCommand}
 use Rattle.mx_commands.specs.declared.words.Turns.{Turns}
 use Rattle.mx_commands.specs.declared.words.Turns.TheVariants.{Threads, Chosen, Named}
 use Rattle.mx_commands.specs.declared.words.View.{View}
-use Rattle.mx_commands.specs.declared.words.View.TheVariants.{Lint, Lines, Picture}
+use Rattle.mx_commands.specs.declared.words.View.TheVariants.{Lint, Lines, Picture, Outcomes}
 use Rattle.mx_commands.specs.declared.words.Reading.{Reading}
 use Rattle.mx_commands.specs.declared.words.Reading.TheVariants.{Session, Plain}
 use Rattle.mx_commands.specs.declared.words.Command.{Command}
@@ -26,11 +26,17 @@ TakesTurns Threads words = IsNothing words
 TakesTurns (Chosen number) words = IsSeed words number
 TakesTurns (Named order) words = (map string_bytes order.now ≡ words) × (is_order words ≡ true)
 
+-- these words ask for the outcomes of all lines, or of such two
+abbrev pub AsksLines : Option (LineName × LineName) → List (List ℕ) → Type 0
+AsksLines None words = IsNothing words
+AsksLines (Some two) words = AreTwo words two
+
 -- these words ask for such a view
 abbrev pub IsAsked : View → List (List ℕ) → Type 0
 IsAsked Lint words = IsLint words
 IsAsked (Lines turns) words = IsNamed (codes "lines") (TakesTurns turns) words
 IsAsked (Picture turns) words = IsNamed (codes "picture") (TakesTurns turns) words
+IsAsked (Outcomes asked) words = IsNamed (codes "outcomes") (AsksLines asked) words
 
 -- these words ask for the source to be read so
 abbrev pub IsReadSo : Reading → List (List ℕ) → Type 0

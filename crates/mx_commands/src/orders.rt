@@ -14,7 +14,14 @@ use std::alloc::{AllocError, Global};
 pub fn process_of(word: &str) -> Option<u8>
     ensures { result ≡ process_of word.now }
 {
-    match read_decimal(word.as_bytes(), 2) {
+    process_spelled(word.as_bytes())
+}
+
+/// The process that these bytes name.
+pub(crate) fn process_spelled(word: &[u8]) -> Option<u8>
+    ensures { result ≡ process_of word.now }
+{
+    match read_decimal(word, 2) {
         Some(number) if (1..=15).contains(&number) => Some(number as u8),
         _ => None,
     }

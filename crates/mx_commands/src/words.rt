@@ -3,11 +3,13 @@
 ghost use Rattle.std.specs.Prelude.{◌≡◌, ◌≢◌, ◌≤◌, [], ◌∷◌, map, is_some, MatchOption, IfSome, IfNone, codes};
 ghost use Rattle.std.specs.List.{list_all};
 ghost use Rattle.std.specs.String.{string_bytes};
-ghost use Rattle.mx_commands.specs.Commands.{process_of, is_order, IsTurns};
-ghost use Rattle.mx_commands.specs.Readings.{IsMeant, IsOneNumberOf, IsSeedOf, TakesTurns};
+ghost use Rattle.mx_commands.specs.Commands.{process_of, line_of, two_lines, is_order, AreLines, IsTurns};
+ghost use Rattle.mx_commands.specs.Readings.{AsksLines, IsMeant, IsOneNumberOf, IsSeedOf, TakesTurns};
 
-use crate::orders::process_of;
+use crate::orders::{process_of, process_spelled};
 use mx_drill::read_number;
+use mx_name::cut;
+use mx_request::read_decimal;
 
 /// The most processes of an order.
 const MOST_TURNS: usize = 4096;
@@ -23,6 +25,9 @@ pub enum Turns<'a> {
     Named(&'a [String]),
 }
 
+/// A line of a script: its process, and its number in the text of the session.
+pub type LineName = (u8, u32);
+
 /// What is shown of a session.
 #[derive(Clone, Copy)]
 pub enum View<'a> {
@@ -32,6 +37,8 @@ pub enum View<'a> {
     Lines(Turns<'a>),
     /// Its run, drawn.
     Picture(Turns<'a>),
+    /// What its lines come to in all orders; where two lines are named, which of their outcomes come together.
+    Outcomes(Option<(LineName, LineName)>),
 }
 
 /// As what the source is read.
@@ -82,6 +89,10 @@ impl<'a> Command<'a> {
                 Some(turns) => Command::Read(Reading::Session(View::Picture(turns))),
                 None => Command::Other,
             },
+            "outcomes" => match lines_asked(rest) {
+                Some(asked) => Command::Read(Reading::Session(View::Outcomes(asked))),
+                None => Command::Other,
+            },
             "drill" => match one_number(rest) {
                 Some(number) => Command::Drill(number),
                 None => Command::Other,
@@ -100,6 +111,7 @@ impl<'a> Command<'a> {
     fn alone(name: &str) -> Command<'a>
         requires lines { name.now ≢ codes "lines" }
         requires picture { name.now ≢ codes "picture" }
+        requires outcomes { name.now ≢ codes "outcomes" }
         ensures { IsMeant (name.now ∷ []) result }
     {
         match name {
@@ -140,6 +152,44 @@ impl<'a> Turns<'a> {
             None
         }
     }
+}
+
+// Of which two lines the outcomes are asked for, or that they are of all; none where these words do not say it.
+fn lines_asked(words: &[String]) -> Option<Option<(LineName, LineName)>>
+    ensures asked { IfSome result (λ asked. AsksLines asked (map string_bytes words.now)) }
+    ensures none { IfNone result (AreLines (map string_bytes words.now) → ⊥) }
+{
+    if words.is_empty() {
+        return Some(None);
+    }
+    match two_lines(words) {
+        Some(two) => Some(Some(two)),
+        None => None,
+    }
+}
+
+// The lines that two words name.
+fn two_lines(words: &[String]) -> Option<(LineName, LineName)>
+    ensures { result ≡ two_lines (map string_bytes words.now) }
+{
+    match words {
+        [word, other] => {
+            let one = line_of(word.as_str())?;
+            let other = line_of(other.as_str())?;
+            Some((one, other))
+        }
+        _ => None,
+    }
+}
+
+// The line that a word `P.L` names.
+fn line_of(word: &str) -> Option<LineName>
+    ensures { result ≡ line_of word.now }
+{
+    let (process, number) = cut(b'.', word.as_bytes())?;
+    let process = process_spelled(process)?;
+    let number = read_decimal(number, 7)?;
+    Some((process, number))
 }
 
 // The number of `seed N`.

@@ -1,0 +1,8 @@
+-- all orders of lines
+pub mod AllOrders
+-- runs in all of them, and what the lines came to
+pub mod Explored
+-- how that is told
+pub mod OutcomesTexts
+-- helpers: a run more, and what is told
+pub mod Exploring
