@@ -3,9 +3,10 @@ use Rattle.std.specs.Prelude.{◌≡◌, ◌⊎◌, ℕ, ◌≤◌, ◌<◌, Lis
 use Rattle.mx_both.specs.BothTexts.{IsSomeBoth}
 use Rattle.mx_breach.specs.Sources as breach
 use Rattle.mx_drill.specs.Drills.{drill_session}
-use Rattle.mx_commands.specs.Commands.{IsLint, IsLines, IsPicture, IsPlain, IsBreach, IsDrill, IsHelp, IsShowing, IsAnswered, IsCommand}
+use Rattle.mx_commands.specs.Commands.{IsLint, IsLines, IsPicture, IsOutcomes, IsPair, LineName, IsPlain, IsBreach, IsDrill, IsHelp, IsShowing, IsAnswered, IsCommand}
 use Rattle.mx_commands.specs.PlainTexts.{plain_text}
 use Rattle.mx_commands.specs.Usage.{usage, refusal}
+use Rattle.mx_explore.specs.OutcomesTexts.{TellsAll, TellsTwo}
 use Rattle.mx_io.specs.Bytes.{TakesAll, TakesTooMany, Appends, AppendsPart}
 use Rattle.mx_transcript.specs.Runs.{IsRunOf}
 use Rattle.mx_transcript.specs.Transcripts.{Step}
@@ -40,13 +41,30 @@ pub record IsDrawnRun (x : Outline) (sink sink' : Option (List ℕ)) : Type 0 wh
   pub run : IsRunOf x journal transcripts
   pub drawn : GainsDrawing sink sink'
 
--- what a command shows of a session: that it is one, its run line by line, or drawn
+-- the sink gained what the lines come to in all orders, or what two of them come to together
+pub record AreTold (x : Outline) (sink sink' : Option (List ℕ)) : Type 0 where
+  pub text : List ℕ
+  pub told : TellsAll x text
+  pub gained : Appends sink sink' text
+
+pub record AreTwoTold (x : Outline) (two : LineName × LineName) (sink sink' : Option (List ℕ)) : Type 0 where
+  pub text : List ℕ
+  pub told : TellsTwo x two.0 two.1 text
+  pub gained : Appends sink sink' text
+
+abbrev pub ShowsOutcomes : List (List ℕ) → Outline → Option (List ℕ) → Option (List ℕ) → Type 0
+ShowsOutcomes words x sink sink' =
+    (IsOutcomes words × AreTold x sink sink')
+    ⊎ ((two : LineName × LineName) × (IsPair words two × AreTwoTold x two sink sink'))
+
+-- what a command shows of a session: that it is one, its run line by line, or drawn, or what its lines come to in all orders
 abbrev pub Shows : List (List ℕ) → Outline → Option (List ℕ) → Option (List ℕ) → Type 0
 Shows words x sink sink' =
     (IsLint words × Appends sink sink' (codes "good\n"))
-    ⊎ ((IsLines words × IsToldRun x sink sink') ⊎ (IsPicture words × IsDrawnRun x sink sink'))
+    ⊎ ((IsLines words × IsToldRun x sink sink')
+    ⊎ ((IsPicture words × IsDrawnRun x sink sink') ⊎ ShowsOutcomes words x sink sink'))
 
--- under `lint`, `lines` and `picture`: the source held the text of a session, and this was shown of it
+-- under `lint`, `lines`, `picture` and `outcomes`: the source held the text of a session, and this was shown of it
 pub record IsShown (words : List (List ℕ)) (source source' sink sink' : Option (List ℕ)) : Type 0 where
   pub spelled : List ℕ
   pub read : IsRead source source' spelled

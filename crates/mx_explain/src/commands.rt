@@ -12,13 +12,14 @@ ghost use Rattle.mx_commands.specs.PlainTexts.{plain_text};
 ghost use Rattle.mx_lint.specs.Diagnoses.{IsBadLine};
 ghost use Rattle.mx_explain.specs.Statuses.{IsDone, IsRefused, IsToldOf, IsCutOffOf, IsBadText, IsBadTextCut, GainsFront, IsStopped, IsDueStatus};
 ghost use Rattle.mx_commands.specs.Usage.{usage, refusal};
-ghost use Rattle.mx_explain.specs.Views.{ShowsOf, TellsSession, Tells, CutsOff, TellsFrontOfSession, TellsFront};
+ghost use Rattle.mx_explain.specs.Views.{ShowsOf, GainsOutcomes, TellsOutcomes, TellsSession, Tells, CutsOff, TellsFrontOfSession, TellsFront};
 
 use mx_breach::tell_source;
 use mx_commands::{
-    Command, Reading, Turns, View, chosen_order, named_order, plain_text, refusal, usage,
+    Command, LineName, Reading, Turns, View, chosen_order, named_order, plain_text, refusal, usage,
 };
 use mx_drill::{session_of, session_text};
+use mx_explore::{outcomes_text, pair_text};
 use mx_io::{ReadError, Sink, Source, read_all, write_all};
 use mx_lint::{Diagnosis, Finding, lint};
 use mx_list::Bytes;
@@ -53,9 +54,10 @@ const BAD_LINE: u8 = 5;
 /// The status of a text that is too long.
 const TOO_LONG: u8 = 6;
 
-/// Does what the words of the command line ask for, and answers the status with which the program is to end. `lint`, `lines` and
-/// `picture` read the source to its end as the text of a session: `lint` says that it is one, or explains the first bad line; `lines`
-/// runs the session and shows line by line what it came to; `picture` draws the same run. Behind `lines` and `picture` may stand
+/// Does what the words of the command line ask for, and answers the status with which the program is to end. `lint`, `lines`,
+/// `picture` and `outcomes` read the source to its end as the text of a session: `lint` says that it is one, or explains the first bad line;
+/// `lines` runs the session and shows line by line what it came to; `picture` draws the same run; `outcomes` runs it in all orders of its
+/// lines, on one thread, and tells what each line came to, or of two lines which of their outcomes come together. Behind `lines` and `picture` may stand
 /// 1 to 4,096 process numbers, or `seed N`, which chooses as many: the lines of the processes are then made in that order, on one
 /// thread. Else each process has a thread of its own. `plain` reads the source to its end and prints it without the lines that begin
 /// with `#`; `breach` reads it as the text of a session and, at once behind it, that of a printed run, and says that the run is a legal one of
@@ -64,7 +66,7 @@ const TOO_LONG: u8 = 6;
 ///
 /// | Status | Comes | Written |
 /// |---|---|---|
-/// | 0 | the text is a session's, or a session's and a run's, or is not to be one, or none is read | `good`, the lines, the drawing, `legal` or the breach, or what is printed |
+/// | 0 | the text is a session's, or a session's and a run's, or is not to be one, or none is read | `good`, the lines, the drawing, the outcomes, `legal` or the breach, or what is printed |
 /// | 1 | memory ran out | a part of it, or nothing |
 /// | 2 | the words are not accepted; the source is not read | `bad words`, and how to use the program |
 /// | 3 | the source failed | nothing |
@@ -79,7 +81,7 @@ pub fn show<R: Threads + Wait + Sync, S: Source, K: Sink>(
     sink: &mut K,
 ) -> u8
     // Status 0: what the words ask for was written. Where the source is read, it was read to its end, and its bytes are the text of a
-    // session, of which `good`, or a legal run line by line, or one drawn was shown; or the text was printed without its titles; or they
+    // session, of which `good`, or a legal run line by line, or one drawn was shown, or what its lines come to in all orders; or the text was printed without its titles; or they
     // are the texts of a session and a run, and it was told that the run is legal, or its breach.
     ensures done { result ≡ 0 → IsDone (map string_bytes words.now) (S.left source.old) (S.left source.new) (K.out sink.old) (K.out sink.new) }
 
@@ -242,6 +244,39 @@ fn show_session<R: Threads + Wait + Sync, K: Sink>(
             let (journal, transcripts) = run_alone(turns, rt, alloc, session)?;
             show_picture(alloc, session, &journal, &transcripts, sink)
         }
+        View::Outcomes(asked) => show_outcomes(asked, rt, alloc, session, sink),
+    }
+}
+
+// Shows what the lines of a session come to in all orders, or what two of them do together.
+fn show_outcomes<R: Wait, K: Sink>(
+    asked: Option<(LineName, LineName)>,
+    rt: &R,
+    alloc: Global,
+    session: &Session,
+    sink: &mut K,
+) -> Result<(), ShowError>
+    ensures shown { OnOk result (GainsOutcomes asked session.now (K.out sink.old) (K.out sink.new)) }
+    ensures cause { IsErrOf result ShowError.Fault → Rose (K.faults sink.old) (K.faults sink.new) }
+    ensures only { (IsErrOf result ShowError.Fault → ⊥) → K.faults sink.new ≡ K.faults sink.old }
+{
+    let text = told_outcomes(asked, rt, alloc, session)?;
+    write_all(sink, &text)?;
+    Ok(())
+}
+
+// What is told of them.
+fn told_outcomes<R: Wait>(
+    asked: Option<(LineName, LineName)>,
+    rt: &R,
+    alloc: Global,
+    session: &Session,
+) -> Result<Vec<u8>, AllocError>
+    ensures { IfOk result (λ text. TellsOutcomes asked session.now text.items) }
+{
+    match asked {
+        None => outcomes_text(rt, alloc, session),
+        Some((one, other)) => pair_text(rt, alloc, session, one, other),
     }
 }
 

@@ -51,12 +51,15 @@ abbrev pub two_text : Numbered → Numbered → List Tallied → List ℕ
 two_text one other tallies =
     head_text one ++ head_text other ++ pairs_text (rows_at tallies 0) (rows_at tallies 1) (rows_at tallies 2)
 
-abbrev pub or_more : ℕ → List ℕ
+-- a count, which a number of 64 bits may not hold
+unfoldable pub or_more : ℕ → List ℕ
 or_more orders = if orders == 18446744073709551615 then codes " or more" else []
 
+unfoldable pub count_text : ℕ → List ℕ
+count_text orders = decimal orders ++ or_more orders
+
 abbrev pub too_many_text : ℕ → List ℕ
-too_many_text orders =
-    codes "too many orders: " ++ decimal orders ++ or_more orders ++ codes "; at most 20000 are made\n"
+too_many_text orders = codes "too many orders: " ++ count_text orders ++ codes "; at most 20000 are made\n"
 
 abbrev pub no_line_text : ℕ → ℕ → List ℕ
 no_line_text process number = codes "no line of a script: " ++ name_text process number ++ codes "\n"

@@ -1,7 +1,7 @@
 //! Runs of a session in one order of its lines after another.
 
-ghost use Rattle.std.specs.Prelude.{◌≡◌, ◌<◌, ◌≤◌, ◌^◌, length, map, IfOk, OnOk};
-ghost use Rattle.std.specs.List.{sum};
+ghost use Rattle.std.specs.Prelude.{◌≡◌, ◌<◌, ◌≤◌, ◌^◌, ◌++◌, length, map, IfOk, OnOk};
+ghost use Rattle.std.specs.List.{sum, sum_by};
 ghost use Rattle.mx_explore.specs.Explored.{IsExplored, line_counts};
 ghost use Rattle.mx_explore.specs.Exploring.{IsFound, IsMade, fresh};
 ghost use Rattle.mx_outcomes.specs.Interleavings.{IsFirst, IsInterleaving};
@@ -11,7 +11,7 @@ ghost use Rattle.mx_transcript.specs.Runs.{IsRunOf};
 use mx_list::Bytes;
 use mx_outcomes::{advance, count_orders, first_order, outcomes_in};
 use mx_proc::{NoGate, run_in_order};
-use mx_script::Session;
+use mx_script::{Script, Session};
 use mx_state::Journal;
 use mx_tally::{Places, Tally};
 use mx_transcript::Transcripts;
@@ -56,10 +56,22 @@ fn line_counts(alloc: Global, session: &Session) -> Result<Vec<u32>, AllocError>
     ensures fits { IfOk result (λ counts. sum counts.items < 2 ^ 32) }
 {
     let mut counts = Vec::new(alloc);
-    for script in session.scripts().items() {
-        counts.push(script.items().len() as u32)?;
-    }
+    add_counts(&mut counts, session.scripts().items())?;
     Ok(counts)
+}
+
+// Adds how many lines each of these scripts has.
+fn add_counts(counts: &mut Vec<u32>, scripts: &[Script]) -> Result<(), AllocError>
+    requires { sum_by length scripts.now < 2 ^ 32 }
+    ensures { OnOk result (counts.new.items ≡ counts.old.items ++ map length scripts.now) }
+{
+    match scripts {
+        [] => Ok(()),
+        [script, rest @ ..] => {
+            counts.push(script.items().len() as u32)?;
+            add_counts(counts, rest)
+        }
+    }
 }
 
 // Makes a run in this order, the first, and in each that comes behind it.
@@ -126,11 +138,11 @@ fn run<R: Wait>(
 // Adds a run to each group.
 fn add_run(
     alloc: Global,
-    tallies: &mut Vec<Tally>,
+    tallies: &mut [Tally],
     order: &[u8],
     outcomes: &[Bytes],
 ) -> Result<(), AllocError>
-    ensures { OnOk result (tallies.new.items ≡ map (with_run (order.now, outcomes.now)) tallies.old.items) }
+    ensures { OnOk result (tallies.new ≡ map (with_run (order.now, outcomes.now)) tallies.old) }
 {
     for tally in tallies.iter_mut() {
         tally.add(alloc, order, outcomes)?;

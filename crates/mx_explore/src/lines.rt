@@ -4,7 +4,7 @@ ghost use Rattle.std.specs.Prelude.{◌≡◌, ◌≤◌, ◌<◌, ◌+◌, ◌^
 ghost use Rattle.std.specs.List.{sum_by};
 ghost use Rattle.std.specs.Option.{option_map};
 ghost use Rattle.mx_explore.specs.Exploring.{plain};
-ghost use Rattle.mx_explore.specs.OutcomesTexts.{numbered, numbered_scripts, script_lines, place_from};
+ghost use Rattle.mx_explore.specs.OutcomesTexts.{numbered, numbered_scripts, script_lines, is_line, place_from};
 
 use mx_script::{Line, Script, Session};
 use mx_transcript::first_line;
@@ -81,9 +81,15 @@ pub(crate) fn find_line<'a>(
     ensures { option_map (λ found. (found.0, plain found.1)) result ≡ place_from process number 0 (map plain lines.now) }
 {
     for (place, line) in lines.iter().enumerate() {
-        if line.process == process && line.number == number {
+        if is_line(line, process, number) {
             return Some((place, *line));
         }
     }
     None
+}
+
+fn is_line(line: &ScriptLine<'_>, process: u8, number: u32) -> bool
+    ensures { result ≡ is_line process number (plain line.now) }
+{
+    line.process == process && line.number == number
 }

@@ -3,7 +3,7 @@
 ghost use Rattle.std.specs.Prelude.{◌≡◌, ◌++◌, [], ◌∷◌, map, IfOk, OnOk};
 ghost use Rattle.std.specs.Fmt.{decimal};
 ghost use Rattle.mx_explore.specs.Exploring.{plain};
-ghost use Rattle.mx_explore.specs.OutcomesTexts.{TellsAll, TellsTwo, TellsGroups, name_text, head_text, rows_at, lines_text, orders_text, two_text, or_more, too_many_text, no_line_text, singles, two_groups};
+ghost use Rattle.mx_explore.specs.OutcomesTexts.{TellsAll, TellsTwo, TellsGroups, name_text, head_text, rows_at, lines_text, orders_text, two_text, or_more, count_text, too_many_text, no_line_text, singles, two_groups};
 
 use crate::exploring::{Explored, explore};
 use crate::lines::{ScriptLine, find_line, script_lines};
@@ -55,7 +55,7 @@ pub fn pair_text<R: Wait>(
     let Some(second) = find_line(&lines, other.0, other.1) else {
         return no_line_text(alloc, other.0, other.1);
     };
-    two_text(rt, alloc, session, first, second)
+    two_text(rt, alloc, session, (first.0, second.0), &first.1, &second.1)
 }
 
 // Tells of two lines at their places.
@@ -63,19 +63,20 @@ fn two_text<R: Wait>(
     rt: &R,
     alloc: Global,
     session: &Session,
-    one: (usize, ScriptLine<'_>),
-    other: (usize, ScriptLine<'_>),
+    places: (usize, usize),
+    one: &ScriptLine<'_>,
+    other: &ScriptLine<'_>,
 ) -> Result<Vec<u8>, AllocError>
-    ensures { IfOk result (λ text. TellsGroups session.now (two_groups one.0 other.0) (two_text (plain one.1) (plain other.1)) text.items) }
+    ensures { IfOk result (λ text. TellsGroups session.now (two_groups places.0 places.1) (two_text (plain one.now) (plain other.now)) text.items) }
 {
-    let groups = two_groups(alloc, one.0, other.0)?;
+    let groups = two_groups(alloc, places.0, places.1)?;
     let found = explore(rt, alloc, session, groups)?;
     let mut out = Vec::new(alloc);
     match found {
         Explored::TooMany(orders) => add_too_many(&mut out, orders)?,
         Explored::Tallied(orders, tallies) => {
             add_orders(&mut out, orders)?;
-            add_two(&mut out, one.1, other.1, &tallies)?;
+            add_two(&mut out, one, other, &tallies)?;
         }
     }
     Ok(out)
@@ -125,19 +126,30 @@ fn add_too_many(out: &mut Vec<u8>, orders: u64) -> Result<(), AllocError>
     ensures { OnOk result (out.new.items ≡ out.old.items ++ too_many_text orders) }
 {
     out.extend_from_slice(b"too many orders: ")?;
-    add_decimal(out, orders)?;
-    add_or_more(out, orders)?;
-    out.extend_from_slice(b"; at most 20000 are made\n")
+    add_count(out, orders)?;
+    out.extend_from_slice(b"; at most 20000 are made\n")?;
+    Ok(())
 }
 
-// Of more orders than a number of 64 bits counts, that there may be more.
-fn add_or_more(out: &mut Vec<u8>, orders: u64) -> Result<(), AllocError>
-    ensures { OnOk result (out.new.items ≡ out.old.items ++ or_more orders) }
+// How many there are, as far as a number of 64 bits counts.
+#[tactic(auto, unfolding(crate::specs::OutcomesTexts::count_text))]
+fn add_count(out: &mut Vec<u8>, orders: u64) -> Result<(), AllocError>
+    ensures { OnOk result (out.new.items ≡ out.old.items ++ count_text orders) }
+{
+    add_decimal(out, orders)?;
+    out.extend_from_slice(or_more(orders))?;
+    Ok(())
+}
+
+// Where a number of 64 bits ends, that there may be more.
+#[tactic(auto, unfolding(crate::specs::OutcomesTexts::or_more))]
+fn or_more(orders: u64) -> &'static [u8]
+    ensures { result.now ≡ or_more orders }
 {
     if orders == u64::MAX {
-        out.extend_from_slice(b" or more")
+        b" or more"
     } else {
-        Ok(())
+        b""
     }
 }
 
@@ -169,14 +181,14 @@ fn add_lines(
 // Adds two lines, and which of their outcomes come together.
 fn add_two(
     out: &mut Vec<u8>,
-    one: ScriptLine<'_>,
-    other: ScriptLine<'_>,
+    one: &ScriptLine<'_>,
+    other: &ScriptLine<'_>,
     tallies: &[Tally],
 ) -> Result<(), AllocError>
-    ensures { OnOk result (out.new.items ≡ out.old.items ++ two_text (plain one) (plain other) tallies.now) }
+    ensures { OnOk result (out.new.items ≡ out.old.items ++ two_text (plain one.now) (plain other.now) tallies.now) }
 {
-    add_head(out, &one)?;
-    add_head(out, &other)?;
+    add_head(out, one)?;
+    add_head(out, other)?;
     add_pairs(out, rows_at(tallies, 0), rows_at(tallies, 1), rows_at(tallies, 2))
 }
 

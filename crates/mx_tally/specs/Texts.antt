@@ -10,9 +10,9 @@ abbrev pub text_of : List (List ℕ) → List ℕ
 text_of [] = []
 text_of (text ∷ texts) = text
 
--- a text and blanks, at least 24 bytes
+-- a text and blanks, at least 28 bytes
 abbrev pub padded : List ℕ → List ℕ
-padded text = text ++ replicate (24 - length text) 32
+padded text = text ++ replicate (28 - length text) 32
 
 abbrev pub step_text : ℕ → List ℕ
 step_text process = codes " " ++ decimal process
@@ -37,10 +37,10 @@ abbrev pub together : List Row → Row → Row → Option Row
 together both one other = find (is_of (text_of one.outcomes ∷ text_of other.outcomes ∷ [])) both
 
 abbrev pub other_text : List Row → Row → Row → List ℕ
-other_text both one other = codes "      " ++ padded (text_of other.outcomes) ++ times_text (together both one other)
+other_text both one other = codes "    " ++ padded (text_of other.outcomes) ++ times_text (together both one other)
 
 abbrev pub one_text : List Row → List Row → Row → List ℕ
-one_text others both one = codes "    " ++ text_of one.outcomes ++ codes "\n" ++ flat_map (other_text both one) others
+one_text others both one = codes "  " ++ text_of one.outcomes ++ codes "\n" ++ flat_map (other_text both one) others
 
 abbrev pub pairs_text : List Row → List Row → List Row → List ℕ
 pairs_text ones others both = flat_map (one_text others both) ones

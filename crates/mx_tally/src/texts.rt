@@ -14,7 +14,7 @@ use mx_list::Bytes;
 use std::alloc::AllocError;
 
 /// The length of an outcome with blanks behind it.
-const WIDTH: usize = 24;
+const WIDTH: usize = 28;
 
 /// Adds each outcome of a line, in how many runs it came, and in which order first.
 pub fn add_rows(out: &mut Vec<u8>, rows: &[Row]) -> Result<(), AllocError>
@@ -113,7 +113,7 @@ fn add_one(
 ) -> Result<(), AllocError>
     ensures { OnOk result (out.new.items ≡ out.old.items ++ one_text others.now both.now one.now) }
 {
-    out.extend_from_slice(b"    ")?;
+    out.extend_from_slice(b"  ")?;
     out.extend_from_slice(text_of(&one.outcomes))?;
     out.extend_from_slice(b"\n")?;
     for other in others {
@@ -130,7 +130,7 @@ fn add_other(
 ) -> Result<(), AllocError>
     ensures { OnOk result (out.new.items ≡ out.old.items ++ other_text both.now one.now other.now) }
 {
-    out.extend_from_slice(b"      ")?;
+    out.extend_from_slice(b"    ")?;
     add_padded(out, text_of(&other.outcomes))?;
     match together(both, text_of(&one.outcomes), text_of(&other.outcomes)) {
         Some(row) => add_times(out, row),

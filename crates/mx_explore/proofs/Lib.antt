@@ -1,0 +1,3 @@
+mod AllOrderLaws
+mod ExploredLaws
+mod LineLaws
