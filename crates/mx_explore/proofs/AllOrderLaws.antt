@@ -1,8 +1,8 @@
 -- Laws on orders that follow one another: from the first to the last they are all.
-use Rattle.std.proofs.Common.{◌≡◌, ◌<◌, ◌≤◌, ◌⊎◌, inl, inr, ℕ, List, [], ◌∷◌, ◌++◌, refl, sym, ap, ◌∙◌, subst, arith}
+use Rattle.std.proofs.Common.{◌≡◌, ◌⊎◌, inl, inr, ℕ, List, [], ◌∷◌, ◌++◌, refl, sym, ap, ◌∙◌, subst, arith}
 use Rattle.std.proofs.lemmas.Bool.{cases_lt}
 use Rattle.mx_outcomes.proofs.OrderLaws.{rests, stands_first}
-use Rattle.mx_outcomes.specs.Interleavings.{times, ComesBefore, IsArrangement, IsInterleaving, IsFirst, IsNext, IsLast}
+use Rattle.mx_outcomes.specs.Interleavings.{ComesBefore, IsArrangement, IsInterleaving, IsFirst, IsNext, IsLast}
 use Rattle.mx_explore.specs.AllOrders.{IsAmong, AreInterleavings, AreRising, AreAllOrders, Follow}
 
 compare_behind : (p q : ℕ) (order other : List ℕ) → p ≡ q → ComesBefore order other ⊎ ((order ≡ other) ⊎ ComesBefore other order)

@@ -1,5 +1,5 @@
 -- Runs of a session in all orders of its lines, and what its lines came to in them.
-use Rattle.std.specs.Prelude.{◌≡◌, ◌<◌, ◌≤◌, ◌^◌, ◌-◌, ℕ, List, [], ◌∷◌, length, map, min, ⊤}
+use Rattle.std.specs.Prelude.{◌≡◌, ◌^◌, ◌-◌, ℕ, List, [], ◌∷◌, length, map, min, ⊤}
 use Rattle.mx_explore.specs.AllOrders.{AreAllOrders}
 use Rattle.mx_outcomes.specs.Counts.{orders_of}
 use Rattle.mx_outcomes.specs.Words.{outcomes_in}
