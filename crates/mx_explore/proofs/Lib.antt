@@ -1,3 +1,3 @@
 mod AllOrderLaws
 mod ExploredLaws
-mod LineLaws
+mod TextLaws

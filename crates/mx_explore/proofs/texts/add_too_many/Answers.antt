@@ -1,5 +1,5 @@
 use Rattle.std.specs.Prelude.{codes}
-use Rattle.mx_explore.proofs.LineLaws.{three_parts}
+use Rattle.mx_explore.proofs.TextLaws.{three_parts}
 use Rattle.mx_explore.specs.OutcomesTexts.{count_text}
 use Rattle.mx_explore.proofs.texts.add_too_many.Goals as goal
 
