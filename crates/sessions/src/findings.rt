@@ -85,10 +85,11 @@ fn find_in_session<R: Threads + Wait + Sync>(
         findings.push(found("shared", outcome))?;
     }
     let order = text_of(parts, "order").unwrap_or(b"");
-    let shown: [(&str, &str, &[u8]); 3] = [
+    let shown: [(&str, &str, &[u8]); 4] = [
         ("lint", "lint", b""),
         ("lines", "lines", order),
         ("svg", "picture", order),
+        ("outcomes", "outcomes", b""),
     ];
     for (kind, word, order) in shown {
         if let Some(stored) = text_of(parts, kind) {

@@ -58,6 +58,47 @@ const USAGE: &str = "Usage: show COMMAND < SESSION\n\
     Status: 0 written, 1 out of memory, 2 bad words, 3 input failed,\n\
     4 output failed, 5 no session (breach: no session with a run), 6 too many bytes\n";
 
+const TWO: &[u8] =
+    b"multics 1\ncreate_seg >a 64 4 4 4\nset_acl >a Smith.Faculty.a rw\nset_acl > Jones.Faculty.a sma\n\
+    process Jones.Faculty.a\nset_acl >a Smith.Faculty.a null\nlogout\n\
+    process Smith.Faculty.a\ninitiate >a\nlogout\nend\n";
+
+// Of six orders, Smith is before Jones in three.
+const TWO_OUTCOMES: &str = "orders: 6\n\
+    1.6: set_acl >a Smith.Faculty.a null\n\
+    \x20   ok, done                     in 6, first 1 1 2 2\n\
+    1.7: logout\n\
+    \x20   ok, done                     in 6, first 1 1 2 2\n\
+    2.9: initiate >a\n\
+    \x20   refused 3 no_info, refused   in 3, first 1 1 2 2\n\
+    \x20   segno 10 new, done           in 3, first 2 1 1 2\n\
+    2.10: logout\n\
+    \x20   ok, done                     in 6, first 1 1 2 2\n";
+
+const TWO_TOGETHER: &str = "orders: 6\n\
+    2.9: initiate >a\n\
+    1.6: set_acl >a Smith.Faculty.a null\n\
+    \x20 refused 3 no_info, refused\n\
+    \x20   ok, done                     in 3, first 1 1 2 2\n\
+    \x20 segno 10 new, done\n\
+    \x20   ok, done                     in 3, first 2 1 1 2\n";
+
+const NEVER_TOGETHER: &str = "orders: 6\n\
+    2.9: initiate >a\n\
+    2.9: initiate >a\n\
+    \x20 refused 3 no_info, refused\n\
+    \x20   refused 3 no_info, refused   in 3, first 1 1 2 2\n\
+    \x20   segno 10 new, done           never\n\
+    \x20 segno 10 new, done\n\
+    \x20   refused 3 no_info, refused   never\n\
+    \x20   segno 10 new, done           in 3, first 2 1 1 2\n";
+
+// Of nine lines and nine there are 48,620 orders.
+const NINE: &[u8] = b"multics 1\nprocess Jones.Faculty.a\n\
+    set 1\nset 2\nset 3\nset 4\nset 5\nset 6\nset 7\nset 10\nlogout\n\
+    process Smith.Faculty.a\n\
+    set 1\nset 2\nset 3\nset 4\nset 5\nset 6\nset 7\nset 10\nlogout\nend\n";
+
 const BAD: &[&str] = &["bad words\n", USAGE];
 
 const TITLED: &[u8] = b"# A title\nmultics 1\n#\n # not one\n\nend#\n#";
@@ -78,6 +119,41 @@ const COMMANDS: &[Row] = &[
     ("lines", b"", false, 4096, 5, &[ENDED]),
     ("picture", b"", false, 4096, 5, &[ENDED]),
     ("picture 2", b"", false, 4096, 5, &[ENDED]),
+    ("outcomes", TWO, false, 4096, 0, &[TWO_OUTCOMES]),
+    ("outcomes 2.9 1.6", TWO, false, 4096, 0, &[TWO_TOGETHER]),
+    ("outcomes 2.9 2.9", TWO, false, 4096, 0, &[NEVER_TOGETHER]),
+    (
+        "outcomes 2.8 1.6",
+        TWO,
+        false,
+        4096,
+        0,
+        &["no line of a script: 2.8\n"],
+    ),
+    (
+        "outcomes 1.6 3.9",
+        TWO,
+        false,
+        4096,
+        0,
+        &["no line of a script: 3.9\n"],
+    ),
+    (
+        "outcomes",
+        NINE,
+        false,
+        4096,
+        0,
+        &["too many orders: 48620; at most 20000 are made\n"],
+    ),
+    ("outcomes", TWO, false, 9, 4, &["orders: 6"]),
+    ("outcomes", TWO, true, 4096, 3, &[""]),
+    ("outcomes", b"", false, 4096, 5, &[ENDED]),
+    ("outcomes 1.6", TWO, true, 4096, 2, BAD),
+    ("outcomes 1.6 2.9 1", TWO, true, 4096, 2, BAD),
+    ("outcomes 0.6 1.6", TWO, true, 4096, 2, BAD),
+    ("outcomes 1.06 1.6", TWO, true, 4096, 2, BAD),
+    ("outcomes 1 6", TWO, true, 4096, 2, BAD),
     ("run", SMALLEST, true, 4096, 2, BAD),
     ("lines 0", SMALLEST, true, 4096, 2, BAD),
     ("lines 16", SMALLEST, true, 4096, 2, BAD),
