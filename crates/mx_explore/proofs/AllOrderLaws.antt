@@ -56,7 +56,7 @@ rising (one ∷ []) first last follow = (
 )
 rising (one ∷ two ∷ orders) first last follow = (
   subst (λ (l : List ℕ). ComesBefore one l) (sym follow.1.1.1.0)
-  (subst (λ (l : List ℕ). ComesBefore l follow.1.0) (sym follow.0) follow.1.1.0.after),
+      (subst (λ (l : List ℕ). ComesBefore l follow.1.0) (sym follow.0) follow.1.1.0.after),
   rising (two ∷ orders) follow.1.0 last follow.1.1.1,
 )
 
@@ -65,7 +65,7 @@ pub all_orders : (counts : List ℕ) (orders : List (List ℕ)) (first last : Li
 all_orders counts orders first last follow begun mine end = record {
   each = interleavings counts orders first last follow mine;
   all = λ order theirs. reach orders first last order follow end (λ p. mine p ∙ sym (theirs p))
-  (λ before. begun order (λ p. mine p ∙ sym (theirs p)) before);
+      (λ before. begun order (λ p. mine p ∙ sym (theirs p)) before);
   rising = rising orders first last follow;
 }
 

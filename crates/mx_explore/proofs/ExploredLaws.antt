@@ -88,7 +88,7 @@ module _ (session : Outline) (groups : List (List ℕ)) (order : List ℕ) (tall
     first = so.first;
     interleaving = so.interleaving;
     follow = subst (λ (l : List (List ℕ)). Follow so.start l next) (sym orders_are)
-    (follow_more (map order_of so.runs) so.start order next so.follow more);
+        (follow_more (map order_of so.runs) so.start order next so.follow more);
     tallies_are = tallies_are;
   }
 
@@ -97,7 +97,7 @@ module _ (session : Outline) (groups : List (List ℕ)) (order : List ℕ) (tall
     runs = runs;
     legal = legal;
     orders = subst (λ (l : List (List ℕ)). AreAllOrders (line_counts session) l) (sym orders_are)
-    (all_orders (line_counts session) (map order_of so.runs) so.start order so.follow so.first so.interleaving end);
+        (all_orders (line_counts session) (map order_of so.runs) so.start order so.follow so.first so.interleaving end);
     tallies_are = tallies_are;
   }
 

@@ -146,11 +146,7 @@ fn add_count(out: &mut Vec<u8>, orders: u64) -> Result<(), AllocError>
 fn or_more(orders: u64) -> &'static [u8]
     ensures { result.now ≡ or_more orders }
 {
-    if orders == u64::MAX {
-        b" or more"
-    } else {
-        b""
-    }
+    if orders == u64::MAX { b" or more" } else { b"" }
 }
 
 fn no_line_text(alloc: Global, process: u8, number: u32) -> Result<Vec<u8>, AllocError>
@@ -189,7 +185,12 @@ fn add_two(
 {
     add_head(out, one)?;
     add_head(out, other)?;
-    add_pairs(out, rows_at(tallies, 0), rows_at(tallies, 1), rows_at(tallies, 2))
+    add_pairs(
+        out,
+        rows_at(tallies, 0),
+        rows_at(tallies, 1),
+        rows_at(tallies, 2),
+    )
 }
 
 // The rows of the group at a place.

@@ -24,7 +24,7 @@ place_found o rows i row within is new same = record {
   row = row;
   after = drop (i + 1) rows;
   rows_are = sym (take-append-drop i rows) ∙ ap (λ (l : List Row). take i rows ++ l) (drop_more rows i row within)
-  ∙ ap (λ (r : Row). take i rows ++ r ∷ drop (i + 1) rows) (sym is);
+      ∙ ap (λ (r : Row). take i rows ++ r ∷ drop (i + 1) rows) (sym is);
   place_is = length-take-le i rows (omega (arith, within));
   same = same;
   others = new;

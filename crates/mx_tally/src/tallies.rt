@@ -68,11 +68,7 @@ impl Tally {
 }
 
 // What the lines at these places came to.
-fn outcomes_at(
-    alloc: Global,
-    places: &[usize],
-    outcomes: &[Bytes],
-) -> Result<Texts, AllocError>
+fn outcomes_at(alloc: Global, places: &[usize], outcomes: &[Bytes]) -> Result<Texts, AllocError>
     ensures { IfOk result (λ texts. texts ≡ outcomes_at places.now outcomes.now) }
 {
     let mut texts = Vec::new(alloc);

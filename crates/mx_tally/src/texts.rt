@@ -105,12 +105,7 @@ pub fn add_pairs(
 }
 
 // Adds an outcome of the one line, and behind it those of the other.
-fn add_one(
-    out: &mut Vec<u8>,
-    one: &Row,
-    others: &[Row],
-    both: &[Row],
-) -> Result<(), AllocError>
+fn add_one(out: &mut Vec<u8>, one: &Row, others: &[Row], both: &[Row]) -> Result<(), AllocError>
     ensures { OnOk result (out.new.items ≡ out.old.items ++ one_text others.now both.now one.now) }
 {
     out.extend_from_slice(b"  ")?;
@@ -122,12 +117,7 @@ fn add_one(
     Ok(())
 }
 
-fn add_other(
-    out: &mut Vec<u8>,
-    one: &Row,
-    other: &Row,
-    both: &[Row],
-) -> Result<(), AllocError>
+fn add_other(out: &mut Vec<u8>, one: &Row, other: &Row, both: &[Row]) -> Result<(), AllocError>
     ensures { OnOk result (out.new.items ≡ out.old.items ++ other_text both.now one.now other.now) }
 {
     out.extend_from_slice(b"    ")?;
