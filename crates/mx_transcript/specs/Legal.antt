@@ -3,6 +3,7 @@ use Rattle.std.specs.Prelude.{◌≡◌, ℕ, ◌+◌, ◌<◌, ◌≤◌, ◌==
 use Rattle.mx_upcall.specs.Control.{Control}
 use Rattle.mx_request.specs.declared.requests.Request.{Request}
 use Rattle.mx_script.specs.Sessions.{Outline, limit_of}
+use Rattle.mx_script.specs.declared.lines.Line.{Line}
 use Rattle.mx_transcript.specs.Opened.{opening_of}
 use Rattle.mx_state.specs.History.{IsRight}
 use Rattle.mx_state.specs.declared.journal.Entry as journaled
@@ -15,7 +16,7 @@ use Rattle.mx_transcript.specs.Misses.{IsChanged, AreRightMisses}
 use Rattle.mx_transcript.specs.Points.{ArePoints}
 use Rattle.mx_transcript.specs.Reads.{IsKnown}
 use Rattle.mx_transcript.specs.References.{deeds_by}
-use Rattle.mx_transcript.specs.Parts.{AreLines}
+use Rattle.mx_transcript.specs.Parts.{AreLines, AreLinesOf}
 use Rattle.mx_transcript.specs.Scripts.{lines_of}
 use Rattle.mx_transcript.specs.Openings.{opening_control}
 use Rattle.mx_transcript.specs.Settings.{Setting}
@@ -66,8 +67,9 @@ pub record IsLegal (session : Outline) (journal : List journaled.Entry) (transcr
   pub parts : length transcripts ≡ 1 + length session.principals
   -- the entries of each process are those that its transcript names, in order, each once
   pub each_call_once : (p : ℕ) → entries_named (events_of (part transcripts p)) ≡ numbers_of p journal
-  -- each has the lines of the session in order, and they keep the line rule and the register rules: each reference is
-  -- what its line asks for, and what the judging rule gives on the access at its printed point
+  -- each has the lines of the session in order, all of them or cut after a denied line, and they keep the line rule and the
+  -- register rules: each reference is what its line asks for, and what the judging rule gives on the access at its printed
+  -- point
   pub lines : (p : ℕ) → p < length transcripts
       → (after : Control) × AreLines (setting_of session journal p) (opening_control session p) (lines_of session p)
       (part transcripts p) after
@@ -80,11 +82,19 @@ pub record IsLegal (session : Outline) (journal : List journaled.Entry) (transcr
   -- each word read is the store that the read rule gives, where stores are known by entries
   pub reads : AreRightReads (deeds session journal transcripts) (IsKnown (deeds session journal transcripts))
 
+-- this holds of the lines that process p's part has
+pub record HoldsOfPart (session : Outline) (p : ℕ) (steps : List Step) (Holds : List (ℕ × Line) → Type 0) : Type 0 where
+  pub ran : List (ℕ × Line)
+  pub are : AreLinesOf (lines_of session p) steps ran
+  pub holds : Holds ran
+
 -- the current ring of a process falls only through gates
 pub record HasGatedFalls (session : Outline) (journal : List journaled.Entry) (transcripts : List (List Step)) : Type 0 where
-  pub each : (p : ℕ) → AreGated (setting_of session journal p) (opening_control session p) (lines_of session p) (part transcripts p)
+  pub each : (p : ℕ) → HoldsOfPart session p (part transcripts p)
+      (λ ran. AreGated (setting_of session journal p) (opening_control session p) ran (part transcripts p))
 
 -- and its pointer registers never have less
 pub record HasSoundRegisters (session : Outline) (journal : List journaled.Entry)
     (transcripts : List (List Step)) : Type 0 where
-  pub each : (p : ℕ) → AreSound (setting_of session journal p) (opening_control session p) (lines_of session p) (part transcripts p)
+  pub each : (p : ℕ) → HoldsOfPart session p (part transcripts p)
+      (λ ran. AreSound (setting_of session journal p) (opening_control session p) ran (part transcripts p))
