@@ -8,7 +8,6 @@ use Rattle.mx_state.specs.declared.journal.Entry as journaled
 use Rattle.mx_script.specs.Sessions.{limit_of}
 use Rattle.mx_transcript.specs.Access.{descriptor_of}
 use Rattle.mx_transcript.specs.Openings.{opening_control}
-use Rattle.mx_transcript.specs.Scripts.{lines_of}
 use Rattle.mx_transcript.specs.Standing.{own_setting, PromiseLaw}
 use Rattle.mx_transcript.proofs.Extending.{lines_kept}
 use Rattle.mx_transcript.specs.Legal.{setting_of}
@@ -52,13 +51,18 @@ at_limit limit floor entries full low high = grind arith
 
 pub promise_law : PromiseLaw
 promise_law x front later floor p trace steps after promises low high agrees =
-    lines_kept
-    (own_setting x front floor p (descriptor_of x (front ++ later) p))
-    (setting_of x (front ++ later) p) (opening_control x p) (lines_of x p) steps [] after
-    (record {
-      process = refl;
-      entries = entry_still front later;
-      full = λ full. at_limit (limit_of x) floor (length (front ++ later)) full low high;
-      descriptors = λ place e at. refl;
-    })
-    (promises (descriptor_of x (front ++ later) p) agrees)
+    let are = promises (descriptor_of x (front ++ later) p) agrees in
+    record {
+      ran = are.ran;
+      are = are.are;
+      done = lines_kept
+          (own_setting x front floor p (descriptor_of x (front ++ later) p))
+          (setting_of x (front ++ later) p) (opening_control x p) are.ran steps [] after
+          (record {
+            process = refl;
+            entries = entry_still front later;
+            full = λ full. at_limit (limit_of x) floor (length (front ++ later)) full low high;
+            descriptors = λ place e at. refl;
+          })
+          are.done;
+    }

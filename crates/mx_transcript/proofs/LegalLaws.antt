@@ -16,7 +16,7 @@ use Rattle.mx_transcript.specs.declared.transcripts.Event2.TheVariants.{Core, En
 use Rattle.mx_transcript.specs.Courses.{Course, Attempt}
 use Rattle.mx_transcript.specs.Elements.{IsJudged}
 use Rattle.mx_transcript.specs.Falls.{AreGated, AreSound}
-use Rattle.mx_transcript.specs.Legal.{setting_of, IsLegal}
+use Rattle.mx_transcript.specs.Legal.{setting_of, IsLegal, HoldsOfPart}
 use Rattle.mx_transcript.specs.Lines.{Goes}
 use Rattle.mx_transcript.specs.Next.{Reference}
 use Rattle.mx_transcript.specs.Printed.{EachReferenceLaw}
@@ -72,8 +72,8 @@ done_asked s g (line ∷ lines) (step ∷ steps) left now place e are at = elim
 pub each_reference_law : EachReferenceLaw
 each_reference_law x journal transcripts legal p place e there at =
     let lines = legal.lines p there in
-    let is = done_asked (setting_of x journal p) (opening_control x p) (lines_of x p)
-    (part transcripts p) [] lines.0 place e lines.1 at in
+    let is = done_asked (setting_of x journal p) (opening_control x p) lines.1.ran
+    (part transcripts p) [] lines.0 place e lines.1.done at in
     record { asked = is.asked; right = is.right }
 
 -- a process starts with sound registers and no gate
@@ -105,29 +105,48 @@ none_done : (s : Setting) (start : Control) (lines : List (ℕ × Line)) (steps 
 none_done s start lines steps none =
     subst (λ (all : List Step). AreDone s start lines all lines start) none (refl, refl)
 
+-- both hold of the lines of a part
+abbrev HasRings : Outline → List journaled.Entry → ℕ → List Step → List (ℕ × Line) → Type 0
+HasRings x journal p steps ran =
+    AreGated (setting_of x journal p) (opening_control x p) ran steps
+    × AreSound (setting_of x journal p) (opening_control x p) ran steps
+
 -- the rings of a part that was done
-done_rings : (x : Outline) (journal : List journaled.Entry) (p : ℕ) (steps : List Step) (left : List (ℕ × Line))
-    (now : Control) → AreDone (setting_of x journal p) (opening_control x p) (lines_of x p) steps left now
-    → AreGated (setting_of x journal p) (opening_control x p) (lines_of x p) steps
-    × AreSound (setting_of x journal p) (opening_control x p) (lines_of x p) steps
-done_rings x journal p steps left now are =
-    rings_law (setting_of x journal p) (opening_control x p) now (lines_of x p) left steps (starts_sound x p) are
+done_rings : (x : Outline) (journal : List journaled.Entry) (p : ℕ) (ran : List (ℕ × Line)) (steps : List Step)
+    (left : List (ℕ × Line)) (now : Control)
+    → AreDone (setting_of x journal p) (opening_control x p) ran steps left now → HasRings x journal p steps ran
+done_rings x journal p ran steps left now are =
+    rings_law (setting_of x journal p) (opening_control x p) now ran left steps (starts_sound x p) are
 
 -- each process has a part, or did nothing
 each_rings : (x : Outline) (journal : List journaled.Entry) (transcripts : List (List Step))
     → IsLegal x journal transcripts → (p : ℕ)
-    → AreGated (setting_of x journal p) (opening_control x p) (lines_of x p) (part transcripts p)
-    × AreSound (setting_of x journal p) (opening_control x p) (lines_of x p) (part transcripts p)
+    → HoldsOfPart x p (part transcripts p) (HasRings x journal p (part transcripts p))
 each_rings x journal transcripts legal p = elim (cases_lt p (length transcripts)) [
   | inl there ↦
-      let lines = legal.lines p there in done_rings x journal p (part transcripts p) [] lines.0 lines.1
-  | inr beyond ↦ done_rings x journal p (part transcripts p) (lines_of x p) (opening_control x p)
-      (none_done (setting_of x journal p) (opening_control x p) (lines_of x p) (part transcripts p)
-      (sym (no_part transcripts p beyond)))
+      let lines = legal.lines p there in
+      record {
+        ran = lines.1.ran;
+        are = lines.1.are;
+        holds = done_rings x journal p lines.1.ran (part transcripts p) [] lines.0 lines.1.done;
+      }
+  | inr beyond ↦ record {
+    ran = lines_of x p;
+    are = inl refl;
+    holds = done_rings x journal p (lines_of x p) (part transcripts p) (lines_of x p) (opening_control x p)
+        (none_done (setting_of x journal p) (opening_control x p) (lines_of x p) (part transcripts p)
+        (sym (no_part transcripts p beyond)));
+  }
 ]
 
 pub legal_rings_law : LegalRingsLaw
 legal_rings_law x journal transcripts legal = (
-  record { each = λ p. (each_rings x journal transcripts legal p).0 },
-  record { each = λ p. (each_rings x journal transcripts legal p).1 },
+  record {
+    each = λ p. let is = each_rings x journal transcripts legal p in
+        record { ran = is.ran; are = is.are; holds = is.holds.0 };
+  },
+  record {
+    each = λ p. let is = each_rings x journal transcripts legal p in
+        record { ran = is.ran; are = is.are; holds = is.holds.1 };
+  },
 )

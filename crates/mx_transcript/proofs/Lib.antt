@@ -12,6 +12,7 @@ pub mod LegalLaws
 pub mod WalkLaws
 pub mod TraceLaws
 pub mod Growing
+pub mod PartLines
 pub mod Named
 pub mod EventByEvent
 mod AskLines

@@ -1,8 +1,9 @@
 -- The setup's lines within the limit enter the first entries of the journal.
 use Rattle.std.proofs.Common.{◌≡◌, ◌⊎◌, ℕ, zero, suc, ◌+◌, ◌<◌, ◌≤◌, inl, inr, List, [], ◌∷◌, ◌++◌, length, refl, ap, sym, ◌∙◌, subst, Some, arith}
 use Rattle.std.specs.Prelude.{◌==◌, if◌then◌else◌, min, take, map}
-use Rattle.std.specs.List.{slice_get}
+use Rattle.std.specs.List.{All, slice_get}
 use Rattle.std.proofs.lemmas.Bool.{cases_eq}
+use Rattle.std.proofs.lemmas.List.Elements.{All-nil, All-cons, All-head, All-tail}
 use Rattle.std.proofs.lemmas.Option.{slice_get_within}
 use Rattle.mx_upcall.specs.Control.{Control}
 use Rattle.mx_request.specs.Classes.{class_of}
@@ -14,19 +15,22 @@ use Rattle.mx_state.specs.Plain.{Plain}
 use Rattle.mx_state.specs.Requests.{plain}
 use Rattle.mx_state.specs.declared.journal.Entry as journaled
 use Rattle.mx_script.specs.Sessions.{limit_of}
+use Rattle.mx_script.specs.declared.lines.Line.{Line}
 use Rattle.mx_script.specs.declared.lines.Line.TheVariants.{Ask}
 use Rattle.mx_transcript.specs.declared.transcripts.Event2.{Event2}
 use Rattle.mx_transcript.specs.declared.transcripts.Event2.TheVariants.{Entry}
 use Rattle.mx_transcript.specs.Legal.{Call, call_of, setup_call, setup_entries, setting_of}
+use Rattle.mx_transcript.specs.Lines.{IsLine}
 use Rattle.mx_transcript.specs.Openings.{opening_control}
-use Rattle.mx_transcript.specs.Parts.{AreLines}
-use Rattle.mx_transcript.specs.Scripts.{numbered, first_line}
+use Rattle.mx_transcript.specs.Parts.{AreDone}
+use Rattle.mx_transcript.specs.Scripts.{numbered, first_line, lines_of}
 use Rattle.mx_transcript.specs.Settings.{Setting}
 use Rattle.mx_transcript.specs.SetupLines.{SetupLinesLaw}
 use Rattle.mx_transcript.specs.Transcripts.{Step, part, events_of, entries_named, numbers_from}
 use Rattle.mx_transcript.proofs.AskLines.{HasEntry, IsFullLine, AreFinal, ask_line}
 use Rattle.mx_transcript.proofs.FinalReplies.{IsFinal, path_final}
 use Rattle.mx_transcript.proofs.Named.{named_append}
+use Rattle.mx_transcript.proofs.PartLines.{all_of_part}
 
 abbrev Enters : Step → Type 0
 Enters step = HasEntry step.1
@@ -34,20 +38,33 @@ Enters step = HasEntry step.1
 abbrev IsFullStep : Step → Type 0
 IsFullStep step = IsFullLine step.1 step.2
 
+-- the lines of a setup are requests
+record IsAsk (line : ℕ × Line) : Type 0 where
+  request : Request
+  is : line.1 ≡ Ask request
+
+all_ask : (first : ℕ) (requests : List Request) → All IsAsk (numbered first (map Ask requests))
+all_ask first [] = All-nil IsAsk
+all_ask first (request ∷ requests) =
+    All-cons IsAsk (first, Ask request) (numbered (suc first) (map Ask requests))
+    (record { request = request; is = refl }) (all_ask (suc first) requests)
+
 -- each line of a setup is one of these
-asked : (s : Setting) (start after : Control) (first : ℕ) (requests : List Request) (steps : List Step)
-    → AreFinal s → AreLines s start (numbered first (map Ask requests)) steps after → (place : ℕ) (step : Step)
+asked : (s : Setting) (start after : Control) (lines : List (ℕ × Line)) (steps : List Step)
+    → AreFinal s → All IsAsk lines → AreDone s start lines steps [] after → (place : ℕ) (step : Step)
     → slice_get steps place ≡ Some step → Enters step ⊎ IsFullStep step
-asked s start after first [] [] final are place step at = cc
-asked s start after first [] (made ∷ steps) final are place step at = absurd are
-asked s start after first (request ∷ requests) [] final are place step at = cc
-asked s start after first (request ∷ requests) (made ∷ steps) final are zero step at =
-    subst (λ (t : Step). Enters t ⊎ IsFullStep t) (same at) (ask_line s start request made.1 made.2 are.1 final are.2)
+asked s start after lines [] final ask are place step at = absurd cc
+asked s start after [] (made ∷ steps) final ask are place step at = absurd are
+asked s start after (line ∷ lines) (made ∷ steps) final ask are zero step at =
+    let own = All-head IsAsk line lines ask in
+    subst (λ (t : Step). Enters t ⊎ IsFullStep t) (same at)
+    (ask_line s start own.request made.1 made.2 are.1 final
+    (subst (λ (l : Line). IsLine s start l made.1 made.2 are.1) own.is are.2))
   where
     same : Some made ≡ Some step → made ≡ step
     same h = cc
-asked s start after first (request ∷ requests) (made ∷ steps) final are (suc place) step at =
-    asked s are.1 after (suc first) requests steps final are.3 place step at
+asked s start after (line ∷ lines) (made ∷ steps) final ask are (suc place) step at =
+    asked s are.1 after lines steps final (All-tail IsAsk line lines ask) are.3 place step at
 
 -- the initializer asks on paths alone, in a right journal, and no reply to that asks for more
 final_replies : (s : Plain) (journal : List journaled.Entry) (place : ℕ) (entry : journaled.Entry) → IsRight s journal
@@ -170,8 +187,9 @@ setup_lines_law x journal transcripts legal place step within at = elim (each pl
     each j other found =
         let count = legal.parts in
         let lines = legal.lines 0 (omega arith) in
-        asked (setting_of x journal 0) (opening_control x 0) lines.0
-        (first_line x 0) x.setup steps final lines.1 j other found
+        asked (setting_of x journal 0) (opening_control x 0) lines.0 lines.1.ran steps final
+        (all_of_part IsAsk (lines_of x 0) lines.1.ran steps lines.1.are (all_ask (first_line x 0) x.setup))
+        lines.1.done j other found
 
     named : slice_get (entries_named (events_of steps)) place ≡ Some (1 + place)
     named = ap (λ (l : List ℕ). slice_get l place) (legal.each_call_once 0)

@@ -12,8 +12,10 @@ use Rattle.mx_transcript.specs.Courses.{Course, Attempt, Answer}
 use Rattle.mx_transcript.specs.Lines.{Goes, IsEnd}
 use Rattle.mx_transcript.specs.Next.{Calls, Ends, Nowhere}
 use Rattle.mx_transcript.specs.Settings.{Setting, entry_at}
+use Rattle.mx_transcript.specs.Scripts.{lines_of}
 use Rattle.mx_transcript.proofs.EventByEvent as event
-use Rattle.mx_transcript.specs.WaitingLines.{blocked, resumed, waits_on, alone, other, setting, g, block, RightWaits, WrongWaits, LimitLines}
+use Rattle.mx_transcript.proofs.PartLines.{all_done}
+use Rattle.mx_transcript.specs.WaitingLines.{blocked, resumed, waits_on, alone, other, setting, g, block, limited, RightWaits, WrongWaits, LimitLines}
 
 abbrev s : Setting
 s = setting false
@@ -101,5 +103,8 @@ limit_lines = record {
   session = refl;
   first = refl;
   second = refl;
-  not_moved = λ after are. let w : 3 ≡ 4 = are.0 in omega arith;
+  not_moved = λ after are.
+      let done = all_done (setting true) start after (lines_of limited 1)
+      ((3, [], result.HistoryFull) ∷ (4, [], result.HistoryFull) ∷ []) refl are in
+      let w : 3 ≡ 4 = done.0 in omega arith;
 }

@@ -1,5 +1,5 @@
 -- Each wrong line is refused.
-use Rattle.std.proofs.Common.{◌≡◌, ℕ, true, false, List, [], ◌∷◌, refl, None, Some, arith}
+use Rattle.std.proofs.Common.{◌≡◌, ◌⊎◌, inl, inr, ℕ, true, false, List, [], ◌∷◌, refl, subst, None, Some, arith}
 use Rattle.mx_sdw.specs.Judging.{judgement}
 use Rattle.mx_sdw.specs.declared.denials.Denial.TheVariants as denial
 use Rattle.mx_sdw.specs.declared.operations.Op.TheVariants as op
@@ -18,12 +18,16 @@ use Rattle.mx_transcript.specs.declared.transcripts.Result2.{Result2}
 use Rattle.mx_transcript.specs.declared.transcripts.Result2.TheVariants as result
 use Rattle.mx_transcript.specs.Asking.{next}
 use Rattle.mx_transcript.specs.Courses.{Course, Attempt, Answer}
+use Rattle.mx_transcript.specs.Denials.{denials}
 use Rattle.mx_transcript.specs.Elements.{IsJudged}
 use Rattle.mx_transcript.specs.Lines.{Goes, IsEnd, IsLine}
 use Rattle.mx_transcript.specs.Next.{Reference, Asks, Calls, Ends}
+use Rattle.mx_transcript.specs.Parts.{AreDone, AreLines}
 use Rattle.mx_transcript.specs.Settings.{entry_at, judged}
+use Rattle.mx_transcript.specs.Transcripts.{Step}
 use Rattle.mx_transcript.proofs.EventByEvent as event
-use Rattle.mx_transcript.specs.WrongLines.{setting, g, lda, sta, read, written, outside, out, refused, WrongReferences, WrongCalls, WrongScripts}
+use Rattle.mx_transcript.proofs.PartLines.{all_done, cut_at_first}
+use Rattle.mx_transcript.specs.WrongLines.{setting, g, lda, sta, read, written, outside, out, refused, two_sets, four_lines, denied_first, done_under, logged_out, WrongReferences, WrongCalls, WrongScripts}
 
 abbrev start : Control
 start = ungated g
@@ -149,9 +153,95 @@ wrong_calls = record {
   same_ring : (a b : ℕ) → Calls a Logout ≡ Calls b Logout → a ≡ b
   same_ring a b h = cc
 
+-- the last line, whatever A is
+last_done : (a : ℕ) → IsLine setting (ungated (record g { a = a })) (line.Ask Logout) (Entry 1 ∷ []) result.Done
+    (ungated (record g { a = a }))
+last_done a = record {
+  course = Answer out [];
+  so_far = event.called setting (ungated (record g { a = a })) (line.Ask Logout) (Attempt []) 1 out [] _ refl refl refl refl;
+  end = (refl, refl);
+}
+
+set_done : (a word : ℕ) → IsLine setting (ungated (record g { a = a })) (line.Set word) [] result.Done
+    (ungated (record g { a = word }))
+set_done a word = record { course = Attempt []; so_far = refl; end = (refl, refl) }
+
+-- a part whose first line alone may be denied has all four lines, or the first and the last
+all_or_two : (first : Line) (step : Step) (steps : List Step) (after : Control) → denials steps ≡ []
+    → AreLines setting start (four_lines first) (step ∷ steps) after
+    → AreDone setting start (four_lines first) (step ∷ steps) [] after
+    ⊎ AreDone setting start ((5, first) ∷ (8, line.Ask Logout) ∷ []) (step ∷ steps) [] after
+all_or_two first step steps after none are = elim (cut_at_first (four_lines first) are.ran step steps none are.are) [
+  | inl whole ↦
+      inl (subst (λ (ran : List (ℕ × Line)). AreDone setting start ran (step ∷ steps) [] after) whole are.done)
+  | inr cut ↦ inr (subst (λ (ran : List (ℕ × Line)). AreDone setting start ran (step ∷ steps) [] after) cut are.done)
+]
+
 pub wrong_scripts : WrongScripts
 wrong_scripts = record {
-  left_out = λ after are. let w : [] ≡ (6, line.Set 2) ∷ [] = are.3.0 in cc;
-  other_number = λ after are. let w : 7 ≡ 6 = are.3.0 in omega arith;
-  too_many = λ after are. are.3.3;
-}
+  left_out = λ after are.
+      let done = all_done setting start after two_sets (done_under 5 ∷ []) refl are in
+      let w : [] ≡ (6, line.Set 2) ∷ [] = done.3.0 in cc;
+  other_number = λ after are.
+      let done = all_done setting start after two_sets (done_under 5 ∷ done_under 7 ∷ []) refl are in
+      let w : 7 ≡ 6 = done.3.0 in omega arith;
+  too_many = λ after are.
+      let done = all_done setting start after two_sets (done_under 5 ∷ done_under 6 ∷ done_under 7 ∷ []) refl are in
+      done.3.3;
+  right_whole = record {
+    ran = four_lines (lda 64);
+    are = inl refl;
+    done = (
+      refl,
+      start,
+      denied,
+      (
+        refl,
+        ungated (record g { a = 1 }),
+        set_done 7 1,
+        (
+          refl,
+          ungated (record g { a = 2 }),
+          set_done 1 2,
+          (refl, ungated (record g { a = 2 }), last_done 2, (refl, refl)),
+        ),
+      ),
+    );
+  };
+  right_cut = record {
+    ran = (5, lda 64) ∷ (8, line.Ask Logout) ∷ [];
+    are = inr (record {
+      place = 0;
+      step = denied_first;
+      at = refl;
+      denied = refl;
+      more = omega arith;
+      is = refl;
+    });
+    done = (refl, start, denied, (refl, start, last_done 7, (refl, refl)));
+  };
+  not_denied = λ after are.
+      let done = all_done setting start after (four_lines (line.Set 3)) (done_under 5 ∷ logged_out ∷ []) refl are in
+      let w : 8 ≡ 6 = done.3.0 in omega arith;
+  denied_before = λ after are.
+      elim (all_or_two (lda 64) denied_first (done_under 6 ∷ logged_out ∷ []) after refl are) [
+        | inl done ↦ let w : 8 ≡ 7 = done.3.3.0 in omega arith
+        | inr done ↦ let w : 6 ≡ 8 = done.3.0 in omega arith
+      ];
+  goes_on = λ after are.
+      elim (all_or_two (lda 64) denied_first (logged_out ∷ done_under 6 ∷ []) after refl are) [
+        | inl done ↦ let w : 8 ≡ 6 = done.3.0 in omega arith
+        | inr done ↦ done.3.3
+      ];
+  other_line = λ after are.
+      elim (all_or_two (lda 64) denied_first (done_under 7 ∷ logged_out ∷ []) after refl are) [
+        | inl done ↦ let w : 7 ≡ 6 = done.3.0 in omega arith
+        | inr done ↦ let w : 7 ≡ 8 = done.3.0 in omega arith
+      ];
+  no_last = λ after are. elim (all_or_two (lda 64) denied_first [] after refl are) [
+    | inl done ↦ absurd (more (6, line.Set 1) ((7, line.Set 2) ∷ (8, line.Ask Logout) ∷ []) done.3.0)
+    | inr done ↦ absurd (more (8, line.Ask Logout) [] done.3.0)
+  ];
+} where
+  more : (first : ℕ × Line) (lines : List (ℕ × Line)) → [] ≡ first ∷ lines → ⊥
+  more first lines none = cc

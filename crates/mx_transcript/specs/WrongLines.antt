@@ -23,6 +23,7 @@ use Rattle.mx_transcript.specs.Lines.{IsLine}
 use Rattle.mx_transcript.specs.Openings.{opening_registers}
 use Rattle.mx_transcript.specs.Parts.{AreLines}
 use Rattle.mx_transcript.specs.Settings.{Setting}
+use Rattle.mx_transcript.specs.Transcripts.{Step}
 
 -- process 1's logout; one by another process, and one from another ring; and a request that was refused
 abbrev pub out : journaled.Entry
@@ -94,6 +95,24 @@ pub record WrongCalls : Type 0 where
 abbrev pub two_sets : List (ℕ × Line)
 two_sets = (5, line.Set 1) ∷ (6, line.Set 2) ∷ []
 
+-- a first line, then two that are always done, and the last, which logs the process out
+abbrev pub four_lines : Line → List (ℕ × Line)
+four_lines first = (5, first) ∷ (6, line.Set 1) ∷ (7, line.Set 2) ∷ (8, line.Ask Logout) ∷ []
+
+-- what a first line that is denied comes to, one that is done, and the last
+abbrev pub denied_first : Step
+denied_first = (5, Core (Seen outside) ∷ [], result.Denied denial.OutOfBounds)
+
+abbrev pub done_under : ℕ → Step
+done_under number = (number, [], result.Done)
+
+abbrev pub logged_out : Step
+logged_out = (8, Entry 1 ∷ [], result.Done)
+
+-- no part of four lines
+abbrev pub NoPart : Line → List Step → Type 0
+NoPart first steps = (after : Control) → AreLines setting (ungated g) (four_lines first) steps after → ⊥
+
 -- scripts: a line left out; a line under another number; a line too many
 pub record WrongScripts : Type 0 where
   pub left_out : (after : Control) → AreLines setting (ungated g) two_sets ((5, [], result.Done) ∷ []) after → ⊥
@@ -101,3 +120,15 @@ pub record WrongScripts : Type 0 where
       → AreLines setting (ungated g) two_sets ((5, [], result.Done) ∷ (7, [], result.Done) ∷ []) after → ⊥
   pub too_many : (after : Control)
       → AreLines setting (ungated g) two_sets ((5, [], result.Done) ∷ (6, [], result.Done) ∷ (7, [], result.Done) ∷ []) after → ⊥
+  -- right: after a line that was denied all others, or the last alone
+  pub right_whole : AreLines setting (ungated g) (four_lines (lda 64))
+      (denied_first ∷ done_under 6 ∷ done_under 7 ∷ logged_out ∷ []) (ungated (record g { a = 2 }))
+  pub right_cut : AreLines setting (ungated g) (four_lines (lda 64)) (denied_first ∷ logged_out ∷ []) (ungated g)
+  -- cut after a line that was not denied: none was, or an earlier one
+  pub not_denied : NoPart (line.Set 3) (done_under 5 ∷ logged_out ∷ [])
+  pub denied_before : NoPart (lda 64) (denied_first ∷ done_under 6 ∷ logged_out ∷ [])
+  -- it goes on after its last line
+  pub goes_on : NoPart (lda 64) (denied_first ∷ logged_out ∷ done_under 6 ∷ [])
+  -- neither the next line nor the last comes then, or none at all
+  pub other_line : NoPart (lda 64) (denied_first ∷ done_under 7 ∷ logged_out ∷ [])
+  pub no_last : NoPart (lda 64) (denied_first ∷ [])
