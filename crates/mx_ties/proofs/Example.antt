@@ -24,8 +24,11 @@ use Rattle.mx_transcript.specs.Courses.{Judged, Attempt, Answer}
 use Rattle.mx_transcript.specs.Elements.{IsJudged}
 use Rattle.mx_transcript.specs.Next.{Reference}
 use Rattle.mx_transcript.specs.Openings.{opening_control}
+use Rattle.mx_transcript.specs.Scripts.{lines_of}
+use Rattle.mx_transcript.specs.Standing.{own_setting}
 use Rattle.mx_transcript.specs.Transcripts.{Step, part}
 use Rattle.mx_transcript.specs.Uses.{use_of}
+use Rattle.mx_transcript.proofs.PartLines.{whole_part}
 use Rattle.mx_reads.specs.Deeds.{CellUse, Stores, Loads}
 use Rattle.mx_ties.specs.Closed.{IsClosed, IsRetired, traces}
 use Rattle.mx_ties.specs.Ran.{HasRun, IsSetUp}
@@ -181,7 +184,7 @@ ran = last_line_law x [] 1 ((3, Core (Seen e) ∷ [], result.Done) ∷ []) 4 log
 set_up : IsSetUp x [] []
 set_up = record {
   after = opening_control x 0;
-  lines = λ d agrees. (refl, refl);
+  lines = λ d agrees. whole_part (own_setting x [] 0 0 d) (opening_control x 0) (opening_control x 0) (lines_of x 0) [] (refl, refl);
   full = record { each = λ place step low h. absurd cc };
   none_after_full = record { none = λ place later full step h f l k. absurd cc };
   calls = refl;

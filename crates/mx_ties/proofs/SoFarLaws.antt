@@ -31,6 +31,7 @@ use Rattle.mx_transcript.specs.Transcripts.{Step, events_of, entries_named}
 use Rattle.mx_transcript.proofs.Extending.{extends_law}
 use Rattle.mx_transcript.proofs.GoingOn.{miss_law, call_law, line_law}
 use Rattle.mx_transcript.proofs.Growing.{entry_still}
+use Rattle.mx_transcript.proofs.PartLines.{whole_part}
 use Rattle.mx_transcript.proofs.RingLaws.{full_end}
 use Rattle.mx_transcript.proofs.TraceLaws.{trace_law, fill_trace_law}
 use Rattle.mx_ties.specs.Closed.{followed, entry_in}
@@ -284,9 +285,11 @@ last_line_law x setup p steps number line now after events course ends v told en
     let full = full_done (limit_of x) v.floor steps number events ends
     (full_reached x p (followed setup v.history) v.floor line now after course ends end) r.full in record {
       after = after;
-      lines = λ d agrees. line_law (own_setting x (followed setup v.history) v.floor p d)
-          (opening_control x p) now after (lines_of x p) [] steps number line
-          events course ends (r.lines d agrees) (end d);
+      lines = λ d agrees.
+          let setting = own_setting x (followed setup v.history) v.floor p d in
+          whole_part setting (opening_control x p) after (lines_of x p) (steps ++ step ∷ [])
+          (line_law setting (opening_control x p) now after (lines_of x p) [] steps number line events course ends
+          (r.lines d agrees) (end d));
       traced = tied.traced;
       own = tied.own;
       rising = tied.rising;
@@ -340,7 +343,8 @@ first_line_law x setup p number line left floor told is begun = record {
 pub no_line_law : NoLineLaw
 no_line_law x setup p floor is = record {
   after = opening_control x p;
-  lines = λ d agrees. (sym is, refl);
+  lines = λ d agrees. whole_part (own_setting x (followed setup []) floor p d) (opening_control x p) (opening_control x p)
+      (lines_of x p) [] (sym is, refl);
   traced = refl;
   own = λ place other h. absurd (nothing_at place (Entry other) h);
   rising = tt;

@@ -21,6 +21,7 @@ use Rattle.mx_transcript.specs.Standing.{AgreesWith, own_setting}
 use Rattle.mx_transcript.specs.Transcripts.{Step, part, events_of}
 use Rattle.mx_transcript.proofs.Extending.{extends_law}
 use Rattle.mx_transcript.proofs.GoingOn.{line_law}
+use Rattle.mx_transcript.proofs.PartLines.{whole_part}
 use Rattle.mx_ties.specs.AtWork.{AtWork, all_events, since, gone_on, done_with}
 use Rattle.mx_ties.specs.Closed.{followed}
 use Rattle.mx_ties.specs.SoFar.{AreTied, IsFullKept, HasRunSoFar}
@@ -259,7 +260,11 @@ end_law x setup p w number line left v told ends after is e r =
 
 pub last_law : LastWorkLaw
 last_law x setup p w v told ends after is e r = record {
-  lines = λ u. (after, lines_done x setup p w [] v told ends after is e r u);
+  lines = λ u. (
+    after,
+    λ d agrees. whole_part (own_setting x (followed setup v.history) v.floor p d) (opening_control x p) after (lines_of x p)
+        (done_with w ends) (lines_done x setup p w [] v told ends after is e r u d agrees),
+  );
   told = told;
   tied = tied_done x setup p w [] v told ends after is e r;
   full = full_then x setup p w [] v told ends after is e r;
@@ -267,7 +272,11 @@ last_law x setup p w v told ends after is e r = record {
 
 pub idle_law : IdleWorkLaw
 idle_law x setup p floor is begun = record {
-  lines = λ u. (opening_control x p, λ d agrees. (sym is, refl));
+  lines = λ u. (
+    opening_control x p,
+    λ d agrees. whole_part (own_setting x (followed setup []) floor p d) (opening_control x p) (opening_control x p)
+        (lines_of x p) [] (sym is, refl),
+  );
   told = λ n. 0;
   tied = nothing_tied x setup p floor (λ n. 0) begun;
   full = nothing_full (limit_of x) floor;
