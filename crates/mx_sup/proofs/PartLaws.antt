@@ -11,7 +11,7 @@ use Rattle.mx_transcript.specs.Lines.{IsEnd}
 use Rattle.mx_transcript.specs.Next.{Next, Calls, Ends}
 use Rattle.mx_transcript.specs.Openings.{opening_control}
 use Rattle.mx_transcript.specs.Parts.{AreDone}
-use Rattle.mx_transcript.specs.Scripts.{numbered, first_line}
+use Rattle.mx_transcript.specs.Scripts.{numbered, first_line, lines_of}
 use Rattle.mx_transcript.specs.Settings.{Setting, entry_at}
 use Rattle.mx_transcript.specs.Standing.{own_setting}
 use Rattle.mx_transcript.specs.Transcripts.{Step, events_of, entries_named, numbers_from}
@@ -30,6 +30,7 @@ use Rattle.mx_state.specs.Plain.{Plain}
 use Rattle.mx_state.specs.Requests.{plain}
 use Rattle.mx_sup.specs.Setups.{setup_step, setup_steps, setup_part}
 use Rattle.mx_transcript.proofs.FinalReplies.{IsFinal, final_ends, path_final}
+use Rattle.mx_transcript.proofs.PartLines.{whole_part}
 use Rattle.mx_ties.specs.Ran.{IsSetUp}
 use Rattle.mx_ties.specs.Views.{cores}
 
@@ -212,8 +213,10 @@ part_is_set_up x journal n c right =
     record {
       after = opening_control x 0;
       lines = λ d agrees.
-          lines_done (own_setting x journal (length journal) 0 d) (opening_control x 0) first 1 journal x.setup refl refl last calls (stand [] journal)
-          (full_where (limit_of x) journal x.setup (length journal) (λ l. omega (arith, n, l)));
+          let setting = own_setting x journal (length journal) 0 d in
+          whole_part setting (opening_control x 0) (opening_control x 0) (lines_of x 0) (setup_part x journal)
+          (lines_done setting (opening_control x 0) first 1 journal x.setup refl refl last calls (stand [] journal)
+          (full_where (limit_of x) journal x.setup (length journal) (λ l. omega (arith, n, l))));
       full = record { each = λ place step h e. (full_past first 1 journal x.setup place step (omega (arith, n, h)) e).0 };
       none_after_full = record {
         none = λ place later full step e f l g.
