@@ -14,6 +14,7 @@ use Rattle.mx_state.specs.History.{IsRight, IsRightEntry, replay}
 use Rattle.mx_state.specs.Plain.{Plain}
 use Rattle.mx_state.specs.Requests.{plain}
 use Rattle.mx_state.specs.declared.journal.Entry as journaled
+use Rattle.mx_transcript.proofs.PartLines.{all_of_part}
 use Rattle.mx_transcript.specs.Legal.{IsLegal, setting_of}
 use Rattle.mx_transcript.specs.Opened.{opening_of}
 use Rattle.mx_transcript.specs.Openings.{opening_control}
@@ -24,6 +25,7 @@ use Rattle.mx_spelling.specs.Laws.{ReplyLaw, SpellableLaw}
 use Rattle.mx_spelling.specs.Spelling.{bounds_reply, fits_entry, is_process}
 use Rattle.mx_spelling.proofs.CallBounds.{IsFittingEntry, IsFittingEvent, done_fitting, grammar_fits}
 use Rattle.mx_spelling.proofs.DescriptorBounds.{descriptor_low}
+use Rattle.mx_spelling.proofs.LineBounds.{IsLowLine}
 use Rattle.mx_spelling.proofs.ReplyBounds.{IsSaid}
 use Rattle.mx_spelling.proofs.RequestBounds.{IsFitting, IsSpelledAnswer, answer_spelled}
 use Rattle.mx_spelling.proofs.RunBounds.{AreBounded, bounded_run, is_said, listed, named_at, part_within, same_entry}
@@ -91,8 +93,10 @@ module _ (x : Outline) (journal : List journaled.Entry) (transcripts : List (Lis
       (ap (λ (numbers : List ℕ). slice_get numbers number.0) (legal.each_call_once entry.process) ∙ number.1) in
       let lines = legal.lines entry.process (part_within transcripts entry.process named.0 (Entry (1 + place)) named.1) in
       at_place (IsFittingEvent (setting_of x journal entry.process)) (events_of (part transcripts entry.process)) named.0 (Entry (1 + place))
-      (done_fitting (setting_of x journal entry.process) (opening_control x entry.process) (lines_of x entry.process)
-      (part transcripts entry.process) [] lines.0 (session_low x session text entry.process) lines.1) named.1
+      (done_fitting (setting_of x journal entry.process) (opening_control x entry.process) lines.1.ran
+      (part transcripts entry.process) [] lines.0
+      (all_of_part IsLowLine (lines_of x entry.process) lines.1.ran (part transcripts entry.process) lines.1.are
+      (session_low x session text entry.process)) lines.1.done) named.1
 
   own_request : (place : ℕ) (entry : journaled.Entry) → slice_get journal place ≡ Some entry
       → IsFittingEntry (setting_of x journal entry.process) (1 + place) → IsFitting entry.request

@@ -25,6 +25,7 @@ use Rattle.mx_script.specs.Sessions.{IsSession, Outline}
 use Rattle.mx_state.proofs.NumberedLaws.{unknown_law}
 use Rattle.mx_state.specs.declared.journal.Entry as journaled
 use Rattle.mx_transcript.proofs.LegalLaws.{each_reference_law}
+use Rattle.mx_transcript.proofs.PartLines.{all_of_part}
 use Rattle.mx_transcript.specs.Access.{descriptor_at, descriptor_of}
 use Rattle.mx_transcript.specs.Elements.{Agrees, Gives, IsJudged, kind_of}
 use Rattle.mx_transcript.specs.Legal.{IsLegal, deeds, setting_of}
@@ -40,7 +41,7 @@ use Rattle.mx_transcript.specs.Transcripts.{Step, part, events_of, entries_named
 use Rattle.mx_transcript.specs.declared.transcripts.Event2.{Event2}
 use Rattle.mx_transcript.specs.declared.transcripts.Event2.TheVariants.{Core, Entry}
 use Rattle.mx_spelling.specs.Spelling.{IsSpellable, bounds_reply, fits_entry, fits_event, fits_outcome, fits_result, fits_step, is_entry_number, is_line_number}
-use Rattle.mx_spelling.proofs.LineBounds.{AreLow, IsLowElement, IsLowEvent, IsLowSetting, IsLowStep, done_low}
+use Rattle.mx_spelling.proofs.LineBounds.{AreLow, IsLowElement, IsLowEvent, IsLowLine, IsLowSetting, IsLowStep, done_low}
 use Rattle.mx_spelling.proofs.NextBounds.{IsLow, IsLowOutcome, address_test, is_word_test}
 use Rattle.mx_spelling.proofs.SessionBounds.{session_low, start_good}
 use Rattle.mx_spelling.proofs.WalkBounds.{at_place, place_below}
@@ -222,8 +223,8 @@ module _ (x : Outline) (journal : List journaled.Entry) (transcripts : List (Lis
       → AreLow (setting_of x journal p) (events_of (part transcripts p)) × All IsLowStep (part transcripts p)
   low_part p there =
       let lines = legal.lines p there in
-      done_low (setting_of x journal p) (opening_control x p) (lines_of x p) (part transcripts p) [] lines.0 (low_setting p) (start_good x p)
-      (session_low x session text p) lines.1
+      done_low (setting_of x journal p) (opening_control x p) lines.1.ran (part transcripts p) [] lines.0 (low_setting p) (start_good x p)
+      (all_of_part IsLowLine (lines_of x p) lines.1.ran (part transcripts p) lines.1.are (session_low x session text p)) lines.1.done
 
   -- points
   point_within : (p place : ℕ) (deed : Deed) (q : ℕ) → slice_get (deeds x journal transcripts p) place ≡ Some deed → point_of deed ≡ Some q
