@@ -26,7 +26,7 @@ use Rattle.mx_transcript.specs.Openings.{opening_registers, opening_control}
 use Rattle.mx_transcript.specs.Scripts.{lines_of}
 use Rattle.mx_transcript.specs.Settings.{Setting}
 use Rattle.mx_transcript.specs.Transcripts.{Step, part, events_of}
-use Rattle.mx_transcript.proofs.RingLaws.{rings_law}
+use Rattle.mx_transcript.proofs.RingLaws.{rings_law, sound_done}
 
 record IsAsked (s : Setting) (e : Element) : Type 0 where
   asked : Reference
@@ -146,7 +146,7 @@ legal_rings_law x journal transcripts legal = (
         record { ran = is.ran; are = is.are; holds = is.holds.0 };
   },
   record {
-    each = λ p. let is = each_rings x journal transcripts legal p in
-        record { ran = is.ran; are = is.are; holds = is.holds.1 };
+    each = λ p ran are done later left now is so_far.
+        (sound_done (setting_of x journal p) (opening_control x p) now ran left done (starts_sound x p) so_far).registers;
   },
 )

@@ -93,8 +93,8 @@ pub record HasGatedFalls (session : Outline) (journal : List journaled.Entry) (t
   pub each : (p : ℕ) → HoldsOfPart session p (part transcripts p)
       (λ ran. AreGated (setting_of session journal p) (opening_control session p) ran (part transcripts p))
 
--- and its pointer registers never have less
+-- and its pointer registers never have less, whichever of those lines the part has
 pub record HasSoundRegisters (session : Outline) (journal : List journaled.Entry)
     (transcripts : List (List Step)) : Type 0 where
-  pub each : (p : ℕ) → HoldsOfPart session p (part transcripts p)
-      (λ ran. AreSound (setting_of session journal p) (opening_control session p) ran (part transcripts p))
+  pub each : (p : ℕ) (ran : List (ℕ × Line)) → AreLinesOf (lines_of session p) (part transcripts p) ran
+      → AreSound (setting_of session journal p) (opening_control session p) ran (part transcripts p)
