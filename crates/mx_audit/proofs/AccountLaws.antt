@@ -3,15 +3,14 @@ use Rattle.std.proofs.Common.{◌≡◌, ℕ, suc, ◌+◌, ◌-◌, ◌≤◌, 
 use Rattle.std.specs.List.{All}
 use Rattle.std.proofs.lemmas.List.{length-append}
 use Rattle.std.proofs.lemmas.List.Elements.{All-head, All-tail}
-use Rattle.mx_sdw.specs.declared.denials.Denial.{Denial}
-use Rattle.mx_audit.specs.Accounts.{Account, with_denials, with_all, HaveGrown, HaveRoomFor, HaveRoom}
+use Rattle.mx_audit.specs.Accounts.{Account, Told, with_told, with_all, HaveGrown, HaveRoomFor, HaveRoom}
 
-abbrev account_of : List (ℕ × Denial) → ℕ → Account
+abbrev account_of : List Told → ℕ → Account
 account_of told room = record { told = told; room = room }
 
 -- told of some denials and then of others, or of all at once
-pub with_both : (account : Account) (denials others : List (ℕ × Denial))
-    → with_denials (with_denials account denials) others ≡ with_denials account (denials ++ others)
+pub with_both : (account : Account) (denials others : List Told)
+    → with_told (with_told account denials) others ≡ with_told account (denials ++ others)
 with_both account denials others =
     let n : length (denials ++ others) ≡ length denials + length others = length-append denials others in
     let r : account.room - length denials - length others ≡ account.room - length (denials ++ others) = omega (arith, n) in
@@ -19,7 +18,7 @@ with_both account denials others =
     ∙ ap (λ room. account_of (account.told ++ (denials ++ others)) room) r
 
 -- told of nothing
-pub with_none : (account : Account) → with_denials account [] ≡ account
+pub with_none : (account : Account) → with_told account [] ≡ account
 with_none account =
     let r : account.room - 0 ≡ account.room = omega arith in
     ap (λ told. account_of told (account.room - 0)) (append-nil account.told) ∙ ap (λ room. account_of account.told room) r
@@ -30,27 +29,27 @@ with_all_none [] = refl
 with_all_none (account ∷ accounts) = refl
 
 -- as many auditors
-pub as_many : (accounts : List Account) (lists : List (List (ℕ × Denial))) → length (with_all accounts lists) ≡ length accounts
+pub as_many : (accounts : List Account) (lists : List (List Told)) → length (with_all accounts lists) ≡ length accounts
 as_many [] lists = refl
 as_many (account ∷ accounts) [] = refl
 as_many (account ∷ accounts) (denials ∷ lists) = ap suc (as_many accounts lists)
 
 -- the lists that come of two lists of lists, place by place
-abbrev joined : List (List (ℕ × Denial)) → List (List (ℕ × Denial)) → List (List (ℕ × Denial))
+abbrev joined : List (List Told) → List (List Told) → List (List Told)
 joined [] others = others
 joined (denials ∷ lists) [] = denials ∷ lists
 joined (denials ∷ lists) (more ∷ others) = (denials ++ more) ∷ joined lists others
 
-with_joined : (accounts : List Account) (lists others : List (List (ℕ × Denial)))
+with_joined : (accounts : List Account) (lists others : List (List Told))
     → with_all (with_all accounts lists) others ≡ with_all accounts (joined lists others)
 with_joined [] lists others = refl
 with_joined (account ∷ accounts) [] others = refl
 with_joined (account ∷ accounts) (denials ∷ lists) [] = refl
 with_joined (account ∷ accounts) (denials ∷ lists) (more ∷ others) =
     ap (λ first. first ∷ with_all (with_all accounts lists) others) (with_both account denials more)
-    ∙ ap (λ rest. with_denials account (denials ++ more) ∷ rest) (with_joined accounts lists others)
+    ∙ ap (λ rest. with_told account (denials ++ more) ∷ rest) (with_joined accounts lists others)
 
-pub grown_by : (accounts : List Account) (lists : List (List (ℕ × Denial))) → HaveGrown accounts (with_all accounts lists)
+pub grown_by : (accounts : List Account) (lists : List (List Told)) → HaveGrown accounts (with_all accounts lists)
 grown_by accounts lists = record { more = lists; grown = refl }
 
 pub grown_none : (accounts : List Account) → HaveGrown accounts accounts

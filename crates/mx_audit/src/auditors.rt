@@ -1,7 +1,7 @@
 //! What an auditor is told, and what it answers.
 
 ghost use Rattle.std.specs.Prelude.{◌≡◌, ℕ, ◌≤◌, [], ◌∷◌, min, length, slice_get};
-ghost use Rattle.mx_audit.specs.Accounts.{Account, with_denials};
+ghost use Rattle.mx_audit.specs.Accounts.{Account, with_told};
 
 use mx_sdw::Denial;
 
@@ -10,24 +10,27 @@ use mx_sdw::Denial;
 pub enum Verdict {
     /// The process goes on.
     GoOn,
+    /// The process runs no further line of its script but its `logout`.
+    Logout,
 }
 
 /// One that is told of each denial of a process, in order.
 pub trait Auditor: Drop {
-    /// The denials that it was told of, and for how many more it has room.
+    /// The denials that it was told of with its verdicts, and for how many more it has room.
     ghost account: { Self → Account };
 
-    /// It is told of one more denial, with the number of the line that was denied in the session text. Takes no memory.
+    /// It is told of one more denial, with the number of the line that was denied in the session text, and says whether the process
+    /// goes on. Takes no memory.
     fn denied(&mut self, line: u32, denial: Denial) -> Verdict
         requires { 1 ≤ (account self.old).room }
-        ensures { account self.new ≡ with_denials (account self.old) ((line, denial) ∷ []) };
+        ensures { account self.new ≡ with_told (account self.old) ((line, denial, result) ∷ []) };
 
     /// Of how many denials it was told, at most the greatest u32.
     fn count(&self) -> u32
         ensures { result ≡ min (length (account self.now).told) 4294967295 };
 
-    /// The denial at place `i`, counted from 0, with its line's number. `None` exactly where there is none.
-    fn told(&self, i: u32) -> Option<(u32, Denial)>
+    /// The denial at place `i`, counted from 0, with its line's number and the verdict. `None` exactly where there is none.
+    fn told(&self, i: u32) -> Option<(u32, Denial, Verdict)>
         ensures { result ≡ slice_get (account self.now).told i };
 }
 
@@ -42,7 +45,7 @@ impl Auditor for Box<dyn Auditor + Send> {
         (**self).count()
     }
 
-    fn told(&self, i: u32) -> Option<(u32, Denial)> {
+    fn told(&self, i: u32) -> Option<(u32, Denial, Verdict)> {
         (**self).told(i)
     }
 }

@@ -2,21 +2,19 @@
 
 ghost use Rattle.std.specs.Prelude.{◌≡◌, ℕ, ◌≤◌, List, ◌++◌, length};
 ghost use Rattle.std.specs.List.{All};
-ghost use Rattle.mx_audit.specs.Accounts.{Account, with_denials, with_all, HaveGrown, HaveRoomFor, HaveRoom};
-
-use mx_sdw::Denial;
+ghost use Rattle.mx_audit.specs.Accounts.{Account, Told, with_told, with_all, HaveGrown, HaveRoomFor, HaveRoom};
 
 /// An auditor that is told of some denials and then of others was told of all in that order.
 pub fn denials_add_up()
-    ensures { (account : Account) (denials others : List (ℕ × Denial))
-        → with_denials (with_denials account denials) others ≡ with_denials account (denials ++ others) }
+    ensures { (account : Account) (denials others : List Told)
+        → with_told (with_told account denials) others ≡ with_told account (denials ++ others) }
 {}
 
 /// Auditors that are told of nothing have grown, and so have those that are told of lists, whether at once or in turn;
 /// they are as many as before.
 pub fn accounts_grow()
     ensures none { (accounts : List Account) → HaveGrown accounts accounts }
-    ensures lists { (accounts : List Account) (lists : List (List (ℕ × Denial))) → HaveGrown accounts (with_all accounts lists) }
+    ensures lists { (accounts : List Account) (lists : List (List Told)) → HaveGrown accounts (with_all accounts lists) }
     ensures on { (before between after : List Account) → HaveGrown before between → HaveGrown between after → HaveGrown before after }
     ensures count { (before after : List Account) → HaveGrown before after → length after ≡ length before }
 {}

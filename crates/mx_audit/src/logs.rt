@@ -1,14 +1,14 @@
-//! An auditor that keeps the denials in memory.
+//! An auditor that keeps the denials in memory, and lets each process go on.
 
 use crate::auditors::{Auditor, Verdict};
 use mx_sdw::Denial;
 use std::alloc::{AllocError, Global};
 use std::marker::Model;
 
-/// An auditor that keeps what it is told of. It takes all its memory when it is made.
+/// An auditor that keeps what it is told of, and always answers that the process goes on. It takes all its memory when it is made.
 #[derive(Debug, Drop)]
 pub struct AuditLog {
-    denials: Vec<(u32, Denial)>,
+    denials: Vec<(u32, Denial, Verdict)>,
     room: usize,
 }
 
@@ -41,7 +41,10 @@ impl Auditor for AuditLog {
 
     fn denied(&mut self, line: u32, denial: Denial) -> Verdict {
         self.room -= 1;
-        let Ok(()) = self.denials.extend_from_slice(&[(line, denial)]) else {
+        let Ok(()) = self
+            .denials
+            .extend_from_slice(&[(line, denial, Verdict::GoOn)])
+        else {
             unreachable!()
         };
         Verdict::GoOn
@@ -51,7 +54,7 @@ impl Auditor for AuditLog {
         u32::try_from(self.denials.len()).unwrap_or(u32::MAX)
     }
 
-    fn told(&self, i: u32) -> Option<(u32, Denial)> {
+    fn told(&self, i: u32) -> Option<(u32, Denial, Verdict)> {
         self.denials.get(i as usize).copied()
     }
 }
