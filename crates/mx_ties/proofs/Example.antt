@@ -1,5 +1,5 @@
 -- A process stores into its stack and logs out, step by step.
-use Rattle.std.proofs.Common.{false, ◌≡◌, ℕ, zero, suc, ◌<◌, ◌≤◌, List, [], ◌∷◌, refl, ap, sym, ◌∙◌, subst, Some, None, arith}
+use Rattle.std.proofs.Common.{false, ◌≡◌, inl, ℕ, zero, suc, ◌<◌, ◌≤◌, List, [], ◌∷◌, refl, ap, sym, ◌∙◌, subst, Some, None, arith}
 use Rattle.std.specs.Prelude.{codes}
 use Rattle.std.specs.List.{slice_get}
 use Rattle.mx_sdw.specs.Judging.{judgement}
@@ -155,21 +155,21 @@ right = record { kind = refl; segno = refl; word = refl; ring = refl; outcome = 
 abbrev told : ℕ → ℕ
 told n = 1
 
-first : HasRunSoFar x [] 1 [] 3 sta ((4, logout) ∷ []) g [] (Attempt []) view_opened told
+first : HasRunSoFar x [] 1 (lines_of x 1) [] 3 sta ((4, logout) ∷ []) g [] (Attempt []) view_opened told
 first = first_line_law x [] 1 3 sta ((4, logout) ∷ []) 0 told refl (omega arith)
 
-second : HasRunSoFar x [] 1 [] 3 sta ((4, logout) ∷ []) g (Core (Seen e) ∷ []) (Attempt (j ∷ [])) view_stored told
-second = seen_step_law x [] 1 [] 3 sta ((4, logout) ∷ []) g [] (Attempt []) view_opened told asked j 0 refl right
+second : HasRunSoFar x [] 1 (lines_of x 1) [] 3 sta ((4, logout) ∷ []) g (Core (Seen e) ∷ []) (Attempt (j ∷ [])) view_stored told
+second = seen_step_law x [] 1 (lines_of x 1) [] 3 sta ((4, logout) ∷ []) g [] (Attempt []) view_opened told asked j 0 refl right
     (omega arith) (omega arith)
     (λ value writer stamp h. cc) first
 
-third : HasRunSoFar x [] 1 ((3, Core (Seen e) ∷ [], result.Done) ∷ []) 4 logout [] g [] (Attempt []) view_stored told
-third = line_step_law x [] 1 [] 3 4 sta logout [] g g (Core (Seen e) ∷ [])
+third : HasRunSoFar x [] 1 (lines_of x 1) ((3, Core (Seen e) ∷ [], result.Done) ∷ []) 4 logout [] g [] (Attempt []) view_stored told
+third = line_step_law x [] 1 (lines_of x 1) [] 3 4 sta logout [] g g (Core (Seen e) ∷ [])
     (Attempt (j ∷ [])) result.Done view_stored told (λ d. (refl, refl)) second
 
-fourth : HasRunSoFar x [] 1 ((3, Core (Seen e) ∷ [], result.Done) ∷ []) 4 logout [] g (Entry 1 ∷ [])
+fourth : HasRunSoFar x [] 1 (lines_of x 1) ((3, Core (Seen e) ∷ [], result.Done) ∷ []) 4 logout [] g (Entry 1 ∷ [])
     (Answer logged_out []) view_out told
-fourth = entry_step_law x [] 1 ((3, Core (Seen e) ∷ [], result.Done) ∷ []) 4 logout [] g []
+fourth = entry_step_law x [] 1 (lines_of x 1) ((3, Core (Seen e) ∷ [], result.Done) ∷ []) 4 logout [] g []
     (Attempt []) view_stored told told (marked ∷ []) marked 0 1
     refl refl refl refl (omega arith) (omega arith) (λ n. omega arith) (λ segno c. omega arith) third
 
@@ -177,9 +177,9 @@ abbrev steps : List Step
 steps = (3, Core (Seen e) ∷ [], result.Done) ∷ (4, Entry 1 ∷ [], result.Done) ∷ []
 
 ran : HasRun x [] 1 steps view_out
-ran = last_line_law x [] 1 ((3, Core (Seen e) ∷ [], result.Done) ∷ []) 4 logout g g (Entry 1 ∷ [])
+ran = last_line_law x [] 1 (lines_of x 1) ((3, Core (Seen e) ∷ [], result.Done) ∷ []) 4 logout g g (Entry 1 ∷ [])
     (Answer logged_out []) result.Done view_out told
-    (λ d. (refl, refl)) fourth
+    (λ d. (refl, refl)) (inl refl) fourth
 
 set_up : IsSetUp x [] []
 set_up = record {

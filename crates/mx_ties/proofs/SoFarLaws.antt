@@ -77,13 +77,13 @@ full_more limit floor floor' steps events event l f = record {
 
 -- what a process knows of its line at work, it knows with a higher floor
 known_higher : (x : Outline) (front : List journaled.Entry) (floor floor' p : ℕ) (trace : List Judged)
-    (steps : List Step) (number : ℕ) (line : Line) (left : List (ℕ × Line)) (now : Control) (events : List Event2)
+    (ran : List (ℕ × Line)) (steps : List Step) (number : ℕ) (line : Line) (left : List (ℕ × Line)) (now : Control) (events : List Event2)
     (course : Course) → floor ≤ floor'
-    → PromisesPart x front floor trace p steps number line left now events course
-    → PromisesPart x front floor' trace p steps number line left now events course
-known_higher x front floor floor' p trace steps number line left now events course rise known d agrees =
+    → PromisesPart x front floor trace p ran steps number line left now events course
+    → PromisesPart x front floor' trace p ran steps number line left now events course
+known_higher x front floor floor' p trace ran steps number line left now events course rise known d agrees =
     extends_law (own_setting x front floor p d) (own_setting x front floor' p d)
-    (opening_control x p) now (lines_of x p) left steps number line events course (record {
+    (opening_control x p) now ran left steps number line events course (record {
       process = refl;
       entries = λ n entry h. h;
       full = λ full. le_to (limit_of x) floor floor' full rise;
@@ -91,7 +91,7 @@ known_higher x front floor floor' p trace steps number line left now events cour
     }) (known d agrees)
 
 -- one element more, by whichever law of the line at work
-element_step : (x : Outline) (setup : List journaled.Entry) (p : ℕ) (steps : List Step) (number : ℕ) (line : Line)
+element_step : (x : Outline) (setup : List journaled.Entry) (p : ℕ) (ran : List (ℕ × Line)) (steps : List Step) (number : ℕ) (line : Line)
     (left : List (ℕ × Line)) (now : Control) (events : List Event2) (course after : Course) (v : View)
     (told : ℕ → ℕ) (j : Judged) (floor : ℕ)
     → v.floor ≤ j.element.point → j.element.point ≤ floor
@@ -100,11 +100,11 @@ element_step : (x : Outline) (setup : List journaled.Entry) (p : ℕ) (steps : L
     → IsSoFar (own_setting x (followed setup v.history) floor p d) now line events course)
     → (d : Element → Descriptor) → AgreesWith d (judged_in v.trace ++ j ∷ [])
     → IsSoFar (own_setting x (followed setup v.history) floor p d) now line (events ++ Core (Seen j.element) ∷ []) after)
-    → HasRunSoFar x setup p steps number line left now events course v told
-    → HasRunSoFar x setup p steps number line left now (events ++ Core (Seen j.element) ∷ []) after
+    → HasRunSoFar x setup p ran steps number line left now events course v told
+    → HasRunSoFar x setup p ran steps number line left now (events ++ Core (Seen j.element) ∷ []) after
     (record v { trace = v.trace ++ Referred j ∷ []; floor = floor }) told
-element_step x setup p steps number line left now events course after v told j floor low high stamps more r =
-    let known = known_higher x (followed setup v.history) v.floor floor p (judged_in v.trace) steps number line left now
+element_step x setup p ran steps number line left now events course after v told j floor low high stamps more r =
+    let known = known_higher x (followed setup v.history) v.floor floor p (judged_in v.trace) ran steps number line left now
     events course (omega arith) r.lines in record {
       lines = λ d agrees.
           let agrees' = subst (AgreesWith d) (judged_more v.trace j) agrees in
@@ -121,16 +121,16 @@ element_step x setup p steps number line left now events course after v told j f
     }
 
 pub seen_step_law : SeenStepLaw
-seen_step_law x setup p steps number line left now events course v told asked j floor asks right low high stamps r =
-    element_step x setup p steps number line left now events course (Attempt (seen_in course ++ j ∷ [])) v told j floor
+seen_step_law x setup p ran steps number line left now events course v told asked j floor asks right low high stamps r =
+    element_step x setup p ran steps number line left now events course (Attempt (seen_in course ++ j ∷ [])) v told j floor
     low high stamps
     (λ known. trace_law (own_setting x (followed setup v.history) floor p (descriptor_of x [] p))
     (judged_in v.trace) now line events course asked j known asks right) r
 
 pub fill_step_law : FillStepLaw
-fill_step_law x setup p steps number line left now events entry filled v told asked j value floor asks right granted low
+fill_step_law x setup p ran steps number line left now events entry filled v told asked j value floor asks right granted low
     high r =
-    element_step x setup p steps number line left now events (Answer entry filled) (Answer entry (filled ++ j ∷ [])) v
+    element_step x setup p ran steps number line left now events (Answer entry filled) (Answer entry (filled ++ j ∷ [])) v
     told j floor low high (λ value' writer stamp came. absurd (written value' writer stamp (sym granted ∙ came)))
     (λ known. fill_trace_law (own_setting x (followed setup v.history) floor p (descriptor_of x [] p))
     (judged_in v.trace) now line events entry filled asked j value known asks right granted) r
@@ -139,13 +139,13 @@ fill_step_law x setup p steps number line left now events entry filled v told as
     written value' writer stamp e = cc
 
 pub miss_step_law : MissStepLaw
-miss_step_law x setup p steps number line left now events course v told told' asked segno by floor more asks above
+miss_step_law x setup p ran steps number line left now events course v told told' asked segno by floor more asks above
     under rise told_by told_more r = record {
       lines = λ d agrees.
           let less = subst (AgreesWith d) (judged_same v.trace segno by) agrees in
           let part = extends_law (own_setting x (followed setup v.history) v.floor p d)
           (own_setting x (followed setup (v.history ++ more)) floor p d)
-          (opening_control x p) now (lines_of x p) left steps number line events course
+          (opening_control x p) now ran left steps number line events course
           (longer_front x setup v.history more v.floor floor p d (events_of steps ++ events) rise)
           (r.lines d less) in record {
             done = part.done;
@@ -201,13 +201,13 @@ full_entered limit floor floor' entered steps events above under f = record {
 }
 
 pub entry_step_law : EntryStepLaw
-entry_step_law x setup p steps number line left now events course v told told' more marked place floor asks at own
+entry_step_law x setup p ran steps number line left now events course v told told' more marked place floor asks at own
     mark above under told_more told_here r =
     let entered = length setup + suc place in record {
       lines = λ d agrees.
           let part = extends_law (own_setting x (followed setup v.history) v.floor p d)
           (own_setting x (followed setup (v.history ++ more)) floor p d)
-          (opening_control x p) now (lines_of x p) left steps number line events course
+          (opening_control x p) now ran left steps number line events course
           (longer_front x setup v.history more v.floor floor p d (events_of steps ++ events) (omega arith))
           (r.lines d agrees) in record {
             done = part.done;
@@ -264,10 +264,10 @@ full_done limit floor steps number events ends reached f =
     }
 
 pub line_step_law : LineStepLaw
-line_step_law x setup p steps number number' line line' left now after events course ends v told end r = record {
+line_step_law x setup p ran steps number number' line line' left now after events course ends v told end r = record {
   lines = λ d agrees. record {
     done = line_law (own_setting x (followed setup v.history) v.floor p d) (opening_control x p) now after
-        (lines_of x p) ((number', line') ∷ left) steps number line
+        ran ((number', line') ∷ left) steps number line
         events course ends (r.lines d agrees) (end d);
     at_work = refl;
   };
@@ -279,17 +279,19 @@ line_step_law x setup p steps number number' line line' left now after events co
 }
 
 pub last_line_law : LastLineLaw
-last_line_law x setup p steps number line now after events course ends v told end r =
+last_line_law x setup p ran steps number line now after events course ends v told end are r =
     let step : Step = (number, events, ends) in
     let tied = subst (λ (l : List Event2). AreTied x setup p l v told) (sym (events_more steps step)) r.tied in
     let full = full_done (limit_of x) v.floor steps number events ends
     (full_reached x p (followed setup v.history) v.floor line now after course ends end) r.full in record {
       after = after;
       lines = λ d agrees.
-          let setting = own_setting x (followed setup v.history) v.floor p d in
-          whole_part setting (opening_control x p) after (lines_of x p) (steps ++ step ∷ [])
-          (line_law setting (opening_control x p) now after (lines_of x p) [] steps number line events course ends
-          (r.lines d agrees) (end d));
+          let setting = own_setting x (followed setup v.history) v.floor p d in record {
+            ran = ran;
+            are = are;
+            done = line_law setting (opening_control x p) now after ran [] steps number line events course ends
+                (r.lines d agrees) (end d);
+          };
       traced = tied.traced;
       own = tied.own;
       rising = tied.rising;

@@ -1,5 +1,5 @@
 -- A process whose lines are right unless a write failed: by the laws of one whose lines are right, as they stand.
-use Rattle.std.proofs.Common.{◌≡◌, ℕ, suc, ◌+◌, ◌≤◌, List, [], ◌∷◌, ◌++◌, length, refl, sym, ◌∙◌, subst, arith, append_assoc}
+use Rattle.std.proofs.Common.{◌≡◌, ℕ, suc, ◌+◌, ◌≤◌, List, [], ◌∷◌, ◌++◌, take, length, refl, sym, ◌∙◌, subst, arith, append_assoc}
 use Rattle.std.proofs.lemmas.List.{append-nil}
 use Rattle.mx_sdw.specs.Descriptors.{Descriptor}
 use Rattle.mx_upcall.specs.Control.{Control}
@@ -15,7 +15,9 @@ use Rattle.mx_transcript.specs.declared.transcripts.Result2.{Result2}
 use Rattle.mx_transcript.specs.Courses.{Course, Attempt, Answer, seen_in}
 use Rattle.mx_transcript.specs.Openings.{opening_control}
 use Rattle.mx_transcript.specs.Scripts.{lines_of}
-use Rattle.mx_transcript.specs.Parts.{AreDone}
+use Rattle.mx_transcript.specs.Lines.{IsSoFar}
+use Rattle.mx_transcript.specs.Parts.{AreDone, last_line}
+use Rattle.mx_transcript.specs.Settings.{Setting}
 use Rattle.mx_transcript.specs.SoFar.{IsPartSoFar}
 use Rattle.mx_transcript.specs.Standing.{AgreesWith, own_setting}
 use Rattle.mx_transcript.specs.Transcripts.{Step, part, events_of}
@@ -27,7 +29,7 @@ use Rattle.mx_ties.specs.Closed.{followed}
 use Rattle.mx_ties.specs.SoFar.{AreTied, IsFullKept, HasRunSoFar}
 use Rattle.mx_ties.specs.Spoilt.{IsSpoilt, IsAnswering}
 use Rattle.mx_ties.specs.Views.{Kept, Referred, Missed, Marked, View, event_of, judged_in}
-use Rattle.mx_ties.specs.Working.{IsUnspoilt, IsWorking, HasWorked, IsEnding, WorkedLaw, BeginWorkLaw, SeenWorkLaw, FilledWorkLaw, DeniedFillLaw, MissedFillLaw, MissedWorkLaw, EnteredWorkLaw, ToldWorkLaw, EndedWorkLaw, LastWorkLaw, IdleWorkLaw, UnspoiltLaw, WorkedRunLaw}
+use Rattle.mx_ties.specs.Working.{IsUnspoilt, IsWorking, HasWorked, IsEnding, WorkedLaw, BeginWorkLaw, SeenWorkLaw, FilledWorkLaw, DeniedFillLaw, MissedFillLaw, MissedWorkLaw, EnteredWorkLaw, ToldWorkLaw, EndedWorkLaw, CutWorkLaw, LastWorkLaw, IdleWorkLaw, UnspoiltLaw, WorkedRunLaw}
 use Rattle.mx_ties.proofs.EventsMore.{events_more}
 use Rattle.mx_ties.proofs.Finishes.{finished_law}
 use Rattle.mx_ties.proofs.Naming.{HasKept}
@@ -39,7 +41,7 @@ use Rattle.mx_ties.proofs.TiedLaws.{seen_tied, miss_tied, entry_tied, told_tied}
 -- where no write failed, its lines are right
 so_far : (x : Outline) (setup : List journaled.Entry) (p : ℕ) (w : AtWork) (v : View) (told : ℕ → ℕ)
     → IsWorking x setup p w v told → IsUnspoilt setup p w v
-    → HasRunSoFar x setup p w.steps w.number w.line w.left w.now w.events w.course v told
+    → HasRunSoFar x setup p w.ran w.steps w.number w.line w.left w.now w.events w.course v told
 so_far x setup p w v told r unspoilt = record { lines = r.lines unspoilt; tied = r.tied; full = r.full }
 
 -- all events, with one more
@@ -79,7 +81,7 @@ see_law x setup p w v told asked j floor right low high stamps r =
     (grows_by v.trace (Referred j ∷ [])) in
     record {
       lines = λ u. let before = back u in let is = right before in
-          (seen_step_law x setup p w.steps w.number w.line w.left w.now w.events w.course v told asked j floor is.0 is.1
+          (seen_step_law x setup p w.ran w.steps w.number w.line w.left w.now w.events w.course v told asked j floor is.0 is.1
           low high stamps (so_far x setup p w v told r before)).lines;
       answering = λ u. tt;
       tied = subst (λ (l : List Event2). AreTied x setup p l v' told) (all_more w event course)
@@ -97,7 +99,7 @@ fill_law x setup p w entry filled v told asked j floor right low high stamps r =
     (grows_by v.trace (Referred j ∷ [])) in
     record {
       lines = λ u. let before = back u in let is = right before in
-          (fill_step_law x setup p w.steps w.number w.line w.left w.now w.events entry filled v told asked j is.2.value
+          (fill_step_law x setup p w.ran w.steps w.number w.line w.left w.now w.events entry filled v told asked j is.2.value
           floor is.0 is.2.right is.2.granted low high (so_far x setup p old v told r before)).lines;
       answering = λ u. let before = back u in let is = right before in
           subst (λ (l : List Event2). IsAnswering (length setup) p l v.history (v.trace ++ Referred j ∷ []) course)
@@ -171,7 +173,7 @@ miss_law x setup p w v told told' asked segno by floor more right above under ri
     (grows_by v.history more) (grows_by v.trace (Missed segno by ∷ [])) in
     record {
       lines = λ u. let before = back u in
-          (miss_step_law x setup p w.steps w.number w.line w.left w.now w.events w.course v told told' asked segno by
+          (miss_step_law x setup p w.ran w.steps w.number w.line w.left w.now w.events w.course v told told' asked segno by
           floor more (right before) above under rise told_by told_more (so_far x setup p w v told r before)).lines;
       answering = λ u. tt;
       tied = subst (λ (l : List Event2). AreTied x setup p l v' told') (all_more w event (Attempt []))
@@ -187,7 +189,7 @@ told_law x setup p w v told told' more floor rise told_more r =
       lines = λ u d agrees.
           extends_law (own_setting x (followed setup v.history) v.floor p d)
           (own_setting x (followed setup (v.history ++ more)) floor p d)
-          (opening_control x p) w.now (lines_of x p) w.left w.steps w.number w.line w.events w.course
+          (opening_control x p) w.now w.ran w.left w.steps w.number w.line w.events w.course
           (longer_front x setup v.history more v.floor floor p d (all_events w) rise) (r.lines (back u) d agrees);
       answering = λ u. answering_more (length setup) p (all_events w) v.history (v.history ++ more) v.trace w.course
           (grows_by v.history more) (r.answering (back u));
@@ -204,7 +206,7 @@ enter_law x setup p w v told told' more marked place floor right at own mark abo
     (grows_not v.trace) in
     record {
       lines = λ u. let before = back u in
-          (entry_step_law x setup p w.steps w.number w.line w.left w.now w.events w.course v told told' more marked place
+          (entry_step_law x setup p w.ran w.steps w.number w.line w.left w.now w.events w.course v told told' more marked place
           floor (right before) at own mark above under told_more told_here (so_far x setup p w v told r before)).lines;
       answering = λ u.
           subst (λ (l : List Event2). IsAnswering (length setup) p l (v.history ++ more) v.trace course)
@@ -228,13 +230,13 @@ module _ (x : Outline) (setup : List journaled.Entry) (p : ℕ) (w : AtWork) (le
 
   lines_done : (IsSpoilt (length setup) p (events_of (done_with w ends)) v.history v.trace → ⊥)
       → (d : Element → Descriptor) → AgreesWith d (judged_in v.trace)
-      → AreDone (own_setting x (followed setup v.history) v.floor p d) (opening_control x p) (lines_of x p)
+      → AreDone (own_setting x (followed setup v.history) v.floor p d) (opening_control x p) w.ran
       (done_with w ends) left after
   lines_done u d agrees =
       let before = still_done u in
       let setting = own_setting x (followed setup v.history) v.floor p d in
-      line_law setting (opening_control x p) w.now after (lines_of x p) left w.steps w.number w.line w.events w.course
-      ends (subst (λ (l : List (ℕ × Line)). IsPartSoFar setting (opening_control x p) (lines_of x p) w.steps w.number
+      line_law setting (opening_control x p) w.now after w.ran left w.steps w.number w.line w.events w.course
+      ends (subst (λ (l : List (ℕ × Line)). IsPartSoFar setting (opening_control x p) w.ran w.steps w.number
       w.line l w.now w.events w.course) is (r.lines before d agrees)) (e.end before d)
 
   tied_done : AreTied x setup p (events_of (done_with w ends)) v told
@@ -258,12 +260,43 @@ end_law x setup p w number line left v told ends after is e r =
       full = full_then x setup p w ((number, line) ∷ left) v told ends after is e r;
     }
 
+-- the lines that are done are right before whichever lines go on behind them
+goes_elsewhere : (s : Setting) (before now : Control) (lines left : List (ℕ × Line)) (steps : List Step)
+    (rest : List (ℕ × Line)) → AreDone s before lines steps left now
+    → AreDone s before (take (length steps) lines ++ rest) steps rest now
+goes_elsewhere s before now lines left [] rest done = (refl, done.1)
+goes_elsewhere s before now [] left (step ∷ steps) rest done = absurd done
+goes_elsewhere s before now (line ∷ lines) left (step ∷ steps) rest done =
+    (done.0, done.1, done.2, goes_elsewhere s done.1 now lines left steps rest done.3)
+
+pub cut_law : CutWorkLaw
+cut_law x setup p w number line v told whole none fresh last r = record {
+  lines = λ u d agrees.
+      let setting = own_setting x (followed setup v.history) v.floor p d in
+      let part = r.lines u d agrees in
+      let rest = last_line (lines_of x p) in
+      let ran = take (length w.steps) (lines_of x p) ++ rest in
+      let done = goes_elsewhere setting (opening_control x p) w.now (lines_of x p) ((w.number, w.line) ∷ w.left) w.steps rest
+      (subst (λ (lines : List (ℕ × Line)). AreDone setting (opening_control x p) lines w.steps ((w.number, w.line) ∷ w.left)
+      w.now) whole part.done) in record {
+        done = subst (λ (left : List (ℕ × Line)). AreDone setting (opening_control x p) ran w.steps left w.now) last done;
+        at_work = subst (λ (events : List Event2). IsSoFar setting w.now line events w.course) (sym none)
+            (subst (λ (course : Course). IsSoFar setting w.now line [] course) (sym fresh) refl);
+      };
+  answering = r.answering;
+  tied = r.tied;
+  full = r.full;
+}
+
 pub last_law : LastWorkLaw
-last_law x setup p w v told ends after is e r = record {
+last_law x setup p w v told ends after is are e r = record {
   lines = λ u. (
     after,
-    λ d agrees. whole_part (own_setting x (followed setup v.history) v.floor p d) (opening_control x p) after (lines_of x p)
-        (done_with w ends) (lines_done x setup p w [] v told ends after is e r u d agrees),
+    λ d agrees. record {
+      ran = w.ran;
+      are = are;
+      done = lines_done x setup p w [] v told ends after is e r u d agrees;
+    },
   );
   told = told;
   tied = tied_done x setup p w [] v told ends after is e r;

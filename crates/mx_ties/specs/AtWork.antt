@@ -10,9 +10,10 @@ use Rattle.mx_transcript.specs.Courses.{Course, Attempt, Answer, Judged}
 use Rattle.mx_transcript.specs.Next.{Next}
 use Rattle.mx_transcript.specs.Transcripts.{Step, events_of}
 
--- the lines that are done; the line at work with its number, and the lines that are left; the registers and gates at its
--- start; its events so far, and how far they lead
+-- the lines that its part is to have, and those of them that are done; the line at work with its number, and the lines that
+-- are left; the registers and gates at its start; its events so far, and how far they lead
 pub record AtWork : Type 0 where
+  pub ran : List (ℕ × Line)
   pub steps : List Step
   pub number : ℕ
   pub line : Line
@@ -44,6 +45,7 @@ done_with w ends = w.steps ++ (w.number, w.events, ends) ∷ []
 -- at the beginning of the next line, of this number
 abbrev pub next_line : AtWork → Result2 → Control → ℕ → Line → List (ℕ × Line) → AtWork
 next_line w ends after number line left = record {
+  ran = w.ran;
   steps = done_with w ends;
   number = number;
   line = line;
@@ -52,3 +54,7 @@ next_line w ends after number line left = record {
   events = [];
   course = Attempt [];
 }
+
+-- The same where the part is cut: it is to have these lines, and this one, of this number, is the last.
+abbrev pub cut_to : AtWork → List (ℕ × Line) → ℕ → Line → AtWork
+cut_to w ran number line = record w { ran = ran; number = number; line = line; left = [] }

@@ -14,7 +14,6 @@ use Rattle.mx_reads.specs.Deeds.{CellUse}
 use Rattle.mx_transcript.specs.Legal.{setup_entries}
 use Rattle.mx_transcript.specs.Openings.{opening_control}
 use Rattle.mx_transcript.specs.References.{deed_by}
-use Rattle.mx_transcript.specs.Scripts.{lines_of}
 use Rattle.mx_transcript.specs.SoFar.{IsPartSoFar}
 use Rattle.mx_transcript.specs.Standing.{AgreesWith, own_setting}
 use Rattle.mx_transcript.specs.Transcripts.{Step, events_of, entries_named}
@@ -47,20 +46,19 @@ pub record IsFullKept (limit floor : ℕ) (steps : List Step) (events : List Eve
   pub at_work : (place : ℕ) (full : Step) (i number : ℕ) → slice_get steps place ≡ Some full → full.2 ≡ HistoryFull
       → slice_get (entries_named events) i ≡ Some number → limit < number
 
--- the lines so far, whatever descriptors agree with the trace
-abbrev pub PromisesPart : Outline → List journaled.Entry → ℕ → List Judged → ℕ → List Step → ℕ → Line
+-- the lines so far, of those that the part is to have, whatever descriptors agree with the trace
+abbrev pub PromisesPart : Outline → List journaled.Entry → ℕ → List Judged → ℕ → List (ℕ × Line) → List Step → ℕ → Line
     → List (ℕ × Line) → Control
     → List Event2 → Course → Type 0
-PromisesPart x front floor trace p steps number line left now events course = (d : Element → Descriptor)
+PromisesPart x front floor trace p ran steps number line left now events course = (d : Element → Descriptor)
     → AgreesWith d trace
-    → IsPartSoFar (own_setting x front floor p d) (opening_control x p)
-    (lines_of x p) steps number line left now events course
+    → IsPartSoFar (own_setting x front floor p d) (opening_control x p) ran steps number line left now events course
 
 -- what is true of a process at work
-pub record HasRunSoFar (x : Outline) (setup : List journaled.Entry) (p : ℕ) (steps : List Step) (number : ℕ)
-    (line : Line) (left : List (ℕ × Line)) (now : Control) (events : List Event2) (course : Course) (v : View)
+pub record HasRunSoFar (x : Outline) (setup : List journaled.Entry) (p : ℕ) (ran : List (ℕ × Line)) (steps : List Step)
+    (number : ℕ) (line : Line) (left : List (ℕ × Line)) (now : Control) (events : List Event2) (course : Course) (v : View)
     (told : ℕ → ℕ) : Type 0 where
   pub lines : PromisesPart x (followed setup v.history) v.floor
-      (judged_in v.trace) p steps number line left now events course
+      (judged_in v.trace) p ran steps number line left now events course
   pub tied : AreTied x setup p (events_of steps ++ events) v told
   pub full : IsFullKept (limit_of x) v.floor steps events

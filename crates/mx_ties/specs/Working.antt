@@ -1,6 +1,6 @@
 -- A process with a line at work whose lines are right unless a write that a reply asked for failed: what it keeps at each
 -- step, and when its last line ends.
-use Rattle.std.specs.Prelude.{◌≡◌, ℕ, suc, ◌+◌, ◌<◌, ◌≤◌, List, [], ◌∷◌, ◌++◌, length, Some, slice_get}
+use Rattle.std.specs.Prelude.{◌≡◌, ℕ, suc, ◌+◌, ◌<◌, ◌≤◌, List, [], ◌∷◌, ◌++◌, take, length, Some, slice_get}
 use Rattle.mx_sdw.specs.Descriptors.{Descriptor}
 use Rattle.mx_upcall.specs.Control.{Control}
 use Rattle.mx_state.specs.declared.journal.Entry as journaled
@@ -21,10 +21,11 @@ use Rattle.mx_transcript.specs.Lines.{IsEnd}
 use Rattle.mx_transcript.specs.Misses.{IsChanged}
 use Rattle.mx_transcript.specs.Next.{Reference, Asks, Fills, Calls}
 use Rattle.mx_transcript.specs.Openings.{opening_control}
+use Rattle.mx_transcript.specs.Parts.{AreLinesOf, last_line}
 use Rattle.mx_transcript.specs.Scripts.{lines_of}
 use Rattle.mx_transcript.specs.Standing.{PromisesLines, own_setting}
 use Rattle.mx_transcript.specs.Transcripts.{Step, part, events_of}
-use Rattle.mx_ties.specs.AtWork.{AtWork, asks, all_events, since, gone_on, done_with, next_line}
+use Rattle.mx_ties.specs.AtWork.{AtWork, asks, all_events, since, gone_on, done_with, next_line, cut_to}
 use Rattle.mx_ties.specs.Closed.{IsClosed, followed}
 use Rattle.mx_ties.specs.Ran.{HasRun, IsSetUp}
 use Rattle.mx_ties.specs.SoFar.{AreTied, IsFullKept, PromisesPart}
@@ -39,7 +40,7 @@ IsUnspoilt setup p w v = IsSpoilt (length setup) p (all_events w) v.history v.tr
 pub record IsWorking (x : Outline) (setup : List journaled.Entry) (p : ℕ) (w : AtWork) (v : View)
     (told : ℕ → ℕ) : Type 0 where
   pub lines : IsUnspoilt setup p w v → PromisesPart x (followed setup v.history) v.floor
-      (judged_in v.trace) p w.steps w.number w.line w.left w.now w.events w.course
+      (judged_in v.trace) p w.ran w.steps w.number w.line w.left w.now w.events w.course
   pub answering : IsUnspoilt setup p w v
       → IsAnswering (length setup) p (all_events w) v.history v.trace w.course
   pub tied : AreTied x setup p (all_events w) v told
@@ -65,6 +66,7 @@ BeginWorkLaw = (x : Outline) (setup : List journaled.Entry) (p number : ℕ) (li
     (floor : ℕ) (told : ℕ → ℕ)
     → lines_of x p ≡ (number, line) ∷ left → setup_entries x ≤ floor
     → IsWorking x setup p (record {
+      ran = lines_of x p;
       steps = [];
       number = number;
       line = line;
@@ -166,11 +168,19 @@ EndedWorkLaw = (x : Outline) (setup : List journaled.Entry) (p : ℕ) (w : AtWor
     → IsWorking x setup p w v told
     → IsWorking x setup p (next_line w ends after number line left) v told
 
--- or it was the last
+-- or, before it begins, the part is cut: the last line of the script begins in its place
+abbrev pub CutWorkLaw : Type 0
+CutWorkLaw = (x : Outline) (setup : List journaled.Entry) (p : ℕ) (w : AtWork) (number : ℕ) (line : Line) (v : View)
+    (told : ℕ → ℕ)
+    → w.ran ≡ lines_of x p → w.events ≡ [] → w.course ≡ Attempt [] → last_line (lines_of x p) ≡ (number, line) ∷ []
+    → IsWorking x setup p w v told
+    → IsWorking x setup p (cut_to w (take (length w.steps) (lines_of x p) ++ last_line (lines_of x p)) number line) v told
+
+-- or it was the last of the lines that a part may have
 abbrev pub LastWorkLaw : Type 0
 LastWorkLaw = (x : Outline) (setup : List journaled.Entry) (p : ℕ) (w : AtWork) (v : View) (told : ℕ → ℕ)
     (ends : Result2) (after : Control)
-    → w.left ≡ [] → IsEnding x setup p w v ends after
+    → w.left ≡ [] → AreLinesOf (lines_of x p) (done_with w ends) w.ran → IsEnding x setup p w v ends after
     → IsWorking x setup p w v told → HasWorked x setup p (done_with w ends) v
 
 -- no lines at all

@@ -6,7 +6,7 @@ ghost use Rattle.mx_ties.specs.Fronts.{FrontLaw};
 ghost use Rattle.mx_ties.specs.Going.{SeenLaw, MissLaw, EnteredLaw};
 ghost use Rattle.mx_ties.specs.Matching.{TransportLaw};
 ghost use Rattle.mx_ties.specs.Sample.{Sample};
-ghost use Rattle.mx_ties.specs.Working.{WorkedLaw, BeginWorkLaw, SeenWorkLaw, FilledWorkLaw, DeniedFillLaw, MissedFillLaw, MissedWorkLaw, EnteredWorkLaw, ToldWorkLaw, EndedWorkLaw, LastWorkLaw, IdleWorkLaw, UnspoiltLaw, WorkedRunLaw};
+ghost use Rattle.mx_ties.specs.Working.{WorkedLaw, BeginWorkLaw, SeenWorkLaw, FilledWorkLaw, DeniedFillLaw, MissedFillLaw, MissedWorkLaw, EnteredWorkLaw, ToldWorkLaw, EndedWorkLaw, CutWorkLaw, LastWorkLaw, IdleWorkLaw, UnspoiltLaw, WorkedRunLaw};
 ghost use Rattle.mx_ties.specs.Steps.{FirstLineLaw, NoLineLaw, SeenStepLaw, FillStepLaw, MissStepLaw, EntryStepLaw, LineStepLaw, LastLineLaw};
 
 /// A run whose processes have all run, and whose office is closed, is legal.
@@ -61,6 +61,7 @@ pub fn working_law()
     ensures entered { EnteredWorkLaw }
     ensures told { ToldWorkLaw }
     ensures ended { EndedWorkLaw }
+    ensures cut { CutWorkLaw }
     ensures last { LastWorkLaw }
     ensures idle { IdleWorkLaw }
     ensures worked { WorkedLaw }
