@@ -1,10 +1,11 @@
 -- What the processes of a run leave: their transcripts, their passes and their auditors.
-use Rattle.std.specs.Prelude.{◌≡◌, ◌-◌, ℕ, List, [], ◌∷◌, ◌++◌, Some, length, option_to_list, slice_get}
+use Rattle.std.specs.Prelude.{◌≡◌, ◌-◌, ℕ, List, [], ◌∷◌, ◌++◌, Some, None, option_to_list, slice_get}
 use Rattle.mx_audit.specs.Accounts.{Account}
 use Rattle.mx_closing.specs.Views.{view_in}
 use Rattle.mx_desc.specs.Passes.{PassValue}
 use Rattle.mx_process.specs.Audited.{IsAudited}
-use Rattle.mx_process.specs.Processes.{ProcessValue, script_of}
+use Rattle.mx_process.specs.Plans.{IsUncut}
+use Rattle.mx_process.specs.Processes.{ProcessValue}
 use Rattle.mx_script.specs.Sessions.{Outline}
 use Rattle.mx_state.specs.declared.journal.Entry as journaled
 use Rattle.mx_ties.specs.Working.{HasWorked}
@@ -24,7 +25,12 @@ accounts_in (v ∷ row) = option_to_list v.account ++ accounts_in row
 -- each auditor was told what its process was denied
 abbrev pub AreAudited : Outline → List Account → List ProcessValue → Type 0
 AreAudited x accounts row = (place : ℕ) (v : ProcessValue) → slice_get row place ≡ Some v
-    → IsAudited (length (script_of x v.pass.view.process)) (slice_get accounts (v.pass.view.process - 1)) (steps_in v) v.account
+    → IsAudited x v.pass.view.process (slice_get accounts (v.pass.view.process - 1)) v.state v.account
+
+-- where a process has no account, no line was left out
+abbrev pub AreUncutAlone : Outline → List Account → List ProcessValue → Type 0
+AreUncutAlone x accounts row = (place : ℕ) (v : ProcessValue) → slice_get row place ≡ Some v
+    → slice_get accounts (v.pass.view.process - 1) ≡ None → IsUncut x v.pass.view.process v.state
 
 -- each has worked
 abbrev pub HaveWorked : Outline → List journaled.Entry → List ProcessValue → Type 0

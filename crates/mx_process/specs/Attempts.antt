@@ -1,5 +1,5 @@
 -- What an attempt at a line comes to.
-use Rattle.std.specs.Prelude.{◌≡◌, ◌↔◌, ℕ, ◌∷◌, [], ◌++◌, List, IsSome, None, Some}
+use Rattle.std.specs.Prelude.{◌≡◌, ◌↔◌, ℕ, ◌≤◌, ◌∷◌, [], ◌++◌, List, IsSome, None, Some}
 use Rattle.mx_core.specs.AssociativeMemory.{recalled}
 use Rattle.mx_line.specs.declared.operands.Progress.TheVariants.{Before}
 use Rattle.mx_line.specs.declared.processes.Process.{Process as LineState}
@@ -10,7 +10,8 @@ use Rattle.mx_script.specs.declared.lines.Line.TheVariants.{Ask}
 use Rattle.mx_state.specs.declared.journal.Entry as journaled
 use Rattle.mx_transcript.specs.declared.transcripts.Event2.{Event2}
 use Rattle.mx_transcript.specs.declared.transcripts.Result2.{Result2}
-use Rattle.mx_process.specs.Processes.{ProcessValue, IsAtLine, number_in}
+use Rattle.mx_process.specs.Plans.{number_in}
+use Rattle.mx_process.specs.Processes.{ProcessValue, IsAtLine}
 use Rattle.mx_process.specs.Turns.{Inside, Ends, Misses, Links, IsSameLine, IsLinking, IsUntold}
 use Rattle.mx_process.specs.declared.misses.Fast.{Fast}
 use Rattle.mx_process.specs.declared.misses.Fast.TheVariants as fast
@@ -30,8 +31,9 @@ pub record IsAtRequest (x : Outline) (v : ProcessValue) : Type 0 where
   pub at : IsAtLine x v number (Ask request)
 
 -- The line was done: it stands in the transcript under its number, with all its events and its result, and the next one
--- begins.
+-- begins, which may be the last one: no fewer lines are left out than before.
 pub record HasDone (old new : ProcessValue) : Type 0 where
+  pub onward : old.state.first ≤ new.state.first
   pub more : List Event2
   pub ends : Result2
   pub steps : new.state.recording.steps ≡ old.state.recording.steps

@@ -25,7 +25,6 @@ use Rattle.mx_state.specs.declared.journal.Entry as journaled
 use Rattle.mx_transcript.specs.Asking.{next}
 use Rattle.mx_transcript.specs.Courses.{Course, Answer as Answering}
 use Rattle.mx_transcript.specs.Next.{Calls}
-use Rattle.mx_transcript.specs.Scripts.{first_line}
 use Rattle.mx_transcript.specs.declared.transcripts.Event2.{Event2}
 use Rattle.mx_transcript.specs.declared.transcripts.Event2.TheVariants.{Entry}
 use Rattle.mx_transcript.specs.declared.transcripts.Result2.{Result2}
@@ -34,7 +33,8 @@ use Rattle.mx_upcall.specs.Changes.{changed}
 use Rattle.mx_upcall.specs.Control.{Control}
 use Rattle.mx_upcall.specs.Soundness.{IsPackableControl}
 use Rattle.mx_process.specs.Filling.{IsDue}
-use Rattle.mx_process.specs.Processes.{IsFittingAt, Known, IsAtWork, known_of, number_in}
+use Rattle.mx_process.specs.Plans.{IsPlanned, number_in}
+use Rattle.mx_process.specs.Processes.{IsFittingAt, Known, IsAtWork, known_of}
 use Rattle.mx_process.specs.Turns.{Ends, HasEnd, HasEvent, Inside, IsSameLine}
 use Rattle.mx_process.specs.declared.entries.Answered.{Answered}
 use Rattle.mx_process.specs.declared.entries.Answered.TheVariants as answered
@@ -60,7 +60,7 @@ pub record IsAtCall (x : Outline) (setup : List journaled.Entry) (state : LineSt
   pub good : IsGoodProgress state.control.registers state.progress
   pub fitting : IsFittingAt state.progress
   pub some : 1 ≤ k.process
-  pub first : state.first ≡ first_line x k.process
+  pub planned : IsPlanned x k.process state
   pub countable : number_in state < 2 ^ 32
   pub work : IsAtWork x setup state line k
   pub calls : CallsFor state line ring request

@@ -19,13 +19,13 @@ use Rattle.mx_sdw.specs.Descriptors.{Descriptor}
 use Rattle.mx_state.specs.declared.journal.Entry as journaled
 use Rattle.mx_transcript.specs.Courses.{Answer, Judged}
 use Rattle.mx_transcript.specs.Elements.{IsJudged}
-use Rattle.mx_transcript.specs.Scripts.{first_line}
 use Rattle.mx_transcript.specs.declared.transcripts.Event2.{Event2}
 use Rattle.mx_transcript.specs.declared.transcripts.Event2.TheVariants.{Core}
 use Rattle.mx_transcript.specs.declared.transcripts.Result2.TheVariants as result
 use Rattle.mx_upcall.specs.Control.{Control}
 use Rattle.mx_upcall.specs.Soundness.{IsPackableControl}
-use Rattle.mx_process.specs.Processes.{Known, ProcessValue, IsAtLine, IsAtWork, IsFitting, known_of, number_in}
+use Rattle.mx_process.specs.Plans.{IsPlanned, MayBeCut, number_in}
+use Rattle.mx_process.specs.Processes.{Known, ProcessValue, IsAtLine, IsAtWork, IsFitting, known_of}
 use Rattle.mx_process.specs.Turns.{Comes, Ends, HasEnd, HasEvent, Inside, IsUntold, Misses}
 use Rattle.mx_process.specs.declared.filling.Wrote.{Wrote}
 use Rattle.mx_process.specs.declared.filling.Wrote.TheVariants as wrote
@@ -74,7 +74,7 @@ pub record IsWriting (x : Outline) (setup : List journaled.Entry) (state : LineS
   pub packable : IsPackableControl state.control
   pub good : IsGoodProgress state.control.registers state.progress
   pub some : 1 ≤ k.process
-  pub first : state.first ≡ first_line x k.process
+  pub planned : IsPlanned x k.process state
   pub countable : number_in state < 2 ^ 32
   pub work : IsAtWork x setup state line k
 
@@ -121,7 +121,8 @@ CameTo old event (works.Ended end) wrote.Done new = HasEnd old (old.recording.ev
 CameTo _ _ _ _ _ = ⊥
 
 -- The write that was due was judged, and the transcript has it as the line's next element. Where it was made, the line has gone on as
--- the line rule says: to the next write, to a new attempt, or to its end; where it was denied, it has ended with that denial.
+-- the line rule says: to the next write, to a new attempt, or to its end; where it was denied, it has ended with that denial, and
+-- the part may have been cut.
 pub record HasWritten (x : Outline) (old : ProcessValue) (came : Wrote) (new : ProcessValue) : Type 0 where
   pub number : ℕ
   pub line : Line
@@ -133,7 +134,9 @@ pub record HasWritten (x : Outline) (old : ProcessValue) (came : Wrote) (new : P
   pub right : IsJudged (write_of fill) desc element
   pub work : LineAtWork
   pub leads : Leads old.state.control line fill element desc element.outcome work
-  pub goes : CameTo old.state (Core (Seen element)) work came new.state
+  pub ended : LineState
+  pub goes : CameTo old.state (Core (Seen element)) work came ended
+  pub cut : MayBeCut ended new.state
   pub settled : new.missing ≡ None
   pub attended : IsSome old.account ↔ IsSome new.account
   pub untold : IsUntold old.pass new.pass

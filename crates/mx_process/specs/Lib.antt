@@ -1,5 +1,6 @@
 -- a process, and what it is known to keep
 pub mod Processes
+pub mod Plans
 pub mod Audited
 -- an attempt at a line, turn by turn
 pub mod Turns

@@ -1,6 +1,6 @@
 -- A line of a process, by all that it may take: attempts, misses that are settled, calls, and the writes for which their
 -- replies ask.
-use Rattle.std.specs.Prelude.{◌≡◌, ◌↔◌, ◌⊎◌, ℕ, List, [], ◌∷◌, ◌++◌, IsSome, Option, None, Some}
+use Rattle.std.specs.Prelude.{◌≡◌, ◌↔◌, ◌⊎◌, ℕ, ◌≤◌, List, [], ◌∷◌, ◌++◌, IsSome, Option, None, Some}
 use Rattle.mx_line.specs.AtWork.{IsCome, IsFree}
 use Rattle.mx_line.specs.declared.operands.Progress.{Progress}
 use Rattle.mx_line.specs.declared.operands.Progress.TheVariants.{Before, Waiting}
@@ -14,7 +14,8 @@ use Rattle.mx_transcript.specs.Next.{Calls}
 use Rattle.mx_transcript.specs.declared.transcripts.Event2.{Event2}
 use Rattle.mx_transcript.specs.declared.transcripts.Result2.{Result2}
 use Rattle.mx_process.specs.Filling.{IsDue}
-use Rattle.mx_process.specs.Processes.{ProcessValue, IsAtLine, left_of, number_in}
+use Rattle.mx_process.specs.Plans.{left_of, number_in}
+use Rattle.mx_process.specs.Processes.{ProcessValue, IsAtLine}
 use Rattle.mx_process.specs.declared.legs.Leg.{Leg}
 use Rattle.mx_process.specs.declared.legs.Leg.TheVariants as leg
 use Rattle.mx_process.specs.declared.lines.Turned.{Turned}
@@ -27,7 +28,7 @@ pub record IsOwn (old new : ProcessValue) : Type 0 where
 
 -- no line is left
 abbrev pub HasNoLine : Outline → ProcessValue → Type 0
-HasNoLine x v = left_of x v.pass.view.process v.state.recording.steps ≡ []
+HasNoLine x v = left_of x v.pass.view.process v.state ≡ []
 
 -- no `block` of it waits for a message
 abbrev pub IsAwake : ProcessValue → Type 0
@@ -55,9 +56,10 @@ pub record HasGoneOn (old new : ProcessValue) : Type 0 where
   pub events : new.state.recording.events ≡ old.state.recording.events ++ more
 
 -- The line has ended: it stands in the transcript under its number, with all its events and its result, and the next one
--- begins.
+-- begins, which may be the last one: no fewer lines are left out than before.
 pub record HasEnded (old new : ProcessValue) : Type 0 where
   pub own : IsOwn old new
+  pub onward : old.state.first ≤ new.state.first
   pub more : List Event2
   pub ends : Result2
   pub steps : new.state.recording.steps ≡ old.state.recording.steps

@@ -1,5 +1,5 @@
 -- A process, as contracts see it: its place in its script and what was recorded of it, its pass, and how the two hang together.
-use Rattle.std.specs.Prelude.{◌≡◌, ℕ, suc, ◌+◌, ◌-◌, ◌<◌, ◌≤◌, ◌++◌, IsTrue, List, [], ◌∷◌, drop, length, Option, Some, None, slice_get}
+use Rattle.std.specs.Prelude.{◌≡◌, ℕ, suc, ◌-◌, ◌<◌, ◌≤◌, ◌++◌, IsTrue, List, [], ◌∷◌, drop, length, Option, Some, None, slice_get}
 use Rattle.mx_audit.specs.Accounts.{Account}
 use Rattle.mx_closing.specs.Views.{view_in}
 use Rattle.mx_core.specs.AssociativeMemory.{recalled}
@@ -18,9 +18,11 @@ use Rattle.mx_line.specs.declared.operands.Progress.{Progress}
 use Rattle.mx_line.specs.declared.operands.Progress.TheVariants.{Before, Walking, AtLink, Waiting, Filling}
 use Rattle.mx_line.specs.declared.processes.Process.{Process as LineState}
 use Rattle.mx_office.specs.Serving.{told_to}
+use Rattle.mx_request.specs.declared.requests.Request.TheVariants.{Logout}
 use Rattle.mx_rule.specs.Shown.{fresh_view}
 use Rattle.mx_script.specs.Sessions.{Outline, IsSession}
 use Rattle.mx_script.specs.declared.lines.Line.{Line}
+use Rattle.mx_script.specs.declared.lines.Line.TheVariants.{Ask}
 use Rattle.mx_state.specs.declared.journal.Entry as journaled
 use Rattle.mx_ties.specs.AtWork.{AtWork}
 use Rattle.mx_ties.specs.Views.{View}
@@ -30,11 +32,12 @@ use Rattle.mx_transcript.specs.Courses.{Course}
 use Rattle.mx_transcript.specs.Legal.{setup_entries}
 use Rattle.mx_transcript.specs.Next.{Next, Asks, Fills, Calls, Ends, Nowhere}
 use Rattle.mx_transcript.specs.Openings.{opening_control}
-use Rattle.mx_transcript.specs.Scripts.{first_line, lines_of, script_at}
+use Rattle.mx_transcript.specs.Scripts.{lines_of, script_at}
 use Rattle.mx_transcript.specs.Transcripts.{Step}
 use Rattle.mx_upcall.specs.Control.{Control}
 use Rattle.mx_upcall.specs.Soundness.{IsPackableControl}
 use Rattle.mx_process.specs.Audited.{IsAudited}
+use Rattle.mx_process.specs.Plans.{IsPlanned, IsUncut, left_of, left_out, number_in, place_in, plan_of}
 use Rattle.mx_process.specs.declared.misses.Miss.{Miss}
 
 -- its registers and return gates, what was recorded of its lines, and how far the line at work has come; the miss that is
@@ -54,31 +57,26 @@ pub record Known : Type 0 where
 abbrev pub known_of : PassValue journaled.Entry → Known
 known_of o = record { process = o.view.process; view = view_in o; told = told_to o }
 
--- the lines that are left after those done
-abbrev pub left_of : Outline → ℕ → List Step → List (ℕ × Line)
-left_of x p steps = drop (length steps) (lines_of x p)
-
--- the number of the line at work
-abbrev pub number_in : LineState → ℕ
-number_in state = state.first + length state.recording.steps
-
 -- a line at work, which has done this
 abbrev pub at_work : Outline → ℕ → LineState → Line → Course → AtWork
 at_work x p state line course = record {
+  ran = plan_of x p state;
   steps = state.recording.steps;
   number = number_in state;
   line = line;
-  left = drop (suc (length state.recording.steps)) (lines_of x p);
+  left = drop (suc (place_in x p state)) (lines_of x p);
   now = state.control;
   events = state.recording.events;
   course = course;
 }
 
--- A line is at work: its events and those of all lines before are tied to the trace, and it has come so far.
+-- A line is at work: its events and those of all lines before are tied to the trace, and it has come so far. No write is due
+-- in a `logout`, whose reply asks for none.
 pub record IsAtWork (x : Outline) (setup : List journaled.Entry) (state : LineState) (line : Line) (k : Known) : Type 0 where
   pub course : Course
   pub working : IsWorking x setup k.process (at_work x k.process state line course) k.view k.told
   pub come : IsCome state.control line course state.progress
+  pub filled : (fill : Fill) → state.progress ≡ Filling fill → line ≡ Ask Logout → ⊥
 
 -- before these lines: the first of them is at work; where none is left, the process has worked
 abbrev pub IsBefore : Outline → List journaled.Entry → LineState → List (ℕ × Line) → Known → Type 0
@@ -139,22 +137,26 @@ Stands x setup state (Some m) (line ∷ left) o = IsMissing x setup state m line
 abbrev pub script_of : Outline → ℕ → List Line
 script_of x p = script_at x.scripts (p - 1)
 
--- What a process's type says. It is one of the session, and this is its script. It is outside, and the memory that it keeps
--- is that of its pass. Where a write is due it is known what follows. What was recorded of its lines is tied to its pass. Its auditor, if it has one, had one of these accounts
--- and was told of its denials.
+-- What a process's type says. It is one of the session, and this is its script, without as many lines at its beginning as were
+-- left out, so that the line at work is at the place that counts the lines done. It is outside, and the memory that it keeps
+-- is that of its pass. Where a write is due it is known what follows. What was recorded of its lines is tied to its pass. Its
+-- auditor, if it has one, had one of these accounts and was told of its denials; where there is no account of its, no line was
+-- left out.
 pub record IsProcess (x : Outline) (setup : List journaled.Entry) (accounts : List Account) (script : List Line)
     (memory : List Triple) (v : ProcessValue) : Type 0 where
   pub session : IsSession x
   pub some : 1 ≤ v.pass.view.process
-  pub own : script ≡ script_of x v.pass.view.process
+  pub own : script ≡ drop (left_out x v.pass.view.process v.state) (script_of x v.pass.view.process)
   pub same : memory ≡ v.pass.view.memory
   pub outside : v.pass.view.stage ≡ Outside
-  pub first : v.state.first ≡ first_line x v.pass.view.process
+  pub planned : IsPlanned x v.pass.view.process v.state
+  pub within : place_in x v.pass.view.process v.state ≤ length (lines_of x v.pass.view.process)
   pub packable : IsPackableControl v.state.control
   pub good : IsGoodProgress v.state.control.registers v.state.progress
   pub fitting : IsFittingAt v.state.progress
-  pub stands : Stands x setup v.state v.missing (left_of x v.pass.view.process v.state.recording.steps) v.pass
-  pub audited : IsAudited (length script) (slice_get accounts (v.pass.view.process - 1)) v.state.recording.steps v.account
+  pub stands : Stands x setup v.state v.missing (left_of x v.pass.view.process v.state) v.pass
+  pub alone : slice_get accounts (v.pass.view.process - 1) ≡ None → IsUncut x v.pass.view.process v.state
+  pub audited : IsAudited x v.pass.view.process (slice_get accounts (v.pass.view.process - 1)) v.state v.account
 
 -- a pass of a process of the session that did nothing yet: it was told of the setup's entries
 pub record IsNewPass (x : Outline) (o : PassValue journaled.Entry) : Type 0 where
@@ -175,7 +177,7 @@ pub record IsNew (x : Outline) (o : PassValue journaled.Entry) (v : ProcessValue
 -- a line is left, and it is this one
 pub record IsAtLine (x : Outline) (v : ProcessValue) (number : ℕ) (line : Line) : Type 0 where
   pub left : List (ℕ × Line)
-  pub at : left_of x v.pass.view.process v.state.recording.steps ≡ (number, line) ∷ left
+  pub at : left_of x v.pass.view.process v.state ≡ (number, line) ∷ left
 
 pub record HasLine (x : Outline) (v : ProcessValue) : Type 0 where
   pub number : ℕ

@@ -26,13 +26,13 @@ use Rattle.mx_state.specs.declared.journal.Entry as journaled
 use Rattle.mx_transcript.specs.Asking.{next}
 use Rattle.mx_transcript.specs.Courses.{Course}
 use Rattle.mx_transcript.specs.Next.{Asks, Calls}
-use Rattle.mx_transcript.specs.Scripts.{first_line}
 use Rattle.mx_transcript.specs.declared.transcripts.Event2.{Event2}
 use Rattle.mx_transcript.specs.declared.transcripts.Event2.TheVariants.{Core}
 use Rattle.mx_transcript.specs.declared.transcripts.Result2.{Result2}
 use Rattle.mx_upcall.specs.Changes.{changed}
 use Rattle.mx_upcall.specs.Soundness.{IsPackableControl}
-use Rattle.mx_process.specs.Processes.{Known, IsAtWork, IsBefore, IsFittingAt, IsMissing, known_of, left_of, number_in}
+use Rattle.mx_process.specs.Plans.{IsPlanned, left_of, number_in}
+use Rattle.mx_process.specs.Processes.{Known, IsAtWork, IsBefore, IsFittingAt, IsMissing, known_of}
 use Rattle.mx_process.specs.declared.misses.Miss.{Miss}
 use Rattle.mx_process.specs.declared.turns.Turn.{Turn}
 use Rattle.mx_process.specs.declared.turns.Turn.TheVariants as turn
@@ -53,7 +53,7 @@ pub record IsAttempting (x : Outline) (setup : List journaled.Entry) (state : Li
   pub packable : IsPackableControl state.control
   pub good : IsGoodProgress state.control.registers state.progress
   pub some : 1 ≤ k.process
-  pub first : state.first ≡ first_line x k.process
+  pub planned : IsPlanned x k.process state
   pub countable : number_in state < 2 ^ 32
   pub work : IsAtWork x setup state line k
 
@@ -134,7 +134,7 @@ pub record Ends (x : Outline) (setup : List journaled.Entry) (old : LineState) (
   pub fresh : new.state.progress ≡ Before
   pub first : new.state.first ≡ old.first
   pub packable : IsPackableControl new.state.control
-  pub before : IsBefore x setup new.state (left_of x new.pass.view.process new.state.recording.steps) (known_of new.pass)
+  pub before : IsBefore x setup new.state (left_of x new.pass.view.process new.state) (known_of new.pass)
 
 -- A reference missed.
 pub record Misses (x : Outline) (setup : List journaled.Entry) (line : Line) (old : LineState) (m : Miss)

@@ -121,8 +121,10 @@ impl<'a, B: Attending, A: Auditor> Process<'a, B, A> {
     /// What its type says of its auditor, if it has one: it was told of each denial of the process so far, beyond what it had
     /// been told before the run.
     pub fn tells_its_auditor(&self)
-        ensures { IsAudited (length (script_of B.session self.now.pass.view.process))
-            (slice_get B.accounts (self.now.pass.view.process - 1)) self.now.state.recording.steps self.now.account }
+        ensures audited { IsAudited B.session self.now.pass.view.process
+            (slice_get B.accounts (self.now.pass.view.process - 1)) self.now.state self.now.account }
+        ensures alone { slice_get B.accounts (self.now.pass.view.process - 1) ≡ None → IsUncut B.session self.now.pass.view.process self.now.state }
+        ensures within { place_in B.session self.now.pass.view.process self.now.state ≤ length (lines_of B.session self.now.pass.view.process) }
     {
         let _ = &self.auditor;
     }
