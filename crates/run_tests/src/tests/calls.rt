@@ -71,3 +71,8 @@ fn add(alloc: Global, words: &mut Vec<String>, word: &str) -> Result<(), AllocEr
     words.push(String::from_str(alloc, word)?)?;
     Ok(())
 }
+
+/// Whether a text has a line.
+pub(super) fn has_line(text: &[u8], line: &[u8]) -> bool {
+    text.split(|byte| *byte == b'\n').any(|own| own == line)
+}

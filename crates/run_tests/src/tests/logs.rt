@@ -15,8 +15,8 @@ fn tells<A: Auditor>(auditor: &mut A) -> bool
     first
         && second
         && auditor.count() == 2
-        && auditor.told(0) == Some((10, Denial::Gate))
-        && auditor.told(1) == Some((12, Denial::ReadBracket))
+        && auditor.told(0) == Some((10, Denial::Gate, Verdict::GoOn))
+        && auditor.told(1) == Some((12, Denial::ReadBracket, Verdict::GoOn))
         && auditor.told(2).is_none()
 }
 

@@ -1,7 +1,7 @@
 //! Gates that hold a process show that processes run side by side: one stands still between two of its lines while another goes
 //! on to its end.
 
-use super::calls::{GOOD, call_with};
+use super::calls::{GOOD, call_with, has_line};
 use mx_run::Gate;
 use std::alloc::{AllocError, Global};
 use std::sync::Wait;
@@ -132,11 +132,6 @@ const FIRST_LINES: [(Held, &[u8]); 2] = [
         b"line 6 a 0",
     ),
 ];
-
-// Whether a text has a line.
-fn has_line(text: &[u8], line: &[u8]) -> bool {
-    text.split(|byte| *byte == b'\n').any(|own| own == line)
-}
 
 #[test]
 fn a_process_is_held_until_the_other_logs_out(rt: HostRuntime) -> Result<(), Fail> {
