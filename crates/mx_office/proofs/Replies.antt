@@ -10,7 +10,7 @@ use Rattle.mx_mail.specs.declared.mail.Taken.{Taken}
 use Rattle.mx_mail.specs.declared.mail.Taken.TheVariants as taking
 use Rattle.mx_state.proofs.ToldLaws.{link_replies_law, only_link_law}
 use Rattle.mx_state.specs.Askers.{Asker, Initializer, Process, Nobody, answered_process, asker, on_process}
-use Rattle.mx_state.specs.Messages.{block, taken_reply}
+use Rattle.mx_state.specs.Messages.{block, logout, taken_reply}
 use Rattle.mx_state.specs.Plain.{Answer, Plain}
 use Rattle.mx_state.specs.Requests.{plain}
 use Rattle.mx_state.specs.Told.{IsLinked, IsRefused}
@@ -54,6 +54,13 @@ message_never : (s : Plain) (p : ℕ) (known : Known) → (on_process s p (λ pr
 message_never s p known e =
     by_process s (asker s.processes p) (λ process. block s p) known (λ process. no_segment (take_message s.mail p).taken known) e
 
+-- nor is who logs out
+logout_never : (s : Plain) (p : ℕ) (known : Known) → (on_process s p (λ process. logout s p)).reply ≡ reply.Segno known → ⊥
+logout_never s p known e = by_process s (asker s.processes p) (λ process. logout s p) known (λ process done. apart done) e
+  where
+    apart : reply.Done ≡ reply.Segno known → ⊥
+    apart done = cc
+
 module _ (s : Plain) (p ring : ℕ) (request : Request) (some : 1 ≤ p) (within : p ≤ length s.processes) where
   not_of_link : (given : Reply) → (plain s p ring request).reply ≡ given → is_of_link given ≡ false → AsksForNoLink request
   not_of_link given is other segno word asks = contrary (sym (of_link given
@@ -71,6 +78,7 @@ module _ (s : Plain) (p ring : ℕ) (request : Request) (some : 1 ≤ p) (within
       λ asks. message_never s p known (ap (λ (q : Request). (plain s p ring q).reply) (sym asks) ∙ is),
       λ asks. message_never s p known (ap (λ (q : Request). (plain s p ring q).reply) (sym asks) ∙ is),
     ),
+    λ asks. logout_never s p known (ap (λ (q : Request). (plain s p ring q).reply) (sym asks) ∙ is),
   )
   fits (reply.Linked to at fresh linkage) is = only_link_law s p ring request to at fresh linkage is
   fits reply.Sent is = not_of_link reply.Sent is refl
