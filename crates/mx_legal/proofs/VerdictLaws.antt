@@ -1,5 +1,5 @@
 -- The verdict on a run, from those on its entries, reads and parts.
-use Rattle.std.proofs.Common.{◌≡◌, ◌↔◌, inl, inr, ℕ, suc, ◌+◌, ◌<◌, ◌≤◌, ◌==◌, Bool, true, false, if◌then◌else◌, IsTrue, List, [], ◌∷◌, length, Option, Some, None, Result, Ok, Err, IfOk, refl, ap, sym, ◌∙◌, subst, arith, slice_get, slice_index_or}
+use Rattle.std.proofs.Common.{◌≡◌, ◌↔◌, inl, inr, ℕ, suc, ◌+◌, ◌<◌, ◌≤◌, ◌==◌, Bool, true, false, if◌then◌else◌, IsTrue, List, [], ◌∷◌, length, Option, Some, None, IsSome, Result, Ok, Err, IfOk, refl, ap, sym, ◌∙◌, subst, arith, slice_get, slice_index_or}
 use Rattle.std.specs.Prelude.{MatchOption, get_or}
 use Rattle.std.proofs.Math.Path.{fun_ext}
 use Rattle.std.proofs.lemmas.Bool.{cases_eq, cases_lt}
@@ -12,18 +12,21 @@ use Rattle.mx_reads.specs.ReadRule.{AreRightReads}
 use Rattle.mx_script.specs.Sessions.{IsSession, Outline}
 use Rattle.mx_state.specs.declared.journal.Entry as journaled
 use Rattle.mx_stores.specs.Breach as wrong
+use Rattle.mx_stores.proofs.WholeRuns.{parts_below}
+use Rattle.mx_stores.specs.Deciding.{IsWrong, RightToLaw, choices}
 use Rattle.mx_stores.specs.Known as decided
 use Rattle.mx_stores.specs.Parts.{deeds_of}
 use Rattle.mx_stores.specs.declared.deciding.Breach.{Breach}
 use Rattle.mx_transcript.specs.Legal.{IsLegal, deeds}
+use Rattle.mx_transcript.specs.Reads.{IsKnown}
 use Rattle.mx_transcript.specs.Scripts.{lines_of}
 use Rattle.mx_transcript.specs.Transcripts.{Step, entries_named, events_of, numbers_from, part}
 use Rattle.mx_legal.specs.Breach.{HasNamed, IsBadLine, IsBreach, number_at, parts_in}
 use Rattle.mx_legal.specs.BreachLaws.{LegalLaw, ReadsToLaw}
 use Rattle.mx_legal.specs.Deciding.{AreGoodParts, AreOwnReadsTo, IsUnnamedTo, or_unnamed, place_of}
-use Rattle.mx_legal.specs.Judging.{AreJudged, IsJudged, beside}
+use Rattle.mx_legal.specs.Judging.{AreJudged, IsJudged}
 use Rattle.mx_legal.specs.Entries.{AreGoodTo, AreOfProcessesTo, IsFirstBad, IsFirstBadEntry}
-use Rattle.mx_legal.specs.Fronts.{IsGoodPart, events_to}
+use Rattle.mx_legal.specs.Fronts.{AreRightReadsTo, IsGoodPart, events_to}
 use Rattle.mx_legal.specs.declared.judging.Judged.{Judged}
 use Rattle.mx_legal.proofs.FirstLaws.{all_events}
 use Rattle.mx_legal.proofs.LegalLaws.{no_part}
@@ -38,10 +41,6 @@ eq_false a b e = grind arith
 abbrev IsUpTo : ℕ → Option Breach → Type 0
 IsUpTo p None = Unit {0}
 IsUpTo p (Some b) = p ≤ b.process
-
-beside_up_to : (processes p count : ℕ) (found : Option Breach) → count ≡ beside processes found → p < count → IsUpTo p found
-beside_up_to processes p count None is l = tt
-beside_up_to processes p count (Some b) is l = omega (arith, is, l)
 
 -- the place of the first wrong read of a process
 module _ (law : ReadsToLaw) (session : Outline) (journal : List journaled.Entry) (transcripts : List (List Step)) where
@@ -109,18 +108,33 @@ read_found law session journal transcripts p rows parts wrong_read place same_ro
     (subst (λ (d : Deeds). MatchOption wrong_read (AreRightReads d (decided.IsKnown d)) (λ b. wrong.IsBreach d b.process b.place))
     (ap deeds_of same_rows ∙ fun_ext same) found) before)
 
--- where the parts are judged side by side
-pub read_beside : (law : ReadsToLaw) (session : Outline) (journal : List journaled.Entry) (transcripts : List (List Step)) (p count : ℕ)
-    (rows : List (List Deed)) (wrong_read : Option Breach) → ((q : ℕ) → deeds_of rows q ≡ deeds session journal transcripts q)
-    → MatchOption wrong_read (AreRightReads (deeds_of rows) (decided.IsKnown (deeds_of rows)))
-    (λ b. wrong.IsBreach (deeds_of rows) b.process b.place)
-    → count ≡ beside (length session.principals) wrong_read → p < count
-    → front.IsFirstBad (AreOwnReadsTo session journal transcripts p) (length (deeds session journal transcripts p)) (place_of wrong_read p)
-read_beside law session journal transcripts p count rows wrong_read same found count_is below =
-    read_up_to law session journal transcripts p wrong_read
-    (subst (λ (d : Deeds). MatchOption wrong_read (AreRightReads d (decided.IsKnown d)) (λ b. wrong.IsBreach d b.process b.place))
-    (fun_ext same) found)
-    (beside_up_to (length session.principals) p count wrong_read count_is below)
+-- the first wrong read of a process, decided apart from those of the others
+pub own_read : (reads_to : ReadsToLaw) (right_to : RightToLaw) (session : Outline) (journal : List journaled.Entry)
+    (transcripts : List (List Step)) (p : ℕ) (rows parts : List (List Deed)) (found : Option ℕ) → rows ≡ parts
+    → ((q : ℕ) → deeds_of parts q ≡ deeds session journal transcripts q)
+    → MatchOption found (IsSome (choices (deeds_of rows) (length rows) p (length (deeds_of rows p)))) (IsWrong (deeds_of rows) (length rows) p)
+    → front.IsFirstBad (AreOwnReadsTo session journal transcripts p) (length (deeds session journal transcripts p)) found
+own_read reads_to right_to session journal transcripts p rows parts found same_rows same is =
+    subst (λ (d : Deeds). front.IsFirstBad (AreRightReadsTo d (IsKnown d) p) (length (d p)) found)
+    (ap deeds_of same_rows ∙ fun_ext same) (own found is)
+  where
+    done : Deeds
+    done = deeds_of rows
+
+    none_some : {A : Type 0} (x : Option A) → x ≡ None → IsSome x → ⊥
+    none_some None e there = cc
+    none_some (Some a) e there = cc
+
+    own : (found : Option ℕ) → MatchOption found (IsSome (choices done (length rows) p (length (done p)))) (IsWrong done (length rows) p)
+        → front.IsFirstBad (AreRightReadsTo done (IsKnown done) p) (length (done p)) found
+    own None are =
+        (reads_to done p (length (done p))).1 ((right_to (length rows) done (parts_below rows) p (length (done p))).1 are)
+    own (Some place) wrong = record {
+      within = wrong.within;
+      good = (reads_to done p place).1 ((right_to (length rows) done (parts_below rows) p place).1 wrong.chosen);
+      bad = λ are. none_some (choices done (length rows) p (suc place)) wrong.wrong
+          ((right_to (length rows) done (parts_below rows) p (suc place)).0 ((reads_to done p (suc place)).0 are));
+    }
 
 -- each of so many parts is judged right, and so is the list of judgements
 pub all_judged : {V E : Type 0} (session : Outline) (journal : List journaled.Entry) (transcripts : List (List Step))

@@ -1,9 +1,8 @@
 -- Helpers that only private contracts cite: what is said of judged parts.
-use Rattle.std.specs.Prelude.{◌≡◌, ◌↔◌, ℕ, ◌+◌, min, Bool, IsTrue, List, MatchOption, Ok, Option, Some, None, Result, slice_get}
+use Rattle.std.specs.Prelude.{◌≡◌, ◌↔◌, ℕ, Bool, IsTrue, List, MatchOption, Ok, Option, Some, Result, slice_get}
 use Rattle.std.specs.declared.alloc.AllocError.{AllocError}
 use Rattle.mx_script.specs.Sessions.{Outline}
 use Rattle.mx_state.specs.declared.journal.Entry as journaled
-use Rattle.mx_stores.specs.declared.deciding.Breach.{Breach}
 use Rattle.mx_transcript.specs.Transcripts.{Step}
 use Rattle.mx_legal.specs.Breach.{HasNamed, IsBadLine}
 use Rattle.mx_legal.specs.Fronts.{IsGoodPart}
@@ -19,8 +18,3 @@ pub record IsJudged (session : Outline) (journal : List journaled.Entry) (transc
 abbrev pub AreJudged : Outline → List journaled.Entry → List (List Step) → List (Result Judged AllocError) → Type 0
 AreJudged session journal transcripts all = (p : ℕ) (judged : Judged) → slice_get all p ≡ Some (Ok judged)
     → IsJudged session journal transcripts p judged.bad judged.is_named
-
--- how many parts of a session of so many processes are judged side by side, where the first wrong read is known
-abbrev pub beside : ℕ → Option Breach → ℕ
-beside processes None = processes + 1
-beside processes (Some read) = min processes read.process + 1

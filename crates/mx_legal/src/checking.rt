@@ -9,15 +9,14 @@ ghost use Rattle.mx_spelling.specs.Spelling.{fits_entry};
 ghost use Rattle.mx_transcript.specs.Legal.{IsLegal};
 
 use crate::entries::first_bad_entry;
-use crate::fronts::place_of;
 use crate::judging::{judge_beside, judged_at, or_unnamed};
-use crate::laws::{good_entries_law, legal_law, reads_to_law};
+use crate::laws::{good_entries_law, legal_law};
 use crate::places::{number_at, parts_in};
 use mx_access::access_of;
 use mx_fresh::PlainSupervisor;
 use mx_script::Session;
 use mx_state::Journal;
-use mx_stores::first_breach;
+use mx_stores::Stores;
 use mx_transcript::Transcripts;
 use std::alloc::{AllocError, Global};
 use std::thread::Threads;
@@ -35,7 +34,7 @@ pub struct Breach {
 /// Whether a run is a legal one of a session: None where it is, and else its first breach. That is the first bad entry of the
 /// journal, if there is one; else the first bad line, in the order of processes and then of lines; else the first process with
 /// an entry that its lines do not name. The session and the journal are such as texts can say. The parts of the session's
-/// processes are judged side by side, each on a thread of its own where one can be had; the answer does not hang on it.
+/// processes are judged side by side, each with its reads on a thread of its own where one can be had; the answer does not hang on it.
 ///
 /// # Errors
 ///
@@ -76,11 +75,10 @@ fn legal_lines<S: PlainSupervisor, R: Threads + Sync>(
 {
     good_entries_law();
     legal_law();
-    reads_to_law();
     let _scripts = session.scripts();
     let access = access_of::<S>(alloc, session, journal, transcripts)?;
-    let wrong = first_breach(alloc, &access.deeds)?;
-    let all = judge_beside(rt, alloc, session, journal, transcripts, &access, wrong)?;
+    let stores = Stores::new(alloc, &access.deeds)?;
+    let all = judge_beside(rt, alloc, session, journal, transcripts, &access, &stores)?;
     let beside = all.as_slice();
     let mut unnamed = None;
     for p in 0..parts_in(session, transcripts) {
@@ -90,8 +88,8 @@ fn legal_lines<S: PlainSupervisor, R: Threads + Sync>(
             journal,
             transcripts,
             &access,
+            &stores,
             p,
-            place_of(wrong, p),
             beside,
         )?;
         if let Some(place) = judged.bad {

@@ -3,7 +3,7 @@
 ghost use Rattle.std.specs.Prelude.{◌≡◌, true, length, IfOk, MatchOption};
 ghost use Rattle.std.specs.List.{list_all};
 ghost use Rattle.mx_access.specs.Answers.{IsAccess};
-ghost use Rattle.mx_legal.specs.Deciding.{AreGoodParts, AreInitialTo, AreOwnReadsTo};
+ghost use Rattle.mx_legal.specs.Deciding.{AreGoodParts, AreInitialTo, AreOwnReadsTo, place_of};
 ghost use Rattle.mx_legal.specs.Fronts.{AreDoneTo, HasNoEarlyFullTo};
 ghost use Rattle.mx_points.specs.Fronts.{AreRightMissesTo, ArePointsTo, IsFirstBad, IsNaming};
 ghost use Rattle.mx_reads.specs.ReadRule.{AreRightReads};
@@ -16,7 +16,7 @@ ghost use Rattle.mx_transcript.specs.Legal.{deeds, setup_entries};
 ghost use Rattle.mx_transcript.specs.Misses.{IsChanged};
 ghost use Rattle.mx_transcript.specs.Transcripts.{part};
 
-use crate::fronts::{first_bad_initial, first_early_full, first_undone, place_of, row};
+use crate::fronts::{first_bad_initial, first_early_full, first_undone, row};
 use crate::judging::part_of;
 use crate::laws::reads_to_law;
 use mx_access::{Access, change_law};
@@ -136,6 +136,20 @@ fn first_own_point(
         journal.items().len(),
         row(&access.deeds, p),
     )
+}
+
+// The place of the first wrong read, where it is process `p`'s.
+fn place_of(wrong: Option<WrongRead>, p: usize) -> Option<usize>
+    ensures { result ≡ place_of wrong p }
+{
+    match wrong {
+        None => None,
+        Some(read) => if read.process == p {
+            Some(read.place)
+        } else {
+            None
+        },
+    }
 }
 
 // The place of process `p`'s first wrong read, where the first of the run is known.

@@ -4,7 +4,7 @@ ghost use Rattle.std.specs.Prelude.{◌≡◌, ◌↔◌, [], true, length, slic
 ghost use Rattle.std.specs.List.{list_all};
 ghost use Rattle.mx_access.specs.Answers.{IsAccess};
 ghost use Rattle.mx_legal.specs.Breach.{IsBadLine};
-ghost use Rattle.mx_legal.specs.Deciding.{AreInitialTo, AreOwnReadsTo, AreRightDeedsTo, AreRightLinesTo, HasNoEntryFrom, HasNoFullTo, IsEnteredFrom, IsFirstFull, IsLineOfEvent, is_whole, misnamed, place_of};
+ghost use Rattle.mx_legal.specs.Deciding.{AreInitialTo, AreOwnReadsTo, AreRightDeedsTo, AreRightLinesTo, HasNoEntryFrom, HasNoFullTo, IsEnteredFrom, IsFirstFull, IsLineOfEvent, is_whole, misnamed};
 ghost use Rattle.mx_legal.specs.Fronts.{AreDoneTo, HasNoEarlyFullTo, IsGoodPart, IsGoodTo};
 ghost use Rattle.mx_points.specs.Fronts.{IsFirstBad, IsNaming};
 ghost use Rattle.mx_script.specs.SessionTexts.{fits, rows_of};
@@ -21,7 +21,6 @@ use mx_parts::first_bad_line;
 use mx_points::{Line, Naming, first_bad_miss, first_bad_point, first_bad_setup, line_of_event};
 use mx_script::Session;
 use mx_state::Journal;
-use mx_stores::Breach as WrongRead;
 use mx_transcript::{Event2, Result2, Transcripts, setup_entries};
 use std::alloc::{AllocError, Global};
 
@@ -32,20 +31,6 @@ pub(crate) fn row<T>(rows: &[Sequence<T>], p: usize) -> &[T]
     match rows.get(p) {
         None => &[],
         Some(row) => row.items(),
-    }
-}
-
-/// The place of the first wrong read, where it is process `p`'s.
-pub(crate) fn place_of(wrong: Option<WrongRead>, p: usize) -> Option<usize>
-    ensures { result ≡ place_of wrong p }
-{
-    match wrong {
-        None => None,
-        Some(read) => if read.process == p {
-            Some(read.place)
-        } else {
-            None
-        },
     }
 }
 

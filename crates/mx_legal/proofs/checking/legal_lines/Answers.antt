@@ -4,14 +4,8 @@ use Rattle.mx_legal.specs.Breach.{IsBadLine}
 use Rattle.mx_legal.specs.Deciding.{IsUnnamedTo}
 use Rattle.mx_legal.specs.Fronts.{IsGoodPart}
 use Rattle.mx_legal.specs.Judging.{AreJudged}
-use Rattle.mx_legal.proofs.VerdictLaws.{is_legal, parts_more, read_found, unnamed_breach, unnamed_more}
+use Rattle.mx_legal.proofs.VerdictLaws.{is_legal, parts_more, unnamed_breach, unnamed_more}
 use Rattle.mx_legal.proofs.checking.legal_lines.Goals as goal
-
-pub judged_at-requires-clause-reads : goal.judged_at-requires-clause-reads
-judged_at-requires-clause-reads g c =
-    read_found c.reads_to_law.ensures c.args.session.now c.args.journal.now c.args.transcripts.now c.loop-p.p c.deref.result.now
-    c.in_ok-access.access.deeds.items c.in_ok-wrong.wrong c.place_of.result c.deref.ensures.value c.in_ok-access.ensures.deeds
-    c.in_ok-wrong.ensures c.place_of.ensures c.loop-p.invariant.parts
 
 pub judged_at-requires-clause-beside : goal.judged_at-requires-clause-beside
 judged_at-requires-clause-beside g c =
