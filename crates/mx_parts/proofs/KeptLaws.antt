@@ -1,27 +1,17 @@
 -- Lines that are right are right as far as any of them; before the first bad one all are.
-use Rattle.std.proofs.Common.{◌≡◌, ℕ, zero, suc, ◌≤◌, List, [], ◌∷◌, take, refl, sym, ap, subst, arith}
+use Rattle.std.proofs.Common.{◌≡◌, ℕ, zero, suc, ◌≤◌, false, List, [], ◌∷◌, take, refl, ap, subst, arith}
 use Rattle.mx_parts.proofs.ListLaws.{take_none}
+use Rattle.mx_parts.proofs.OnwardLaws.{fewer, kept, onward}
 use Rattle.mx_parts.specs.FirstBad.{AreKept, IsFirstBad}
 use Rattle.mx_script.specs.declared.lines.Line.{Line}
-use Rattle.mx_transcript.specs.Parts.{AreDone}
 use Rattle.mx_transcript.specs.Settings.{Setting}
 use Rattle.mx_transcript.specs.Transcripts.{Step}
 use Rattle.mx_upcall.specs.Control.{Control}
 
-done_to : (setting : Setting) (before : Control) (lines : List (ℕ × Line)) (steps : List Step) (left : List (ℕ × Line)) (now : Control)
-    (k : ℕ) → AreDone setting before lines steps left now → AreKept setting before lines (take k steps)
-done_to setting before lines [] left now k done =
-    subst (AreKept setting before lines) (sym (take_none k)) (record { left = lines; now = before; done = (refl, refl) })
-done_to setting before [] (step ∷ steps) left now k done = absurd done
-done_to setting before (line ∷ lines) (step ∷ steps) left now zero done =
-    record { left = line ∷ lines; now = before; done = (refl, refl) }
-done_to setting before (line ∷ lines) (step ∷ steps) left now (suc k) done =
-    let rest = done_to setting done.1 lines steps left now k done.3 in
-    record { left = rest.left; now = rest.now; done = (done.0, done.1, done.2, rest.done) }
-
 pub kept_to : (setting : Setting) (start : Control) (lines : List (ℕ × Line)) (steps : List Step) (k : ℕ)
     → AreKept setting start lines steps → AreKept setting start lines (take k steps)
-kept_to setting start lines steps k kept = done_to setting start lines steps kept.left kept.now k kept.done
+kept_to setting start lines steps k are =
+    kept setting start lines (take k steps) (fewer setting start false lines steps k (onward setting start lines steps are))
 
 take_of_take : {A : Type 0} (k n : ℕ) (xs : List A) → k ≤ n → take k (take n xs) ≡ take k xs
 take_of_take k n [] h = ap (take k) (take_none n)

@@ -5,24 +5,27 @@ use Rattle.mx_core.specs.declared.elements.Event.TheVariants.{Seen}
 use Rattle.mx_script.specs.declared.lines.Line.{Line}
 use Rattle.mx_sdw.specs.Admissible.{IsAdmissible}
 use Rattle.mx_sdw.specs.Descriptors.{Descriptor}
-use Rattle.mx_transcript.specs.Parts.{AreDone}
+use Rattle.mx_transcript.specs.Parts.{AreDone, AreLinesOf}
 use Rattle.mx_transcript.specs.Settings.{Setting}
 use Rattle.mx_transcript.specs.Transcripts.{Step}
 use Rattle.mx_transcript.specs.declared.transcripts.Event2.{Event2}
 use Rattle.mx_transcript.specs.declared.transcripts.Event2.TheVariants.{Core}
 use Rattle.mx_upcall.specs.Control.{Control}
 
--- these lines came to these steps, as many as there are
+-- These steps are a part's first ones: the lines that it has, all of these or those of a part that is cut after a denied line,
+-- came to them, as many as there are.
 pub record AreKept (setting : Setting) (start : Control) (lines : List (ℕ × Line)) (steps : List Step) : Type 0 where
+  pub ran : List (ℕ × Line)
+  pub are : AreLinesOf lines steps ran
   pub left : List (ℕ × Line)
   pub now : Control
-  pub done : AreDone setting start lines steps left now
+  pub done : AreDone setting start ran steps left now
 
 -- the steps before this place are right, and with the one there they are not
 pub record IsFirstBad (setting : Setting) (start : Control) (lines : List (ℕ × Line)) (steps : List Step) (place : ℕ)
     : Type 0 where
   pub before : AreKept setting start lines (take place steps)
-  pub bad : (left : List (ℕ × Line)) (now : Control) → AreDone setting start lines (take (suc place) steps) left now → ⊥
+  pub bad : AreKept setting start lines (take (suc place) steps) → ⊥
 
 -- the place of the first step that is not right, or none
 abbrev pub IsFirstBadLine : Setting → Control → List (ℕ × Line) → List Step → Option ℕ → Type 0

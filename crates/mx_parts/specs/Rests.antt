@@ -1,12 +1,14 @@
 -- Helpers: a line is right where the rest of it is, and a part where the rest of its lines are.
-use Rattle.std.specs.Prelude.{ℕ, ◌+◌, List, [], take, Option, Some, None}
+use Rattle.std.specs.Prelude.{◌≡◌, ◌⊎◌, ℕ, ◌+◌, ◌-◌, ◌==◌, nat_lt, Bool, true, ◌&&◌, if◌then◌else◌, List, [], ◌∷◌, take, Option, Some, None, is_some}
 use Rattle.mx_line.specs.AtWork.{IsGoodWork, StandsAt}
 use Rattle.mx_line.specs.declared.at_work.LineAtWork.{LineAtWork}
+use Rattle.mx_parts.specs.FirstBad.{AreKept}
 use Rattle.mx_script.specs.declared.lines.Line.{Line}
 use Rattle.mx_transcript.specs.Asking.{next}
 use Rattle.mx_transcript.specs.Courses.{Course}
+use Rattle.mx_transcript.specs.Denials.{denial_of}
 use Rattle.mx_transcript.specs.Lines.{Goes, IsEnd, IsLine}
-use Rattle.mx_transcript.specs.Parts.{AreDone}
+use Rattle.mx_transcript.specs.Parts.{last_line}
 use Rattle.mx_transcript.specs.Settings.{Setting}
 use Rattle.mx_transcript.specs.Transcripts.{Step}
 use Rattle.mx_transcript.specs.declared.transcripts.Event2.{Event2}
@@ -38,10 +40,32 @@ abbrev pub HasCome : Setting → Control → Line → List Event2 → Option Lin
 HasCome setting g l events None = AreOfNoLine setting g l events
 HasCome setting g l events (Some work) = IsRightBy setting g l events [] work
 
--- The lines before this place are done: as many steps more are right where these are, from these registers and gates on.
+-- a line was denied
+abbrev pub is_denied : Step → Bool
+is_denied step = is_some (denial_of step)
+
+-- Of the lines that are left this one may be the next, and then these others are left: it is the first of them, or, behind a
+-- line that was denied, the last.
+abbrev pub IsNext : Bool → List (ℕ × Line) → ℕ × Line → List (ℕ × Line) → Type 0
+IsNext denied left line others =
+    (left ≡ line ∷ others) ⊎ ((denied ≡ true) × (last_line left ≡ line ∷ []) × (others ≡ []))
+
+-- Each of these steps is a line that may be next, where these lines are left and the one before was denied or not.
+abbrev pub AreKeptOn : Setting → Control → Bool → List (ℕ × Line) → List Step → Type 0
+AreKeptOn setting now denied left [] = Unit {0}
+AreKeptOn setting now denied left (step ∷ steps) =
+    (line : ℕ × Line) × (others : List (ℕ × Line)) × IsNext denied left line others × (step.0 ≡ line.0)
+    × (after : Control) × IsLine setting now line.1 step.1 step.2 after
+    × AreKeptOn setting after (is_denied step) others steps
+
+-- The steps before this place are kept: as many more are where these are, from these registers and gates on.
 pub record AreRightBy (setting : Setting) (start : Control) (lines : List (ℕ × Line)) (steps : List Step) (place : ℕ)
-    (left : List (ℕ × Line)) (rest : List Step) (now : Control) : Type 0 where
-  pub on : (n : ℕ) (lacking : List (ℕ × Line)) (after : Control) → AreDone setting now left (take n rest) lacking after
-      → AreDone setting start lines (take (n + place) steps) lacking after
-  pub back : (n : ℕ) (lacking : List (ℕ × Line)) (after : Control)
-      → AreDone setting start lines (take (n + place) steps) lacking after → AreDone setting now left (take n rest) lacking after
+    (denied : Bool) (left : List (ℕ × Line)) (rest : List Step) (now : Control) : Type 0 where
+  pub on : (n : ℕ) → AreKeptOn setting now denied left (take n rest) → AreKept setting start lines (take (n + place) steps)
+  pub back : (n : ℕ) → AreKept setting start lines (take (n + place) steps) → AreKeptOn setting now denied left (take n rest)
+
+-- at which place of a script of so many lines the line of a printed number may stand, where this place is the next: there; or,
+-- behind a denied line, at the last place, where it has the last number
+abbrev pub place_for : ℕ → ℕ → ℕ → Bool → ℕ → ℕ
+place_for first lines next denied number =
+    if denied && (nat_lt next lines && (number == first + (lines - 1))) then lines - 1 else next

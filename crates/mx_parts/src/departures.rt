@@ -15,6 +15,7 @@ ghost use Rattle.mx_upcall.specs.Soundness.{IsPackableControl};
 use crate::answers::answered;
 use crate::ends::end_at;
 use crate::lines::Printed;
+use crate::nexts::{is_denied, place_for};
 use crate::parts::{is_right_step, line_at, script_at};
 use crate::scripts::{opening_control, setup_lines};
 use crate::settings::Setting;
@@ -28,9 +29,9 @@ use std::alloc::{AllocError, Global};
 /// Where a printed line departs from the line rule.
 #[derive(Clone, Copy)]
 pub enum Departure {
-    /// The session has no further line.
+    /// The session has no further line: each was printed, or the part was cut and its last one was.
     NoLine,
-    /// The session's line there has another number.
+    /// The session's next line has another number; nor is it the last line, behind one that was denied.
     Number { number: u64 },
     /// The event at this place of the line is no answer to what the line asks for there.
     Event { place: usize, asks: Next },
@@ -119,6 +120,8 @@ fn depart_at(
     };
     let mut left = descriptors;
     let mut place = 0;
+    let mut ahead = 0;
+    let mut denied = false;
     for (number, events, ends) in transcript.steps() {
         let (descriptors, others) = left.split_at(events.len());
         let printed = Printed {
@@ -127,14 +130,17 @@ fn depart_at(
             descriptors,
             ends,
         };
+        let here = place_for(script, process.first, ahead, denied, number);
         if place == at {
-            return departure_of(alloc, setting, &mut process, script, place, &printed);
+            return departure_of(alloc, setting, &mut process, script, here, &printed);
         }
-        if !is_right_step(alloc, setting, &mut process, script, place, &printed)? {
+        if !is_right_step(alloc, setting, &mut process, script, here, &printed)? {
             return Ok(None);
         }
         left = others;
         place += 1;
+        ahead = here + 1;
+        denied = is_denied(&ends);
     }
     Ok(None)
 }

@@ -17,6 +17,7 @@ ghost use Rattle.mx_transcript.specs.Transcripts.{events_of};
 ghost use Rattle.mx_upcall.specs.Soundness.{IsPackableControl};
 
 use crate::lines::{Printed, is_right_line};
+use crate::nexts::{is_denied, place_for};
 use crate::scripts::{opening_control, setup_lines};
 use crate::settings::Setting;
 use mx_line::{Process, Progress};
@@ -27,10 +28,11 @@ use mx_transcript::{Recording, Transcript, first_line, one_outcome_law};
 use std::alloc::{AllocError, Global};
 
 /// The place, counted from 0, of the first printed line of process `p` that is not the session's line there, or departs from
-/// the line rule; none where all that are printed are right. The lines of process 0 are those of the setup. `descriptors` has
-/// one descriptor for each event, and beside an element the one on which that was judged: the process's access at the
-/// element's printed point. The session and the journal are such as texts can say. Time linear in the part and in the lines of
-/// requests.
+/// the line rule; none where all that are printed are right. The session's line there is the next one, or, behind a line that
+/// was denied, the last one, with which a part that is cut is over. The lines of process 0 are those of the setup.
+/// `descriptors` has one descriptor for each event, and beside an element the one on which that was judged: the process's
+/// access at the element's printed point. The session and the journal are such as texts can say. Time linear in the part and
+/// in the lines of requests.
 ///
 /// # Errors
 ///
@@ -84,6 +86,7 @@ pub fn first_bad_line(
 }
 
 // The same, where these are the lines of the process, the first of them under this number.
+#[tactic(auto, using(crate::proofs::PartLaws::begun))]
 fn first_bad(
     alloc: Global,
     setting: &Setting<'_>,
@@ -111,6 +114,8 @@ fn first_bad(
     };
     let mut left = descriptors;
     let mut place = 0;
+    let mut ahead = 0;
+    let mut denied = false;
     for (number, events, ends) in transcript.steps() {
         let (descriptors, others) = left.split_at(events.len());
         let printed = Printed {
@@ -119,11 +124,14 @@ fn first_bad(
             descriptors,
             ends,
         };
-        if !is_right_step(alloc, setting, &mut process, script, place, &printed)? {
+        let here = place_for(script, process.first, ahead, denied, number);
+        if !is_right_step(alloc, setting, &mut process, script, here, &printed)? {
             return Ok(Some(place));
         }
         left = others;
         place += 1;
+        ahead = here + 1;
+        denied = is_denied(&ends);
     }
     Ok(None)
 }

@@ -4,6 +4,7 @@ use Rattle.mx_sdw.specs.Descriptors.{Descriptor}
 use Rattle.mx_transcript.specs.Access.{descriptor_of}
 use Rattle.mx_transcript.specs.Legal.{setting_of}
 use Rattle.mx_transcript.specs.Transcripts.{Step, events_of}
+use Rattle.mx_parts.proofs.NextLaws.{here_ahead}
 use Rattle.mx_parts.proofs.PartLaws.{beside_first, beside_others, enough}
 use Rattle.mx_parts.specs.Ends.{IsJudgedStep, IsRightStep}
 use Rattle.mx_parts.specs.FirstBad.{AreBeside}
@@ -39,10 +40,14 @@ loop-number-preserved c =
     let now = c.loop-number.process.control in
     let next : c.loop-number.number-iterator ≡ (c.in-Some.number, c.in-Some.events.now, c.in-Some.ends) ∷ c.next.new.self = search rules in
     let told : c.in_ok-is_right_step.field-0 ≡ true = search rules in
-    let right : IsRightStep setting now c.loop-number.process.first c.args.script.now c.loop-number.place step c.is_right_step.new.process.control
-    = subst (IsJudgedStep setting now c.loop-number.process.first c.args.script.now c.loop-number.place step c.is_right_step.new.process.control)
+    let right : IsRightStep setting now c.loop-number.process.first c.args.script.now c.place_for-here.result step c.is_right_step.new.process.control
+    = subst (IsJudgedStep setting now c.loop-number.process.first c.args.script.now c.place_for-here.result step c.is_right_step.new.process.control)
     told c.in_ok-is_right_step.ensures.judged in
-    let within : c.loop-number.place < length c.args.script.now = slice_get_within c.args.script.now c.loop-number.place right.line right.at in
+    let within : c.place_for-here.result < length c.args.script.now =
+    slice_get_within c.args.script.now c.place_for-here.result right.line right.at in
+    let onward = here_ahead c.loop-number.process.first (length c.args.script.now) c.loop-number.ahead c.loop-number.denied c.in-Some.number in
+    let here = c.place_for-here.ensures in
+    let few = c.loop-number.invariant.few in
     let back : c.split_at.result.1.now ≡ drop (length c.in-Some.events.now) c.loop-number.left.now = search rules in
     let cut : length c.split_at.result.1.now + length c.in-Some.events.now ≡ length c.loop-number.left.now = search rules in
     let beside : AreBeside access (c.in-Some.events.now ++ events_of c.next.new.self) c.loop-number.left.now
@@ -52,5 +57,6 @@ loop-number-preserved c =
       beside = subst (AreBeside access (events_of c.next.new.self)) (sym back)
           (beside_others access c.in-Some.events.now (events_of c.next.new.self) c.loop-number.left.now beside
           (subst (λ (ds : List Descriptor). length ds + length c.in-Some.events.now ≡ length c.loop-number.left.now) back cut));
-      few = omega (arith, within);
+      within = omega (arith, within);
+      few = omega (arith, onward, here, few);
     }

@@ -10,5 +10,6 @@ abbrev pub invariant-loop-number : goal.invariant-loop-number
 invariant-loop-number l = record {
   packable : IsPackableControl l.process.control;
   beside : AreBeside (descriptor_of l.setting.session.now l.setting.journal.now l.setting.process) (events_of l.number-iterator) l.left;
-  few : l.place ≤ length l.script;
+  within : l.ahead ≤ length l.script;
+  few : l.place ≤ l.ahead;
 }

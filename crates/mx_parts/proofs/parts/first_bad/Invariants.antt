@@ -9,14 +9,15 @@ use Rattle.mx_transcript.specs.Transcripts.{events_of}
 use Rattle.mx_upcall.specs.Soundness.{IsPackableControl}
 use Rattle.mx_parts.proofs.parts.first_bad.Given as goal
 
--- the lines before the place are done, and the process has come to its registers and gates there
+-- the steps before the place are kept, and the process has come to its registers and gates there
 abbrev pub invariant-loop-number : goal.invariant-loop-number
 invariant-loop-number l = record {
   right : AreRightBy (setting_of l.setting.session.now l.setting.journal.now l.setting.process)
       (opening_control l.setting.session.now l.setting.process) (numbered l.first l.script) l.transcript l.place
-      (drop l.place (numbered l.first l.script)) l.number-iterator l.process.control;
+      l.denied (drop l.ahead (numbered l.first l.script)) l.number-iterator l.process.control;
   packable : IsPackableControl l.process.control;
   beside : AreBeside (descriptor_of l.setting.session.now l.setting.journal.now l.setting.process) (events_of l.number-iterator) l.left;
   first : l.process.first ≡ l.first;
-  few : l.place ≤ length l.script;
+  within : l.ahead ≤ length l.script;
+  few : l.place ≤ l.ahead;
 }
