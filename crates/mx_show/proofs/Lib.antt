@@ -1,2 +1,3 @@
 pub mod ReplayLaws
+pub mod PartLaws
 pub mod LinesLaws

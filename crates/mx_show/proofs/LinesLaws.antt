@@ -1,28 +1,27 @@
 -- What is shown of lines and processes, piece by piece.
-use Rattle.std.proofs.Common.{ℕ, suc, ◌≡◌, ◌+◌, ◌<◌, Bool, true, false, ◌&&◌, List, [], ◌∷◌, ◌++◌, length, map, drop, get_or, Option, None, Some, refl, ap, sym, ◌∙◌, subst, arith, append_assoc, append-nil, add-one, drop-cons}
+use Rattle.std.proofs.Common.{ℕ, suc, ◌≡◌, ◌+◌, ◌-◌, ◌<◌, ◌≤◌, Bool, true, false, ◌&&◌, List, [], ◌∷◌, ◌++◌, length, map, drop, get_or, Option, None, Some, refl, ap, sym, ◌∙◌, subst, arith, append_assoc, append-nil, add-one, drop-cons}
 use Rattle.std.proofs.lemmas.Grind.{flat_map-append}
-use Rattle.std.proofs.lemmas.List.{length-map}
+use Rattle.std.proofs.lemmas.Option.{get_or_from_slice_get}
+use Rattle.std.specs.List.{slice_get}
 use Rattle.std.specs.Prelude.{Result, Ok, Err, OnOk, is_ok, if◌then◌else◌}
 use Rattle.mx_io.specs.Bytes.{Appends}
-use Rattle.mx_transcript.specs.Parts.{AreDone, AreLines}
-use Rattle.mx_transcript.specs.Legal.{IsLegal, setting_of}
-use Rattle.mx_transcript.specs.Openings.{opening_control}
+use Rattle.mx_transcript.specs.Parts.{AreLinesOf}
 use Rattle.mx_transcript.specs.Scripts.{numbered, lines_of, script_at, first_line}
-use Rattle.mx_transcript.specs.Settings.{Setting}
 use Rattle.mx_transcript.specs.Transcripts.{Step, part}
-use Rattle.mx_upcall.specs.Control.{Control}
 use Rattle.mx_name.proofs.CutLaws.{cut_takes}
 use Rattle.mx_name.specs.Cuts.{cut_at}
 use Rattle.mx_name.specs.Names.{is_free}
 use Rattle.mx_request.specs.declared.entrants.Entrant.{Entrant}
+use Rattle.mx_request.specs.declared.requests.Request.{Request}
 use Rattle.mx_script.specs.Sessions.{Outline}
 use Rattle.mx_script.specs.declared.lines.Line.{Line}
-use Rattle.mx_script.specs.declared.lines.Line.TheVariants.{Ask}
+use Rattle.mx_script.specs.declared.lines.Line.TheVariants.{Ask, Fetch}
 use Rattle.mx_state.specs.declared.journal.Entry as journaled
 use Rattle.mx_text.proofs.PrintingLaws.{sent_then, sent_whole}
 use Rattle.mx_text.specs.Printing.{IsSent}
-use Rattle.mx_show.specs.Lines.{head_text, told_line, told_text, are_lines, AreShown, opening_text, heading_text, AreProcessesShown, GainsLines}
-use Rattle.mx_show.specs.Printing.{IsToldBehind, IsLineBehind, PrintsLines, PrintsProcesses, AreAsLong, IsUpTo, IsThrough}
+use Rattle.mx_show.proofs.PartLaws.{own_ran}
+use Rattle.mx_show.specs.Lines.{head_text, told_line, told_text, left_text, are_lines, AreShown, opening_text, heading_text, AreProcessesShown, GainsLines}
+use Rattle.mx_show.specs.Printing.{HaveLines, HaveNumbers, IsPartOf, IsToldBehind, IsLineBehind, PrintsLines, PrintsProcesses, IsUpTo, IsThrough, line_of, lines_by}
 
 -- Words, line by line.
 one_more : (told : List (List ℕ)) (line : List ℕ) → are_lines told ≡ true → is_free 10 line ≡ true → are_lines (told ++ line ∷ []) ≡ true
@@ -79,138 +78,223 @@ sent_piece a b c before sofar buffer piece added kept first is send =
 pub drop_next : {X : Type 0} (i : ℕ) (xs : List X) (x : X) → i < length xs → x ≡ get_or xs i x → drop i xs ≡ x ∷ drop (i + 1) xs
 drop_next i xs x h e = rw (add-one i, drop-cons xs i x, ← e) refl
 
-none_left : {X : Type 0} (xs : List X) → 0 ≡ length xs → xs ≡ []
-none_left [] e = refl
-none_left (x ∷ xs) e = absurd (omega (arith, e))
-
 -- Lines, one after another.
-pub begun : (all : List Line) (steps : List Step) (a : Option (List ℕ)) (before : List ℕ) → length all ≡ length steps
-    → IsUpTo all steps all steps a a before before
-begun all steps a before as_many = record { sofar = []; is_sent = sent_none a before; goes = λ rest shown. shown; as_many = as_many }
+pub begun : (first : ℕ) (all : List (ℕ × Line)) (steps : List Step) (a : Option (List ℕ)) (before : List ℕ)
+    → IsUpTo first all steps first all steps a a before before
+begun first all steps a before = record { sofar = []; is_sent = sent_none a before; goes = λ rest shown. shown }
 
-pub line_next : (all : List Line) (all_steps : List Step) (lines after : List Line) (line : Line) (steps afters : List Step) (step : Step)
-    (a b c : Option (List ℕ)) (before buffer added kept : List ℕ) → IsUpTo all all_steps lines steps a b before buffer
-    → lines ≡ line ∷ after → steps ≡ step ∷ afters → IsLineBehind step.0 line buffer added → IsSent b c kept added
-    → IsUpTo all all_steps after afters a c before kept
-line_next all all_steps lines after line steps afters step a b c before buffer added kept up now_line now_step behind send =
-    let piece : List ℕ = head_text step.0 line ++ told_text behind.told in
-    let goes : (rest : List ℕ) → AreShown (line ∷ after) (step ∷ afters) rest → AreShown all all_steps (up.sofar ++ rest)
-    = subst (λ (ls : List Line). (rest : List ℕ) → AreShown ls (step ∷ afters) rest → AreShown all all_steps (up.sofar ++ rest)) now_line
-    (subst (λ (ss : List Step). (rest : List ℕ) → AreShown lines ss rest → AreShown all all_steps (up.sofar ++ rest)) now_step up.goes) in
-    let P : List ℕ → Type 0 = λ v. AreShown all all_steps v in
+-- a line more: which were left out before it, and the line with what is told of it
+pub line_next : (first : ℕ) (all : List (ℕ × Line)) (all_steps : List Step) (next : ℕ) (lines after : List (ℕ × Line))
+    (line : ℕ × Line) (steps afters : List Step) (step : Step) (a b c : Option (List ℕ))
+    (before buffer left added kept : List ℕ)
+    → IsUpTo first all all_steps next lines steps a b before buffer → lines ≡ line ∷ after → steps ≡ step ∷ afters
+    → left ≡ buffer ++ left_text next (line.0 - next) → IsLineBehind line.0 line.1 left added → IsSent b c kept added
+    → IsUpTo first all all_steps (suc line.0) after afters a c before kept
+line_next first all all_steps next lines after line steps afters step a b c before buffer left added kept up now_line now_step
+    out behind send =
+    let out_text : List ℕ = left_text next (line.0 - next) in
+    let head : List ℕ = head_text line.0 line.1 in
+    let told : List ℕ = told_text behind.told in
+    let piece : List ℕ = out_text ++ head ++ told in
+    let put : added ≡ buffer ++ piece
+    = behind.added ∙ ap (λ (v : List ℕ). v ++ (head ++ told)) out ∙ append_assoc buffer out_text (head ++ told)
+    ∙ ap (λ (v : List ℕ). buffer ++ v) (sym (append_assoc out_text head told)) in
+    let goes : (rest : List ℕ) → AreShown next (line ∷ after) (step ∷ afters) rest
+    → AreShown first all all_steps (up.sofar ++ rest)
+    = subst (λ (ls : List (ℕ × Line)). (rest : List ℕ) → AreShown next ls (step ∷ afters) rest
+    → AreShown first all all_steps (up.sofar ++ rest)) now_line
+    (subst (λ (ss : List Step). (rest : List ℕ) → AreShown next lines ss rest
+    → AreShown first all all_steps (up.sofar ++ rest)) now_step up.goes) in
+    let P : List ℕ → Type 0 = λ v. AreShown first all all_steps v in
     record {
       sofar = up.sofar ++ piece;
-      is_sent = sent_piece a b c before up.sofar buffer piece added kept up.is_sent behind.added send;
+      is_sent = sent_piece a b c before up.sofar buffer piece added kept up.is_sent put send;
       goes = λ rest shown.
           subst P (sym (append_assoc up.sofar piece rest))
           (goes (piece ++ rest)
           (behind.told, rest, behind.lines, refl, shown));
-      as_many = let many : length lines ≡ length steps = up.as_many in let long : suc (length after) ≡ suc (length afters) = sym (ap length now_line) ∙ many ∙ ap length now_step in omega arith;
     }
 
-pub lines_done : (all : List Line) (all_steps : List Step) (lines : List Line) (steps : List Step) (a b : Option (List ℕ)) (before buffer : List ℕ)
-    → IsUpTo all all_steps lines steps a b before buffer → lines ≡ [] → PrintsLines all all_steps a b before buffer
-lines_done all all_steps lines steps a b before buffer up none =
-    let none_steps : steps ≡ [] = none_left steps (sym (ap length none) ∙ up.as_many) in
-    let goes : (rest : List ℕ) → AreShown [] [] rest → AreShown all all_steps (up.sofar ++ rest)
-    = subst (λ (ls : List Line). (rest : List ℕ) → AreShown ls [] rest → AreShown all all_steps (up.sofar ++ rest)) none
-    (subst (λ (ss : List Step). (rest : List ℕ) → AreShown lines ss rest → AreShown all all_steps (up.sofar ++ rest)) none_steps up.goes) in
-    let P : List ℕ → Type 0 = λ v. AreShown all all_steps v in
+pub lines_done : (first : ℕ) (all : List (ℕ × Line)) (all_steps : List Step) (next : ℕ) (lines : List (ℕ × Line))
+    (steps : List Step) (a b : Option (List ℕ)) (before buffer : List ℕ)
+    → IsUpTo first all all_steps next lines steps a b before buffer → lines ≡ [] → steps ≡ []
+    → PrintsLines first all all_steps a b before buffer
+lines_done first all all_steps next lines steps a b before buffer up none none_steps =
+    let goes : (rest : List ℕ) → AreShown next [] [] rest → AreShown first all all_steps (up.sofar ++ rest)
+    = subst (λ (ls : List (ℕ × Line)). (rest : List ℕ) → AreShown next ls [] rest
+    → AreShown first all all_steps (up.sofar ++ rest)) none
+    (subst (λ (ss : List Step). (rest : List ℕ) → AreShown next lines ss rest
+    → AreShown first all all_steps (up.sofar ++ rest)) none_steps up.goes) in
+    let P : List ℕ → Type 0 = λ v. AreShown first all all_steps v in
     record { text = up.sofar; shown = subst P (append-nil up.sofar) (goes [] refl); is_sent = up.is_sent }
 
--- where a line is left, a step is
-pub step_left : (all : List Line) (all_steps : List Step) (lines after : List Line) (line : Line) (steps : List Step)
-    (a b : Option (List ℕ)) (before buffer : List ℕ) → IsUpTo all all_steps lines steps a b before buffer → lines ≡ line ∷ after → steps ≡ [] → ⊥
-step_left all all_steps lines after line steps a b before buffer up now_line none =
-    let long : suc (length after) ≡ 0 = sym (ap length now_line) ∙ up.as_many ∙ ap length none in
-    omega (arith, long)
+-- The lines of the setup: each has the number that comes next.
+moved : (first i : ℕ) → suc (first + i) ≡ first + (i + 1)
+moved first i = omega arith
+
+add_none : (n : ℕ) → n ≡ n + 0
+add_none n = omega arith
+
+no_more_steps : (lines : List (ℕ × Line)) (steps : List Step) → HaveNumbers lines steps → lines ≡ [] → steps ≡ []
+no_more_steps [] [] numbers none = refl
+no_more_steps [] (step ∷ steps) numbers none = absurd numbers
+no_more_steps (line ∷ lines) steps numbers none = cc
+
+pub setup_here : (first i : ℕ) (requests after : List Request) (request : Request) (steps afters : List Step) (step : Step)
+    → HaveNumbers (numbered (first + i) (map Ask requests)) steps → requests ≡ request ∷ after
+    → steps ≡ step ∷ afters → (step.0 ≡ first + i) × HaveNumbers (numbered (first + (i + 1)) (map Ask after)) afters
+setup_here first i requests after request steps afters step numbers now_request now_step =
+    let here : (step.0 ≡ first + i) × HaveNumbers (numbered (suc (first + i)) (map Ask after)) afters
+    = subst (λ (rs : List Request). HaveNumbers (numbered (first + i) (map Ask rs)) (step ∷ afters)) now_request
+    (subst (λ (ss : List Step). HaveNumbers (numbered (first + i) (map Ask requests)) ss) now_step numbers) in
+    (here.0, subst (λ (n : ℕ). HaveNumbers (numbered n (map Ask after)) afters) (moved first i) here.1)
+
+pub setup_begun : (x : Outline) (requests : List Request) (steps : List Step) (a : Option (List ℕ)) (before : List ℕ)
+    → requests ≡ x.setup → IsUpTo (first_line x 0) (lines_of x 0) steps (first_line x 0 + 0)
+    (numbered (first_line x 0 + 0) (map Ask requests)) steps a a before before
+setup_begun x requests steps a before are =
+    subst (λ (n : ℕ). IsUpTo (first_line x 0) (lines_of x 0) steps n (numbered n (map Ask requests)) steps a a before before)
+    (add_none (first_line x 0))
+    (subst (λ (rs : List Request). IsUpTo (first_line x 0) (lines_of x 0) steps (first_line x 0)
+    (numbered (first_line x 0) (map Ask rs)) steps a a before before) (sym are)
+    (begun (first_line x 0) (lines_of x 0) steps a before))
+
+pub setup_numbered : (x : Outline) (requests : List Request) (steps : List Step) → requests ≡ x.setup
+    → HaveNumbers (lines_of x 0) steps → HaveNumbers (numbered (first_line x 0 + 0) (map Ask requests)) steps
+setup_numbered x requests steps are numbers =
+    subst (λ (n : ℕ). HaveNumbers (numbered n (map Ask requests)) steps) (add_none (first_line x 0))
+    (subst (λ (rs : List Request). HaveNumbers (numbered (first_line x 0) (map Ask rs)) steps) (sym are) numbers)
+
+pub setup_next : (first i : ℕ) (all : List (ℕ × Line)) (all_steps : List Step) (requests after : List Request)
+    (request : Request) (steps afters : List Step) (step : Step) (a b c : Option (List ℕ))
+    (before buffer added kept : List ℕ)
+    → IsUpTo first all all_steps (first + i) (numbered (first + i) (map Ask requests)) steps a b before buffer
+    → HaveNumbers (numbered (first + i) (map Ask requests)) steps → requests ≡ request ∷ after
+    → steps ≡ step ∷ afters → IsLineBehind step.0 (Ask request) buffer added → IsSent b c kept added
+    → IsUpTo first all all_steps (first + (i + 1)) (numbered (first + (i + 1)) (map Ask after)) afters a c before kept
+setup_next first i all all_steps requests after request steps afters step a b c before buffer added kept up numbers
+    now_request now_step behind send =
+    let next : ℕ = first + i in
+    let here = setup_here first i requests after request steps afters step numbers now_request now_step in
+    subst (λ (n : ℕ). IsUpTo first all all_steps n (numbered n (map Ask after)) afters a c before kept) (moved first i)
+    (line_next first all all_steps next (numbered next (map Ask requests)) (numbered (suc next) (map Ask after))
+    (next, Ask request) steps afters step a b c before buffer buffer added kept up
+    (ap (λ (rs : List Request). numbered next (map Ask rs)) now_request) now_step
+    (sym (append-nil buffer) ∙ ap (λ (n : ℕ). buffer ++ left_text next n) (none next))
+    (subst (λ (n : ℕ). IsLineBehind n (Ask request) buffer added) here.0 behind) send)
+  where
+    none : (n : ℕ) → 0 ≡ n - n
+    none n = omega arith
+
+pub setup_done : (first : ℕ) (all : List (ℕ × Line)) (all_steps : List Step) (next : ℕ) (requests : List Request)
+    (steps : List Step) (a b : Option (List ℕ)) (before buffer : List ℕ)
+    → IsUpTo first all all_steps next (numbered next (map Ask requests)) steps a b before buffer
+    → HaveNumbers (numbered next (map Ask requests)) steps → requests ≡ []
+    → PrintsLines first all all_steps a b before buffer
+setup_done first all all_steps next requests steps a b before buffer up numbers none =
+    let no_lines : numbered next (map Ask requests) ≡ [] = ap (λ (rs : List Request). numbered next (map Ask rs)) none in
+    lines_done first all all_steps next (numbered next (map Ask requests)) steps a b before buffer up no_lines
+    (no_more_steps (numbered next (map Ask requests)) steps numbers no_lines)
+
+-- The lines of a script, found by the numbers of the steps.
+pub script_here : (first : ℕ) (script : List Line) (steps afters : List Step) (step : Step) → HaveLines first script steps
+    → steps ≡ step ∷ afters → (first ≤ step.0) × (step.0 - first < length script) × HaveLines first script afters
+script_here first script steps afters step have now_step =
+    subst (λ (ss : List Step). HaveLines first script ss) now_step have
+
+pub script_next : (first : ℕ) (script : List Line) (all_steps : List Step) (next : ℕ) (line : Line)
+    (steps afters : List Step) (step : Step) (a b c : Option (List ℕ)) (before buffer left added kept : List ℕ)
+    → IsUpTo first (lines_by first script all_steps) all_steps next (lines_by first script steps) steps a b before buffer
+    → steps ≡ step ∷ afters → slice_get script (step.0 - first) ≡ Some line
+    → left ≡ buffer ++ left_text next (step.0 - next) → IsLineBehind step.0 line left added → IsSent b c kept added
+    → IsUpTo first (lines_by first script all_steps) all_steps (suc step.0) (lines_by first script afters) afters a c before
+    kept
+script_next first script all_steps next line steps afters step a b c before buffer left added kept up now_step at out behind
+    send =
+    let found : get_or script (step.0 - first) Fetch ≡ line
+    = get_or_from_slice_get script (step.0 - first) line Fetch at in
+    line_next first (lines_by first script all_steps) all_steps next (lines_by first script steps)
+    (lines_by first script afters) (line_of first script step) steps afters step a b c before buffer left added kept up
+    (ap (lines_by first script) now_step) now_step out
+    (subst (λ (l : Line). IsLineBehind step.0 l left added) (sym found) behind) send
+
+pub script_done : (first : ℕ) (script : List Line) (all_steps : List Step) (next : ℕ) (steps : List Step)
+    (a b : Option (List ℕ)) (before buffer : List ℕ)
+    → IsUpTo first (lines_by first script all_steps) all_steps next (lines_by first script steps) steps a b before buffer
+    → steps ≡ [] → PrintsLines first (lines_by first script all_steps) all_steps a b before buffer
+script_done first script all_steps next steps a b before buffer up none =
+    lines_done first (lines_by first script all_steps) all_steps next (lines_by first script steps) steps a b before buffer up
+    (ap (lines_by first script) none) none
 
 -- Processes, one after another.
-pub processes_begun : (all : List Entrant) (scripts : List (List Line)) (transcripts : List (List Step)) (a : Option (List ℕ)) (before : List ℕ)
-    → AreAsLong scripts transcripts → IsThrough all scripts transcripts 1 all scripts transcripts a a before before
-processes_begun all scripts transcripts a before as_long = record {
+pub processes_begun : (x : Outline) (all : List Entrant) (transcripts : List (List Step)) (a : Option (List ℕ))
+    (before : List ℕ) → IsThrough x all transcripts 0 all transcripts a a before before
+processes_begun x all transcripts a before = record {
   sofar = [];
   is_sent = sent_none a before;
   goes = λ rest shown. shown;
-  as_long = as_long;
 }
 
-pub as_long_here : (scripts after : List (List Line)) (script : List Line) (transcripts afters : List (List Step)) (steps : List Step)
-    → AreAsLong scripts transcripts → scripts ≡ script ∷ after → transcripts ≡ steps ∷ afters → (length script ≡ length steps) × AreAsLong after afters
-as_long_here scripts after script transcripts afters steps as_long now_script now_steps =
-    subst (λ (ss : List (List Line)). AreAsLong ss (steps ∷ afters)) now_script
-    (subst (λ (ts : List (List Step)). AreAsLong scripts ts) now_steps as_long)
-
-pub process_next : (all : List Entrant) (all_scripts : List (List Line)) (all_transcripts : List (List Step)) (p : ℕ)
-    (principals later : List Entrant) (principal : Entrant) (scripts after : List (List Line)) (script : List Line)
-    (transcripts afters : List (List Step)) (steps : List Step) (a b c : Option (List ℕ)) (before buffer headed kept : List ℕ)
-    → IsThrough all all_scripts all_transcripts p principals scripts transcripts a b before buffer
-    → principals ≡ principal ∷ later → scripts ≡ script ∷ after → transcripts ≡ steps ∷ afters
-    → headed ≡ buffer ++ heading_text p principal → PrintsLines script steps b c headed kept
-    → IsThrough all all_scripts all_transcripts (p + 1) later after afters a c before kept
-process_next all all_scripts all_transcripts p principals later principal scripts after script transcripts afters steps a b c before buffer headed kept
-    through now_principal now_script now_steps head prints =
-    let piece : List ℕ = heading_text p principal ++ prints.text in
+process_more : (x : Outline) (all : List Entrant) (all_transcripts : List (List Step)) (p : ℕ)
+    (principals later : List Entrant) (principal : Entrant) (transcripts afters : List (List Step)) (steps : List Step)
+    (ran : List (ℕ × Line)) (a b c : Option (List ℕ)) (before buffer headed kept : List ℕ)
+    → IsThrough x all all_transcripts p principals transcripts a b before buffer
+    → principals ≡ principal ∷ later → transcripts ≡ steps ∷ afters
+    → headed ≡ buffer ++ heading_text (suc p) principal → AreLinesOf (lines_of x (suc p)) steps ran → PrintsLines (first_line x (suc p)) ran steps b c headed kept
+    → IsThrough x all all_transcripts (suc p) later afters a c before kept
+process_more x all all_transcripts p principals later principal transcripts afters steps ran a b c before buffer headed kept
+    through now_principal now_steps head are prints =
+    let piece : List ℕ = heading_text (suc p) principal ++ prints.text in
     let put : headed ++ prints.text ≡ buffer ++ piece
-    = ap (λ (v : List ℕ). v ++ prints.text) head ∙ append_assoc buffer (heading_text p principal) prints.text in
-    let goes : (rest : List ℕ) → AreProcessesShown p (principal ∷ later) (script ∷ after) (steps ∷ afters) rest
-    → AreProcessesShown 1 all all_scripts all_transcripts (through.sofar ++ rest)
-    = subst (λ (ps : List Entrant). (rest : List ℕ) → AreProcessesShown p ps (script ∷ after) (steps ∷ afters) rest
-    → AreProcessesShown 1 all all_scripts all_transcripts (through.sofar ++ rest)) now_principal
-    (subst (λ (ss : List (List Line)). (rest : List ℕ) → AreProcessesShown p principals ss (steps ∷ afters) rest
-    → AreProcessesShown 1 all all_scripts all_transcripts (through.sofar ++ rest)) now_script
-    (subst (λ (ts : List (List Step)). (rest : List ℕ) → AreProcessesShown p principals scripts ts rest
-    → AreProcessesShown 1 all all_scripts all_transcripts (through.sofar ++ rest)) now_steps through.goes)) in
-    let P : List ℕ → Type 0 = λ v. AreProcessesShown 1 all all_scripts all_transcripts v in
+    = ap (λ (v : List ℕ). v ++ prints.text) head ∙ append_assoc buffer (heading_text (suc p) principal) prints.text in
+    let goes : (rest : List ℕ) → AreProcessesShown x p (principal ∷ later) (steps ∷ afters) rest
+    → AreProcessesShown x 0 all all_transcripts (through.sofar ++ rest)
+    = subst (λ (ps : List Entrant). (rest : List ℕ) → AreProcessesShown x p ps (steps ∷ afters) rest
+    → AreProcessesShown x 0 all all_transcripts (through.sofar ++ rest)) now_principal
+    (subst (λ (ts : List (List Step)). (rest : List ℕ) → AreProcessesShown x p principals ts rest
+    → AreProcessesShown x 0 all all_transcripts (through.sofar ++ rest)) now_steps through.goes) in
+    let P : List ℕ → Type 0 = λ v. AreProcessesShown x 0 all all_transcripts v in
     record {
       sofar = through.sofar ++ piece;
-      is_sent = sent_piece a b c before through.sofar buffer piece (headed ++ prints.text) kept through.is_sent put prints.is_sent;
+      is_sent = sent_piece a b c before through.sofar buffer piece (headed ++ prints.text) kept through.is_sent put
+          prints.is_sent;
       goes = λ rest shown.
           subst P (sym (append_assoc through.sofar piece rest))
           (goes (piece ++ rest)
-          (prints.text, rest, refl, prints.shown, shown));
-      as_long = (as_long_here scripts after script transcripts afters steps through.as_long now_script now_steps).1;
+          (prints.text, rest, refl, record { ran = ran; are = are; shown = prints.shown }, shown));
     }
 
-pub processes_done : (all : List Entrant) (all_scripts : List (List Line)) (all_transcripts : List (List Step)) (p : ℕ)
-    (principals : List Entrant) (scripts : List (List Line)) (transcripts : List (List Step)) (a b : Option (List ℕ)) (before buffer : List ℕ)
-    → IsThrough all all_scripts all_transcripts p principals scripts transcripts a b before buffer
-    → principals ≡ [] → scripts ≡ [] → transcripts ≡ [] → PrintsProcesses 1 all all_scripts all_transcripts a b before buffer
-processes_done all all_scripts all_transcripts p principals scripts transcripts a b before buffer through none none_scripts none_transcripts =
-    let goes : (rest : List ℕ) → AreProcessesShown p [] [] [] rest → AreProcessesShown 1 all all_scripts all_transcripts (through.sofar ++ rest)
-    = subst (λ (ps : List Entrant). (rest : List ℕ) → AreProcessesShown p ps [] [] rest
-    → AreProcessesShown 1 all all_scripts all_transcripts (through.sofar ++ rest)) none
-    (subst (λ (ss : List (List Line)). (rest : List ℕ) → AreProcessesShown p principals ss [] rest
-    → AreProcessesShown 1 all all_scripts all_transcripts (through.sofar ++ rest)) none_scripts
-    (subst (λ (ts : List (List Step)). (rest : List ℕ) → AreProcessesShown p principals scripts ts rest
-    → AreProcessesShown 1 all all_scripts all_transcripts (through.sofar ++ rest)) none_transcripts through.goes)) in
-    let P : List ℕ → Type 0 = λ v. AreProcessesShown 1 all all_scripts all_transcripts v in
+pub process_next : (x : Outline) (all : List Entrant) (all_transcripts : List (List Step)) (p : ℕ)
+    (principals later : List Entrant) (principal : Entrant) (transcripts afters : List (List Step)) (script : List Line)
+    (steps : List Step) (a b c : Option (List ℕ)) (before buffer headed kept : List ℕ)
+    → IsThrough x all all_transcripts p principals transcripts a b before buffer
+    → principals ≡ principal ∷ later → transcripts ≡ steps ∷ afters
+    → headed ≡ buffer ++ heading_text (p + 1) principal → IsPartOf x (suc p) steps → script_at x.scripts p ≡ script
+    → PrintsLines (first_line x (p + 1)) (lines_by (first_line x (p + 1)) script steps) steps b c headed kept
+    → IsThrough x all all_transcripts (p + 1) later afters a c before kept
+process_next x all all_transcripts p principals later principal transcripts afters script steps a b c before buffer headed
+    kept through now_principal now_steps head own is prints =
+    subst (λ (n : ℕ). IsThrough x all all_transcripts n later afters a c before kept) (sym (add-one p))
+    (process_more x all all_transcripts p principals later principal transcripts afters steps own.ran a b c before buffer headed
+    kept through now_principal now_steps
+    (subst (λ (n : ℕ). headed ≡ buffer ++ heading_text n principal) (add-one p) head) own.are
+    (subst (λ (n : ℕ). PrintsLines (first_line x n) own.ran steps b c headed kept) (add-one p)
+    (subst (λ (ran : List (ℕ × Line)). PrintsLines (first_line x (p + 1)) ran steps b c headed kept)
+    (own_ran x p script steps own is) prints)))
+
+pub processes_done : (x : Outline) (all : List Entrant) (all_transcripts : List (List Step)) (p : ℕ)
+    (principals : List Entrant) (transcripts : List (List Step)) (a b : Option (List ℕ)) (before buffer : List ℕ)
+    → IsThrough x all all_transcripts p principals transcripts a b before buffer
+    → principals ≡ [] → transcripts ≡ [] → PrintsProcesses x 0 all all_transcripts a b before buffer
+processes_done x all all_transcripts p principals transcripts a b before buffer through none none_transcripts =
+    let goes : (rest : List ℕ) → AreProcessesShown x p [] [] rest
+    → AreProcessesShown x 0 all all_transcripts (through.sofar ++ rest)
+    = subst (λ (ps : List Entrant). (rest : List ℕ) → AreProcessesShown x p ps [] rest
+    → AreProcessesShown x 0 all all_transcripts (through.sofar ++ rest)) none
+    (subst (λ (ts : List (List Step)). (rest : List ℕ) → AreProcessesShown x p principals ts rest
+    → AreProcessesShown x 0 all all_transcripts (through.sofar ++ rest)) none_transcripts through.goes) in
+    let P : List ℕ → Type 0 = λ v. AreProcessesShown x 0 all all_transcripts v in
     record { text = through.sofar; shown = subst P (append-nil through.sofar) (goes [] refl); is_sent = through.is_sent }
-
--- A legal run has a step for each line.
-done_many : (s : Setting) (before after : Control) (lines : List (ℕ × Line)) (steps : List Step) → AreDone s before lines steps [] after
-    → length lines ≡ length steps
-done_many s before after lines [] done = ap length (sym done.0)
-done_many s before after [] (step ∷ steps) done = absurd done
-done_many s before after (line ∷ lines) (step ∷ steps) done =
-    ap suc (done_many s done.1 after lines steps done.3)
-
-numbered_many : (n : ℕ) (lines : List Line) → length (numbered n lines) ≡ length lines
-numbered_many n [] = refl
-numbered_many n (line ∷ lines) = ap suc (numbered_many (suc n) lines)
-
-pub numbered_done : (s : Setting) (n : ℕ) (before after : Control) (lines : List Line) (steps : List Step)
-    → AreLines s before (numbered n lines) steps after → length lines ≡ length steps
-numbered_done s n before after lines steps done = sym (numbered_many n lines) ∙ done_many s before after (numbered n lines) steps done
-
-pub all_as_long : (scripts : List (List Line)) (parts : List (List Step)) → length scripts ≡ length parts
-    → ((q : ℕ) → q < length parts → length (script_at scripts q) ≡ length (part parts q)) → AreAsLong scripts parts
-all_as_long [] [] e each = tt
-all_as_long [] (steps ∷ parts) e each = absurd (omega (arith, e))
-all_as_long (script ∷ scripts) [] e each = absurd (omega (arith, e))
-all_as_long (script ∷ scripts) (steps ∷ parts) e each =
-    let fewer : length scripts ≡ length parts = omega (arith, e) in
-    (each 0 (omega arith), all_as_long scripts parts fewer (λ q below. each (suc q) (omega (arith, below))))
 
 -- Pieces that are added one after another.
 put_three : (s a b c x y z : List ℕ) → x ≡ s ++ a → y ≡ x ++ b → z ≡ y ++ c → z ≡ s ++ (a ++ b ++ c)
@@ -221,6 +305,9 @@ pub put_label : (s label number b c d x y z w : List ℕ) → x ≡ s ++ (label 
     → w ≡ s ++ (label ++ number ++ b ++ c ++ d)
 put_label s label number b c d x y z w e f g h =
     h ∙ ap (λ (v : List ℕ). v ++ d) (put_three s (label ++ number) b c x y z e f g) ∙ append_assoc s (label ++ number ++ b ++ c) d
+
+pub put_end : (s label number b x y : List ℕ) → x ≡ s ++ (label ++ number) → y ≡ x ++ b → y ≡ s ++ (label ++ number ++ b)
+put_end s label number b x y e f = f ∙ ap (λ (v : List ℕ). v ++ b) e ∙ append_assoc s (label ++ number) b
 
 -- two pieces in place of the last one
 pub put_both : (z a b y w : List ℕ) → y ≡ z ++ a → w ≡ y ++ b → w ≡ z ++ (a ++ b)
@@ -237,42 +324,12 @@ pub put_last : {T E : Type 0} (r : Result T E) (new old piece : List ℕ) → ne
 put_last (Ok x) new old piece e = e
 put_last (Err x) new old piece e = tt
 
--- So its setup and its scripts have as many lines as there are steps.
-pub below_first : (transcripts : List (List Step)) (n : ℕ) → length transcripts ≡ 1 + n → 0 < length transcripts
-below_first transcripts n e = omega (arith, e)
-
-pub setup_many : (x : Outline) (journal : List journaled.Entry) (transcripts : List (List Step)) → IsLegal x journal transcripts
-    → length x.setup ≡ length (part transcripts 0)
-setup_many x journal transcripts legal =
-    let done = legal.lines 0 (below_first transcripts (length x.principals) legal.parts) in
-    sym (length-map x.setup Ask)
-    ∙ numbered_done (setting_of x journal 0) (first_line x 0) (opening_control x 0) done.0 (map Ask x.setup) (part transcripts 0) done.1
-
-pub scripts_many : (x : Outline) (journal : List journaled.Entry) (transcripts : List (List Step)) → IsLegal x journal transcripts
-    → length x.scripts ≡ length x.principals → AreAsLong x.scripts (drop 1 transcripts)
-scripts_many x journal transcripts legal scripts = by_parts transcripts legal.parts legal.lines
-  where
-    by_parts : (ts : List (List Step)) → length ts ≡ 1 + length x.principals
-        → ((p : ℕ) → p < length ts → (after : Control) × AreLines (setting_of x journal p) (opening_control x p) (lines_of x p) (part ts p) after)
-        → AreAsLong x.scripts (drop 1 ts)
-    by_parts [] parts lines = absurd (omega (arith, parts))
-    by_parts (t ∷ ts) parts lines =
-        let many : length x.scripts ≡ length ts = omega (arith, parts, scripts) in
-        all_as_long x.scripts ts many
-        (λ q below.
-        let done = lines (suc q) (omega (arith, below)) in
-        numbered_done (setting_of x journal (suc q)) (first_line x (suc q)) (opening_control x (suc q)) done.0 (script_at x.scripts q) (part ts q) done.1)
-
-pub first_part : (transcripts : List (List Step)) (steps : List Step) → 0 < length transcripts → steps ≡ get_or transcripts 0 steps
-    → part transcripts 0 ≡ steps
-first_part [] steps below is = absurd (omega (arith, below))
-first_part (t ∷ ts) steps below is = sym is
-
 -- The whole text: it is put into an empty buffer, and the rest is sent at the end.
-pub lines_gained : (x : Outline) (journal : List journaled.Entry) (transcripts : List (List Step)) (steps : List Step) (a b c d : Option (List ℕ))
-    (none opened rest left : List ℕ) → none ≡ [] → opened ≡ none ++ opening_text x journal → part transcripts 0 ≡ steps
-    → PrintsLines (map Ask x.setup) steps a b opened rest
-    → PrintsProcesses 1 x.principals x.scripts (drop 1 transcripts) b c rest left → Appends c d left → GainsLines a d x journal transcripts
+pub lines_gained : (x : Outline) (journal : List journaled.Entry) (transcripts : List (List Step)) (steps : List Step)
+    (a b c d : Option (List ℕ)) (none opened rest left : List ℕ)
+    → none ≡ [] → opened ≡ none ++ opening_text x journal → part transcripts 0 ≡ steps
+    → PrintsLines (first_line x 0) (lines_of x 0) steps a b opened rest
+    → PrintsProcesses x 0 x.principals (drop 1 transcripts) b c rest left → Appends c d left → GainsLines a d x journal transcripts
 lines_gained x journal transcripts steps a b c d none opened rest left empty head first setup processes last =
     let begun : opened ≡ opening_text x journal = head ∙ ap (λ (v : List ℕ). v ++ opening_text x journal) empty in
     let P : List ℕ → Type 0 = λ v. Appends a d (v ++ setup.text ++ processes.text) in
@@ -282,7 +339,7 @@ lines_gained x journal transcripts steps a b c d none opened rest left empty hea
         setup = setup.text;
         processes = processes.text;
         text_is = refl;
-        setup_shown = subst (λ (ss : List Step). AreShown (map Ask x.setup) ss setup.text) (sym first) setup.shown;
+        setup_shown = subst (λ (ss : List Step). AreShown (first_line x 0) (lines_of x 0) ss setup.text) (sym first) setup.shown;
         processes_shown = processes.shown;
       };
       gained =

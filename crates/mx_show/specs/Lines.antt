@@ -1,10 +1,13 @@
 -- The text of `lines`: the lines of a run in order, each under its number and in the session's own spelling, and behind each
--- what is told of it, on lines of their own that begin with four spaces.
-use Rattle.std.specs.Prelude.{◌≡◌, ℕ, ◌+◌, Bool, true, List, [], ◌∷◌, ◌++◌, map, drop, length, Option, codes, if◌then◌else◌}
+-- what is told of it, on lines of their own that begin with four spaces. Lines that a process has left out, since it was logged
+-- out, are not shown: one line stands in their place and says which.
+use Rattle.std.specs.Prelude.{◌≡◌, ℕ, zero, suc, ◌+◌, ◌-◌, Bool, true, List, [], ◌∷◌, ◌++◌, drop, length, Option, codes, if◌then◌else◌}
 use Rattle.std.specs.Fmt.{decimal}
 use Rattle.std.specs.List.{flat_map, list_all}
 use Rattle.mx_aim.specs.Classes.{PlainClass, class_text, equals, lowest}
 use Rattle.mx_io.specs.Bytes.{Appends}
+use Rattle.mx_transcript.specs.Parts.{AreLinesOf}
+use Rattle.mx_transcript.specs.Scripts.{first_line, lines_of}
 use Rattle.mx_transcript.specs.Transcripts.{Step, part}
 use Rattle.mx_name.specs.Names.{is_free}
 use Rattle.mx_name.specs.Principals.{principal_text}
@@ -12,7 +15,6 @@ use Rattle.mx_request.specs.declared.entrants.Entrant.{Entrant}
 use Rattle.mx_script.specs.Sessions.{Outline}
 use Rattle.mx_script.specs.SessionTexts.{line_text}
 use Rattle.mx_script.specs.declared.lines.Line.{Line}
-use Rattle.mx_script.specs.declared.lines.Line.TheVariants.{Ask}
 use Rattle.mx_state.specs.declared.journal.Entry as journaled
 
 -- a line as it stands in the session, under its number
@@ -30,13 +32,30 @@ told_text told = flat_map told_line told
 abbrev pub are_lines : List (List ℕ) → Bool
 are_lines told = list_all (is_free 10) told
 
--- this is shown of lines that came to these steps, one after another
-abbrev pub AreShown : List Line → List Step → List ℕ → Type 0
-AreShown [] [] text = text ≡ []
-AreShown (line ∷ lines) (step ∷ steps) text =
+-- what stands in the place of so many lines that were left out, the first of them under this number
+abbrev pub left_text : ℕ → ℕ → List ℕ
+left_text number zero = []
+left_text number (suc zero) = codes "line " ++ decimal number ++ codes " is left out: the process is logged out\n"
+left_text number (suc (suc more)) =
+    codes "lines " ++ decimal number ++ codes " to " ++ decimal (suc (number + more))
+    ++ codes " are left out: the process is logged out\n"
+
+-- This is shown of lines that came to these steps, one after another, where the line of this number comes next: before each
+-- which were left out, then the line, and what is told of it.
+abbrev pub AreShown : ℕ → List (ℕ × Line) → List Step → List ℕ → Type 0
+AreShown next [] [] text = text ≡ []
+AreShown next (line ∷ lines) (step ∷ steps) text =
     (told : List (List ℕ)) × (rest : List ℕ) × (are_lines told ≡ true)
-    × (text ≡ head_text step.0 line ++ told_text told ++ rest) × AreShown lines steps rest
-AreShown _ _ text = ⊥
+    × (text ≡ left_text next (line.0 - next) ++ head_text line.0 line.1 ++ told_text told ++ rest)
+    × AreShown (suc line.0) lines steps rest
+AreShown next _ _ text = ⊥
+
+-- this is shown of a part, whose script has these lines, the first under this number: of all of them, or of those of a part
+-- that was cut after a denied line
+pub record IsPartShown (first : ℕ) (lines : List (ℕ × Line)) (steps : List Step) (text : List ℕ) : Type 0 where
+  pub ran : List (ℕ × Line)
+  pub are : AreLinesOf lines steps ran
+  pub shown : AreShown first ran steps text
 
 -- how many processes and journal entries there are, and whose lines come first
 abbrev pub counts_text : ℕ → ℕ → List ℕ
@@ -57,21 +76,22 @@ heading_text p entrant =
     codes "\nprocess " ++ decimal p ++ codes ": " ++ principal_text entrant.who
     ++ (authorization_text entrant.authorization ++ codes ", from ring 4\n")
 
--- this is shown of the processes from this one on: each heading, and behind it the lines of the script
-abbrev pub AreProcessesShown : ℕ → List Entrant → List (List Line) → List (List Step) → List ℕ → Type 0
-AreProcessesShown p [] [] [] text = text ≡ []
-AreProcessesShown p (entrant ∷ entrants) (script ∷ scripts) (steps ∷ transcripts) text =
-    (shown : List ℕ) × (rest : List ℕ) × (text ≡ heading_text p entrant ++ shown ++ rest) × AreShown script steps shown
-    × AreProcessesShown (p + 1) entrants scripts transcripts rest
-AreProcessesShown p _ _ _ text = ⊥
+-- this is shown of the processes behind so many: each heading, and behind it the lines of its part
+abbrev pub AreProcessesShown : Outline → ℕ → List Entrant → List (List Step) → List ℕ → Type 0
+AreProcessesShown x p [] [] text = text ≡ []
+AreProcessesShown x p (entrant ∷ entrants) (steps ∷ transcripts) text =
+    (shown : List ℕ) × (rest : List ℕ) × (text ≡ heading_text (suc p) entrant ++ shown ++ rest)
+    × IsPartShown (first_line x (suc p)) (lines_of x (suc p)) steps shown
+    × AreProcessesShown x (suc p) entrants transcripts rest
+AreProcessesShown x p _ _ text = ⊥
 
--- this is the text of a run of the session: the opening, the lines of the setup, and those of each process
+-- this is the text of a run of the session: the opening, all lines of the setup, and those of each process
 pub record IsLinesText (x : Outline) (journal : List journaled.Entry) (transcripts : List (List Step)) (text : List ℕ) : Type 0 where
   pub setup : List ℕ
   pub processes : List ℕ
   pub text_is : text ≡ opening_text x journal ++ setup ++ processes
-  pub setup_shown : AreShown (map Ask x.setup) (part transcripts 0) setup
-  pub processes_shown : AreProcessesShown 1 x.principals x.scripts (drop 1 transcripts) processes
+  pub setup_shown : AreShown (first_line x 0) (lines_of x 0) (part transcripts 0) setup
+  pub processes_shown : AreProcessesShown x 0 x.principals (drop 1 transcripts) processes
 
 -- the sink gained such a text
 pub record GainsLines (before after : Option (List ℕ)) (x : Outline) (journal : List journaled.Entry) (transcripts : List (List Step)) : Type 0 where

@@ -1,11 +1,12 @@
 //! A run, line by line in words.
 
-ghost use Rattle.std.specs.Prelude.{◌≡◌, ◌≤◌, ◌+◌, map, length, drop, OnOk, OnErr, IsErrOf};
+ghost use Rattle.std.specs.Prelude.{◌≡◌, ◌≤◌, ◌<◌, ◌+◌, ◌-◌, ℕ, length, drop, Some, slice_get, OnOk, OnErr, IsErrOf};
 ghost use Rattle.mx_io.specs.Faults.{Rose};
 ghost use Rattle.mx_transcript.specs.Legal.{IsLegal};
-ghost use Rattle.mx_script.specs.declared.lines.Line.TheVariants.{Ask};
+ghost use Rattle.mx_transcript.specs.Scripts.{first_line, lines_of};
+ghost use Rattle.mx_transcript.specs.Transcripts.{part};
 ghost use Rattle.mx_show.specs.Lines.{GainsLines};
-ghost use Rattle.mx_show.specs.Printing.{AreAsLong, PrintsLines, PrintsProcesses};
+ghost use Rattle.mx_show.specs.Printing.{HaveLines, HaveNumbers, IsPartOf, PrintsLines, PrintsProcesses, lines_by};
 ghost use Rattle.mx_text.specs.Printing.{IsSent};
 
 mod adding;
@@ -13,21 +14,21 @@ mod adding;
 use crate::errors::ShowError;
 use crate::judging::{Accesses, judge_all};
 use crate::telling::Teller;
-use adding::{add_heading, add_opening, add_request_line, add_script_line};
+use adding::{add_heading, add_left_out, add_opening, add_request_line, add_script_line};
 use mx_io::{Sink, WriteFault, write_all};
-use mx_request::{Entrant, Request};
-use mx_script::{Line, Script, Session};
+use mx_script::{Line, Session};
 use mx_state::Journal;
-use mx_transcript::{Transcript, Transcripts};
+use mx_transcript::{Transcript, Transcripts, first_line};
 use std::alloc::Global;
 
 /// More bytes than these are sent before more are added.
 const PIECE: usize = 32_768;
 
 /// Shows a legal run of a session: the setup and each process, line by line in words, with each reference and the access that it
-/// was judged on. Each line stands under its number, as the session spells it, and what is told of it behind it (`Lines`). On an
-/// error a part was sent: `Fault` where the sink failed, `Memory` where memory was wanting. About 32 KiB are held between two
-/// lines, and for each reference its access.
+/// was judged on. Each line stands under its number, as the session spells it, and what is told of it behind it (`Lines`). Of a
+/// process that was logged out the lines up to a denied one are shown and then its last, the `logout`; in place of those between
+/// stands which they are. On an error a part was sent: `Fault` where the sink failed, `Memory` where memory was wanting. About
+/// 32 KiB are held between two lines, and for each reference its access.
 pub fn show_lines<K: Sink>(
     alloc: Global,
     session: &Session,
@@ -42,18 +43,17 @@ pub fn show_lines<K: Sink>(
     ensures later { K.faults sink.old ≤ K.faults sink.new }
 {
     let accesses = judge_all(alloc, session, journal, transcripts)?;
-    let (entrants, scripts) = (session.principals().items(), session.scripts().items());
+    let entrants = session.principals().items();
     let parts = transcripts.items();
     let mut out = Vec::new(alloc);
     add_opening(&mut out, entrants.len(), journal.items().len())?;
     let mut teller = Teller::new(alloc, journal, &accesses, 0);
-    let setup = session.setup().items();
-    print_setup(alloc, setup, &parts[0], &mut teller, &mut out, sink)?;
+    print_setup(alloc, session, &parts[0], &mut teller, &mut out, sink)?;
     let told = Told {
         journal,
         accesses: &accesses,
     };
-    print_processes(alloc, entrants, scripts, parts, told, &mut out, sink)?;
+    print_processes(alloc, session, parts, told, &mut out, sink)?;
     write_all(sink, &out)?;
     Ok(())
 }
@@ -68,18 +68,20 @@ struct Told<'a> {
 // The lines of the setup.
 fn print_setup<K: Sink>(
     alloc: Global,
-    setup: &[Request],
+    session: &Session,
     transcript: &Transcript,
     teller: &mut Teller,
     out: &mut Vec<u8>,
     sink: &mut K,
 ) -> Result<(), ShowError>
-    requires { length setup.now ≡ length transcript.now }
-    ensures printed { OnOk result (PrintsLines (map Ask setup.now) transcript.now (K.out sink.old) (K.out sink.new) out.old.items out.new.items) }
+    requires { HaveNumbers (lines_of session.now 0) transcript.now }
+    ensures printed { OnOk result (PrintsLines (first_line session.now 0) (lines_of session.now 0) transcript.now
+        (K.out sink.old) (K.out sink.new) out.old.items out.new.items) }
     ensures cause { IsErrOf result ShowError.Fault → Rose (K.faults sink.old) (K.faults sink.new) }
     ensures only { (IsErrOf result ShowError.Fault → ⊥) → K.faults sink.new ≡ K.faults sink.old }
     ensures later { K.faults sink.old ≤ K.faults sink.new }
 {
+    let setup = session.setup().items();
     let mut steps = transcript.steps();
     for request in setup {
         let Some((number, events, ends)) = steps.next() else {
@@ -91,59 +93,71 @@ fn print_setup<K: Sink>(
     Ok(())
 }
 
-// The processes from the first on, whose transcripts come behind that of the setup: each heading, and the lines of the script.
+// The processes from the first on, whose transcripts come behind that of the setup: each heading, and the lines of its part.
 fn print_processes<K: Sink>(
     alloc: Global,
-    entrants: &[Entrant],
-    scripts: &[Script],
+    session: &Session,
     transcripts: &[Transcript],
     told: Told,
     out: &mut Vec<u8>,
     sink: &mut K,
 ) -> Result<(), ShowError>
-    requires few { length entrants.now ≤ 15 }
-    requires scripts { length scripts.now ≡ length entrants.now }
-    requires transcripts { length transcripts.now ≡ 1 + length entrants.now }
-    requires each { AreAsLong scripts.now (drop 1 transcripts.now) }
-    ensures printed { OnOk result (PrintsProcesses 1 entrants.now scripts.now (drop 1 transcripts.now) (K.out sink.old) (K.out sink.new) out.old.items out.new.items) }
+    requires transcripts { length transcripts.now ≡ 1 + length session.now.principals }
+    requires parts { (p : ℕ) → p < length transcripts.now → IsPartOf session.now p (part transcripts.now p) }
+    ensures printed { OnOk result (PrintsProcesses session.now 0 session.now.principals (drop 1 transcripts.now)
+        (K.out sink.old) (K.out sink.new) out.old.items out.new.items) }
     ensures cause { IsErrOf result ShowError.Fault → Rose (K.faults sink.old) (K.faults sink.new) }
     ensures only { (IsErrOf result ShowError.Fault → ⊥) → K.faults sink.new ≡ K.faults sink.old }
     ensures later { K.faults sink.old ≤ K.faults sink.new }
 {
+    let (entrants, scripts) = (session.principals().items(), session.scripts().items());
     for (i, entrant) in entrants.iter().enumerate() {
         let process = i as u8 + 1;
         add_heading(out, process, entrant)?;
         let mut teller = Teller::new(alloc, told.journal, told.accesses, process);
-        let script = scripts[i].items();
-        print_script(alloc, script, &transcripts[i + 1], &mut teller, out, sink)?;
+        let (first, script) = (first_line(session, process), scripts[i].items());
+        let transcript = &transcripts[i + 1];
+        print_script(alloc, first, script, transcript, &mut teller, out, sink)?;
     }
     Ok(())
 }
 
-// The lines of a script.
+// The lines of a script that came to something, where the first of the script has this number. A line is found by the number
+// of its step: behind a cut comes the last one.
 fn print_script<K: Sink>(
     alloc: Global,
+    first: u32,
     script: &[Line],
     transcript: &Transcript,
     teller: &mut Teller,
     out: &mut Vec<u8>,
     sink: &mut K,
 ) -> Result<(), ShowError>
-    requires { length script.now ≡ length transcript.now }
-    ensures printed { OnOk result (PrintsLines script.now transcript.now (K.out sink.old) (K.out sink.new) out.old.items out.new.items) }
+    requires { HaveLines first script.now transcript.now }
+    ensures printed { OnOk result (PrintsLines first (lines_by first script.now transcript.now) transcript.now
+        (K.out sink.old) (K.out sink.new) out.old.items out.new.items) }
     ensures cause { IsErrOf result ShowError.Fault → Rose (K.faults sink.old) (K.faults sink.new) }
     ensures only { (IsErrOf result ShowError.Fault → ⊥) → K.faults sink.new ≡ K.faults sink.old }
     ensures later { K.faults sink.old ≤ K.faults sink.new }
 {
-    let mut steps = transcript.steps();
-    for line in script {
-        let Some((number, events, ends)) = steps.next() else {
-            return Ok(());
-        };
+    let mut next = u64::from(first);
+    for (number, events, ends) in transcript.steps() {
+        add_left_out(out, next, u64::from(number))?;
+        let line = line_of(script, first, number);
         add_script_line(alloc, out, number, line, teller, events, ends)?;
         send_when_long(out, sink)?;
+        next = u64::from(number) + 1;
     }
     Ok(())
+}
+
+// The line of this number in a script whose first line has that one.
+fn line_of(script: &[Line], first: u32, number: u32) -> &Line
+    requires from { first ≤ number }
+    requires within { number - first < length script.now }
+    ensures { slice_get script.now (number - first) ≡ Some result.now }
+{
+    &script[(number - first) as usize]
 }
 
 // Sends what is written where it is long.

@@ -1,9 +1,9 @@
 //! What a line of the text is made of, added to bytes.
 
-ghost use Rattle.std.specs.Prelude.{◌≡◌, ◌++◌, OnOk};
+ghost use Rattle.std.specs.Prelude.{◌≡◌, ◌++◌, ◌+◌, ◌-◌, ◌<◌, suc, codes, OnOk};
 ghost use Rattle.std.specs.Fmt.{decimal};
 ghost use Rattle.mx_script.specs.declared.lines.Line.TheVariants.{Ask};
-ghost use Rattle.mx_show.specs.Lines.{authorization_text, counts_text, heading_text, head_text, told_line};
+ghost use Rattle.mx_show.specs.Lines.{authorization_text, counts_text, heading_text, head_text, left_text, told_line};
 ghost use Rattle.mx_show.specs.Printing.{IsToldBehind, IsLineBehind};
 
 use crate::telling::Teller;
@@ -94,6 +94,33 @@ pub(super) fn add_script_line(
         teller.add_numbers(&mut told)?;
     }
     add_told(out, told.as_bytes())
+}
+
+/// Adds which lines were left out, from this number up to that one, which is not among them; nothing where none were.
+pub(super) fn add_left_out(out: &mut Vec<u8>, from: u64, to: u64) -> Result<(), AllocError>
+    ensures { OnOk result (out.new.items ≡ out.old.items ++ left_text from (to - from)) }
+{
+    match to.saturating_sub(from) {
+        0 => Ok(()),
+        1 => add_line_left_out(out, from),
+        _ => add_lines_left_out(out, from, to - 1),
+    }
+}
+
+fn add_line_left_out(out: &mut Vec<u8>, number: u64) -> Result<(), AllocError>
+    ensures { OnOk result (out.new.items ≡ out.old.items ++ left_text number (suc 0)) }
+{
+    add_labelled(out, b"line ", number)?;
+    out.extend_from_slice(b" is left out: the process is logged out\n")
+}
+
+fn add_lines_left_out(out: &mut Vec<u8>, first: u64, last: u64) -> Result<(), AllocError>
+    requires { first < last }
+    ensures { OnOk result (out.new.items ≡ out.old.items ++ left_text first (suc (last - first))) }
+{
+    add_labelled(out, b"lines ", first)?;
+    add_labelled(out, b" to ", last)?;
+    out.extend_from_slice(b" are left out: the process is logged out\n")
 }
 
 fn add_request_head(out: &mut Vec<u8>, number: u32, request: &Request) -> Result<(), AllocError>

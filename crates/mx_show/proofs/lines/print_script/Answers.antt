@@ -1,22 +1,26 @@
-use Rattle.std.proofs.Common.{rules, ◌≡◌, ◌∷◌}
-use Rattle.std.proofs.lemmas.List.{drop_all}
-use Rattle.mx_show.proofs.LinesLaws.{begun, line_next, lines_done, drop_next}
+use Rattle.std.proofs.Common.{rules, ◌≡◌, ◌∷◌, ◌+◌, suc}
+use Rattle.mx_show.proofs.LinesLaws.{begun, script_here, script_next, script_done}
 use Rattle.mx_show.proofs.lines.print_script.Goals as goal
 
-pub loop-line-init : goal.loop-line-init
-loop-line-init g c = record {
-  up = rw c.steps-steps.ensures (begun _ _ _ _ c.requires);
+pub loop-number-init : goal.loop-number-init
+loop-number-init g c = record {
+  up = rw (c.from-next.ensures, c.into_iter-number-iterator.ensures.into_iter_gives, c.steps-number-items.ensures)
+      (begun _ _ _ _ _);
+  lines = rw (c.into_iter-number-iterator.ensures.into_iter_gives, c.steps-number-items.ensures) c.requires;
   same = search rules;
 }
 
-pub loop-line-preserved : goal.loop-line-preserved
-loop-line-preserved g c =
-    let step : c.loop-line.steps ≡ (c.in-Some.number, c.in-Some.events.now, c.in-Some.ends) ∷ c.next.new.self = search rules in
+pub loop-number-preserved : goal.loop-number-preserved
+loop-number-preserved g c =
+    let step : c.loop-number.number-iterator ≡ (c.in-Some.number, c.in-Some.events.now, c.in-Some.ends) ∷ c.next.new.self = search rules in
+    let next : c.from-next-in-loop-number.result + 1 ≡ suc c.in-Some.number = search rules in
     record {
-      up = line_next _ _ _ _ _ _ _ _ _ _ _ _ _ _ _ c.loop-line.invariant.up (drop_next c.loop-line.line-index c.args.script.now c.line-item.result c.loop-line-test.true c.line-item.is)
-          step c.in_ok-add_script_line.ensures c.in_ok-send_when_long.ensures.sent;
+      up = rw next (script_next _ _ _ _ _ _ _ _ _ _ _ _ _ _ _ _ c.loop-number.invariant.up step c.line_of-line.ensures
+          (rw c.from.ensures at c.in_ok-add_left_out.ensures) c.in_ok-add_script_line.ensures
+          c.in_ok-send_when_long.ensures.sent);
+      lines = (script_here _ _ _ _ _ c.loop-number.invariant.lines step).2;
       same = search rules;
     }
 
 pub returns-clause-printed : goal.returns-clause-printed
-returns-clause-printed g c = lines_done _ _ _ _ _ _ _ _ c.loop-line.invariant.up (drop_all c.loop-line.line-index c.args.script.now c.loop-line-test.false)
+returns-clause-printed g c = script_done _ _ _ _ _ _ _ _ _ c.loop-number.invariant.up c.in-None.ensures.steps.0
