@@ -15,10 +15,11 @@ use Rattle.mx_line.specs.declared.at_work.LineAtWork.{LineAtWork}
 use Rattle.mx_line.specs.declared.at_work.LineAtWork.TheVariants as works
 use Rattle.mx_line.specs.declared.fills.Behind.{Behind}
 use Rattle.mx_line.specs.declared.fills.Behind.TheVariants as behinds
+use Rattle.mx_line.specs.declared.fills.Fill.{Fill}
 use Rattle.mx_line.specs.declared.fills.Fill.TheVariants.{Words, Pointer}
 use Rattle.mx_line.specs.declared.operands.Progress.{Progress}
 use Rattle.mx_line.specs.declared.operands.Progress.TheVariants.{Before, Walking, AtLink, Waiting, Filling}
-use Rattle.mx_office.specs.Replies.{AsksForLink, IsReplyFor}
+use Rattle.mx_office.specs.Replies.{IsReplyFor}
 use Rattle.mx_office.specs.Serving.{answer_of}
 use Rattle.mx_office.specs.declared.answers.Answer.{Answer}
 use Rattle.mx_office.specs.declared.answers.Answer.TheVariants as answer
@@ -27,16 +28,16 @@ use Rattle.mx_request.specs.Sections.{section_in}
 use Rattle.mx_request.specs.declared.replies.Reply.{Reply}
 use Rattle.mx_request.specs.declared.replies.Reply.TheVariants as reply
 use Rattle.mx_request.specs.declared.requests.Request.{Request}
-use Rattle.mx_request.specs.declared.requests.Request.TheVariants.{Block, Link, Resume}
+use Rattle.mx_request.specs.declared.requests.Request.TheVariants.{Block, Link, Logout, Resume}
 use Rattle.mx_script.specs.declared.lines.Line.{Line}
 use Rattle.mx_script.specs.declared.lines.Line.TheVariants as line
 use Rattle.mx_state.specs.Told.{IsLinkedWithin}
 use Rattle.mx_state.specs.declared.journal.Entry as journaled
-use Rattle.mx_transcript.specs.Asking.{answered, attempts, awaits, first_due, linked, next, replied, result_of}
+use Rattle.mx_transcript.specs.Asking.{answered, attempts, awaits, first_due, linked, next, replied}
 use Rattle.mx_transcript.specs.Attempts.{attempting, wants}
 use Rattle.mx_transcript.specs.Courses.{Course, Answer as Answering}
 use Rattle.mx_transcript.specs.Filling.{due, fill, links_of, section_words, snapped, stored_into}
-use Rattle.mx_transcript.specs.Next.{Next, Reference, Asks, Calls, Ends as AsksToEnd, Fills, Nowhere}
+use Rattle.mx_transcript.specs.Next.{Next, Reference, Calls, Ends as AsksToEnd, Fills, Nowhere}
 use Rattle.mx_transcript.specs.Operands.{walk_of}
 use Rattle.mx_transcript.specs.Targets.{at_target, spri_at}
 use Rattle.mx_transcript.specs.declared.transcripts.Result2.{Result2}
@@ -515,3 +516,47 @@ message_ends g l e own is asks fits given (Filling (Words words)) s =
 message_ends g l e own is asks fits given (Filling (Pointer snap)) s = s.1.1 own is
 message_ends g l e own is asks fits given (Walking walk) s = s
 message_ends g l e own is asks fits given (AtLink place) s = s
+
+-- a line that logs out asks for that
+pub logout_asks : (g : Control) (l : Line) (course : Course) (ring : ℕ) (request : Request) (progress : Progress)
+    → IsCome g l course progress → next g l course ≡ Calls ring request → l ≡ line.Ask Logout → request ≡ Logout
+logout_asks g l course ring request Before come calls out =
+    same_own request Logout (sym (before_calls g l ring request (sym (before_asks g l course come) ∙ calls)) ∙ out)
+  where
+    same_own : (a b : Request) → line.Ask a ≡ line.Ask b → a ≡ b
+    same_own a b e = cc
+logout_asks g l course ring request (Walking walk) come calls out =
+    absurd (wants_calls g l (wanted walk) ring request (sym (walking_asks g l course walk come) ∙ calls))
+logout_asks g l course ring request (AtLink place) come calls out =
+    absurd (subst IsMemoryLine out (link_refers g l course place come))
+logout_asks g l course ring request Waiting come calls out = absurd (apart (sym (waiting_blocks g l course come) ∙ out))
+  where
+    apart : line.Ask Block ≡ line.Ask Logout → ⊥
+    apart e = cc
+logout_asks g l course ring request (Filling it) come calls out =
+    absurd (never_fills (write_of it) ring request (next g l course) (filling_asks g l course it come) calls)
+
+-- who logs out is told of no section
+no_section_out : (request : Request) (given : Reply) → request ≡ Logout → IsReplyFor request given → section_in given ≡ None
+no_section_out request reply.Done out fits = refl
+no_section_out request (reply.Refused why) out fits = refl
+no_section_out request (reply.Status status) out fits = refl
+no_section_out request (reply.Names names) out fits = refl
+no_section_out request (reply.Segno known) out fits = absurd (fits.2 out)
+no_section_out request (reply.Linked to at fresh linkage) out fits = absurd (apart (sym out ∙ fits.2))
+  where
+    apart : Logout ≡ Link fits.0 fits.1 → ⊥
+    apart e = cc
+no_section_out request reply.Sent out fits = refl
+no_section_out request (reply.Message sender word) out fits = refl
+no_section_out request reply.Nobody out fits = refl
+no_section_out request reply.Waiting out fits = refl
+
+-- so no write is due after the reply
+pub logout_fills : (g : Control) (l : Line) (e : journaled.Entry) → l ≡ line.Ask Logout → e.request ≡ Logout
+    → IsReplyFor e.request e.reply → (fill : Fill) → StandsAt g l (Answering e []) (works.At (Filling fill)) → ⊥
+logout_fills g l e is out fits (Words words) s = apart (sym s.0.section ∙ no_section_out e.request e.reply out fits)
+  where
+    apart : Some words.section ≡ None → ⊥
+    apart h = cc
+logout_fills g l e is out fits (Pointer snap) s = s.1.1 Logout is

@@ -1,7 +1,6 @@
 -- What a process's type says holds after an attempt at a line.
-use Rattle.std.proofs.Common.{◌≡◌, ℕ, ◌-◌, ◌≤◌, List, [], ◌∷◌, length, Option, Some, None, refl, sym, ◌∙◌, ap, subst, arith}
+use Rattle.std.proofs.Common.{◌≡◌, ℕ, suc, ◌+◌, ◌<◌, ◌-◌, ◌≤◌, ◌^◌, List, [], ◌∷◌, ◌++◌, append-nil, length, length-append, Option, Some, None, refl, sym, ◌∙◌, ap, subst, arith}
 use Rattle.std.specs.List.{slice_get}
-use Rattle.std.specs.Option.{option_map}
 use Rattle.mx_audit.specs.Accounts.{Account}
 use Rattle.mx_core.specs.AssociativeMemory.{recalled}
 use Rattle.mx_core.specs.declared.words.Stage.TheVariants.{Outside}
@@ -10,24 +9,30 @@ use Rattle.mx_desc.specs.Passes.{PassValue}
 use Rattle.mx_line.specs.Operands.{IsGoodProgress}
 use Rattle.mx_line.specs.declared.operands.Place.{Place}
 use Rattle.mx_line.specs.declared.processes.Process.{Process as LineState}
+use Rattle.mx_request.specs.declared.requests.Request.TheVariants.{Logout}
 use Rattle.mx_rule.specs.Entering.{connected_view, entered_view, left_view}
 use Rattle.mx_script.specs.Sessions.{Outline}
 use Rattle.mx_script.specs.declared.lines.Line.{Line}
+use Rattle.mx_script.specs.declared.lines.Line.TheVariants.{Ask}
 use Rattle.mx_state.specs.declared.journal.Entry as journaled
 use Rattle.mx_sdw.specs.declared.denials.Denial.{Denial}
+use Rattle.mx_transcript.proofs.DenialLaws.{last_of}
 use Rattle.mx_transcript.specs.Denials.{last_denial}
-use Rattle.mx_transcript.specs.Scripts.{first_line}
+use Rattle.mx_transcript.specs.Scripts.{lines_of}
 use Rattle.mx_transcript.specs.Transcripts.{Step}
 use Rattle.mx_upcall.specs.Soundness.{IsPackableControl}
 use Rattle.mx_line.specs.AtWork.{IsFree}
 use Rattle.mx_line.specs.Fills.{IsNoRequest}
-use Rattle.mx_process.proofs.AuditLaws.{audit_room, audited_more, still_attended, told_more}
-use Rattle.mx_process.proofs.PlaceLaws.{fewer_next}
-use Rattle.mx_process.proofs.ProcessLaws.{attempting, fitting_before}
+use Rattle.mx_process.proofs.AuditLaws.{audit_room, audited_same, one_denial}
+use Rattle.mx_process.proofs.HeedLaws.{heeded_attended, heeded_cut, heeded_process}
+use Rattle.mx_process.proofs.PlanLaws.{left_by, more_next, place_next, within_next}
+use Rattle.mx_process.proofs.ProcessLaws.{attempting, fitting_before, later, same_within, script_count, script_fits}
 use Rattle.mx_process.proofs.TurnLaws.{same_line}
 use Rattle.mx_process.specs.Attempts.{HasAttempted, HasDone, HasMissed, IsAtLinkIn}
-use Rattle.mx_process.specs.Audited.{IsAudited}
-use Rattle.mx_process.specs.Processes.{ProcessValue, IsAtLine, IsAtWork, IsFittingAt, IsProcess, Stands, known_of, left_of, script_of}
+use Rattle.mx_process.specs.Audited.{IsAudited, as_list}
+use Rattle.mx_process.specs.Heeding.{HasHeeded}
+use Rattle.mx_process.specs.Plans.{IsPlanned, MayBeCut, left_of, number_in, place_in}
+use Rattle.mx_process.specs.Processes.{ProcessValue, IsAtLine, IsAtWork, IsFittingAt, IsProcess, Stands, known_of}
 use Rattle.mx_process.specs.Turns.{Ends, IsAttempting, IsSameLine, IsUntold, Links, Misses, inside}
 use Rattle.mx_process.specs.declared.misses.Fast.{Fast}
 use Rattle.mx_process.specs.declared.misses.Fast.TheVariants as fast
@@ -93,6 +98,28 @@ module _ (x : Outline) (setup : List journaled.Entry) (line : Line) (old state :
   attempt_left came o' e a =
       subst (λ (z : PassValue journaled.Entry). HasAttempted x setup line old came (inside state z)) (sym e) (came_out came a)
 
+-- fewer lines are done than its script has
+fewer_done : (x : Outline) (v : ProcessValue) (number : ℕ) (line : Line) → 1 ≤ v.pass.view.process
+    → IsPlanned x v.pass.view.process v.state → IsAtLine x v number line
+    → length v.state.recording.steps < length (lines_of x v.pass.view.process)
+fewer_done x v number line some planned at =
+    let less = within_next x v.pass.view.process v.state some planned number line at.left at.at in omega (arith, less)
+
+-- behind one that is no `logout` a line is left
+pub line_behind : (x : Outline) (setup : List journaled.Entry) (accounts : List Account) (script : List Line) (memory : List Triple)
+    (old : ProcessValue) (state : LineState) (number : ℕ) (line : Line) (step : Step)
+    → IsProcess x setup accounts script memory old → IsAtLine x old number line → (line ≡ Ask Logout → ⊥)
+    → state.recording.steps ≡ old.state.recording.steps ++ step ∷ [] → length state.recording.steps < length script
+line_behind x setup accounts script memory old state number line step is at other steps =
+    let behind = more_next x old.pass.view.process old.state is.some is.planned number line at.left is.session at.at other in
+    let all = script_count x setup accounts script memory old is in
+    let one = ap (λ (l : List Step). length l) steps ∙ length-append old.state.recording.steps (step ∷ []) in
+    omega (arith, behind, all, one)
+
+pub onward_by : (old state state' : LineState) → state.first ≡ old.first → MayBeCut state state' → old.first ≤ state'.first
+onward_by old state state' first cut =
+    let is = ap (λ (s : LineState). s.first) cut.is in omega (arith, first, is)
+
 -- An attempt was made, from one value of a process to another.
 module _ (x : Outline) (setup : List journaled.Entry) (accounts : List Account) (script : List Line) (memory memory' : List Triple)
     (old : ProcessValue) (state : LineState) (o : PassValue journaled.Entry) (line : Line) where
@@ -106,66 +133,85 @@ module _ (x : Outline) (setup : List journaled.Entry) (accounts : List Account) 
   abbrev pub value_of : Option Miss → Option Account → ProcessValue
   value_of missing account = record { state = state; missing = missing; pass = o; account = account }
 
-  made : (out : IsOut) (missing : Option Miss) (account : Option Account) → state.first ≡ old.state.first
-      → IsPackableControl state.control → IsGoodProgress state.control.registers state.progress → IsFittingAt state.progress
-      → Stands x setup state missing (left_of x o.view.process state.recording.steps) o
-      → IsAudited (length script) (slice_get accounts (old.pass.view.process - 1)) state.recording.steps account
-      → IsProcess x setup accounts script memory' (value_of missing account)
-  made out missing account first packable good fitting stands audited =
-      let own = sym out.untold.process in record {
-        session = out.is.session;
-        some = subst (λ p. 1 ≤ p) own out.is.some;
-        own = out.is.own ∙ ap (script_of x) own;
-        same = out.same;
-        outside = out.outside;
-        first = first ∙ out.is.first ∙ ap (first_line x) own;
-        packable = packable;
-        good = good;
-        fitting = fitting;
-        stands = stands;
-        audited = subst (λ p. IsAudited (length script) (slice_get accounts (p - 1)) state.recording.steps account) own audited;
-      }
+  -- the lines that ended since
+  module _ (missing : Option Miss) (account : Option Account) (more : List Step) (first : state.first ≡ old.state.first)
+      (steps : state.recording.steps ≡ old.state.recording.steps ++ more) where
+    made : (out : IsOut) → place_in x old.pass.view.process state ≤ length (lines_of x old.pass.view.process)
+        → IsPackableControl state.control → IsGoodProgress state.control.registers state.progress → IsFittingAt state.progress
+        → Stands x setup state missing (left_of x o.view.process state) o
+        → IsAudited x old.pass.view.process (slice_get accounts (old.pass.view.process - 1)) state account
+        → IsProcess x setup accounts script memory' (value_of missing account)
+    made out within packable good fitting stands audited =
+        later x setup accounts script memory memory' old (value_of missing account) out.is out.untold.process first more steps out.same
+        out.outside within packable good fitting stands audited
 
-  -- the line ended, and the auditor was told
-  pub done_process : (out : IsOut) (account : Option Account) → Ends x setup old.state (inside state o)
-      → account ≡ option_map (told_more (last_denial state.recording.steps)) old.account
-      → IsProcess x setup accounts script memory' (value_of None account)
-  done_process out account e told =
-      made out None account e.first e.packable (subst (IsGoodProgress state.control.registers) (sym e.fresh) tt)
-      (subst IsFittingAt (sym e.fresh) fitting_before) e.before
-      (subst (λ (steps : List Step). IsAudited (length script) (slice_get accounts (old.pass.view.process - 1)) steps account) (sym e.steps)
-      (audited_more (length script) (slice_get accounts (old.pass.view.process - 1)) old.state.recording.steps _ old.account account
-      out.is.audited (told ∙ ap (λ (steps : List Step). option_map (told_more (last_denial steps)) old.account) e.steps)))
+  -- the line ended; its auditor was not told yet
+  pub done_process : (out : IsOut) (number : ℕ) → IsAtLine x old number line → Ends x setup old.state (inside state o)
+      → IsProcess x setup accounts script memory' (value_of None None)
+  done_process out number at e =
+      made None None (step ∷ []) e.first e.steps out
+      (within (within_next x old.pass.view.process old.state out.is.some out.is.planned number line at.left at.at)
+      (place_next x old.pass.view.process old.state state step e.first e.steps))
+      e.packable (subst (IsGoodProgress state.control.registers) (sym e.fresh) tt)
+      (subst IsFittingAt (sym e.fresh) fitting_before) e.before tt
+    where
+      step : Step
+      step = (number_in old.state, old.state.recording.events ++ e.more, e.ends)
 
-  pub has_done : (told : Option (ℕ × Denial)) (account : Option Account) → Ends x setup old.state (inside state o)
-      → account ≡ option_map (told_more told) old.account → IsUntold old.pass o → HasDone old (value_of None account)
-  has_done told account e more untold = record {
-    more = e.more;
-    ends = e.ends;
-    steps = e.steps;
-    idle = e.idle;
-    fresh = e.fresh;
-    settled = refl;
-    attended = still_attended told old.account account more;
-    untold = untold;
-  }
+      within : {a b n : ℕ} → suc a ≤ n → b ≡ suc a → b ≤ n
+      within {a} {b} {n} less is = omega (arith, less, is)
+
+  -- and then was, and its verdict heeded
+  module _ (told : Option (ℕ × Denial)) (account' : Option Account) (state' : LineState) (script' : List Line)
+      (heeded : HasHeeded told old.account state script account' state' script') where
+    abbrev pub value_then : ProcessValue
+    value_then = record { state = state'; missing = None; pass = o; account = account' }
+
+    pub heeded_then : (out : IsOut) (number : ℕ) → IsAtLine x old number line → (line ≡ Ask Logout → ⊥)
+        → Ends x setup old.state (inside state o) → last_denial state.recording.steps ≡ told
+        → IsProcess x setup accounts script' memory' value_then
+    heeded_then out number at other e last =
+        heeded_process x setup accounts script memory' state o (done_process out number at e) e.fresh e.idle old.state
+        (step ∷ []) e.first e.steps told old.account account' state' script'
+        (subst (λ p. IsAudited x p (slice_get accounts (p - 1)) old.state old.account) (sym out.untold.process) out.is.audited)
+        (one_denial step ∙ ap as_list (sym (last_of old.state.recording.steps step) ∙ ap last_denial (sym e.steps) ∙ last)) last
+        (line_behind x setup accounts script memory old state number line step out.is at other e.steps) heeded
+      where
+        step : Step
+        step = (number_in old.state, old.state.recording.events ++ e.more, e.ends)
+
+    pub has_done : Ends x setup old.state (inside state o) → IsUntold old.pass o → HasDone old value_then
+    has_done e untold =
+        let cut = heeded_cut told old.account account' state state' script script' heeded in record {
+          onward = onward_by old.state state state' e.first cut;
+          more = e.more;
+          ends = e.ends;
+          steps = ap (λ (s : LineState). s.recording.steps) cut.is ∙ e.steps;
+          idle = ap (λ (s : LineState). s.recording.events) cut.is ∙ e.idle;
+          fresh = ap (λ (s : LineState). s.progress) cut.is ∙ e.fresh;
+          settled = refl;
+          attended = heeded_attended told old.account account' state state' script script' heeded;
+          untold = untold;
+        }
 
   still_audited : (out : IsOut) → IsSameLine old.state state
-      → IsAudited (length script) (slice_get accounts (old.pass.view.process - 1)) state.recording.steps old.account
+      → IsAudited x old.pass.view.process (slice_get accounts (old.pass.view.process - 1)) state old.account
   still_audited out same =
-      subst (λ (steps : List Step). IsAudited (length script) (slice_get accounts (old.pass.view.process - 1)) steps old.account)
-      (sym same.steps) out.is.audited
+      audited_same x old.pass.view.process old.pass.view.process accounts old.state state old.account old.account same.first
+      same.steps refl refl out.is.audited
 
   -- the same line is next
   left_is : IsUntold old.pass o → IsSameLine old.state state
-      → left_of x o.view.process state.recording.steps ≡ left_of x old.pass.view.process old.state.recording.steps
-  left_is untold same = λ i. left_of x (untold.process i) (same.steps i)
+      → left_of x o.view.process state ≡ left_of x old.pass.view.process old.state
+  left_is untold same = λ i. left_by x (untold.process i) (same.first i) (same.steps i)
 
   -- a reference missed
   pub missed_process : (out : IsOut) (m : Miss) (number : ℕ) → IsAtLine x old number line → Misses x setup line old.state m (inside state o)
       → IsProcess x setup accounts script memory' (value_of (Some m) old.account)
   missed_process out m number at e =
-      made out (Some m) old.account e.same.first (subst IsPackableControl (sym e.same.control) out.is.packable) e.good e.fitting
+      made (Some m) old.account [] e.same.first (e.same.steps ∙ sym (append-nil old.state.recording.steps)) out
+      (same_within x old.pass.view.process old.state state e.same.first e.same.steps out.is.within)
+      (subst IsPackableControl (sym e.same.control) out.is.packable) e.good e.fitting
       (subst (λ (l : List (ℕ × Line)). Stands x setup state (Some m) l o) (sym (left_is out.untold e.same ∙ at.at)) e.missing)
       (still_audited out e.same)
 
@@ -186,7 +232,8 @@ module _ (x : Outline) (setup : List journaled.Entry) (accounts : List Account) 
       → IsAtWork x setup state line (known_of o)
       → IsProcess x setup accounts script memory' (value_of None old.account)
   going_process out same packable good fitting number at work =
-      made out None old.account same.first packable good fitting
+      made None old.account [] same.first (same.steps ∙ sym (append-nil old.state.recording.steps)) out
+      (same_within x old.pass.view.process old.state state same.first same.steps out.is.within) packable good fitting
       (subst (λ (l : List (ℕ × Line)). Stands x setup state None l o) (sym (left_is out.untold same ∙ at.at)) work)
       (still_audited out same)
 
@@ -228,8 +275,8 @@ pub missed_again : (x : Outline) (setup : List journaled.Entry) (accounts : List
 missed_again x setup accounts script memory v m is e = record {
   same = same_line v.state;
   kept = e;
-  none = by_left (left_of x v.pass.view.process v.state.recording.steps)
-      (subst (λ (z : Option Miss). Stands x setup v.state z (left_of x v.pass.view.process v.state.recording.steps) v.pass) e is.stands);
+  none = by_left (left_of x v.pass.view.process v.state)
+      (subst (λ (z : Option Miss). Stands x setup v.state z (left_of x v.pass.view.process v.state) v.pass) e is.stands);
   account = refl;
   untold = record { process = refl; history = refl; told = λ n. refl; amount = refl };
 }
@@ -243,7 +290,7 @@ missed_again x setup accounts script memory v m is e = record {
 module _ (x : Outline) (setup : List journaled.Entry) (accounts : List Account) (script : List Line) (memory : List Triple)
     (v w : ProcessValue) (line : Line) (same : v ≡ w) (is : IsProcess x setup accounts script memory v)
     (at : (number : ℕ) × IsAtLine x w number line) where
-  at_line : (number : ℕ) × IsAtLine x v number line
+  pub at_line : (number : ℕ) × IsAtLine x v number line
   at_line = subst (λ (z : ProcessValue). (number : ℕ) × IsAtLine x z number line) (sym same) at
 
   pub attempt_begins : IsNoRequest line → IsFree w.state.progress → w.missing ≡ None
@@ -253,13 +300,22 @@ module _ (x : Outline) (setup : List journaled.Entry) (accounts : List Account) 
       (subst (λ (z : ProcessValue). IsFree z.state.progress) (sym same) free)
       (ap (λ (z : ProcessValue). z.missing) same ∙ settled)
 
+  -- where it has ended a line is left
+  pub left_behind : (state : LineState) (o : PassValue journaled.Entry) → IsNoRequest line → Ends x setup v.state (inside state o)
+      → length state.recording.steps < length script
+  left_behind state o other e =
+      line_behind x setup accounts script memory v state at_line.0 line
+      (number_in v.state, v.state.recording.events ++ e.more, e.ends) is at_line.1 (other Logout) e.steps
+
+  pub numbers_behind : (state : LineState) → state.first ≡ v.state.first → state.first + length script < 2 ^ 32
+  numbers_behind state first =
+      subst (λ n. n + length script < 2 ^ 32) (sym first) (script_fits x setup accounts script memory v is)
+
   -- and its auditor has room for a denial
   pub has_room : (account : Account) → v.account ≡ Some account → 1 ≤ account.room
   has_room account e =
-      let less = fewer_next x v.pass.view.process v.state.recording.steps is.some at_line.0 line at_line.1.left at_line.1.at in
-      let own = ap (λ (l : List Line). length l) is.own in
-      audit_room (length script) (slice_get accounts (v.pass.view.process - 1)) v.state.recording.steps v.account
-      (omega (arith, less, own)) is.audited account e
+      audit_room x v.pass.view.process (slice_get accounts (v.pass.view.process - 1)) v.state v.account
+      (fewer_done x v at_line.0 line is.some is.planned at_line.1) is.audited account e
 
 -- the link that is to be snapped
 pub link_told : (P : ℕ → ℕ → ℕ → Type 0) (segno segno' word word' ring ring' : ℕ)

@@ -1,5 +1,5 @@
 -- The calls of a process: when a line asks for one, and what its type says holds after it.
-use Rattle.std.proofs.Common.{◌≡◌, ◌⊎◌, inl, inr, ℕ, ◌+◌, ◌-◌, ◌<◌, ◌≤◌, ◌^◌, true, List, [], ◌∷◌, ◌++◌, length, Option, Some, None, Result, Ok, Err, refl, sym, ◌∙◌, ap, subst}
+use Rattle.std.proofs.Common.{◌≡◌, ℕ, suc, ◌+◌, ◌-◌, ◌≤◌, true, List, [], ◌∷◌, ◌++◌, append-nil, length, Option, Some, None, Result, Ok, Err, refl, sym, ◌∙◌, ap, subst, arith}
 use Rattle.std.specs.List.{slice_get}
 use Rattle.std.specs.Prelude.{IfOk, IsSome, OnErr, OnOk}
 use Rattle.std.specs.declared.alloc.AllocError.{AllocError}
@@ -23,22 +23,21 @@ use Rattle.mx_state.specs.declared.journal.Entry as journaled
 use Rattle.mx_transcript.specs.Asking.{next}
 use Rattle.mx_transcript.specs.Courses.{Course}
 use Rattle.mx_transcript.specs.Next.{Calls}
-use Rattle.mx_transcript.specs.Scripts.{first_line}
+use Rattle.mx_transcript.specs.Scripts.{lines_of}
 use Rattle.mx_transcript.specs.Transcripts.{Step}
 use Rattle.mx_transcript.specs.declared.transcripts.Event2.{Event2}
-use Rattle.mx_transcript.specs.declared.transcripts.Result2.{Result2}
-use Rattle.mx_transcript.specs.declared.transcripts.Result2.TheVariants as result
 use Rattle.mx_upcall.specs.Control.{Control}
 use Rattle.mx_upcall.specs.Soundness.{IsPackableControl}
 use Rattle.mx_process.proofs.AttemptLaws.{one_line}
-use Rattle.mx_process.proofs.AuditLaws.{audited_still}
-use Rattle.mx_process.proofs.PlaceLaws.{countable_next, sayable_next}
-use Rattle.mx_process.proofs.ProcessLaws.{fitting_before}
+use Rattle.mx_process.proofs.AuditLaws.{audited_none, audited_same, undenied_one}
+use Rattle.mx_process.proofs.PlanLaws.{countable_next, left_by, place_next, sayable_next, within_next}
+use Rattle.mx_process.proofs.ProcessLaws.{fitting_before, later, same_within}
 use Rattle.mx_process.specs.Attempts.{IsAtLinkIn}
 use Rattle.mx_process.specs.Audited.{IsAudited}
 use Rattle.mx_process.specs.Entries.{CallsFor, EndsBy, GoesOnBy, HasCalled, IsAtCall, StaysAt}
 use Rattle.mx_process.specs.Lines.{HasEnded, HasGoneOn, IsAwake, IsCalling, IsLeftByReply, IsOwn}
-use Rattle.mx_process.specs.Processes.{IsFittingAt, ProcessValue, AsksFor, AsksIn, HasLine, IsAtLine, IsAtWork, IsMissing, IsProcess, IsReferringIn, IsStill, Stands, known_of, left_of, number_in, script_of}
+use Rattle.mx_process.specs.Plans.{left_of, number_in, place_in}
+use Rattle.mx_process.specs.Processes.{IsFittingAt, ProcessValue, AsksFor, AsksIn, HasLine, IsAtLine, IsProcess, IsReferringIn, IsStill, Stands, known_of}
 use Rattle.mx_process.specs.Turns.{inside}
 use Rattle.mx_process.specs.declared.entries.Answered.{Answered}
 use Rattle.mx_process.specs.declared.entries.Answered.TheVariants as answered
@@ -87,7 +86,7 @@ pub own_no_resume : (x : Outline) (setup : List journaled.Entry) (accounts : Lis
     → IsAtLine x v number (Ask request) → request ≡ Resume → ⊥
 own_no_resume x setup accounts script memory v number request is at e =
     script_resumes (subst (λ (q : Request). IsSayable (Ask q)) e
-    (sayable_next x v.pass.view.process v.state.recording.steps is.some number (Ask request) at.left is.session at.at))
+    (sayable_next x v.pass.view.process v.state is.some is.planned number (Ask request) at.left is.session at.at))
 
 -- a line whose link is to be snapped asks for that
 pub calls_link : (x : Outline) (segno word ring : ℕ) (old new : ProcessValue) → IsAtLinkIn x segno word ring old new
@@ -130,14 +129,13 @@ module _ (x : Outline) (setup : List journaled.Entry) (accounts : List Account) 
   at_call ring request settled calls =
       let next : IsAtLine x v there.0 line = there.1 in
       record {
-        sayable = sayable_next x v.pass.view.process v.state.recording.steps is.some there.0 line next.left is.session next.at;
+        sayable = sayable_next x v.pass.view.process v.state is.some is.planned there.0 line next.left is.session next.at;
         packable = is.packable;
         good = is.good;
         fitting = is.fitting;
         some = is.some;
-        first = is.first;
-        countable = subst (λ n. n + length v.state.recording.steps < 2 ^ 32) (sym is.first)
-            (countable_next x v.pass.view.process v.state.recording.steps is.some there.0 line next.left is.session next.at);
+        planned = is.planned;
+        countable = countable_next x v.pass.view.process v.state is.some is.planned there.0 line next.left is.session next.at;
         work = subst (λ (m : Option Miss). Stands x setup v.state m ((there.0, line) ∷ next.left) v.pass) settled
             (subst (λ (l : List (ℕ × Line)). Stands x setup v.state v.missing l v.pass) next.at is.stands);
         calls = calls;
@@ -160,7 +158,7 @@ module _ (x : Outline) (setup : List journaled.Entry) (accounts : List Account) 
 
   pub resume_settled : w.state.progress ≡ Waiting → v.missing ≡ None
   resume_settled waiting =
-      waiting_settled x setup v.state v.missing (left_of x v.pass.view.process v.state.recording.steps) v.pass
+      waiting_settled x setup v.state v.missing (left_of x v.pass.view.process v.state) v.pass
       (ap (λ (z : ProcessValue). z.state.progress) same ∙ waiting) is.stands
 
   pub resume_begins : w.state.progress ≡ Waiting
@@ -177,38 +175,32 @@ module _ (x : Outline) (setup : List journaled.Entry) (accounts : List Account) 
   abbrev pub value_of : Option Miss → ProcessValue
   value_of missing = record { state = state; missing = missing; pass = o; account = old.account }
 
-  made : state.first ≡ old.state.first → IsPackableControl state.control
+  made : state.first ≡ old.state.first → (more : List Step) → state.recording.steps ≡ old.state.recording.steps ++ more
+      → place_in x old.pass.view.process state ≤ length (lines_of x old.pass.view.process) → IsPackableControl state.control
       → IsGoodProgress state.control.registers state.progress → IsFittingAt state.progress
-      → Stands x setup state None (left_of x o.view.process state.recording.steps) o
-      → IsAudited (length script) (slice_get accounts (old.pass.view.process - 1)) state.recording.steps old.account
+      → Stands x setup state None (left_of x o.view.process state) o
+      → IsAudited x old.pass.view.process (slice_get accounts (old.pass.view.process - 1)) state old.account
       → IsProcess x setup accounts script memory (value_of old.missing)
-  made first packable good fitting stands audited =
-      let own = sym grown.process in
-      subst (λ (m : Option Miss). IsProcess x setup accounts script memory (value_of m)) (sym settled) (record {
-        session = is.session;
-        some = subst (λ p. 1 ≤ p) own is.some;
-        own = is.own ∙ ap (script_of x) own;
-        same = is.same ∙ sym grown.memory;
-        outside = grown.stage ∙ is.outside;
-        first = first ∙ is.first ∙ ap (first_line x) own;
-        packable = packable;
-        good = good;
-        fitting = fitting;
-        stands = stands;
-        audited = subst (λ p. IsAudited (length script) (slice_get accounts (p - 1)) state.recording.steps old.account) own audited;
-      })
+  made first more steps within packable good fitting stands audited =
+      subst (λ (m : Option Miss). IsProcess x setup accounts script memory (value_of m)) (sym settled)
+      (later x setup accounts script memory memory old (value_of None) is grown.process first more steps
+      (is.same ∙ sym grown.memory) (grown.stage ∙ is.outside) within packable good fitting stands audited)
+
+  here : (number : ℕ) × IsAtLine x w number line → (number : ℕ) × IsAtLine x old number line
+  here at = subst (λ (z : ProcessValue). (number : ℕ) × IsAtLine x z number line) (sym same) at
 
   -- the line goes on
   pub stays_process : (number : ℕ) × IsAtLine x w number line → StaysAt x setup line old.state (inside state o)
       → IsProcess x setup accounts script memory (value_of old.missing)
   stays_process at s =
-      let here = subst (λ (z : ProcessValue). (number : ℕ) × IsAtLine x z number line) (sym same) at in
-      let next : IsAtLine x old here.0 line = here.1 in
-      made s.same.first (subst IsPackableControl (sym s.same.control) is.packable) s.good s.fitting
+      let next : IsAtLine x old (here at).0 line = (here at).1 in
+      made s.same.first [] (s.same.steps ∙ sym (append-nil old.state.recording.steps))
+      (same_within x old.pass.view.process old.state state s.same.first s.same.steps is.within)
+      (subst IsPackableControl (sym s.same.control) is.packable) s.good s.fitting
       (subst (λ (l : List (ℕ × Line)). Stands x setup state None l o)
-      (sym ((λ i. left_of x (grown.process i) (s.same.steps i)) ∙ next.at)) s.work)
-      (subst (λ (steps : List Step). IsAudited (length script) (slice_get accounts (old.pass.view.process - 1)) steps old.account)
-      (sym s.same.steps) is.audited)
+      (sym ((λ i. left_by x (grown.process i) (s.same.first i) (s.same.steps i)) ∙ next.at)) s.work)
+      (audited_same x old.pass.view.process old.pass.view.process accounts old.state state old.account old.account s.same.first
+      s.same.steps refl refl is.audited)
 
   pub has_gone : StaysAt x setup line old.state (inside state o) → HasGoneOn w (value_of old.missing)
   has_gone s = subst (λ (z : ProcessValue). HasGoneOn z (value_of old.missing)) same (record {
@@ -221,18 +213,29 @@ module _ (x : Outline) (setup : List journaled.Entry) (accounts : List Account) 
   })
 
   -- or has ended
-  pub ended_process : EndsBy x setup old.state (inside state o) → IsProcess x setup accounts script memory (value_of old.missing)
-  ended_process e =
-      made e.ended.first e.ended.packable (subst (IsGoodProgress state.control.registers) (sym e.ended.fresh) tt)
+  pub ended_process : (number : ℕ) × IsAtLine x w number line → EndsBy x setup old.state (inside state o)
+      → IsProcess x setup accounts script memory (value_of old.missing)
+  ended_process at e =
+      let next : IsAtLine x old (here at).0 line = (here at).1 in
+      made e.ended.first (step ∷ []) e.ended.steps
+      (within (within_next x old.pass.view.process old.state is.some is.planned (here at).0 line next.left next.at)
+      (place_next x old.pass.view.process old.state state step e.ended.first e.ended.steps))
+      e.ended.packable (subst (IsGoodProgress state.control.registers) (sym e.ended.fresh) tt)
       (subst IsFittingAt (sym e.ended.fresh) fitting_before) e.ended.before
-      (subst (λ (steps : List Step). IsAudited (length script) (slice_get accounts (old.pass.view.process - 1)) steps old.account)
-      (sym e.ended.steps)
-      (audited_still (length script) (slice_get accounts (old.pass.view.process - 1)) old.state.recording.steps
-      (number_in old.state) (old.state.recording.events ++ e.ended.more) e.ended.ends old.account e.undenied is.audited))
+      (audited_none x old.pass.view.process (slice_get accounts (old.pass.view.process - 1)) old.state state (step ∷ [])
+      e.ended.first e.ended.steps old.account
+      (undenied_one (number_in old.state) (old.state.recording.events ++ e.ended.more) e.ended.ends e.undenied) is.audited)
+    where
+      step : Step
+      step = (number_in old.state, old.state.recording.events ++ e.ended.more, e.ended.ends)
+
+      within : {a b n : ℕ} → suc a ≤ n → b ≡ suc a → b ≤ n
+      within {a} {b} {n} less is = omega (arith, less, is)
 
   pub has_ended : EndsBy x setup old.state (inside state o) → HasEnded w (value_of old.missing)
   has_ended e = subst (λ (z : ProcessValue). HasEnded z (value_of old.missing)) same (record {
     own = record { process = grown.process; attended = (λ some. some, λ some. some) };
+    onward = low old.state.first state.first e.ended.first;
     more = e.ended.more;
     ends = e.ended.ends;
     steps = e.ended.steps;
@@ -240,6 +243,9 @@ module _ (x : Outline) (setup : List journaled.Entry) (accounts : List Account) 
     fresh = e.ended.fresh;
     settled = settled;
   })
+    where
+      low : (a b : ℕ) → b ≡ a → a ≤ b
+      low a b e = omega (arith, e)
 
   still_value : state ≡ old.state → o ≡ old.pass → value_of old.missing ≡ old
   still_value same_state same_pass = λ i. record {
@@ -255,7 +261,7 @@ module _ (x : Outline) (setup : List journaled.Entry) (accounts : List Account) 
       → OnErr r (state ≡ old.state) → OnErr r (o ≡ old.pass) → (number : ℕ) × IsAtLine x w number line
       → IsProcess x setup accounts script memory (value_of old.missing)
   called_process (Ok answered.More) s same_state same_pass at = stays_process at s.stays
-  called_process (Ok answered.Done) s same_state same_pass at = ended_process s
+  called_process (Ok answered.Done) s same_state same_pass at = ended_process at s
   called_process (Err e) s same_state same_pass at =
       subst (IsProcess x setup accounts script memory) (sym (still_value same_state same_pass)) is
 
@@ -277,7 +283,7 @@ module _ (x : Outline) (setup : List journaled.Entry) (accounts : List Account) 
   pub slept_process : (r : Result (Unit {0}) AllocError) → OnOk r (EndsBy x setup old.state (inside state o))
       → OnErr r (StaysAt x setup line old.state (inside state o)) → (number : ℕ) × IsAtLine x w number line
       → IsProcess x setup accounts script memory (value_of old.missing)
-  slept_process (Ok v) ended stays at = ended_process ended
+  slept_process (Ok v) ended stays at = ended_process at ended
   slept_process (Err e) ended stays at = stays_process at stays
 
   pub slept_done : (r : Result (Unit {0}) AllocError) → OnOk r (EndsBy x setup old.state (inside state o))
@@ -293,11 +299,11 @@ module _ (x : Outline) (setup : List journaled.Entry) (accounts : List Account) 
   -- by what a `resume` came to
   pub resumed_process : (r : Result Turned AllocError) → (r ≡ Ok turned.Done → EndsBy x setup old.state (inside state o))
       → (r ≡ Ok turned.Waits → (state ≡ old.state) × (o ≡ old.pass)) → OnErr r (state ≡ old.state) → OnErr r (o ≡ old.pass)
-      → IsProcess x setup accounts script memory (value_of old.missing)
-  resumed_process (Ok turned.Done) ended waits same_state same_pass = ended_process (ended refl)
-  resumed_process (Ok turned.Waits) ended waits same_state same_pass =
+      → (number : ℕ) × IsAtLine x w number line → IsProcess x setup accounts script memory (value_of old.missing)
+  resumed_process (Ok turned.Done) ended waits same_state same_pass at = ended_process at (ended refl)
+  resumed_process (Ok turned.Waits) ended waits same_state same_pass at =
       subst (IsProcess x setup accounts script memory) (sym (still_value (waits refl).0 (waits refl).1)) is
-  resumed_process (Err e) ended waits same_state same_pass =
+  resumed_process (Err e) ended waits same_state same_pass at =
       subst (IsProcess x setup accounts script memory) (sym (still_value same_state same_pass)) is
 
 -- a call is made after room was made for it
@@ -314,6 +320,7 @@ module _ (x : Outline) (old mid : ProcessValue) (s : IsStill old mid) where
   pub ended_still : (new : ProcessValue) → HasEnded mid new → HasEnded old new
   ended_still new e = record {
     own = own_still new e.own;
+    onward = subst (λ n. n ≤ new.state.first) s.first e.onward;
     more = e.more;
     ends = e.ends;
     steps = e.steps
@@ -334,7 +341,7 @@ module _ (x : Outline) (old mid : ProcessValue) (s : IsStill old mid) where
   }
 
   at_still : (number : ℕ) (line : Line) → IsAtLine x old number line → IsAtLine x mid number line
-  at_still number line at = record { left = at.left; at = (λ i. left_of x (s.view i).process (s.steps i)) ∙ at.at }
+  at_still number line at = record { left = at.left; at = (λ i. left_by x (s.view i).process (s.first i) (s.steps i)) ∙ at.at }
 
   pub line_still : HasLine x old → HasLine x mid
   line_still has = record { number = has.number; line = has.line; at = at_still has.number has.line has.at }

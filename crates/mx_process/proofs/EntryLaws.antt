@@ -26,12 +26,11 @@ use Rattle.mx_office.specs.declared.answers.BlockError.{BlockError}
 use Rattle.mx_office.specs.declared.answers.Blocked.{Blocked}
 use Rattle.mx_office.specs.declared.answers.Served.{Served}
 use Rattle.mx_request.specs.declared.replies.Reply.{Reply}
-use Rattle.mx_request.specs.declared.replies.Reply.TheVariants as reply
 use Rattle.mx_request.specs.declared.requests.Request.{Request}
-use Rattle.mx_request.specs.declared.requests.Request.TheVariants.{Block, Link, Resume}
+use Rattle.mx_request.specs.declared.requests.Request.TheVariants.{Block, Link, Logout, Resume}
 use Rattle.mx_script.specs.Sessions.{Outline, limit_of}
 use Rattle.mx_script.specs.declared.lines.Line.{Line}
-use Rattle.mx_script.specs.declared.lines.Line.TheVariants as line
+use Rattle.mx_script.specs.declared.lines.Line.TheVariants.{Ask}
 use Rattle.mx_sdw.specs.Descriptors.{Descriptor, unknown_desc}
 use Rattle.mx_sdw.specs.declared.denials.Denial.{Denial}
 use Rattle.mx_state.specs.declared.journal.Entry as journaled
@@ -45,7 +44,6 @@ use Rattle.mx_transcript.specs.Courses.{Course, Answer as Answering}
 use Rattle.mx_transcript.specs.Lines.{IsEnd}
 use Rattle.mx_transcript.specs.Misses.{IsChanged}
 use Rattle.mx_transcript.specs.Next.{Next, Calls}
-use Rattle.mx_transcript.specs.Scripts.{first_line}
 use Rattle.mx_transcript.specs.Settings.{Setting, entry_at}
 use Rattle.mx_transcript.specs.Standing.{own_setting}
 use Rattle.mx_transcript.specs.declared.transcripts.Event2.{Event2}
@@ -55,12 +53,14 @@ use Rattle.mx_transcript.specs.declared.transcripts.Result2.TheVariants as resul
 use Rattle.mx_upcall.specs.Changes.{changed}
 use Rattle.mx_upcall.specs.Control.{Control}
 use Rattle.mx_upcall.specs.Soundness.{IsPackableControl}
-use Rattle.mx_process.proofs.AnswerLaws.{IsLinker, IsOwnLine, blocks, callers, left_at, message_ends, stands_alike, told_waiting, with_reply}
+use Rattle.mx_process.proofs.AnswerLaws.{IsLinker, IsOwnLine, blocks, callers, left_at, logout_asks, logout_fills, message_ends, stands_alike, told_waiting, with_reply}
+use Rattle.mx_process.proofs.PlanLaws.{planned_same}
 use Rattle.mx_process.proofs.TurnLaws.{same_line}
 use Rattle.mx_process.proofs.WorkLaws.{come_on, line_ended, line_over}
-use Rattle.mx_process.specs.Entries.{CallsFor, EndsBy, GoesBy, GoesOnBy, HasAnswered, HasCalled, HasFilled, HasLastReply, HasReply, IsAtCall, IsLeft, IsLeftAt, IsReplied, StaysAt, plainest}
-use Rattle.mx_process.specs.Processes.{IsFitting, IsFittingAt, Known, IsAtWork, IsBefore, at_work, known_of, left_of, number_in}
-use Rattle.mx_process.specs.Turns.{Ends, HasEnd, HasEvent, IsSameLine, inside}
+use Rattle.mx_process.specs.Entries.{EndsBy, GoesBy, HasAnswered, HasCalled, HasFilled, HasLastReply, HasReply, IsAtCall, IsLeft, IsLeftAt, IsReplied, StaysAt, plainest}
+use Rattle.mx_process.specs.Plans.{IsPlanned, number_in}
+use Rattle.mx_process.specs.Processes.{IsFitting, IsFittingAt, IsAtWork, at_work, known_of}
+use Rattle.mx_process.specs.Turns.{HasEnd, HasEvent, inside}
 use Rattle.mx_process.specs.declared.entries.Answered.{Answered}
 use Rattle.mx_process.specs.declared.entries.Answered.TheVariants as came
 
@@ -71,12 +71,16 @@ next_of n = omega arith
 abbrev entered_view : View → List Marked → ℕ → View
 entered_view v more floor = record v { history = v.history ++ more; floor = floor; amount = suc v.amount }
 
--- what follows the link words of a section is known where a reply leaves a line that goes on
-waiting_fits : (progress : Progress) → progress ≡ Waiting → IsFittingAt progress
-waiting_fits progress is fill due = absurd (apart (sym is ∙ due))
+-- where a process waits no write is due
+waiting_free : (progress : Progress) → progress ≡ Waiting → (fill : Fill) → progress ≡ Filling fill → ⊥
+waiting_free progress is fill due = apart (sym is ∙ due)
   where
     apart : Waiting ≡ Filling fill → ⊥
     apart e = cc
+
+-- what follows the link words of a section is known where a reply leaves a line that goes on
+waiting_fits : (progress : Progress) → progress ≡ Waiting → IsFittingAt progress
+waiting_fits progress is fill due = absurd (waiting_free progress is fill due)
 
 same_fill : (fill other : Fill) → Filling fill ≡ Filling other → fill ≡ other
 same_fill fill other e = cc
@@ -147,7 +151,7 @@ module _ (x : Outline) (setup : List journaled.Entry) (line : Line) (old : LineS
         its_request ∙ block,
         blocks old.control line a.work.course ring Block old.progress a.work.come
             (a.calls a.work.course a.work.come ∙ ap (Calls ring) block),
-      ) has
+      ) (λ fill due. absurd (waiting_free Waiting refl fill due)) has
 
   -- what the line is told
   pub has_reply : IsAtCall x setup old line ring request (known_of o) → (request ≡ Resume → served.answer ≡ answer.Waiting → ⊥)
@@ -175,6 +179,16 @@ module _ (x : Outline) (setup : List journaled.Entry) (line : Line) (old : LineS
           (gone_on (at_work x o'.view.process old line a.work.course) (Entry served.number) (Answering h.marked.entry [])) (view_in o') (told_to o')
       working = entered_working a.work.course (a.calls a.work.course a.work.come) a.work.working
 
+      -- a line that logs out is told of nothing that is to be written
+      unfilled_by : (progress : Progress) → StandsAt old.control line (Answering h.marked.entry []) (works.At progress)
+          → (fill : Fill) → progress ≡ Filling fill → line ≡ Ask Logout → ⊥
+      unfilled_by progress stands fill due out =
+          logout_fills old.control line h.marked.entry out
+          (logout_asks old.control line a.work.course h.marked.entry.ring h.marked.entry.request old.progress a.work.come
+          (a.calls a.work.course a.work.come ∙ sym its_call) out)
+          (subst (λ (q : Request). IsReplyFor q h.marked.entry.reply) (sym its_request) h.fits) fill
+          (subst (λ (r : Progress). StandsAt old.control line (Answering h.marked.entry []) (works.At r)) due stands)
+
       by_work : (to : Answered) (work : LineAtWork) → StandsAt old.control line (Answering h.marked.entry []) work → IsLeftAt work
           → GoesBy old (Entry served.number) work to new → HasCalled x setup line old to (inside new o')
       by_work came.More (works.At progress) stands left has = record {
@@ -188,7 +202,7 @@ module _ (x : Outline) (setup : List journaled.Entry) (line : Line) (old : LineS
             room = has.room;
           };
           work = come_on x setup line old new (known_of o') a.work.course (Answering h.marked.entry []) (Entry served.number) progress
-              working stands has;
+              working stands (unfilled_by progress stands) has;
           good = good;
           fitting = fits_left new.progress (subst IsLeft (sym has.progress) left);
         };
@@ -205,7 +219,7 @@ module _ (x : Outline) (setup : List journaled.Entry) (line : Line) (old : LineS
           packable = packable;
           before = line_ended x setup line old new (known_of o') (Answering h.marked.entry [])
               (old.recording.events ++ Entry served.number ∷ []) end (subst (λ p. 1 ≤ p) (sym h.grown.process) a.some)
-              (a.first ∙ ap (first_line x) (sym h.grown.process)) working stands ended;
+              (subst (λ p. IsPlanned x p old) (sym h.grown.process) a.planned) working stands ended;
         };
         undenied = undenied end.ends left;
       }
@@ -265,7 +279,7 @@ module _ (x : Outline) (setup : List journaled.Entry) (line : Line) (old new : L
       first = f.ended.first;
       packable = packable;
       before = line_over x setup line old new (known_of o') a.work.course old.recording.events f.end
-          (subst (λ p. 1 ≤ p) (sym h.grown.process) a.some) (a.first ∙ ap (first_line x) (sym h.grown.process))
+          (subst (λ p. 1 ≤ p) (sym h.grown.process) a.some) (subst (λ p. IsPlanned x p old) (sym h.grown.process) a.planned)
           (told_working a.work.course a.work.working) ending f.ended;
     };
     undenied = λ denial e. apart denial (sym f.full ∙ e);
@@ -419,7 +433,7 @@ module _ (x : Outline) (setup : List journaled.Entry) (line : Line) (old mid : L
     good = waiting_good;
     fitting = waiting_fits mid.progress has.progress;
     some = subst (λ p. 1 ≤ p) (sym h.grown.process) a.some;
-    first = has.first ∙ a.first ∙ ap (first_line x) (sym h.grown.process);
+    planned = planned_same x o.view.process between.view.process old mid has.first has.steps (sym h.grown.process) a.planned;
     countable = subst (λ n. n < 2 ^ 32) (λ i. sym has.first i + length (sym has.steps i)) a.countable;
     work = waiting_work;
     calls = λ course come. waiting_calls mid.control line course (subst (IsCome mid.control line course) has.progress come)

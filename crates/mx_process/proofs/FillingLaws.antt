@@ -63,7 +63,8 @@ use Rattle.mx_process.proofs.KnownLaws.{known_missed, known_seen, seen_known}
 use Rattle.mx_process.proofs.TurnLaws.{same_line}
 use Rattle.mx_process.proofs.WorkLaws.{come_on, line_ended, line_over}
 use Rattle.mx_process.specs.Filling.{HasStored, HasWrote, IsOnwardAt, IsSince, IsWriting, Leads, MissesWrite, StandsIn}
-use Rattle.mx_process.specs.Processes.{Known, AsksFor, IsAtWork, IsBefore, IsFitting, at_work, known_of, left_of}
+use Rattle.mx_process.specs.Plans.{left_of}
+use Rattle.mx_process.specs.Processes.{Known, AsksFor, IsAtWork, IsBefore, IsFitting, at_work, known_of}
 use Rattle.mx_process.specs.Turns.{Comes, Ends, HasEnd, inside}
 use Rattle.mx_process.specs.declared.turns.Turn.{Turn}
 use Rattle.mx_process.specs.declared.turns.Turn.TheVariants as turn
@@ -311,7 +312,7 @@ module _ (x : Outline) (setup : List journaled.Entry) (line : Line) (old new : L
       higher = rises o.view.floor (stamp_read e.outcome)
 
       ends_so : (end : End) → HasEnd old (old.recording.events ++ Core (Seen e) ∷ []) end new
-          → IsBefore x setup new (left_of x o.view.process new.recording.steps) (seen_known (known_of o) (beside e j.on.desc) floor)
+          → IsBefore x setup new (left_of x o.view.process new) (seen_known (known_of o) (beside e j.on.desc) floor)
           → Ends x setup old (inside new o')
       ends_so end ended before = record {
         more = Core (Seen e) ∷ [];
@@ -321,7 +322,7 @@ module _ (x : Outline) (setup : List journaled.Entry) (line : Line) (old new : L
         fresh = ended.progress;
         first = ended.first;
         packable = packable;
-        before = subst (λ (k : Known). IsBefore x setup new (left_of x k.process new.recording.steps) k) (sym known) before;
+        before = subst (λ (k : Known). IsBefore x setup new (left_of x k.process new) k) (sym known) before;
       }
 
       stored_at : (work : LineAtWork) → Leads old.control line t.fill e j.on.desc e.outcome work → IsOnwardAt work
@@ -351,7 +352,7 @@ module _ (x : Outline) (setup : List journaled.Entry) (line : Line) (old new : L
                   (come_on x setup line old new (seen_known (known_of o) (beside e j.on.desc) floor) (Answer s.entry s.filled)
                   (Answer s.entry (s.filled ++ beside e j.on.desc ∷ [])) (Core (Seen e)) progress
                   (written_working x setup old new line (known_of o) t.fill e j.on.desc floor t.right s point higher stored is)
-                  stands comes.1),
+                  stands (λ other due. a.work.filled t.fill t.due) comes.1),
               good,
             );
           })
@@ -362,7 +363,7 @@ module _ (x : Outline) (setup : List journaled.Entry) (line : Line) (old new : L
             stored = stored_at (works.Ended end) leads onward turn.Ended (refl, comes.1);
             stands = ends_so end comes.1
                 (line_ended x setup line old new (seen_known (known_of o) (beside e j.on.desc) floor)
-                (Answer s.entry (s.filled ++ beside e j.on.desc ∷ [])) (old.recording.events ++ Core (Seen e) ∷ []) end a.some a.first
+                (Answer s.entry (s.filled ++ beside e j.on.desc ∷ [])) (old.recording.events ++ Core (Seen e) ∷ []) end a.some a.planned
                 (written_working x setup old new line (known_of o) t.fill e j.on.desc floor t.right s point higher stored is)
                 stands comes.1);
           })
@@ -378,7 +379,7 @@ module _ (x : Outline) (setup : List journaled.Entry) (line : Line) (old new : L
             stored = stored_at (ended (result.Denied denial) old.control) leads tt turn.Ended (refl, comes.1);
             stands = ends_so (end_of (result.Denied denial) old.control) comes.1
                 (line_over x setup line old new (seen_known (known_of o) (beside e j.on.desc) floor)
-                (Answer s.entry s.filled) (old.recording.events ++ Core (Seen e) ∷ []) (end_of (result.Denied denial) old.control) a.some a.first
+                (Answer s.entry s.filled) (old.recording.events ++ Core (Seen e) ∷ []) (end_of (result.Denied denial) old.control) a.some a.planned
                 (denied_working x setup old new line (known_of o) t.fill e j.on.desc floor t.right s point higher denial is)
                 (denied_ending x setup old new line (known_of o) t.fill e j.on.desc floor t.right s point higher denial is
                 (result.Denied denial) (changed old.control (end_of (result.Denied denial) old.control).after) never) comes.1);

@@ -1,5 +1,6 @@
 -- What a line comes to, leg by leg.
-use Rattle.std.proofs.Common.{◌≡◌, ℕ, zero, suc, ◌+◌, ◌<◌, ◌^◌, List, [], ◌∷◌, ◌++◌, length, append_assoc, append-nil, Option, Some, None, drop, refl, sym, ◌∙◌, ap, subst, arith, Bool, true, false, IsTrue, IsFalse, Result, Ok, Err, IfOk, OnErr}
+use Rattle.std.proofs.Common.{◌≡◌, ℕ, suc, ◌+◌, ◌-◌, ◌<◌, ◌≤◌, ◌^◌, List, [], ◌∷◌, ◌++◌, length, length-append, append_assoc, append-nil, Option, Some, None, refl, sym, ◌∙◌, ap, subst, arith, Bool, true, false, IsTrue, IsFalse, Result, Ok, Err, IfOk, OnErr}
+use Rattle.std.proofs.lemmas.List.{length-drop}
 use Rattle.std.specs.Prelude.{IsSome}
 use Rattle.mx_audit.specs.Accounts.{Account}
 use Rattle.mx_core.specs.declared.elements.Event.TheVariants.{Missing, Seen}
@@ -21,13 +22,15 @@ use Rattle.mx_transcript.specs.Courses.{Course, Attempt, Answer}
 use Rattle.mx_transcript.specs.declared.transcripts.Event2.{Event2}
 use Rattle.mx_transcript.specs.declared.transcripts.Event2.TheVariants.{Core}
 use Rattle.mx_transcript.specs.Scripts.{lines_of}
-use Rattle.mx_process.proofs.PlaceLaws.{countable_next, left_after, number_next}
+use Rattle.mx_transcript.specs.Transcripts.{Step}
+use Rattle.mx_process.proofs.AttemptLaws.{onward_by}
+use Rattle.mx_process.proofs.PlanLaws.{countable_next, left_by, number_next}
 use Rattle.mx_process.specs.Attempts.{HasDone, HasMissed, IsAtLinkIn}
 use Rattle.mx_process.specs.Filling.{CameTo, HasWritten, IsDue, IsOnward}
 use Rattle.mx_process.specs.Lines.{HasEnded, HasGoneOn, HasMadeLeg, HasNoLine, HasTurnedTo, IsAwake, IsOwn}
-use Rattle.mx_process.specs.Processes.{ProcessValue, HasLine, IsAtLine, IsFittingAt, IsProcess, IsStill, Stands, left_of, number_in}
+use Rattle.mx_process.specs.Plans.{left_of, number_in, place_in}
+use Rattle.mx_process.specs.Processes.{ProcessValue, HasLine, IsAtLine, IsFittingAt, IsProcess, IsStill, Stands}
 use Rattle.mx_process.specs.Settling.{IsSettled, again}
-use Rattle.mx_process.specs.Turns.{IsSameLine, IsUntold}
 use Rattle.mx_process.specs.declared.filling.Wrote.TheVariants as wrote
 use Rattle.mx_process.specs.declared.legs.Leg.{Leg}
 use Rattle.mx_process.specs.declared.legs.Leg.TheVariants as leg
@@ -84,6 +87,7 @@ gone_on a b c g h = record {
 pub ended_on : (a b c : ProcessValue) → HasGoneOn a b → HasEnded b c → HasEnded a c
 ended_on a b c g h = record {
   own = own_on a b c g.own h.own;
+  onward = subst (λ n. n ≤ c.state.first) g.first h.onward;
   more = g.more ++ h.more;
   ends = h.ends;
   steps = h.steps
@@ -106,7 +110,7 @@ pub at_line_on : (x : Outline) (old new : ProcessValue) (number : ℕ) (line : L
     → IsAtLine x new number line
 at_line_on x old new number line gone at = record {
   left = at.left;
-  at = (λ i. left_of x (gone.own.process i) (gone.steps i)) ∙ at.at;
+  at = (λ i. left_by x (gone.own.process i) (gone.first i) (gone.steps i)) ∙ at.at;
 }
 
 pub line_on : (x : Outline) (old new : ProcessValue) → HasGoneOn old new → HasLine x old → HasLine x new
@@ -167,6 +171,7 @@ link_gone x segno word ring old new l = record {
 pub done_ended : (old new : ProcessValue) → HasDone old new → HasEnded old new
 done_ended old new d = record {
   own = record { process = d.untold.process; attended = d.attended };
+  onward = d.onward;
   more = d.more;
   ends = d.ends;
   steps = d.steps;
@@ -186,17 +191,17 @@ written_gone x old new w = by_work w.work w.goes
     awake (AtLink place) onward e = absurd onward
     awake Waiting onward e = absurd onward
 
-    by_work : (work : LineAtWork) → CameTo old.state (Core (Seen w.element)) work wrote.More new.state → HasMadeLeg x old leg.More new
+    by_work : (work : LineAtWork) → CameTo old.state (Core (Seen w.element)) work wrote.More w.ended → HasMadeLeg x old leg.More new
     by_work (works.At progress) goes = (
       record {
         own = record { process = w.untold.process; attended = w.attended };
-        first = goes.0.first;
-        control = goes.0.control;
-        steps = goes.0.steps;
+        first = ap (λ (s : LineState). s.first) (w.uncut refl) ∙ goes.0.first;
+        control = ap (λ (s : LineState). s.control) (w.uncut refl) ∙ goes.0.control;
+        steps = ap (λ (s : LineState). s.recording.steps) (w.uncut refl) ∙ goes.0.steps;
         more = Core (Seen w.element) ∷ [];
-        events = goes.0.events;
+        events = ap (λ (s : LineState). s.recording.events) (w.uncut refl) ∙ goes.0.events;
       },
-      λ waits. awake progress goes.1 (sym goes.0.progress ∙ waits),
+      λ waits. awake progress goes.1 (sym (ap (λ (s : LineState). s.progress) (w.uncut refl) ∙ goes.0.progress) ∙ waits),
     )
     by_work (works.Ended end) goes = absurd goes
     by_work works.Nowhere goes = absurd goes
@@ -204,15 +209,16 @@ written_gone x old new w = by_work w.work w.goes
 pub written_ended : (x : Outline) (old new : ProcessValue) → HasWritten x old wrote.Done new → HasEnded old new
 written_ended x old new w = by_work w.work w.goes
   where
-    by_work : (work : LineAtWork) → CameTo old.state (Core (Seen w.element)) work wrote.Done new.state → HasEnded old new
+    by_work : (work : LineAtWork) → CameTo old.state (Core (Seen w.element)) work wrote.Done w.ended → HasEnded old new
     by_work (works.At progress) goes = absurd goes
     by_work (works.Ended end) goes = record {
       own = record { process = w.untold.process; attended = w.attended };
+      onward = onward_by old.state w.ended new.state goes.first w.cut;
       more = Core (Seen w.element) ∷ [];
       ends = end.ends;
-      steps = goes.steps;
-      idle = goes.idle;
-      fresh = goes.progress;
+      steps = ap (λ (s : LineState). s.recording.steps) w.cut.is ∙ goes.steps;
+      idle = ap (λ (s : LineState). s.recording.events) w.cut.is ∙ goes.idle;
+      fresh = ap (λ (s : LineState). s.progress) w.cut.is ∙ goes.progress;
       settled = w.settled;
     }
     by_work works.Nowhere goes = absurd goes
@@ -249,31 +255,27 @@ turned_waits a b c came g h e =
     subst (λ (t : Turned). HasTurnedTo a (Some t) c) e (turned_on a b c (Some came) g h)
 
 -- fewer lines are left
-shorter : (n : ℕ) (lines : List (ℕ × Line)) (line : ℕ × Line) (left : List (ℕ × Line)) → drop n lines ≡ line ∷ left
-    → length (drop (suc n) lines) < length (drop n lines)
-shorter zero [] line left e = absurd (cc)
-shorter (suc n) [] line left e = absurd (cc)
-shorter zero (l ∷ lines) line left e = let less : length lines < suc (length lines) = omega arith in less
-shorter (suc n) (l ∷ lines) line left e = shorter n lines line left e
-
 pub ended_fewer : (x : Outline) (old new : ProcessValue) (number : ℕ) (line : Line) → IsAtLine x old number line → HasEnded old new
-    → length (left_of x new.pass.view.process new.state.recording.steps)
-    < length (left_of x old.pass.view.process old.state.recording.steps)
+    → length (left_of x new.pass.view.process new.state) < length (left_of x old.pass.view.process old.state)
 ended_fewer x old new number line at e =
-    let after : left_of x new.pass.view.process new.state.recording.steps
-    ≡ drop (suc (length old.state.recording.steps)) (lines_of x old.pass.view.process)
-    = (λ i. left_of x (e.own.process i) (e.steps i))
-    ∙ left_after x old.pass.view.process old.state.recording.steps
-    (number_in old.state, old.state.recording.events ++ e.more, e.ends) in
-    subst (λ (l : List (ℕ × Line)). length l < length (left_of x old.pass.view.process old.state.recording.steps)) (sym after)
-    (shorter (length old.state.recording.steps) (lines_of x old.pass.view.process) (number, line) at.left at.at)
+    let lines = lines_of x old.pass.view.process in
+    let later = e.onward in
+    let one = ap (λ (l : List Step). length l) e.steps ∙ length-append old.state.recording.steps
+    ((number_in old.state, old.state.recording.events ++ e.more, e.ends) ∷ []) in
+    let place : place_in x old.pass.view.process old.state < place_in x old.pass.view.process new.state = omega (arith, later, one) in
+    let after : length (left_of x new.pass.view.process new.state) ≡ length lines - place_in x old.pass.view.process new.state
+    = ap (λ p. length (left_of x p new.state)) e.own.process ∙ length-drop (place_in x old.pass.view.process new.state) lines in
+    let before : length (left_of x old.pass.view.process old.state) ≡ length lines - place_in x old.pass.view.process old.state
+    = length-drop (place_in x old.pass.view.process old.state) lines in
+    let some : length (left_of x old.pass.view.process old.state) ≡ suc (length at.left) = ap (λ (l : List (ℕ × Line)). length l) at.at in
+    omega (arith, place, after, before, some)
 
 -- before a line, or at no line
 pub none_left : (x : Outline) (v : ProcessValue) → (HasLine x v → ⊥) → HasNoLine x v
-none_left x v never = by_left (left_of x v.pass.view.process v.state.recording.steps) refl
+none_left x v never = by_left (left_of x v.pass.view.process v.state) refl
   where
-    by_left : (left : List (ℕ × Line)) → left_of x v.pass.view.process v.state.recording.steps ≡ left
-        → left_of x v.pass.view.process v.state.recording.steps ≡ []
+    by_left : (left : List (ℕ × Line)) → left_of x v.pass.view.process v.state ≡ left
+        → left_of x v.pass.view.process v.state ≡ []
     by_left [] e = e
     by_left (line ∷ left) e = absurd (never (record { number = line.0; line = line.1; at = record { left = left; at = e } }))
 
@@ -285,9 +287,8 @@ at_first x setup accounts script memory v is has = (
   has.line,
   record {
     left = has.at.left;
-    at = subst (λ n. left_of x v.pass.view.process v.state.recording.steps ≡ (n, has.line) ∷ has.at.left)
-        (number_next x v.pass.view.process v.state.recording.steps is.some has.number has.line has.at.left has.at.at
-        ∙ ap (λ n. n + length v.state.recording.steps) (sym is.first)) has.at.at;
+    at = subst (λ n. left_of x v.pass.view.process v.state ≡ (n, has.line) ∷ has.at.left)
+        (number_next x v.pass.view.process v.state is.some is.planned has.number has.line has.at.left has.at.at) has.at.at;
   },
 )
 
@@ -302,8 +303,7 @@ at_number x setup accounts script memory v w n is same has count =
 pub number_fits : (x : Outline) (setup : List journaled.Entry) (accounts : List Account) (script : List Line) (memory : List Triple)
     (v : ProcessValue) → IsProcess x setup accounts script memory v → HasLine x v → number_in v.state < 2 ^ 32
 number_fits x setup accounts script memory v is has =
-    subst (λ n. n + length v.state.recording.steps < 2 ^ 32) (sym is.first)
-    (countable_next x v.pass.view.process v.state.recording.steps is.some has.number has.line has.at.left is.session has.at.at)
+    countable_next x v.pass.view.process v.state is.some is.planned has.number has.line has.at.left is.session has.at.at
 
 -- a write that is due is known to the last
 pub is_due : (progress : Progress) (fill : Fill) → progress ≡ Filling fill → IsFittingAt progress → IsDue progress

@@ -1,10 +1,12 @@
 pub mod JudgedLaws
 pub mod KnownLaws
 pub mod PlaceLaws
+pub mod PlanLaws
 pub mod WorkLaws
 pub mod TurnLaws
 pub mod AuditLaws
 pub mod ProcessLaws
+pub mod HeedLaws
 pub mod AttemptLaws
 pub mod SettleLaws
 pub mod FillingLaws

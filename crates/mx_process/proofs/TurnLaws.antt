@@ -27,7 +27,6 @@ use Rattle.mx_state.specs.declared.journal.Entry as journaled
 use Rattle.mx_transcript.specs.Asking.{next}
 use Rattle.mx_transcript.specs.Courses.{Course, Attempt, Answer}
 use Rattle.mx_transcript.specs.Next.{Ends as AsksToEnd}
-use Rattle.mx_transcript.specs.Scripts.{first_line}
 use Rattle.mx_transcript.specs.declared.transcripts.Event2.{Event2}
 use Rattle.mx_transcript.specs.declared.transcripts.Event2.TheVariants.{Core}
 use Rattle.mx_transcript.specs.declared.transcripts.Result2.{Result2}
@@ -37,9 +36,11 @@ use Rattle.mx_upcall.specs.Soundness.{IsPackableControl}
 use Rattle.mx_upcall.specs.declared.controls.Change.{Change}
 use Rattle.mx_process.proofs.JudgedLaws.{WasJudged, asked_by, at_floor, is_judged}
 use Rattle.mx_process.proofs.KnownLaws.{seen_known, known_seen, known_missed}
+use Rattle.mx_process.proofs.PlanLaws.{planned_same}
 use Rattle.mx_process.proofs.WorkLaws.{IsNext, line_ended, line_ends, line_goes_on, never_fills}
 use Rattle.mx_process.specs.Attempts.{HasAttempted}
-use Rattle.mx_process.specs.Processes.{Known, AsksFor, AsksIn, IsReferringIn, IsAtWork, IsBefore, known_of, left_of, number_in}
+use Rattle.mx_process.specs.Plans.{left_of, number_in}
+use Rattle.mx_process.specs.Processes.{Known, AsksFor, AsksIn, IsReferringIn, IsAtWork, IsBefore, known_of}
 use Rattle.mx_process.specs.Turns.{Ends, GoesOn, HasEnd, HasTaken, HasTurned, Comes, Inside, IsAttempting, IsReferring, IsSameLine, Misses, inside}
 use Rattle.mx_process.specs.declared.misses.Fast.{Fast}
 use Rattle.mx_process.specs.declared.misses.Fast.TheVariants as fast
@@ -218,7 +219,8 @@ module _ (x : Outline) (setup : List journaled.Entry) (line : Line) (old new : L
               packable = subst IsPackableControl (sym has.control) a.packable;
               good = good;
               some = subst (λ (k : Known). 1 ≤ k.process) (sym known) a.some;
-              first = has.first ∙ a.first ∙ ap (λ (k : Known). first_line x k.process) (sym known);
+              planned = planned_same x o.view.process o'.view.process old new has.first has.steps
+                  (ap (λ (k : Known). k.process) (sym known)) a.planned;
               countable = subst (λ n. n < 2 ^ 32) (λ i. sym has.first i + length (sym has.steps i)) a.countable;
               work = subst (IsAtWork x setup new line) (sym known)
                   (line_goes_on x setup line old (known_of o) (reference_in r) e j.on.desc floor new progress next_is takes has);
@@ -240,8 +242,8 @@ module _ (x : Outline) (setup : List journaled.Entry) (line : Line) (old new : L
             fresh = ended.progress;
             first = ended.first;
             packable = subst IsPackableControl (sym ended.control) takes.good.packable;
-            before = subst (λ (k : Known). IsBefore x setup new (left_of x k.process new.recording.steps) k) (sym known)
-                (line_ends x setup line old (known_of o) (reference_in r) e j.on.desc floor new end next_is a.some a.first takes ended);
+            before = subst (λ (k : Known). IsBefore x setup new (left_of x k.process new) k) (sym known)
+                (line_ends x setup line old (known_of o) (reference_in r) e j.on.desc floor new end next_is a.some a.planned takes ended);
           })
 
 -- A reference missed.
@@ -289,6 +291,6 @@ module _ (x : Outline) (setup : List journaled.Entry) (line : Line) (old new : L
     fresh = ended.progress;
     first = ended.first;
     packable = subst IsPackableControl (sym ended.control) packable;
-    before = line_ended x setup line old new (known_of o) a.work.course old.recording.events end a.some a.first a.work.working
+    before = line_ended x setup line old new (known_of o) a.work.course old.recording.events end a.some a.planned a.work.working
         (asks a.work.course a.work.come) ended;
   }

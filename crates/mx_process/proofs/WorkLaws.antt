@@ -11,10 +11,12 @@ use Rattle.mx_line.specs.declared.at_work.LineAtWork.{LineAtWork}
 use Rattle.mx_line.specs.declared.at_work.LineAtWork.TheVariants as works
 use Rattle.mx_line.specs.declared.fills.Fill.{Fill}
 use Rattle.mx_line.specs.declared.operands.Progress.{Progress}
-use Rattle.mx_line.specs.declared.operands.Progress.TheVariants.{Filling}
+use Rattle.mx_line.specs.declared.operands.Progress.TheVariants.{Before, Filling}
 use Rattle.mx_line.specs.declared.processes.Process.{Process as LineState}
+use Rattle.mx_request.specs.declared.requests.Request.TheVariants.{Logout}
 use Rattle.mx_script.specs.Sessions.{Outline}
 use Rattle.mx_script.specs.declared.lines.Line.{Line}
+use Rattle.mx_script.specs.declared.lines.Line.TheVariants.{Ask}
 use Rattle.mx_sdw.specs.Descriptors.{Descriptor}
 use Rattle.mx_state.specs.declared.journal.Entry as journaled
 use Rattle.mx_ties.proofs.WorkingLaws.{see_law, end_law, last_law}
@@ -27,7 +29,7 @@ use Rattle.mx_transcript.specs.Courses.{Course, Attempt, seen_in}
 use Rattle.mx_transcript.specs.Elements.{IsJudged}
 use Rattle.mx_transcript.specs.Lines.{IsEnd}
 use Rattle.mx_transcript.specs.Next.{Next, Reference, Asks, Ends}
-use Rattle.mx_transcript.specs.Scripts.{first_line, lines_of}
+use Rattle.mx_transcript.specs.Scripts.{lines_of}
 use Rattle.mx_transcript.specs.Settings.{Setting}
 use Rattle.mx_transcript.specs.Standing.{own_setting}
 use Rattle.mx_transcript.specs.Transcripts.{Step}
@@ -37,9 +39,17 @@ use Rattle.mx_transcript.specs.declared.transcripts.Result2.{Result2}
 use Rattle.mx_upcall.specs.Changes.{changed}
 use Rattle.mx_upcall.specs.Control.{Control}
 use Rattle.mx_process.proofs.KnownLaws.{seen_known}
-use Rattle.mx_process.proofs.PlaceLaws.{left_after, number_next}
-use Rattle.mx_process.specs.Processes.{Known, IsAtWork, IsBefore, at_work, left_of, number_in}
+use Rattle.mx_process.proofs.PlanLaws.{are_lines, left_next, number_next, place_next, plan_by, planned_next, rest_by}
+use Rattle.mx_process.specs.Plans.{IsPlanned, left_of, number_in, place_in}
+use Rattle.mx_process.specs.Processes.{Known, IsAtWork, IsBefore, at_work}
 use Rattle.mx_process.specs.Turns.{HasEvent, HasEnd}
+
+-- before a line no write is due
+pub unfilled : (progress : Progress) (line : Line) → progress ≡ Before → (fill : Fill) → progress ≡ Filling fill → line ≡ Ask Logout → ⊥
+unfilled progress line before fill due out = apart fill (sym before ∙ due)
+  where
+    apart : (fill : Fill) → Before ≡ Filling fill → ⊥
+    apart fill e = cc
 
 -- the line at work, after these events
 abbrev with_events : AtWork → List Event2 → AtWork
@@ -52,11 +62,11 @@ module _ (x : Outline) (setup : List journaled.Entry) (line : Line) (old new : L
   ended_at = with_events (at_work x k.process old line course) events
 
   -- however it came to its end
-  pub line_over : 1 ≤ k.process → old.first ≡ first_line x k.process → IsWorking x setup k.process ended_at k.view k.told
+  pub line_over : 1 ≤ k.process → IsPlanned x k.process old → IsWorking x setup k.process ended_at k.view k.told
       → IsEnding x setup k.process ended_at k.view end.ends (changed old.control end.after) → HasEnd old events end new
-      → IsBefore x setup new (left_of x k.process new.recording.steps) k
-  line_over some first working ending ended =
-      subst (λ (l : List (ℕ × Line)). IsBefore x setup new l k) (sym left_is) (by_left (drop (suc (length old.recording.steps)) (lines_of x k.process)) refl)
+      → IsBefore x setup new (left_of x k.process new) k
+  line_over some planned working ending ended =
+      subst (λ (l : List (ℕ × Line)). IsBefore x setup new l k) (sym left_is) (by_left (drop (suc (place_in x k.process old)) (lines_of x k.process)) refl)
     where
       after : Control
       after = changed old.control end.after
@@ -64,36 +74,28 @@ module _ (x : Outline) (setup : List journaled.Entry) (line : Line) (old new : L
       step : Step
       step = (number_in old, events, end.ends)
 
-      left_is : left_of x k.process new.recording.steps ≡ drop (suc (length old.recording.steps)) (lines_of x k.process)
-      left_is = ap (left_of x k.process) ended.steps ∙ left_after x k.process old.recording.steps step
+      left_is : left_of x k.process new ≡ drop (suc (place_in x k.process old)) (lines_of x k.process)
+      left_is = left_next x k.process old new step ended.first ended.steps
 
-      next_step : (n : ℕ) → n + 1 ≡ suc n
-      next_step n = omega arith
-
-      count : length new.recording.steps ≡ suc (length old.recording.steps)
-      count = ap length ended.steps ∙ length_more old.recording.steps step
-        where
-          length_more : (steps : List Step) (s : Step) → length (steps ++ s ∷ []) ≡ suc (length steps)
-          length_more [] s = refl
-          length_more (t ∷ steps) s = ap suc (length_more steps s)
-
-      by_left : (left : List (ℕ × Line)) → drop (suc (length old.recording.steps)) (lines_of x k.process) ≡ left
+      by_left : (left : List (ℕ × Line)) → drop (suc (place_in x k.process old)) (lines_of x k.process) ≡ left
           → IsBefore x setup new left k
       by_left [] e =
           subst (λ (steps : List Step). HasWorked x setup k.process steps k.view) (sym ended.steps)
-          (last_law x setup k.process ended_at k.view k.told end.ends after e ending working)
+          (last_law x setup k.process ended_at k.view k.told end.ends after e (are_lines x k.process old (step ∷ []) planned)
+          ending working)
       by_left ((number, other) ∷ left) e =
           let begun = end_law x setup k.process ended_at number other left k.view k.told
           end.ends after e ending working in
           let numbered : number ≡ number_in new
-          = number_next x k.process new.recording.steps some number other left (left_is ∙ e)
-          ∙ ap (λ n. n + length new.recording.steps) (sym (ended.first ∙ first)) in
-          let rest : left ≡ drop (suc (length new.recording.steps)) (lines_of x k.process)
-          = sym (ap (λ n. drop (suc n) (lines_of x k.process)) count
-          ∙ left_more (suc (length old.recording.steps)) (lines_of x k.process) (number, other) left e) in
+          = number_next x k.process new some (planned_next x k.process old new step ended.first ended.steps planned) number other
+          left (left_is ∙ e) in
+          let rest : left ≡ drop (suc (place_in x k.process new)) (lines_of x k.process)
+          = sym (ap (λ n. drop (suc n) (lines_of x k.process)) (place_next x k.process old new step ended.first ended.steps)
+          ∙ left_more (suc (place_in x k.process old)) (lines_of x k.process) (number, other) left e) in
           let same : next_line ended_at end.ends after number other left
           ≡ at_work x k.process new other (Attempt [])
           = λ i. record {
+            ran = plan_by x k.process (sym ended.first i);
             steps = sym ended.steps i;
             number = numbered i;
             line = other;
@@ -106,13 +108,14 @@ module _ (x : Outline) (setup : List journaled.Entry) (line : Line) (old new : L
             course = Attempt [];
             working = subst (λ (w : AtWork). IsWorking x setup k.process w k.view k.told) same begun;
             come = subst (λ (r : Progress). IsCome new.control other (Attempt []) r) (sym ended.progress) (refl, tt);
+            filled = unfilled new.progress other ended.progress;
           }
 
   -- it asks for its end
-  pub line_ended : 1 ≤ k.process → old.first ≡ first_line x k.process → IsWorking x setup k.process ended_at k.view k.told
+  pub line_ended : 1 ≤ k.process → IsPlanned x k.process old → IsWorking x setup k.process ended_at k.view k.told
       → next old.control line course ≡ Ends end.ends (changed old.control end.after) → HasEnd old events end new
-      → IsBefore x setup new (left_of x k.process new.recording.steps) k
-  line_ended some first working is ended = line_over some first working ending ended
+      → IsBefore x setup new (left_of x k.process new) k
+  line_ended some planned working is ended = line_over some planned working ending ended
     where
       after : Control
       after = changed old.control end.after
@@ -133,14 +136,16 @@ module _ (x : Outline) (setup : List journaled.Entry) (line : Line) (old new : L
 module _ (x : Outline) (setup : List journaled.Entry) (line : Line) (old new : LineState) (k : Known) (course later : Course)
     (event : Event2) (progress : Progress) where
   pub come_on : IsWorking x setup k.process (gone_on (at_work x k.process old line course) event later) k.view k.told
-      → IsCome old.control line later progress → HasEvent old event progress new → IsAtWork x setup new line k
-  come_on working come has =
+      → IsCome old.control line later progress → ((fill : Fill) → progress ≡ Filling fill → line ≡ Ask Logout → ⊥)
+      → HasEvent old event progress new → IsAtWork x setup new line k
+  come_on working come filled has =
       let same : gone_on (at_work x k.process old line course) event later ≡ at_work x k.process new line later
       = λ i. record {
+        ran = plan_by x k.process (sym has.first i);
         steps = sym has.steps i;
         number = sym has.first i + length (sym has.steps i);
         line = line;
-        left = drop (suc (length (sym has.steps i))) (lines_of x k.process);
+        left = rest_by x k.process (sym has.first i) (sym has.steps i);
         now = sym has.control i;
         events = sym has.events i;
         course = later;
@@ -150,6 +155,7 @@ module _ (x : Outline) (setup : List journaled.Entry) (line : Line) (old new : L
         working = subst (λ (w : AtWork). IsWorking x setup k.process w k.view k.told) same working;
         come = subst (λ (g : Control). IsCome g line later new.progress) (sym has.control)
             (subst (IsCome old.control line later) (sym has.progress) come);
+        filled = λ fill due. filled fill (sym has.progress ∙ due);
       }
 
 -- The element for which a line asks, on this descriptor, from the floor on.
@@ -196,13 +202,14 @@ module _ (x : Outline) (setup : List journaled.Entry) (line : Line) (old : LineS
       → IsAtWork x setup new line (seen_known k (beside e d) floor)
   line_goes_on new progress n takes has =
       come_on x setup line old new (seen_known k (beside e d) floor) n.work.course (later_in n) (Core (Seen e)) progress
-      (working_seen n) (stands_seen n (works.At progress) takes) has
+      (working_seen n) (stands_seen n (works.At progress) takes)
+      (λ fill due. absurd (never_fills n fill (subst (λ (r : Progress). Takes old.control line old.progress e d (works.At r)) due takes))) has
 
   -- or ends
-  pub line_ends : (new : LineState) (end : End) → IsNext → 1 ≤ k.process → old.first ≡ first_line x k.process
+  pub line_ends : (new : LineState) (end : End) → IsNext → 1 ≤ k.process → IsPlanned x k.process old
       → Takes old.control line old.progress e d (works.Ended end)
       → HasEnd old (old.recording.events ++ Core (Seen e) ∷ []) end new
-      → IsBefore x setup new (left_of x k.process new.recording.steps) (seen_known k (beside e d) floor)
-  line_ends new end n some first takes ended =
+      → IsBefore x setup new (left_of x k.process new) (seen_known k (beside e d) floor)
+  line_ends new end n some planned takes ended =
       line_ended x setup line old new (seen_known k (beside e d) floor) (later_in n)
-      (old.recording.events ++ Core (Seen e) ∷ []) end some first (working_seen n) (stands_seen n (works.Ended end) takes) ended
+      (old.recording.events ++ Core (Seen e) ∷ []) end some planned (working_seen n) (stands_seen n (works.Ended end) takes) ended

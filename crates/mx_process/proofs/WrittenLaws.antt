@@ -1,6 +1,5 @@
 -- What a process's type says holds after a write that a reply asks for.
-use Rattle.std.proofs.Common.{◌≡◌, ℕ, ◌+◌, ◌<◌, ◌^◌, List, [], ◌∷◌, length, Option, None, sym, ◌∙◌, ap, subst}
-use Rattle.std.specs.Option.{option_map}
+use Rattle.std.proofs.Common.{◌≡◌, ℕ, ◌+◌, ◌<◌, List, [], ◌∷◌, ◌++◌, length, Option, None, refl, sym, ◌∙◌, ap, subst, arith}
 use Rattle.mx_audit.specs.Accounts.{Account}
 use Rattle.mx_core.specs.declared.elements.Event.TheVariants.{Seen}
 use Rattle.mx_core.specs.declared.words.Triple.{Triple}
@@ -12,18 +11,23 @@ use Rattle.mx_line.specs.declared.at_work.LineAtWork.{LineAtWork}
 use Rattle.mx_line.specs.declared.at_work.LineAtWork.TheVariants as works
 use Rattle.mx_line.specs.declared.processes.Process.{Process as LineState}
 use Rattle.mx_line.specs.Operands.{IsGoodProgress}
+use Rattle.mx_request.specs.declared.requests.Request.TheVariants.{Logout}
 use Rattle.mx_script.specs.Sessions.{Outline}
 use Rattle.mx_script.specs.declared.lines.Line.{Line}
+use Rattle.mx_script.specs.declared.lines.Line.TheVariants.{Ask}
 use Rattle.mx_sdw.specs.declared.denials.Denial.{Denial}
 use Rattle.mx_state.specs.declared.journal.Entry as journaled
+use Rattle.mx_transcript.specs.Transcripts.{Step}
 use Rattle.mx_transcript.specs.declared.transcripts.Event2.{Event2}
 use Rattle.mx_transcript.specs.declared.transcripts.Event2.TheVariants.{Core}
 use Rattle.mx_upcall.specs.Soundness.{IsPackableControl}
-use Rattle.mx_process.proofs.AttemptLaws.{IsOut, going_process}
-use Rattle.mx_process.proofs.AuditLaws.{still_attended, told_more}
+use Rattle.mx_process.proofs.AttemptLaws.{IsOut, going_process, line_behind}
+use Rattle.mx_process.proofs.HeedLaws.{heeded_attended, heeded_cut}
+use Rattle.mx_process.proofs.PlanLaws.{countable_next, sayable_next}
 use Rattle.mx_process.proofs.ProcessLaws.{fitting_before}
-use Rattle.mx_process.proofs.PlaceLaws.{countable_next, sayable_next}
 use Rattle.mx_process.specs.Filling.{CameTo, HasWritten, HasWrote, IsDue, IsOnward, IsOnwardAt, IsWriting, StandsIn}
+use Rattle.mx_process.specs.Heeding.{HasHeeded}
+use Rattle.mx_process.specs.Plans.{MayBeCut}
 use Rattle.mx_process.specs.Processes.{ProcessValue, IsAtLine, IsAtWork, IsFitting, IsFittingAt, IsProcess, Stands, known_of}
 use Rattle.mx_process.specs.Turns.{Comes, Ends, Inside, IsSameLine, IsUntold, inside}
 use Rattle.mx_process.specs.declared.filling.Wrote.TheVariants as wrote
@@ -40,14 +44,13 @@ module _ (x : Outline) (setup : List journaled.Entry) (accounts : List Account) 
       let number : ℕ = there.0 in
       let next : IsAtLine x v number line = there.1 in
       record {
-        sayable = sayable_next x v.pass.view.process v.state.recording.steps is.some number line next.left is.session next.at;
+        sayable = sayable_next x v.pass.view.process v.state is.some is.planned number line next.left is.session next.at;
         due = subst (λ (z : ProcessValue). IsDue z.state.progress) (sym same) due;
         packable = is.packable;
         good = is.good;
         some = is.some;
-        first = is.first;
-        countable = subst (λ n. n + length v.state.recording.steps < 2 ^ 32) (sym is.first)
-            (countable_next x v.pass.view.process v.state.recording.steps is.some number line next.left is.session next.at);
+        planned = is.planned;
+        countable = countable_next x v.pass.view.process v.state is.some is.planned number line next.left is.session next.at;
         work = subst (λ (m : Option Miss). Stands x setup v.state m ((number, line) ∷ next.left) v.pass)
             (ap (λ (z : ProcessValue). z.missing) same ∙ settled)
             (subst (λ (l : List (ℕ × Line)). Stands x setup v.state v.missing l v.pass) next.at is.stands);
@@ -127,6 +130,15 @@ came_done old new event (works.At progress) comes = absurd (apart comes.0)
 came_done old new event (works.Ended end) comes = comes.1
 came_done old new event works.Nowhere comes = absurd comes
 
+uncut_still : (state : LineState) → MayBeCut state state
+uncut_still state = record {
+  more = 0;
+  is = λ i. record { first = same i; control = state.control; recording = state.recording; progress = state.progress };
+}
+  where
+    same : state.first ≡ state.first + 0
+    same = omega arith
+
 module _ (x : Outline) (setup : List journaled.Entry) (accounts : List Account) (script : List Line) (memory memory' : List Triple)
     (old : ProcessValue) (state : LineState) (o : PassValue journaled.Entry) (line : Line) (w : ProcessValue) (view : old ≡ w)
     (at : (number : ℕ) × IsAtLine x w number line) (settled : w.missing ≡ None) where
@@ -162,17 +174,36 @@ module _ (x : Outline) (setup : List journaled.Entry) (accounts : List Account) 
         right = s.stored.right;
         work = s.stored.work;
         leads = s.stored.leads;
+        ended = state;
         goes = came_more old.state state (Core (Seen s.element)) s.stored.work s.stored.comes s.stored.onward;
+        cut = uncut_still state;
+        uncut = λ more. refl;
         settled = none;
         attended = (λ some. some, λ some. some);
         untold = untold;
       })
 
-  pub written_done : (told : Option (ℕ × Denial)) (account : Option Account)
-      → HasWrote x setup line old.state turn.Ended (inside state o) → account ≡ option_map (told_more told) old.account
-      → IsUntold old.pass o → HasWritten x w wrote.Done (value_of account)
-  written_done told account s more untold =
-      subst (λ (z : ProcessValue). HasWritten x z wrote.Done (value_of account)) view (record {
+  -- the line at work is no `logout`, in which no write is due
+  pub no_logout : IsProcess x setup accounts script memory old → IsDue w.state.progress → line ≡ Ask Logout → ⊥
+  no_logout is due =
+      let here : IsDue old.state.progress = subst (λ (z : ProcessValue). IsDue z.state.progress) (sym view) due in
+      let work : IsAtWork x setup old.state line (known_of old.pass)
+      = subst (λ (m : Option Miss). Stands x setup old.state m ((there.0, line) ∷ there.1.left) old.pass) none
+      (subst (λ (l : List (ℕ × Line)). Stands x setup old.state old.missing l old.pass) there.1.at is.stands) in
+      work.filled here.fill here.is
+
+  pub behind_write : (step : Step) → IsProcess x setup accounts script memory old → IsDue w.state.progress
+      → state.recording.steps ≡ old.state.recording.steps ++ step ∷ [] → length state.recording.steps < length script
+  behind_write step is due steps =
+      line_behind x setup accounts script memory old state there.0 line step is there.1 (no_logout is due) steps
+
+  pub written_done : (told : Option (ℕ × Denial)) (account' : Option Account) (state' : LineState) (script' : List Line)
+      → HasWrote x setup line old.state turn.Ended (inside state o)
+      → HasHeeded told old.account state script account' state' script'
+      → IsUntold old.pass o
+      → HasWritten x w wrote.Done (record { state = state'; missing = old.missing; pass = o; account = account' })
+  written_done told account' state' script' s heeded untold =
+      subst (λ (z : ProcessValue). HasWritten x z wrote.Done (record { state = state'; missing = old.missing; pass = o; account = account' })) view (record {
         number = there.0;
         line = line;
         at = there.1;
@@ -183,8 +214,14 @@ module _ (x : Outline) (setup : List journaled.Entry) (accounts : List Account) 
         right = s.stored.right;
         work = s.stored.work;
         leads = s.stored.leads;
+        ended = state;
         goes = came_done old.state state (Core (Seen s.element)) s.stored.work s.stored.comes;
+        cut = heeded_cut told old.account account' state state' script script' heeded;
+        uncut = λ more. absurd (apart more);
         settled = none;
-        attended = still_attended told old.account account more;
+        attended = heeded_attended told old.account account' state state' script script' heeded;
         untold = untold;
       })
+    where
+      apart : wrote.Done ≡ wrote.More → ⊥
+      apart e = cc

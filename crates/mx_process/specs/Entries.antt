@@ -30,7 +30,6 @@ use Rattle.mx_transcript.specs.declared.transcripts.Event2.TheVariants.{Entry}
 use Rattle.mx_transcript.specs.declared.transcripts.Result2.{Result2}
 use Rattle.mx_transcript.specs.declared.transcripts.Result2.TheVariants as result
 use Rattle.mx_upcall.specs.Changes.{changed}
-use Rattle.mx_upcall.specs.Control.{Control}
 use Rattle.mx_upcall.specs.Soundness.{IsPackableControl}
 use Rattle.mx_process.specs.Filling.{IsDue}
 use Rattle.mx_process.specs.Plans.{IsPlanned, number_in}

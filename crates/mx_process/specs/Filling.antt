@@ -121,8 +121,8 @@ CameTo old event (works.Ended end) wrote.Done new = HasEnd old (old.recording.ev
 CameTo _ _ _ _ _ = ⊥
 
 -- The write that was due was judged, and the transcript has it as the line's next element. Where it was made, the line has gone on as
--- the line rule says: to the next write, to a new attempt, or to its end; where it was denied, it has ended with that denial, and
--- the part may have been cut.
+-- the line rule says: to the next write, to a new attempt, or to its end; where it was denied, it has ended with that denial. Only
+-- where the line has ended the part may have been cut.
 pub record HasWritten (x : Outline) (old : ProcessValue) (came : Wrote) (new : ProcessValue) : Type 0 where
   pub number : ℕ
   pub line : Line
@@ -137,6 +137,7 @@ pub record HasWritten (x : Outline) (old : ProcessValue) (came : Wrote) (new : P
   pub ended : LineState
   pub goes : CameTo old.state (Core (Seen element)) work came ended
   pub cut : MayBeCut ended new.state
+  pub uncut : came ≡ wrote.More → new.state ≡ ended
   pub settled : new.missing ≡ None
   pub attended : IsSome old.account ↔ IsSome new.account
   pub untold : IsUntold old.pass new.pass

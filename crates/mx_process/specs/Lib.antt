@@ -2,6 +2,7 @@
 pub mod Processes
 pub mod Plans
 pub mod Audited
+pub mod Heeding
 -- an attempt at a line, turn by turn
 pub mod Turns
 pub mod Attempts

@@ -33,7 +33,6 @@ use Rattle.mx_transcript.specs.Legal.{setup_entries}
 use Rattle.mx_transcript.specs.Next.{Next, Asks, Fills, Calls, Ends, Nowhere}
 use Rattle.mx_transcript.specs.Openings.{opening_control}
 use Rattle.mx_transcript.specs.Scripts.{lines_of, script_at}
-use Rattle.mx_transcript.specs.Transcripts.{Step}
 use Rattle.mx_upcall.specs.Control.{Control}
 use Rattle.mx_upcall.specs.Soundness.{IsPackableControl}
 use Rattle.mx_process.specs.Audited.{IsAudited}

@@ -42,12 +42,15 @@ pub record HasHurried (x : Outline) (setup : List journaled.Entry) (accounts : L
   pub steps : new.state.recording.steps ≡ old.state.recording.steps ++ more
   pub denied : denials more ≡ as_list told
 
--- the last of them was denied
-pub record HasDenied (x : Outline) (setup : List journaled.Entry) (accounts : List Account) (script : List Line) (old new : Inside) : Type 0 where
+-- the last of them was denied, and is not the last of the script; the next has not begun
+pub record HasDenied (x : Outline) (setup : List journaled.Entry) (accounts : List Account) (script : List Line)
+    (old new : Inside) : Type 0 where
   pub told : ℕ × Denial
   pub last : last_denial new.state.recording.steps ≡ Some told
   pub hurried : HasHurried x setup accounts script old None (Some told) new
-  pub within : length new.state.recording.steps ≤ length script
+  pub fresh : new.state.progress ≡ Before
+  pub idle : new.state.recording.events ≡ []
+  pub within : length new.state.recording.steps < length script
 
 -- what a stay came to
 abbrev pub HasStayed : Outline → List journaled.Entry → List Account → List Line → Inside → Stayed → Inside → Type 0
@@ -57,7 +60,8 @@ HasStayed x setup accounts script old (stayed.Missing m) new = HasHurried x setu
 
 -- and one line of it: the stay goes on at the beginning of the next one, or is over
 abbrev pub HasDoneNext : Outline → List journaled.Entry → List Account → List Line → Inside → Option Stayed → Inside → Type 0
-HasDoneNext x setup accounts script old None new = HasHurried x setup accounts script old None None new × (new.state.progress ≡ Before)
+HasDoneNext x setup accounts script old None new =
+    HasHurried x setup accounts script old None None new × (new.state.progress ≡ Before)
 HasDoneNext x setup accounts script old (Some came) new = HasStayed x setup accounts script old came new
 
 -- fewer lines are left

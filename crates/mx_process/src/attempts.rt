@@ -1,16 +1,17 @@
 //! An attempt at a line: no memory, no lock, nobody is waited for.
 
-ghost use Rattle.std.specs.Prelude.{◌≡◌, ◌≤◌, ◌<◌, ◌↔◌, ℕ, IsFalse, IsTrue, None, Some, slice_get};
-ghost use Rattle.mx_audit.specs.Accounts.{Account, with_denials};
+ghost use Rattle.std.specs.Prelude.{◌≡◌, ◌≤◌, ◌<◌, ◌+◌, ◌^◌, ◌↔◌, ℕ, IsFalse, IsTrue, None, Some, drop, length, slice_get};
+ghost use Rattle.mx_audit.specs.Accounts.{Account};
 ghost use Rattle.std.specs.Option.{option_map};
-ghost use Rattle.mx_process.specs.Audited.{as_list};
 ghost use Rattle.mx_core.specs.declared.words.Stage.TheVariants.{Outside, Ready};
 ghost use Rattle.mx_line.specs.AtWork.{IsFree};
 ghost use Rattle.mx_line.specs.Fills.{IsNoRequest};
 ghost use Rattle.mx_line.specs.Operands.{steps_in};
 ghost use Rattle.mx_request.specs.declared.requests.Request.{Request};
 ghost use Rattle.mx_script.specs.declared.lines.Line.TheVariants.{Ask};
+ghost use Rattle.mx_transcript.specs.Denials.{last_denial};
 ghost use Rattle.mx_process.specs.Attempts.{HasAttempted, HasDone, HasMissed, IsAtLinkIn, IsAtRequest};
+ghost use Rattle.mx_process.specs.Heeding.{HasHeeded, HasTold, before_last, cut_by};
 ghost use Rattle.mx_process.specs.Processes.{HasLine, HasRoom, IsAtLine, known_of};
 ghost use Rattle.mx_process.specs.Turns.{IsAttempting, IsUntold, inside};
 ghost use Rattle.mx_process.specs.declared.misses.Fast.TheVariants.{Done, Journal, Link, Missing};
@@ -99,10 +100,11 @@ fn attempt<B: Sitting>(
 
 impl<'a, B: Attending, A: Auditor> Process<'a, B, A> {
     /// One attempt at the present line, with the registers of its start: its references are judged on what the process was
-    /// told of, by its memory or the descriptor words. The line ends with it, and where it ends denied the auditor is told;
-    /// or a reference missed, or a link is to be snapped first; a request waits for the office. A miss that is not yet settled is answered
-    /// again. Conditions: a line is left, no write that a reply asks for is due, and room was made for the attempt. It
-    /// takes no memory, and waits for nobody.
+    /// told of, by its memory or the descriptor words. The line ends with it, and where it ends denied the auditor is told,
+    /// and where the auditor answers so the last line of the script, the `logout`, is next; or a reference missed, or a link is
+    /// to be snapped first; a request waits for the office. A miss that is not yet settled is answered again. Conditions: a
+    /// line is left, no write that a reply asks for is due, and room was made for the attempt. It takes no memory, and waits
+    /// for nobody.
     pub fn line_fast(&mut self, shared: &Board<Entry>) -> Fast
         requires fits { shared.now.table_id ≡ B.table }
         requires layout { shared.now.key.layout ≡ B.layout }
@@ -146,7 +148,7 @@ impl<'a, B: Attending, A: Auditor> Process<'a, B, A> {
     {
         match attempt(&mut self.state, &mut self.pass, &mut self.cam, shared, line) {
             Fast::Done => {
-                tell(&mut self.auditor, self.state.recording.last_denial());
+                self.script = tell_and_heed(&mut self.auditor, &mut self.state, self.script);
                 Fast::Done
             }
             Fast::Missing { segno, by } => {
@@ -177,20 +179,50 @@ pub(crate) fn line_at(script: &[Line], place: usize) -> Option<&Line>
     script.get(place)
 }
 
-// The auditor, if there is one, is told of the denial of a line, if it was denied.
-pub(crate) fn tell<A: Auditor>(auditor: &mut Option<A>, told: Option<(u32, Denial)>)
-    requires { (account : Account) → option_map A.account auditor.old ≡ Some account → 1 ≤ account.room }
-    ensures { option_map A.account auditor.new
-        ≡ option_map (λ account. with_denials account (as_list told)) (option_map A.account auditor.old) }
+/// The auditor, if there is one, is told of the denial of the line that ended last, if it was denied, and its verdict is heeded:
+/// where the process is to log out, the last line of the script is next. Gives the lines among which the next one stands at the
+/// place that counts the lines done. Condition: a line is left. Takes no memory.
+pub(crate) fn tell_and_heed<'a, A: Auditor>(
+    auditor: &mut Option<A>,
+    state: &mut LineState,
+    script: &'a [Line],
+) -> &'a [Line]
+    requires room { (account : Account) → option_map A.account auditor.old ≡ Some account → 1 ≤ account.room }
+    requires left { length state.old.recording.steps < length script.now }
+    requires numbers { state.old.first + length script.now < 2 ^ 32 }
+    ensures { HasHeeded (last_denial state.old.recording.steps) (option_map A.account auditor.old) state.old script.now
+        (option_map A.account auditor.new) state.new result.now }
 {
-    if let Some((line, denial)) = told {
-        match auditor {
-            Some(auditor) => match auditor.denied(line, denial) {
-                Verdict::GoOn => {}
-            },
-            None => {}
-        }
+    match tell(auditor, state.recording.last_denial()) {
+        Verdict::GoOn => script,
+        Verdict::Logout => cut(state, script),
     }
+}
+
+// The auditor, if there is one, is told of the denial of a line, if it was denied. Where nothing is told the process goes on.
+fn tell<A: Auditor>(auditor: &mut Option<A>, told: Option<(u32, Denial)>) -> Verdict
+    requires { (account : Account) → option_map A.account auditor.old ≡ Some account → 1 ≤ account.room }
+    ensures { HasTold told (option_map A.account auditor.old) result (option_map A.account auditor.new) }
+{
+    match told {
+        Some((line, denial)) => match auditor {
+            Some(auditor) => auditor.denied(line, denial),
+            None => Verdict::GoOn,
+        },
+        None => Verdict::GoOn,
+    }
+}
+
+// All lines that are left before the last are left out.
+fn cut<'a>(state: &mut LineState, script: &'a [Line]) -> &'a [Line]
+    requires left { length state.old.recording.steps < length script.now }
+    requires numbers { state.old.first + length script.now < 2 ^ 32 }
+    ensures state { state.new ≡ cut_by (before_last state.old script.now) state.old }
+    ensures script { result.now ≡ drop (before_last state.old script.now) script.now }
+{
+    let more = script.len() - 1 - state.recording.lines();
+    state.first += more as u32;
+    &script[more..]
 }
 
 // Whether a line is a request.

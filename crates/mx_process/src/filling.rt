@@ -12,11 +12,12 @@ ghost use Rattle.mx_transcript.specs.Elements.{IsJudged};
 ghost use Rattle.mx_upcall.specs.Soundness.{IsPackableControl};
 ghost use Rattle.mx_process.specs.Attempts.{HasMissed};
 ghost use Rattle.mx_process.specs.Filling.{HasStored, HasWritten, HasWrote, IsDue, IsOnwardAt, IsSince, IsWriting, Leads};
-ghost use Rattle.mx_process.specs.Processes.{HasLine, HasRoom, IsAtLine, IsFitting, known_of, number_in};
+ghost use Rattle.mx_process.specs.Plans.{number_in};
+ghost use Rattle.mx_process.specs.Processes.{HasLine, HasRoom, IsAtLine, IsFitting, known_of};
 ghost use Rattle.mx_process.specs.Turns.{IsUntold, inside};
 ghost use Rattle.mx_process.specs.declared.filling.Wrote.TheVariants.{Done, Missing, More};
 
-use crate::attempts::tell;
+use crate::attempts::tell_and_heed;
 use crate::misses::Miss;
 use crate::naming::Attending;
 use crate::processes::Process;
@@ -46,9 +47,9 @@ pub enum Wrote {
 
 impl<'a, B: Attending, A: Auditor> Process<'a, B, A> {
     /// Makes the write in ring 0 that is due, since the reply to the line's last call asks for it. It is judged as every
-    /// reference is. Where it is denied the line ends with that denial; where the line ends denied the auditor is told. A miss
-    /// that is not yet settled is answered again. Conditions: a line is left, a write is due, and room was made for it. It
-    /// takes no memory, and waits for nobody.
+    /// reference is. Where it is denied the line ends with that denial; where the line ends denied the auditor is told, and
+    /// where it answers so the last line of the script is next. A miss that is not yet settled is answered again. Conditions:
+    /// a line is left, a write is due, and room was made for it. It takes no memory, and waits for nobody.
     pub fn fill_fast(&mut self, shared: &Board<Entry>) -> Wrote
         requires fits { shared.now.table_id ≡ B.table }
         requires layout { shared.now.key.layout ≡ B.layout }
@@ -86,7 +87,7 @@ impl<'a, B: Attending, A: Auditor> Process<'a, B, A> {
         match write(&mut self.state, &mut self.pass, &mut self.cam, shared, line) {
             Turn::More => Wrote::More,
             Turn::Ended => {
-                tell(&mut self.auditor, self.state.recording.last_denial());
+                self.script = tell_and_heed(&mut self.auditor, &mut self.state, self.script);
                 Wrote::Done
             }
             Turn::Missing(miss) => {

@@ -5,8 +5,10 @@ ghost use Rattle.std.specs.Option.{option_map};
 ghost use Rattle.mx_core.specs.declared.words.Stage.TheVariants.{Outside};
 ghost use Rattle.mx_closing.specs.Views.{view_in};
 ghost use Rattle.mx_process.specs.Audited.{IsAudited};
-ghost use Rattle.mx_process.specs.Processes.{HasLine, HasRoom, IsNew, IsNewPass, IsStill, left_of, script_of};
+ghost use Rattle.mx_process.specs.Plans.{IsUncut, left_of, place_in};
+ghost use Rattle.mx_process.specs.Processes.{HasLine, HasRoom, IsNew, IsNewPass, IsStill, script_of};
 ghost use Rattle.mx_ties.specs.Working.{HasWorked};
+ghost use Rattle.mx_transcript.specs.Scripts.{lines_of};
 
 use crate::misses::Miss;
 use crate::naming::Attending;
@@ -25,7 +27,8 @@ use std::marker::Model;
 /// How many events an attempt at a line has at most.
 pub(crate) const ATTEMPT: u32 = 10;
 
-/// A process of the run that `B` names, with its pass. Its auditor is told of each of its denials.
+/// A process of the run that `B` names, with its pass. Its auditor is told of each of its denials, and may log it out. Of its
+/// script it has the lines but for as many at the beginning as were left out.
 #[derive(Drop)]
 pub struct Process<'a, B: Attending, A: Auditor> {
     pub(crate) script: &'a [Line],
@@ -119,19 +122,21 @@ impl<'a, B: Attending, A: Auditor> Process<'a, B, A> {
     }
 
     /// What its type says of its auditor, if it has one: it was told of each denial of the process so far, beyond what it had
-    /// been told before the run.
+    /// been told before the run, and its last verdict was heeded. Where it has none no line was left out.
     pub fn tells_its_auditor(&self)
         ensures audited { IsAudited B.session self.now.pass.view.process
             (slice_get B.accounts (self.now.pass.view.process - 1)) self.now.state self.now.account }
-        ensures alone { slice_get B.accounts (self.now.pass.view.process - 1) ≡ None → IsUncut B.session self.now.pass.view.process self.now.state }
-        ensures within { place_in B.session self.now.pass.view.process self.now.state ≤ length (lines_of B.session self.now.pass.view.process) }
+        ensures alone { slice_get B.accounts (self.now.pass.view.process - 1) ≡ None
+            → IsUncut B.session self.now.pass.view.process self.now.state }
+        ensures within { place_in B.session self.now.pass.view.process self.now.state
+            ≤ length (lines_of B.session self.now.pass.view.process) }
     {
         let _ = &self.auditor;
     }
 
     /// The transcript, the pass and the auditor, where all lines are done. Takes no memory.
     pub fn finish(self) -> (Transcript, Pass<Entry, B>, Option<A>)
-        requires { left_of B.session self.pass.view.process self.state.recording.steps ≡ [] }
+        requires { left_of B.session self.pass.view.process self.state ≡ [] }
         ensures worked { HasWorked B.session B.setup result.1.view.process result.0 (view_in result.1) }
         ensures pass { result.1 ≡ self.entry.pass }
         ensures outside { result.1.view.stage ≡ Outside }

@@ -9,7 +9,7 @@ ghost use Rattle.mx_process.specs.Processes.{IsAtLine, IsStill};
 ghost use Rattle.mx_process.specs.Stays.{HasDoneMore, HasDoneNext, HasHurried, HasStayed, IsUnaudited, gone_out, unaudited};
 ghost use Rattle.mx_process.specs.Turns.{inside};
 
-use crate::attempts::{is_request, line_at, tell, turns};
+use crate::attempts::{is_request, line_at, tell_and_heed, turns};
 use crate::misses::{Fast, Miss};
 use crate::naming::Attending;
 use crate::processes::{ATTEMPT, Process};
@@ -38,8 +38,9 @@ pub(crate) enum Stayed {
 
 impl<'a, B: Attending, A: Auditor> Process<'a, B, A> {
     /// Does lines in one stay inside, up to a request, a miss, a link that is to be snapped, or a denial, of which the
-    /// auditor is told outside. A line that has begun is left to `leg`. It takes no lock and waits for nobody. Condition:
-    /// the process does not wait. The only error is want of memory: the lines that ended before stay done.
+    /// auditor is told outside, and where it answers so the last line is next. A line that has begun is left to `leg`. It takes
+    /// no lock and waits for nobody. Condition: the process does not wait. The only error is want of memory: the lines that
+    /// ended before stay done.
     pub(crate) fn hurry(&mut self, shared: &Board<Entry>) -> Result<(), AllocError>
         requires fits { shared.now.table_id ≡ B.table }
         requires layout { shared.now.key.layout ≡ B.layout }
@@ -71,7 +72,7 @@ impl<'a, B: Attending, A: Auditor> Process<'a, B, A> {
         )? {
             Stayed::Over => Ok(()),
             Stayed::Denied => {
-                tell(&mut self.auditor, self.state.recording.last_denial());
+                self.script = tell_and_heed(&mut self.auditor, &mut self.state, self.script);
                 Ok(())
             }
             Stayed::Missing(miss) => {
@@ -92,7 +93,7 @@ fn is_fresh(missing: &Option<Miss>, progress: &Progress) -> bool
 }
 
 // A stay, from outside to outside.
-fn stay<B: Sitting>(
+fn stay<B: Attending>(
     state: &mut LineState,
     pass: &mut Pass<Entry, B>,
     cam: &mut Cam,
@@ -103,10 +104,10 @@ fn stay<B: Sitting>(
     requires layout { shared.now.key.layout ≡ B.layout }
     requires same { cam.old ≡ pass.old.view.memory }
     requires outside { pass.old.view.stage ≡ Outside }
-    requires whole { IsUnaudited B.session B.setup script.now None (inside state.old pass.old) }
+    requires whole { IsUnaudited B.session B.setup B.accounts script.now None (inside state.old pass.old) }
     requires before { state.old.progress ≡ Before }
-    ensures came { IfOk result (λ came. HasStayed B.session B.setup script.now (inside state.old pass.old) came (inside state.new pass.new)) }
-    ensures err { OnErr result (HasHurried B.session B.setup script.now (inside state.old pass.old) None None (inside state.new pass.new)) }
+    ensures came { IfOk result (λ came. HasStayed B.session B.setup B.accounts script.now (inside state.old pass.old) came (inside state.new pass.new)) }
+    ensures err { OnErr result (HasHurried B.session B.setup B.accounts script.now (inside state.old pass.old) None None (inside state.new pass.new)) }
     ensures same { cam.new ≡ pass.new.view.memory }
 {
     cam.enter(pass, shared);
@@ -116,7 +117,7 @@ fn stay<B: Sitting>(
 }
 
 // The lines of a stay.
-fn do_lines<B: Sitting>(
+fn do_lines<B: Attending>(
     state: &mut LineState,
     pass: &mut Pass<Entry, B>,
     cam: &mut Cam,
@@ -127,11 +128,11 @@ fn do_lines<B: Sitting>(
     requires layout { shared.now.key.layout ≡ B.layout }
     requires same { cam.old ≡ pass.old.view.memory }
     requires ready { pass.old.view.stage ≡ Ready }
-    requires whole { IsUnaudited B.session B.setup script.now None (gone_out (inside state.old pass.old)) }
+    requires whole { IsUnaudited B.session B.setup B.accounts script.now None (gone_out (inside state.old pass.old)) }
     requires before { state.old.progress ≡ Before }
-    ensures came { IfOk result (λ came. HasStayed B.session B.setup script.now (gone_out (inside state.old pass.old)) came
+    ensures came { IfOk result (λ came. HasStayed B.session B.setup B.accounts script.now (gone_out (inside state.old pass.old)) came
         (gone_out (inside state.new pass.new))) }
-    ensures err { OnErr result (HasHurried B.session B.setup script.now (gone_out (inside state.old pass.old)) None None
+    ensures err { OnErr result (HasHurried B.session B.setup B.accounts script.now (gone_out (inside state.old pass.old)) None None
         (gone_out (inside state.new pass.new))) }
     ensures same { cam.new ≡ pass.new.view.memory }
     ensures ready { pass.new.view.stage ≡ Ready }
@@ -146,7 +147,7 @@ fn do_lines<B: Sitting>(
 
 // The next line, where it is for this stay; and what the stay came to, where it is over.
 #[inline(always)]
-fn do_next<B: Sitting>(
+fn do_next<B: Attending>(
     state: &mut LineState,
     pass: &mut Pass<Entry, B>,
     cam: &mut Cam,
@@ -157,11 +158,11 @@ fn do_next<B: Sitting>(
     requires layout { shared.now.key.layout ≡ B.layout }
     requires same { cam.old ≡ pass.old.view.memory }
     requires ready { pass.old.view.stage ≡ Ready }
-    requires whole { IsUnaudited B.session B.setup script.now None (gone_out (inside state.old pass.old)) }
+    requires whole { IsUnaudited B.session B.setup B.accounts script.now None (gone_out (inside state.old pass.old)) }
     requires before { state.old.progress ≡ Before }
-    ensures came { IfOk result (λ came. HasDoneNext B.session B.setup script.now (gone_out (inside state.old pass.old)) came
+    ensures came { IfOk result (λ came. HasDoneNext B.session B.setup B.accounts script.now (gone_out (inside state.old pass.old)) came
         (gone_out (inside state.new pass.new))) }
-    ensures err { OnErr result (HasHurried B.session B.setup script.now (gone_out (inside state.old pass.old)) None None
+    ensures err { OnErr result (HasHurried B.session B.setup B.accounts script.now (gone_out (inside state.old pass.old)) None None
         (gone_out (inside state.new pass.new))) }
     ensures same { cam.new ≡ pass.new.view.memory }
     ensures ready { pass.new.view.stage ≡ Ready }
@@ -191,7 +192,7 @@ fn make_room<B: Sitting>(state: &mut LineState, pass: &mut Pass<Entry, B>) -> Re
 
 // A line that is no request, for which there is room.
 #[inline(always)]
-fn do_line<B: Sitting>(
+fn do_line<B: Attending>(
     state: &mut LineState,
     pass: &mut Pass<Entry, B>,
     cam: &mut Cam,
@@ -206,11 +207,11 @@ fn do_line<B: Sitting>(
     requires spare { 10 ≤ pass.old.spare }
     requires room { 10 ≤ state.old.recording.spare }
     requires end { IsTrue state.old.recording.line_room }
-    requires whole { IsUnaudited B.session B.setup script.now None (gone_out (inside state.old pass.old)) }
+    requires whole { IsUnaudited B.session B.setup B.accounts script.now None (gone_out (inside state.old pass.old)) }
     requires before { state.old.progress ≡ Before }
     requires other { IsNoRequest line.now }
     requires at { (number : ℕ) × IsAtLine B.session (unaudited None (gone_out (inside state.old pass.old))) number line.now }
-    ensures came { HasDoneNext B.session B.setup script.now (gone_out (inside state.old pass.old)) result
+    ensures came { HasDoneNext B.session B.setup B.accounts script.now (gone_out (inside state.old pass.old)) result
         (gone_out (inside state.new pass.new)) }
     ensures same { cam.new ≡ pass.new.view.memory }
     ensures ready { pass.new.view.stage ≡ Ready }

@@ -1,4 +1,3 @@
-use Rattle.std.proofs.Common.{[], refl}
 use Rattle.std.specs.Prelude.{Some}
 use Rattle.mx_line.specs.AtWork.{left}
 use Rattle.mx_process.proofs.EntryLaws.{left_so, stands_so}

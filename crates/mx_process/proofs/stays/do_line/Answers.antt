@@ -4,19 +4,19 @@ use Rattle.mx_process.proofs.stays.do_line.Goals as goal
 
 pub turns-requires-clause-attempting : goal.turns-requires-clause-attempting
 turns-requires-clause-attempting g c =
-    line_begins g.B.Sitting.session g.B.Sitting.setup c.args.script.now c.args.line.now c.args.state.now c.args.state.now
+    line_begins g.B.Sitting.session g.B.Sitting.setup g.B.Attending.accounts c.args.script.now c.args.line.now c.args.state.now c.args.state.now
     c.args.pass.now c.args.pass.now c.requires.whole c.requires.at c.requires.other c.requires.before
 
 pub returns-in-Some-clause-came : goal.returns-in-Some-clause-came
 returns-in-Some-clause-came g c =
-    line_denied g.B.Sitting.session g.B.Sitting.setup c.args.script.now c.args.line.now c.args.state.now c.turns.new.state
+    line_denied g.B.Sitting.session g.B.Sitting.setup g.B.Attending.accounts c.args.script.now c.args.line.now c.args.state.now c.turns.new.state
     c.args.pass.now c.turns.new.pass c.requires.whole c.requires.at c.requires.other c.in-Some.field-0
     (sym c.last_denial.ensures ∙ c.in-Some.is) c.turns.ensures.untold c.in-Done.ensures.came
 
 pub returns-in-None-clause-came : goal.returns-in-None-clause-came
 returns-in-None-clause-came g c =
     let ended = c.in-Done.ensures.came in (
-      line_done g.B.Sitting.session g.B.Sitting.setup c.args.script.now c.args.line.now c.args.state.now c.turns.new.state
+      line_done g.B.Sitting.session g.B.Sitting.setup g.B.Attending.accounts c.args.script.now c.args.line.now c.args.state.now c.turns.new.state
           c.args.pass.now c.turns.new.pass c.requires.whole c.requires.at c.requires.other None
           (sym c.last_denial.ensures ∙ c.in-None.is) c.turns.ensures.untold ended,
       ended.fresh,
@@ -24,12 +24,12 @@ returns-in-None-clause-came g c =
 
 pub returns-in-Missing-clause-came : goal.returns-in-Missing-clause-came
 returns-in-Missing-clause-came g c =
-    line_missed g.B.Sitting.session g.B.Sitting.setup c.args.script.now c.args.line.now c.args.state.now c.turns.new.state
+    line_missed g.B.Sitting.session g.B.Sitting.setup g.B.Attending.accounts c.args.script.now c.args.line.now c.args.state.now c.turns.new.state
     c.args.pass.now c.turns.new.pass c.requires.whole c.requires.at c.requires.other c.in-Missing.segno c.in-Missing.by
     c.turns.ensures.untold c.in-Missing.ensures.came
 
 pub returns-in-Link-clause-came : goal.returns-in-Link-clause-came
 returns-in-Link-clause-came g c =
-    line_linked g.B.Sitting.session g.B.Sitting.setup c.args.script.now c.args.line.now c.args.state.now c.turns.new.state
+    line_linked g.B.Sitting.session g.B.Sitting.setup g.B.Attending.accounts c.args.script.now c.args.line.now c.args.state.now c.turns.new.state
     c.args.pass.now c.turns.new.pass c.requires.whole c.requires.at c.requires.other c.in-Link.segno c.in-Link.word c.in-Link.ring
     c.turns.ensures.untold c.in-Link.ensures.came

@@ -1,4 +1,3 @@
-use Rattle.std.proofs.Common.{ap, subst, sym}
 use Rattle.mx_process.proofs.CallLaws.{block_still}
 use Rattle.mx_process.proofs.processes.Process.block.Goals as goal
 

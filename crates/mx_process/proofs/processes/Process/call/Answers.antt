@@ -1,4 +1,4 @@
-use Rattle.mx_process.proofs.CallLaws.{calling_still, ended_still, gone_still}
+use Rattle.mx_process.proofs.CallLaws.{calling_still}
 use Rattle.mx_process.proofs.processes.Process.call.Goals as goal
 
 pub enter-requires-clause-calls : goal.enter-requires-clause-calls

@@ -7,14 +7,14 @@ use Rattle.mx_process.proofs.processes.Process.present.Goals as goal
 
 pub unreachable-requires : goal.unreachable-requires
 unreachable-requires g c =
-    no_line g.B.Sitting.session g.B.Sitting.setup g.B.Attending.accounts c.self.inside.script.now c.self.inside.cam _ c.lines.result
-    c.self.invariant c.lines.ensures
+    no_line g.B.Sitting.session g.B.Sitting.setup g.B.Attending.accounts c.self.inside.script.now c.self.inside.cam _
+    c.self.invariant c.lines.result c.lines.ensures
     (sym c.line_at.ensures ∙ ap (option_map (λ (line : Bor Line). line.now)) c.in_default.is)
     (subst (HasLine g.B.Sitting.session) (sym c.self.view_is) c.requires)
 
 pub returns : goal.returns
 returns g c =
     subst (λ (v : ProcessValue). (n : ℕ) × IsAtLine g.B.Sitting.session v n c.in-Some.line.now) c.self.view_is
-    (line_next g.B.Sitting.session g.B.Sitting.setup g.B.Attending.accounts c.self.inside.script.now c.self.inside.cam _ c.lines.result
-    c.in-Some.line.now c.self.invariant c.lines.ensures
+    (line_next g.B.Sitting.session g.B.Sitting.setup g.B.Attending.accounts c.self.inside.script.now c.self.inside.cam _
+    c.self.invariant c.lines.result c.lines.ensures c.in-Some.line.now
     (sym c.line_at.ensures ∙ ap (option_map (λ (line : Bor Line). line.now)) c.in-Some.is))

@@ -14,7 +14,7 @@ invariant_of-self g c =
     c.present-line.result.now c.self.view_is c.self.invariant c.present-line.ensures c.requires.waiting in
     resumed_process g.B.Sitting.session g.B.Sitting.setup g.B.Attending.accounts c.self.inside.script.now c.self.inside.cam _ _
     c.resume.new.state c.resume.new.pass c.present-line.result.now c.self.view_is c.self.invariant c.resume.ensures.grown settled
-    c.resume.result c.resume.ensures.ended c.resume.ensures.waits c.resume.ensures.state c.resume.ensures.pass
+    c.resume.result c.resume.ensures.ended c.resume.ensures.waits c.resume.ensures.state c.resume.ensures.pass c.present-line.ensures
 
 pub returns-clause-done : goal.returns-clause-done
 returns-clause-done g c is =

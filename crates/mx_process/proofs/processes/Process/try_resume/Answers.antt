@@ -1,4 +1,3 @@
-use Rattle.std.proofs.Common.{◌∙◌}
 use Rattle.mx_process.proofs.CallLaws.{line_still}
 use Rattle.mx_process.proofs.processes.Process.try_resume.Goals as goal
 
