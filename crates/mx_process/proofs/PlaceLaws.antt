@@ -2,7 +2,7 @@
 use Rattle.std.proofs.Common.{◌≡◌, ◌⊎◌, inl, inr, ℕ, zero, suc, ◌<◌, ◌≤◌, ◌+◌, ◌-◌, ◌^◌, Bool, true, false, if◌then◌else◌, List, [], ◌∷◌, drop, length, Some, refl, sym, ◌∙◌, ap, arith}
 use Rattle.std.proofs.lemmas.Bool.{cases_lt}
 use Rattle.std.specs.List.{list_all, slice_get}
-use Rattle.mx_line.proofs.ScriptLaws.{all_in, fewer_done, numbered_next, numbered_none, script_lines, scripts_fit}
+use Rattle.mx_line.proofs.ScriptLaws.{all_in, fewer_done, numbered_next, script_lines, scripts_fit}
 use Rattle.mx_line.specs.Operands.{IsSayable}
 use Rattle.mx_request.proofs.StepLaws.{both}
 use Rattle.mx_request.specs.declared.requests.Request.{Request}
@@ -154,10 +154,6 @@ module _ (x : Outline) (p n : ℕ) (some : 1 ≤ p) where
       let are = lines_are x p some in
       ap (drop n) are ∙ numbered_next (first_line x p) n (script_of x p) line e
       ∙ ap (λ (l : List (ℕ × Line)). (first_line x p + n, line) ∷ drop (suc n) l) (sym are)
-
-  pub script_past : length (script_of x p) ≤ n → drop n (lines_of x p) ≡ []
-  script_past h =
-      ap (drop n) (lines_are x p some) ∙ numbered_none (first_line x p) n (script_of x p) h
 
   -- the last is the `logout`
   pub logout_at : (number : ℕ) (line : Line) (left : List (ℕ × Line)) → IsSession x

@@ -2,10 +2,11 @@
 //!
 //! A [`Process`] has its registers and return gates, its place in its script, what was recorded of its lines, its pass and its
 //! auditor. Its type says how these hang together: each element and each miss of the pass is in the transcript, in order, and
-//! the lines keep the line rule by what the process was told of (`Processes`). Whether a write that a reply asks for is
-//! granted is no fact of a process; so this is promised unless one failed. [`Process::line_fast`] makes one attempt at a
-//! line: it takes no memory and no lock, and waits for nobody. Stands on `mx_line` (what a line asks for), `mx_cam`
-//! (references through an associative memory), `mx_ties` (what each step keeps) and `mx_office` (whose words these are).
+//! the lines keep the line rule by what the process was told of (`Processes`). Where its auditor logs it out behind a line that
+//! was denied, its last line is next (`Plans`). Whether a write that a reply asks for is granted is no fact of a process; so
+//! this is promised unless one failed. [`Process::line_fast`] makes one attempt at a line: it takes no memory and no lock, and
+//! waits for nobody. Stands on `mx_line` (what a line asks for), `mx_cam` (references through an associative memory), `mx_ties`
+//! (what each step keeps) and `mx_office` (whose words these are).
 #![tactic(auto)]
 
 mod attempts;
