@@ -45,7 +45,8 @@ pub work_begun : (x : Outline) (setup : List journaled.Entry) (p : ℕ) (state :
 work_begun x setup p state line course k idle w = record {
   lines = λ u d agrees. record {
     done = (w.lines u d agrees).done;
-    at_work = subst (λ (events : List Event2). IsSoFar (own_setting x (followed setup k.view.history) k.view.floor p d) state.control line events (Attempt []))
+    at_work = subst (λ (events : List Event2). IsSoFar (own_setting x (followed setup k.view.history) k.view.floor p d)
+        state.control line events (Attempt []))
         (sym idle) refl;
   };
   answering = λ u. tt;
@@ -128,7 +129,8 @@ last_at (step ∷ next ∷ steps) told e =
     let rest = last_at (next ∷ steps) told e in (suc rest.0, rest.1, rest.2, rest.3, ap suc rest.4)
 
 -- all lines behind it and before the last are left out
-pub cut_behind : (x : Outline) (p : ℕ) (state : LineState) (told : ℕ × Denial) (more : ℕ) → last_denial state.recording.steps ≡ Some told
+pub cut_behind : (x : Outline) (p : ℕ) (state : LineState) (told : ℕ × Denial) (more : ℕ)
+    → last_denial state.recording.steps ≡ Some told
     → IsUncut x p state → more ≡ length (lines_of x p) - 1 - length state.recording.steps
     → length state.recording.steps < length (lines_of x p) → IsCutBehind x p (cut_by more state) told
 cut_behind x p state told more last uncut is within =
@@ -244,8 +246,11 @@ module _ (x : Outline) (setup : List journaled.Entry) (accounts : List Account) 
           let before = before_told number denial denied within in
           let uncut = was_uncut x o.view.process (slice_get accounts (o.view.process - 1)) old state more first steps number denial
           denied before a told in
-          subst (λ (l : List Line). IsProcess x setup accounts l memory (with_account state' (Some (with_told a ((number, denial, GoOn) ∷ [])))))
-          (sym heeds.1) (subst (λ (s : LineState). IsProcess x setup accounts script memory (with_account s (Some (with_told a ((number, denial, GoOn) ∷ [])))))
+          subst (λ (l : List Line). IsProcess x setup accounts l memory
+          (with_account state' (Some (with_told a ((number, denial, GoOn) ∷ [])))))
+          (sym heeds.1)
+          (subst (λ (s : LineState). IsProcess x setup accounts script memory
+          (with_account s (Some (with_told a ((number, denial, GoOn) ∷ [])))))
           (sym heeds.0) (with_audit (Some (with_told a ((number, denial, GoOn) ∷ [])))
           (audited_told x o.view.process (slice_get accounts (o.view.process - 1)) old state more first steps number denial
           denied before state a GoOn refl told uncut)))
@@ -255,7 +260,8 @@ module _ (x : Outline) (setup : List journaled.Entry) (accounts : List Account) 
           denied before a told in
           let is_left = left_is fresh idle uncut within in
           let less = fewer fresh idle uncut within in
-          subst (λ (l : List Line). IsProcess x setup accounts l memory (with_account state' (Some (with_told a ((number, denial, Logout) ∷ [])))))
+          subst (λ (l : List Line). IsProcess x setup accounts l memory
+          (with_account state' (Some (with_told a ((number, denial, Logout) ∷ [])))))
           (sym heeds.1) (subst (λ (s : LineState). IsProcess x setup accounts (drop (before_last state script) script) memory
           (with_account s (Some (with_told a ((number, denial, Logout) ∷ [])))))
           (sym heeds.0) (logged_out fresh idle uncut within (number, denial) (with_told a ((number, denial, Logout) ∷ [])) last
@@ -290,7 +296,8 @@ module _ (x : Outline) (setup : List journaled.Entry) (accounts : List Account) 
           (by_verdict told.0 told.1 a h.verdict state' script' audited denied last within h.heeds)
 
 -- no fewer lines are left out, and nothing else differs
-pub heeded_cut : (told : Option (ℕ × Denial)) (account account' : Option Account) (state state' : LineState) (script script' : List Line)
+pub heeded_cut : (told : Option (ℕ × Denial)) (account account' : Option Account) (state state' : LineState)
+    (script script' : List Line)
     → HasHeeded told account state script account' state' script' → MayBeCut state state'
 heeded_cut told account account' state state' script script' h = by_verdict h.verdict h.heeds
   where

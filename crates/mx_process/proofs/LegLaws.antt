@@ -267,7 +267,8 @@ ended_fewer x old new number line at e =
     = ap (λ p. length (left_of x p new.state)) e.own.process ∙ length-drop (place_in x old.pass.view.process new.state) lines in
     let before : length (left_of x old.pass.view.process old.state) ≡ length lines - place_in x old.pass.view.process old.state
     = length-drop (place_in x old.pass.view.process old.state) lines in
-    let some : length (left_of x old.pass.view.process old.state) ≡ suc (length at.left) = ap (λ (l : List (ℕ × Line)). length l) at.at in
+    let some : length (left_of x old.pass.view.process old.state) ≡ suc (length at.left)
+    = ap (λ (l : List (ℕ × Line)). length l) at.at in
     omega (arith, place, after, before, some)
 
 -- before a line, or at no line

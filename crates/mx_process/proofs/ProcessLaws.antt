@@ -155,7 +155,8 @@ first_process x setup accounts script state o session f own packable = record {
   same = sym (ap (λ (v : PassView journaled.Entry). v.memory) f.fresh.view);
   outside = ap (λ (v : PassView journaled.Entry). v.stage) f.fresh.view;
   planned = inl f.first;
-  within = subst (λ n. n ≤ length (lines_of x o.view.process)) (sym (first_place x setup state o f)) (none_first (length (lines_of x o.view.process)));
+  within = subst (λ n. n ≤ length (lines_of x o.view.process)) (sym (first_place x setup state o f))
+      (none_first (length (lines_of x o.view.process)));
   packable = packable;
   good = subst (IsGoodProgress state.control.registers) (sym f.progress) tt;
   fitting = subst IsFittingAt (sym f.progress) fitting_before;
@@ -366,7 +367,8 @@ module _ (x : Outline) (setup : List journaled.Entry) (accounts : List Account) 
     where
       got_behind : (k : ℕ) (lines : List Line) (n : ℕ) → slice_get (drop k lines) n ≡ slice_get lines (k + n)
       got_behind zero lines n = let none : n ≡ 0 + n = omega arith in ap (slice_get lines) none
-      got_behind (suc k) [] n = slice_get_past (drop (suc k) []) n (none (suc k) n) ∙ sym (slice_get_past [] (suc k + n) (low (suc k + n)))
+      got_behind (suc k) [] n =
+          slice_get_past (drop (suc k) []) n (none (suc k) n) ∙ sym (slice_get_past [] (suc k + n) (low (suc k + n)))
         where
           low : (m : ℕ) → length {A = Line} [] ≤ m
           low m = omega arith

@@ -96,7 +96,8 @@ module _ (x : Outline) (setup : List journaled.Entry) (accounts : List Account) 
   -- going in changes nothing of it
   pub entered_whole : (state : LineState) (cleared : ℕ) (o o' : PassValue journaled.Entry)
       → o' ≡ record o { view = connected_view cleared (entered_view o.view) }
-      → IsUnaudited x setup accounts script None (inside state o) → IsUnaudited x setup accounts script None (gone_out (inside state o'))
+      → IsUnaudited x setup accounts script None (inside state o)
+      → IsUnaudited x setup accounts script None (gone_out (inside state o'))
   entered_whole state cleared o o' e is =
       subst (λ (z : PassValue journaled.Entry). IsUnaudited x setup accounts script None (gone_out (inside state z))) (sym e) (record {
         session = is.session;
@@ -150,7 +151,8 @@ module _ (x : Outline) (setup : List journaled.Entry) (accounts : List Account) 
       (still_process x setup (unaudited None old) (unaudited None new) s accounts script old.pass.view.memory is)
 
   pub hurried_still : (old new : Inside) → IsStill (unaudited None old) (unaudited None new)
-      → IsUnaudited x setup accounts script None old → old.state.progress ≡ Before → HasHurried x setup accounts script old None None new
+      → IsUnaudited x setup accounts script None old → old.state.progress ≡ Before
+      → HasHurried x setup accounts script old None None new
   hurried_still old new s is before = record {
     whole = still_whole old new s is;
     first = s.first;
@@ -178,7 +180,14 @@ module _ (x : Outline) (setup : List journaled.Entry) (accounts : List Account) 
     pub stayed_on : (came : Stayed) → HasStayed x setup accounts script b came c → HasStayed x setup accounts script a came c
     stayed_on stayed.Over h = hurried_on None None h
     stayed_on stayed.Denied h =
-        record { told = h.told; last = h.last; hurried = hurried_on None (Some h.told) h.hurried; fresh = h.fresh; idle = h.idle; within = h.within }
+        record {
+          told = h.told;
+          last = h.last;
+          hurried = hurried_on None (Some h.told) h.hurried;
+          fresh = h.fresh;
+          idle = h.idle;
+          within = h.within;
+        }
     stayed_on (stayed.Missing m) h = hurried_on (Some m) None h
 
     pub next_on : (came : Option Stayed) → HasDoneNext x setup accounts script b came c → HasDoneNext x setup accounts script a came c
@@ -217,7 +226,8 @@ module _ (x : Outline) (setup : List journaled.Entry) (accounts : List Account) 
 
     -- it ended
     pub line_done : (told : Option (ℕ × Denial)) → last_denial state'.recording.steps ≡ told → IsUntold o o'
-        → Ends x setup state (inside state' o') → HasHurried x setup accounts script (gone_out (inside state o)) None told (gone_out (inside state' o'))
+        → Ends x setup state (inside state' o')
+        → HasHurried x setup accounts script (gone_out (inside state o)) None told (gone_out (inside state' o'))
     line_done told last untold e = record {
       whole = done_process x setup accounts script o.view.memory o'.view.memory (unaudited None (gone_out (inside state o))) state'
           (gone_out (inside state' o')).pass line (out untold) at.0 at.1 (ended_out e);
@@ -231,7 +241,8 @@ module _ (x : Outline) (setup : List journaled.Entry) (accounts : List Account) 
     }
 
     pub line_denied : (told : ℕ × Denial) → last_denial state'.recording.steps ≡ Some told → IsUntold o o'
-        → Ends x setup state (inside state' o') → HasDenied x setup accounts script (gone_out (inside state o)) (gone_out (inside state' o'))
+        → Ends x setup state (inside state' o')
+        → HasDenied x setup accounts script (gone_out (inside state o)) (gone_out (inside state' o'))
     line_denied told last untold e = record {
       told = told;
       last = last;
@@ -263,7 +274,8 @@ module _ (x : Outline) (setup : List journaled.Entry) (accounts : List Account) 
     }
 
     pub line_missed : (segno by : ℕ) → IsUntold o o' → Misses x setup line state (record { segno = segno; by = by }) (inside state' o')
-        → HasHurried x setup accounts script (gone_out (inside state o)) (Some (record { segno = segno; by = by })) None (gone_out (inside state' o'))
+        → HasHurried x setup accounts script (gone_out (inside state o)) (Some (record { segno = segno; by = by })) None
+        (gone_out (inside state' o'))
     line_missed segno by untold e =
         onward (Some (record { segno = segno; by = by })) untold e.same
         (missed_process x setup accounts script o.view.memory o'.view.memory (unaudited None (gone_out (inside state o))) state'
@@ -282,7 +294,8 @@ module _ (x : Outline) (setup : List journaled.Entry) (accounts : List Account) 
 -- The auditor after a stay.
 module _ (x : Outline) (setup : List journaled.Entry) (accounts : List Account) (script : List Line) (memory memory' : List Triple)
     (old : ProcessValue) (new : Inside) (is : IsProcess x setup accounts script memory old) where
-  before_is : (missing : Option Miss) (told : Option (ℕ × Denial)) → HasHurried x setup accounts script (inside old.state old.pass) missing told new
+  before_is : (missing : Option Miss) (told : Option (ℕ × Denial))
+      → HasHurried x setup accounts script (inside old.state old.pass) missing told new
       → IsAudited x new.pass.view.process (slice_get accounts (new.pass.view.process - 1)) old.state old.account
   before_is missing told h =
       subst (λ p. IsAudited x p (slice_get accounts (p - 1)) old.state old.account) (sym h.process) is.audited
@@ -290,7 +303,8 @@ module _ (x : Outline) (setup : List journaled.Entry) (accounts : List Account) 
   -- no line was denied
   pub hurried_process : (missing : Option Miss) → HasHurried x setup accounts script (inside old.state old.pass) missing None new
       → memory' ≡ new.pass.view.memory
-      → IsProcess x setup accounts script memory' (record { state = new.state; missing = missing; pass = new.pass; account = old.account })
+      → IsProcess x setup accounts script memory'
+      (record { state = new.state; missing = missing; pass = new.pass; account = old.account })
   hurried_process missing h same =
       with_auditor x setup accounts script memory' missing new old.account h.whole same
       (audited_none x new.pass.view.process (slice_get accounts (new.pass.view.process - 1)) old.state new.state h.more h.first
@@ -312,7 +326,8 @@ module _ (x : Outline) (setup : List journaled.Entry) (accounts : List Account) 
       subst (λ n. n + length script < 2 ^ 32) (sym d.hurried.first) (script_fits x setup accounts script memory old is)
 
   -- its auditor has room for the denial
-  pub room_to_tell : HasDenied x setup accounts script (inside old.state old.pass) new → (account : Account) → old.account ≡ Some account
+  pub room_to_tell : HasDenied x setup accounts script (inside old.state old.pass) new → (account : Account)
+      → old.account ≡ Some account
       → 1 ≤ account.room
   room_to_tell d =
       audit_room x old.pass.view.process (slice_get accounts (old.pass.view.process - 1)) old.state old.account
@@ -368,7 +383,12 @@ module _ (x : Outline) (a b c : ProcessValue) (m : HasDoneMore a b) where
       omega (arith, none, some)
 
 pub same_more : (v : ProcessValue) → HasDoneMore v v
-same_more v = let gone = gone_same v in record { own = gone.own; onward = low v.state.first; more = []; steps = sym (append-nil v.state.recording.steps) }
+same_more v = let gone = gone_same v in record {
+  own = gone.own;
+  onward = low v.state.first;
+  more = [];
+  steps = sym (append-nil v.state.recording.steps);
+}
   where
     low : (n : ℕ) → n ≤ n
     low n = omega arith

@@ -66,7 +66,8 @@ module _ (x : Outline) (setup : List journaled.Entry) (line : Line) (old new : L
       → IsEnding x setup k.process ended_at k.view end.ends (changed old.control end.after) → HasEnd old events end new
       → IsBefore x setup new (left_of x k.process new) k
   line_over some planned working ending ended =
-      subst (λ (l : List (ℕ × Line)). IsBefore x setup new l k) (sym left_is) (by_left (drop (suc (place_in x k.process old)) (lines_of x k.process)) refl)
+      subst (λ (l : List (ℕ × Line)). IsBefore x setup new l k) (sym left_is)
+      (by_left (drop (suc (place_in x k.process old)) (lines_of x k.process)) refl)
     where
       after : Control
       after = changed old.control end.after
@@ -203,7 +204,8 @@ module _ (x : Outline) (setup : List journaled.Entry) (line : Line) (old : LineS
   line_goes_on new progress n takes has =
       come_on x setup line old new (seen_known k (beside e d) floor) n.work.course (later_in n) (Core (Seen e)) progress
       (working_seen n) (stands_seen n (works.At progress) takes)
-      (λ fill due. absurd (never_fills n fill (subst (λ (r : Progress). Takes old.control line old.progress e d (works.At r)) due takes))) has
+      (λ fill due. absurd
+      (never_fills n fill (subst (λ (r : Progress). Takes old.control line old.progress e d (works.At r)) due takes))) has
 
   -- or ends
   pub line_ends : (new : LineState) (end : End) → IsNext → 1 ≤ k.process → IsPlanned x k.process old

@@ -203,7 +203,8 @@ module _ (x : Outline) (setup : List journaled.Entry) (accounts : List Account) 
       → IsUntold old.pass o
       → HasWritten x w wrote.Done (record { state = state'; missing = old.missing; pass = o; account = account' })
   written_done told account' state' script' s heeded untold =
-      subst (λ (z : ProcessValue). HasWritten x z wrote.Done (record { state = state'; missing = old.missing; pass = o; account = account' })) view (record {
+      subst (λ (z : ProcessValue). HasWritten x z wrote.Done
+      (record { state = state'; missing = old.missing; pass = o; account = account' })) view (record {
         number = there.0;
         line = line;
         at = there.1;

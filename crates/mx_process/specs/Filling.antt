@@ -120,9 +120,9 @@ CameTo old event (works.At progress) wrote.More new = HasEvent old event progres
 CameTo old event (works.Ended end) wrote.Done new = HasEnd old (old.recording.events ++ event ∷ []) end new
 CameTo _ _ _ _ _ = ⊥
 
--- The write that was due was judged, and the transcript has it as the line's next element. Where it was made, the line has gone on as
--- the line rule says: to the next write, to a new attempt, or to its end; where it was denied, it has ended with that denial. Only
--- where the line has ended the part may have been cut.
+-- The write that was due was judged, and the transcript has it as the line's next element. Where it was made, the line has gone
+-- on as the line rule says: to the next write, to a new attempt, or to its end; where it was denied, it has ended with that
+-- denial. Only where the line has ended the part may have been cut.
 pub record HasWritten (x : Outline) (old : ProcessValue) (came : Wrote) (new : ProcessValue) : Type 0 where
   pub number : ℕ
   pub line : Line

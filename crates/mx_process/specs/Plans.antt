@@ -1,5 +1,5 @@
--- Which lines of its script a process does: all of them; or, where its auditor logged it out behind a line that was denied, those up
--- to that one and then the last.
+-- Which lines of its script a process does: all of them; or, where its auditor logged it out behind a line that was denied,
+-- those up to that one and then the last.
 use Rattle.std.specs.Prelude.{◌≡◌, ◌⊎◌, ℕ, suc, ◌+◌, ◌-◌, ◌<◌, ◌++◌, List, drop, take, length, Some, slice_get}
 use Rattle.mx_line.specs.declared.processes.Process.{Process as LineState}
 use Rattle.mx_script.specs.Sessions.{Outline}

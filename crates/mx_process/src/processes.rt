@@ -92,8 +92,8 @@ impl<'a, B: Attending, A: Auditor> Process<'a, B, A> {
         })
     }
 
-    /// Gives the process its auditor. Conditions: it has none, no line of it has ended, the auditor is that of the process, and has room for
-    /// a denial of each line of its script. Takes no memory.
+    /// Gives the process its auditor. Conditions: it has none, no line of it has ended, the auditor is that of the process, and
+    /// has room for a denial of each line of its script. Takes no memory.
     pub fn attend(&mut self, auditor: A)
         requires none { self.old.account ≡ None }
         requires begun { self.old.state.recording.steps ≡ [] }

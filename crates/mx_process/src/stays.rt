@@ -106,8 +106,10 @@ fn stay<B: Attending>(
     requires outside { pass.old.view.stage ≡ Outside }
     requires whole { IsUnaudited B.session B.setup B.accounts script.now None (inside state.old pass.old) }
     requires before { state.old.progress ≡ Before }
-    ensures came { IfOk result (λ came. HasStayed B.session B.setup B.accounts script.now (inside state.old pass.old) came (inside state.new pass.new)) }
-    ensures err { OnErr result (HasHurried B.session B.setup B.accounts script.now (inside state.old pass.old) None None (inside state.new pass.new)) }
+    ensures came { IfOk result (λ came. HasStayed B.session B.setup B.accounts script.now (inside state.old pass.old) came
+        (inside state.new pass.new)) }
+    ensures err { OnErr result (HasHurried B.session B.setup B.accounts script.now (inside state.old pass.old) None None
+        (inside state.new pass.new)) }
     ensures same { cam.new ≡ pass.new.view.memory }
 {
     cam.enter(pass, shared);
@@ -130,8 +132,8 @@ fn do_lines<B: Attending>(
     requires ready { pass.old.view.stage ≡ Ready }
     requires whole { IsUnaudited B.session B.setup B.accounts script.now None (gone_out (inside state.old pass.old)) }
     requires before { state.old.progress ≡ Before }
-    ensures came { IfOk result (λ came. HasStayed B.session B.setup B.accounts script.now (gone_out (inside state.old pass.old)) came
-        (gone_out (inside state.new pass.new))) }
+    ensures came { IfOk result (λ came. HasStayed B.session B.setup B.accounts script.now
+        (gone_out (inside state.old pass.old)) came (gone_out (inside state.new pass.new))) }
     ensures err { OnErr result (HasHurried B.session B.setup B.accounts script.now (gone_out (inside state.old pass.old)) None None
         (gone_out (inside state.new pass.new))) }
     ensures same { cam.new ≡ pass.new.view.memory }
@@ -160,8 +162,8 @@ fn do_next<B: Attending>(
     requires ready { pass.old.view.stage ≡ Ready }
     requires whole { IsUnaudited B.session B.setup B.accounts script.now None (gone_out (inside state.old pass.old)) }
     requires before { state.old.progress ≡ Before }
-    ensures came { IfOk result (λ came. HasDoneNext B.session B.setup B.accounts script.now (gone_out (inside state.old pass.old)) came
-        (gone_out (inside state.new pass.new))) }
+    ensures came { IfOk result (λ came. HasDoneNext B.session B.setup B.accounts script.now
+        (gone_out (inside state.old pass.old)) came (gone_out (inside state.new pass.new))) }
     ensures err { OnErr result (HasHurried B.session B.setup B.accounts script.now (gone_out (inside state.old pass.old)) None None
         (gone_out (inside state.new pass.new))) }
     ensures same { cam.new ≡ pass.new.view.memory }

@@ -15,7 +15,8 @@ pub returns-in-Some-clause-came : goal.returns-in-Some-clause-came
 returns-in-Some-clause-came g c =
     let before = gone_out (inside c.loop.state c.loop.pass) in
     let after = gone_out (inside c.do_next.new.state c.do_next.new.pass) in
-    stayed_on g.B.Sitting.session g.B.Sitting.setup g.B.Attending.accounts c.args.script.now (gone_out (inside c.args.state.now c.args.pass.now)) before
+    stayed_on g.B.Sitting.session g.B.Sitting.setup g.B.Attending.accounts c.args.script.now
+    (gone_out (inside c.args.state.now c.args.pass.now)) before
     after c.loop.invariant.hurried c.in-Some.came
     (subst (λ (came : Option Stayed). HasDoneNext g.B.Sitting.session g.B.Sitting.setup g.B.Attending.accounts c.args.script.now before came after)
     c.in-Some.is c.in_ok-came.ensures.came)
@@ -24,7 +25,8 @@ pub loop-preserved : goal.loop-preserved
 loop-preserved g c =
     let before = gone_out (inside c.loop.state c.loop.pass) in
     let after = gone_out (inside c.do_next.new.state c.do_next.new.pass) in
-    let next = subst (λ (came : Option Stayed). HasDoneNext g.B.Sitting.session g.B.Sitting.setup g.B.Attending.accounts c.args.script.now before came after)
+    let next = subst
+    (λ (came : Option Stayed). HasDoneNext g.B.Sitting.session g.B.Sitting.setup g.B.Attending.accounts c.args.script.now before came after)
     c.in_default.is c.in_ok-came.ensures.came in record {
       same = c.do_next.ensures.same;
       ready = c.do_next.ensures.ready;

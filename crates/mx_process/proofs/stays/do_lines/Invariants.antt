@@ -11,6 +11,7 @@ invariant-loop g l = record {
   same : l.cam ≡ l.pass.view.memory;
   ready : l.pass.view.stage ≡ Ready;
   before : l.state.progress ≡ Before;
-  hurried : HasHurried g.B.Sitting.session g.B.Sitting.setup g.B.Attending.accounts l.script (gone_out (inside l.initial.state l.initial.pass)) None None
+  hurried : HasHurried g.B.Sitting.session g.B.Sitting.setup g.B.Attending.accounts l.script
+      (gone_out (inside l.initial.state l.initial.pass)) None None
       (gone_out (inside l.state l.pass));
 }

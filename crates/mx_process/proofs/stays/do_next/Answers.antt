@@ -14,12 +14,14 @@ returns-in_err-make_room-clause-err g c =
 
 pub do_line-requires-clause-whole : goal.do_line-requires-clause-whole
 do_line-requires-clause-whole g c =
-    still_whole g.B.Sitting.session g.B.Sitting.setup g.B.Attending.accounts c.args.script.now (gone_out (inside c.args.state.now c.args.pass.now))
+    still_whole g.B.Sitting.session g.B.Sitting.setup g.B.Attending.accounts c.args.script.now
+    (gone_out (inside c.args.state.now c.args.pass.now))
     (gone_out (inside c.make_room.new.state c.make_room.new.pass)) c.make_room.ensures.still c.requires.whole
 
 pub do_line-requires-clause-at : goal.do_line-requires-clause-at
 do_line-requires-clause-at g c =
-    at_next g.B.Sitting.session g.B.Sitting.setup g.B.Attending.accounts c.args.script.now (gone_out (inside c.args.state.now c.args.pass.now))
+    at_next g.B.Sitting.session g.B.Sitting.setup g.B.Attending.accounts c.args.script.now
+    (gone_out (inside c.args.state.now c.args.pass.now))
     (gone_out (inside c.make_room.new.state c.make_room.new.pass)) c.lines.result c.in-Some.line.now c.requires.whole
     c.make_room.ensures.still c.lines.ensures
     (sym c.line_at.ensures ∙ ap (option_map (λ (line : Bor Line). line.now)) c.in-Some.is)

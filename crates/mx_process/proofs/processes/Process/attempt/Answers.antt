@@ -37,7 +37,9 @@ invariant_of-self g c =
     let there = at_line g.B.Sitting.session g.B.Sitting.setup g.B.Attending.accounts c.self.inside.script.now c.self.inside.cam _ _
     c.args.line.now c.self.view_is c.self.invariant c.requires.at in
     subst (λ (m : Option Miss). IsProcess g.B.Sitting.session g.B.Sitting.setup g.B.Attending.accounts c.tell_and_heed-self-inside.result.now
-    c.attempt.new.cam (record { state = c.tell_and_heed-self-inside.new.state; missing = m; pass = c.attempt.new.pass; account = account })) (sym settled)
+    c.attempt.new.cam
+    (record { state = c.tell_and_heed-self-inside.new.state; missing = m; pass = c.attempt.new.pass; account = account }))
+    (sym settled)
     (heeded_then g.B.Sitting.session g.B.Sitting.setup g.B.Attending.accounts c.self.inside.script.now c.self.inside.cam
     c.attempt.new.cam _ c.attempt.new.state c.attempt.new.pass c.args.line.now
     (last_denial c.attempt.new.state.recording.steps) account c.tell_and_heed-self-inside.new.state c.tell_and_heed-self-inside.result.now

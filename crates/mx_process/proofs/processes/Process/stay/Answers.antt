@@ -63,7 +63,9 @@ invariant_of-self-in-Denied g c =
     (inside c.self.inside.state c.self.inside.pass) came (inside c.stay.new.state c.stay.new.pass)) c.in-Denied.is
     c.in_ok-stay.ensures.came in
     subst (λ (m : Option Miss). IsProcess g.B.Sitting.session g.B.Sitting.setup g.B.Attending.accounts c.tell_and_heed-self-inside.result.now
-    c.stay.new.cam (record { state = c.tell_and_heed-self-inside.new.state; missing = m; pass = c.stay.new.pass; account = account })) (sym settled)
+    c.stay.new.cam
+    (record { state = c.tell_and_heed-self-inside.new.state; missing = m; pass = c.stay.new.pass; account = account }))
+    (sym settled)
     (denied_process g.B.Sitting.session g.B.Sitting.setup g.B.Attending.accounts c.self.inside.script.now c.self.inside.cam
     c.stay.new.cam _ (inside c.stay.new.state c.stay.new.pass) c.self.invariant came c.stay.ensures.same account
     c.tell_and_heed-self-inside.new.state c.tell_and_heed-self-inside.result.now

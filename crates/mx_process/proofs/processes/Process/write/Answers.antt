@@ -10,36 +10,45 @@ use Rattle.mx_process.proofs.processes.Process.write.Goals as goal
 
 pub write-requires-clause-writing : goal.write-requires-clause-writing
 write-requires-clause-writing g c =
-    write_begins g.B.Sitting.session g.B.Sitting.setup g.B.Attending.accounts c.self.inside.script.now c.self.inside.cam _ _ c.args.line.now c.self.view_is c.self.invariant c.requires.at c.requires.due c.requires.settled
+    write_begins g.B.Sitting.session g.B.Sitting.setup g.B.Attending.accounts c.self.inside.script.now c.self.inside.cam _ _
+    c.args.line.now c.self.view_is c.self.invariant c.requires.at c.requires.due c.requires.settled
 
 pub tell_and_heed-self-inside-requires-clause-room : goal.tell_and_heed-self-inside-requires-clause-room
 tell_and_heed-self-inside-requires-clause-room g c =
-    has_room g.B.Sitting.session g.B.Sitting.setup g.B.Attending.accounts c.self.inside.script.now c.self.inside.cam _ _ c.args.line.now c.self.view_is c.self.invariant c.requires.at
+    has_room g.B.Sitting.session g.B.Sitting.setup g.B.Attending.accounts c.self.inside.script.now c.self.inside.cam _ _
+    c.args.line.now c.self.view_is c.self.invariant c.requires.at
 
 pub tell_and_heed-self-inside-requires-clause-left : goal.tell_and_heed-self-inside-requires-clause-left
 tell_and_heed-self-inside-requires-clause-left g c =
     let ended = ends_by g.B.Sitting.session g.B.Sitting.setup c.args.line.now c.self.inside.state
     (inside c.write.new.state c.write.new.pass) c.in-Ended.ensures.wrote in
-    behind_write g.B.Sitting.session g.B.Sitting.setup g.B.Attending.accounts c.self.inside.script.now c.self.inside.cam c.write.new.cam _ c.write.new.state c.write.new.pass c.args.line.now c.args.self.now c.self.view_is
+    behind_write g.B.Sitting.session g.B.Sitting.setup g.B.Attending.accounts c.self.inside.script.now c.self.inside.cam
+    c.write.new.cam _ c.write.new.state c.write.new.pass c.args.line.now c.args.self.now c.self.view_is
     c.requires.at c.requires.settled _ c.self.invariant c.requires.due ended.steps
 
 pub tell_and_heed-self-inside-requires-clause-numbers : goal.tell_and_heed-self-inside-requires-clause-numbers
 tell_and_heed-self-inside-requires-clause-numbers g c =
     let ended = ends_by g.B.Sitting.session g.B.Sitting.setup c.args.line.now c.self.inside.state
     (inside c.write.new.state c.write.new.pass) c.in-Ended.ensures.wrote in
-    numbers_behind g.B.Sitting.session g.B.Sitting.setup g.B.Attending.accounts c.self.inside.script.now c.self.inside.cam _ _ c.args.line.now c.self.view_is c.self.invariant c.requires.at c.write.new.state ended.first
+    numbers_behind g.B.Sitting.session g.B.Sitting.setup g.B.Attending.accounts c.self.inside.script.now c.self.inside.cam _ _
+    c.args.line.now c.self.view_is c.self.invariant c.requires.at c.write.new.state ended.first
 
 pub invariant_of-self-in-Ended : goal.invariant_of-self-in-Ended
 invariant_of-self-in-Ended g c =
     let settled : c.self.inside.missing ≡ None = ap (λ (v : ProcessValue). v.missing) c.self.view_is ∙ c.requires.settled in
     let account = option_map g.A.Auditor.account c.tell_and_heed-self-inside.new.auditor in
-    let there = at_line g.B.Sitting.session g.B.Sitting.setup g.B.Attending.accounts c.self.inside.script.now c.self.inside.cam _ _
+    let there = at_line g.B.Sitting.session g.B.Sitting.setup g.B.Attending.accounts c.self.inside.script.now
+    c.self.inside.cam _ _
     c.args.line.now c.self.view_is c.self.invariant c.requires.at in
-    subst (λ (m : Option Miss). IsProcess g.B.Sitting.session g.B.Sitting.setup g.B.Attending.accounts c.tell_and_heed-self-inside.result.now
-    c.write.new.cam (record { state = c.tell_and_heed-self-inside.new.state; missing = m; pass = c.write.new.pass; account = account })) (sym settled)
+    subst (λ (m : Option Miss). IsProcess g.B.Sitting.session g.B.Sitting.setup g.B.Attending.accounts
+    c.tell_and_heed-self-inside.result.now
+    c.write.new.cam
+    (record { state = c.tell_and_heed-self-inside.new.state; missing = m; pass = c.write.new.pass; account = account }))
+    (sym settled)
     (heeded_then g.B.Sitting.session g.B.Sitting.setup g.B.Attending.accounts c.self.inside.script.now c.self.inside.cam
     c.write.new.cam _ c.write.new.state c.write.new.pass c.args.line.now
-    (last_denial c.write.new.state.recording.steps) account c.tell_and_heed-self-inside.new.state c.tell_and_heed-self-inside.result.now
+    (last_denial c.write.new.state.recording.steps) account c.tell_and_heed-self-inside.new.state
+    c.tell_and_heed-self-inside.result.now
     c.tell_and_heed-self-inside.ensures
     (record {
       is = c.self.invariant;
@@ -47,7 +56,8 @@ invariant_of-self-in-Ended g c =
       outside = c.write.ensures.outside;
       untold = c.write.ensures.untold;
     }) there.0 there.1
-    (no_logout g.B.Sitting.session g.B.Sitting.setup g.B.Attending.accounts c.self.inside.script.now c.self.inside.cam c.write.new.cam _ c.write.new.state c.write.new.pass c.args.line.now c.args.self.now c.self.view_is
+    (no_logout g.B.Sitting.session g.B.Sitting.setup g.B.Attending.accounts c.self.inside.script.now c.self.inside.cam
+    c.write.new.cam _ c.write.new.state c.write.new.pass c.args.line.now c.args.self.now c.self.view_is
     c.requires.at c.requires.settled c.self.invariant c.requires.due)
     (ends_by g.B.Sitting.session g.B.Sitting.setup c.args.line.now c.self.inside.state (inside c.write.new.state c.write.new.pass)
     c.in-Ended.ensures.wrote) refl)
@@ -67,7 +77,8 @@ invariant_of-self g c =
 pub invariant_of-self-in-Missing : goal.invariant_of-self-in-Missing
 invariant_of-self-in-Missing g c =
     let missed = c.in-Missing.ensures.wrote in
-    let there = at_line g.B.Sitting.session g.B.Sitting.setup g.B.Attending.accounts c.self.inside.script.now c.self.inside.cam _ _
+    let there = at_line g.B.Sitting.session g.B.Sitting.setup g.B.Attending.accounts c.self.inside.script.now
+    c.self.inside.cam _ _
     c.args.line.now c.self.view_is c.self.invariant c.requires.at in
     missed_process g.B.Sitting.session g.B.Sitting.setup g.B.Attending.accounts c.self.inside.script.now c.self.inside.cam
     c.write.new.cam _ c.write.new.state c.write.new.pass c.args.line.now
