@@ -1,17 +1,18 @@
 -- What the processes of a run leave, taken together: the auditors in their order, and a legal run.
-use Rattle.std.proofs.Common.{◌≡◌, ◌↔◌, ◌+◌, ◌-◌, ◌<◌, ◌≤◌, ℕ, zero, suc, List, [], ◌∷◌, ◌++◌, Option, Some, None, IsSome, drop, length, length-append, map, refl, ap, sym, ◌∙◌, subst, arith, append_assoc, append-nil, option_to_list}
-use Rattle.std.specs.List.{slice_get}
+use Rattle.std.proofs.Common.{◌≡◌, ◌+◌, ◌-◌, ◌<◌, ◌≤◌, ℕ, zero, suc, List, [], ◌∷◌, ◌++◌, Option, Some, None, IsSome, drop, length, length-append, map, refl, ap, sym, ◌∙◌, subst, arith, append_assoc, append-nil, option_to_list}
+use Rattle.std.specs.List.{slice_get, slice_index_or}
 use Rattle.std.specs.Option.{option_map, OnSome}
 use Rattle.mx_audit.proofs.AccountLaws.{as_many, grown_by}
-use Rattle.mx_audit.specs.Accounts.{Account, HaveGrown, with_all, with_denials}
+use Rattle.mx_audit.specs.Accounts.{Account, HaveGrown, Told, with_all}
+use Rattle.mx_audit.specs.Verdicts.{last_told}
 use Rattle.mx_closing.specs.Closing.{AreOfAll}
 use Rattle.mx_closing.specs.Views.{view_in, view_or_idle, views_in}
 use Rattle.mx_desc.specs.Passes.{PassValue}
 use Rattle.mx_office.specs.Ends.{HasFinished}
 use Rattle.mx_process.specs.Audited.{IsAudited}
-use Rattle.mx_process.specs.Processes.{ProcessValue, script_of}
+use Rattle.mx_process.specs.Plans.{IsUncut, place_in}
+use Rattle.mx_process.specs.Processes.{ProcessValue}
 use Rattle.mx_script.specs.Sessions.{Outline}
-use Rattle.mx_sdw.specs.declared.denials.Denial.{Denial}
 use Rattle.mx_state.proofs.Lists.{some_in}
 use Rattle.mx_state.specs.declared.journal.Entry as journaled
 use Rattle.mx_ties.proofs.WorkingLaws.{worked_run_law}
@@ -20,13 +21,17 @@ use Rattle.mx_ties.specs.Ran.{IsSetUp}
 use Rattle.mx_ties.specs.Views.{View}
 use Rattle.mx_ties.specs.Working.{HasWorked}
 use Rattle.mx_transcript.proofs.LegalLaws.{legal_rings_law}
-use Rattle.mx_transcript.specs.Denials.{denials}
-use Rattle.mx_transcript.specs.Legal.{HasGatedFalls, HasSoundRegisters, IsLegal}
+use Rattle.mx_transcript.specs.Legal.{HasGatedFalls, HasSoundRegisters, IsLegal, setting_of}
+use Rattle.mx_transcript.specs.Openings.{opening_control}
+use Rattle.mx_transcript.specs.Parts.{AreLines}
+use Rattle.mx_transcript.specs.Scripts.{lines_of}
 use Rattle.mx_transcript.specs.Transcripts.{Step, part}
+use Rattle.mx_proc.proofs.PartLaws.{HasCome, heeded_last, setup_whole, uncut_part}
 use Rattle.mx_proc.proofs.PlaceLaws.{each_more, get_map, get_middle, map_length, map_more, of_map}
-use Rattle.mx_proc.specs.Auditors.{WereTold}
-use Rattle.mx_proc.specs.Leaving.{AreAudited, HaveWorked, accounts_in, pass_in, steps_in}
-use Rattle.mx_proc.specs.Rows.{AreInPlace}
+use Rattle.mx_proc.proofs.ToldLaws.{AreTold, IsFrom, IsToldOf, told_all}
+use Rattle.mx_proc.specs.Auditors.{HasLines, WasTold, WereTold}
+use Rattle.mx_proc.specs.Leaving.{AreAudited, AreUncutAlone, AreWithin, HaveWorked, accounts_in, pass_in, steps_in}
+use Rattle.mx_proc.specs.Rows.{AreInPlace, HaveNoLine}
 
 -- the auditors of one more process
 pub accounts_more : (row : List ProcessValue) (v : ProcessValue)
@@ -51,92 +56,132 @@ within [] place some = absurd (none some)
 within (a ∷ accounts) zero some = omega arith
 within (a ∷ accounts) (suc place) some = let less = within accounts place some in omega (arith, less)
 
--- what an auditor was told, by what it had been told
-abbrev told_of : ProcessValue → Account → Account
-told_of v account = with_denials account (denials (steps_in v))
-
-by_account : (lines : ℕ) (before : Option Account) (steps : List Step) (account : Option Account)
-    → IsSome account ↔ IsSome before → IsAudited lines before steps account
-    → account ≡ option_map (λ (a : Account). with_denials a (denials steps)) before
-by_account lines None steps None same is = refl
-by_account lines (Some b) steps None same is = absurd (none (same.1 refl))
-  where
-    none : IsSome {T = Account} None → ⊥
-    none e = cc
-by_account lines before steps (Some a) same is =
-    ap Some is.told ∙ ap (option_map (λ (b : Account). with_denials b (denials steps))) (sym is.had)
-
-told_at : (x : Outline) (accounts : List Account) (row : List ProcessValue) → AreInPlace accounts row → AreAudited x accounts row
-    → (place : ℕ) (v : ProcessValue) → slice_get row place ≡ Some v → v.account ≡ option_map (told_of v) (slice_get accounts place)
-told_at x accounts row all told place v at =
+-- what the auditors of the processes were told more than before
+from_at : (x : Outline) (accounts : List Account) (row : List ProcessValue) → AreInPlace accounts row → AreAudited x accounts row
+    → (place : ℕ) (v : ProcessValue) → slice_get row place ≡ Some v → IsFrom x (slice_get accounts place) v
+from_at x accounts row all told place v at =
     let a = all place v at in
     let own = a.process in
     let here : v.pass.view.process - 1 ≡ place = omega (arith, own) in
-    by_account (length (script_of x v.pass.view.process)) (slice_get accounts place) (steps_in v) v.account a.attended
-    (subst (λ n. IsAudited (length (script_of x v.pass.view.process)) (slice_get accounts n) (steps_in v) v.account) here
-    (told place v at))
+    record {
+      attended = a.attended;
+      audited = subst (λ n. IsAudited x v.pass.view.process (slice_get accounts n) v.state v.account) here (told place v at);
+    }
 
-no_accounts : (row : List ProcessValue)
-    → ((place : ℕ) (v : ProcessValue) → slice_get row place ≡ Some v → v.account ≡ None) → accounts_in row ≡ []
-no_accounts [] none = refl
-no_accounts (v ∷ row) none =
-    ap (λ (o : Option Account). option_to_list o ++ accounts_in row) (none zero v refl)
-    ∙ no_accounts row (λ i w at. none (suc i) w at)
-
--- no auditors
-abbrev no_accounts_left : List Account
-no_accounts_left = []
-
-drop_none : (n : ℕ) → drop n no_accounts_left ≡ []
-drop_none zero = refl
-drop_none (suc n) = refl
-
--- the auditors of all processes, and behind them those beyond
-told_all : (accounts : List Account) (row : List ProcessValue)
-    → ((place : ℕ) (v : ProcessValue) → slice_get row place ≡ Some v → v.account ≡ option_map (told_of v) (slice_get accounts place))
-    → accounts_in row ++ drop (length row) accounts ≡ with_all accounts (map denials (map steps_in row))
-told_all [] row each =
-    ap (λ (l : List Account). l ++ drop (length row) no_accounts_left) (no_accounts row (λ i v at. each i v at))
-    ∙ drop_none (length row)
-told_all (a ∷ accounts) [] each = refl
-told_all (a ∷ accounts) (v ∷ row) each =
-    ap (λ (o : Option Account). (option_to_list o ++ accounts_in row) ++ drop (length row) accounts) (each zero v refl)
-    ∙ ap (λ (l : List Account). told_of v a ∷ l) (told_all accounts row (λ i w at. each (suc i) w at))
+all_told_of : (x : Outline) (accounts : List Account) (row : List ProcessValue) → AreInPlace accounts row
+    → AreAudited x accounts row → AreTold x accounts row
+all_told_of x accounts row all told = told_all x accounts row (from_at x accounts row all told)
 
 -- those that are put back
 pub all_back : {A : Type 0} (f : A → Account) (x : Outline) (accounts : List Account) (row : List ProcessValue) (own beyond back : List A)
-    → AreInPlace accounts row → AreAudited x accounts row → map f own ≡ accounts_in row
-    → map f beyond ≡ drop (length row) accounts → back ≡ own ++ beyond
-    → map f back ≡ with_all accounts (map denials (map steps_in row))
-all_back f x accounts row own beyond back all told first second are =
+    (told : AreTold x accounts row) → map f own ≡ accounts_in row → map f beyond ≡ drop (length row) accounts → back ≡ own ++ beyond
+    → map f back ≡ with_all accounts told.told
+all_back f x accounts row own beyond back told first second are =
     ap (map f) are ∙ map_more f own beyond
     ∙ ap (λ (l : List Account). l ++ map f beyond) first
     ∙ ap (λ (l : List Account). accounts_in row ++ l) second
-    ∙ told_all accounts row (told_at x accounts row all told)
+    ∙ told.grown
 
 pub all_grown : {A : Type 0} (f : A → Account) (x : Outline) (accounts : List Account) (row : List ProcessValue) (own beyond back : List A)
     → AreInPlace accounts row → AreAudited x accounts row → map f own ≡ accounts_in row
     → map f beyond ≡ drop (length row) accounts → back ≡ own ++ beyond → HaveGrown accounts (map f back)
-all_grown f x accounts row own beyond back all told first second are =
-    subst (HaveGrown accounts) (sym (all_back f x accounts row own beyond back all told first second are))
-    (grown_by accounts (map denials (map steps_in row)))
+all_grown f x accounts row own beyond back all audited first second are =
+    let told = all_told_of x accounts row all audited in
+    subst (HaveGrown accounts) (sym (all_back f x accounts row own beyond back told first second are))
+    (grown_by accounts told.told)
+
+-- the transcripts are those of the processes, each in its place
+part_at : (row : List ProcessValue) (place : ℕ) (v : ProcessValue) → slice_get row place ≡ Some v
+    → part (map steps_in row) place ≡ steps_in v
+part_at [] place v at = cc
+part_at (w ∷ row) zero v at = let same : w ≡ v = cc in ap steps_in same
+part_at (w ∷ row) (suc place) v at = part_at row place v at
+
+-- what is known of the processes of a run where none has a line left
+pub record HaveEnded (x : Outline) (accounts : List Account) (row : List ProcessValue) : Type 0 where
+  pub place : AreInPlace accounts row
+  pub done : HaveNoLine x row
+  pub within : AreWithin x row
+  pub audited : AreAudited x accounts row
+  pub alone : AreUncutAlone x accounts row
+
+come_at : (x : Outline) (accounts : List Account) (journal : List journaled.Entry) (transcripts : List (List Step))
+    (row : List ProcessValue) (i : ℕ) (v : ProcessValue) → HaveEnded x accounts row → IsLegal x journal transcripts
+    → suc i ≤ length x.principals → slice_get row i ≡ Some v → part transcripts (suc i) ≡ steps_in v
+    → HasCome x v.pass.view.process v.state
+come_at x accounts journal transcripts row i v ended legal most at is =
+    let parts = legal.parts in
+    let lines = legal.lines (suc i) (omega (arith, parts, most)) in
+    let own = (ended.place i v at).process in
+    let setting = setting_of x journal (suc i) in
+    let control = opening_control x (suc i) in
+    record {
+      setting = setting;
+      before = control;
+      after = lines.0;
+      are = subst (λ n. AreLines setting control (lines_of x n) (steps_in v) lines.0) (sym own)
+          (subst (λ (steps : List Step). AreLines setting control (lines_of x (suc i)) steps lines.0) is lines.1);
+      none = ended.done i v at;
+      within = ended.within i v at;
+    }
+
+told_at : (x : Outline) (i : ℕ) (v : ProcessValue) (steps : List Step) (told : List Told) → v.pass.view.process ≡ suc i
+    → steps ≡ steps_in v → HasCome x v.pass.view.process v.state → IsToldOf x v.pass.view.process v.state told
+    → WasTold (lines_of x (suc i)) steps told
+told_at x i v steps told own is come of =
+    subst (λ n. WasTold (lines_of x n) steps told) own
+    (subst (λ (l : List Step). WasTold (lines_of x v.pass.view.process) l told) (sym is) (record {
+      each = of.each;
+      going = of.going;
+      heeded = heeded_last x v.pass.view.process v.state (last_told told) come of.heeded;
+    }))
+
+alone_at : (x : Outline) (accounts : List Account) (row : List ProcessValue) (i : ℕ) (v : ProcessValue) (steps : List Step)
+    → HaveEnded x accounts row → slice_get row i ≡ Some v → slice_get accounts i ≡ None → steps ≡ steps_in v
+    → HasCome x v.pass.view.process v.state → HasLines steps (lines_of x (suc i))
+alone_at x accounts row i v steps ended at none is come =
+    let own = (ended.place i v at).process in
+    let here : i ≡ v.pass.view.process - 1 = omega (arith, own) in
+    subst (λ n. HasLines steps (lines_of x n)) own
+    (subst (λ (l : List Step). HasLines l (lines_of x v.pass.view.process)) (sym is)
+    (uncut_part x v.pass.view.process v.state come
+    (ended.alone i v at (subst (λ n. slice_get accounts n ≡ None) here none))))
 
 pub all_told : {A : Type 0} (f : A → Account) (x : Outline) (accounts : List Account) (row : List ProcessValue) (own beyond back : List A)
-    (first : List Step) (transcripts : List (List Step))
-    → AreInPlace accounts row → AreAudited x accounts row → map f own ≡ accounts_in row
+    (first : List Step) (journal : List journaled.Entry) (transcripts : List (List Step))
+    → length row ≡ length x.principals → HaveEnded x accounts row → IsLegal x journal transcripts → map f own ≡ accounts_in row
     → map f beyond ≡ drop (length row) accounts → back ≡ own ++ beyond → transcripts ≡ first ∷ map steps_in row
-    → WereTold accounts transcripts (map f back)
-all_told f x accounts row own beyond back first transcripts all told is rest are left =
-    all_back f x accounts row own beyond back all told is rest are
-    ∙ ap (λ (l : List (List Step)). with_all accounts (map denials (drop 1 l))) (sym left)
+    → WereTold x accounts transcripts (map f back)
+all_told f x accounts row own beyond back first journal transcripts many ended legal is rest are left =
+    let told = all_told_of x accounts row ended.place ended.audited in
+    let few = told.count in
+    record {
+      told = told.told;
+      count = omega (arith, few, many);
+      grown = all_back f x accounts row own beyond back told is rest are;
+      each = λ i account most there.
+          let own = some_in row i (omega (arith, most, many)) in
+          told_at x i own.0 (part transcripts (suc i)) (slice_index_or told.told i []) (ended.place i own.0 own.1).process
+          (same i own.0 own.1) (come_at x accounts journal transcripts row i own.0 ended legal most own.1 (same i own.0 own.1))
+          (told.each i own.0 account own.1 there);
+      alone = λ i most none.
+          let own = some_in row i (omega (arith, most, many)) in
+          alone_at x accounts row i own.0 (part transcripts (suc i)) ended own.1 none (same i own.0 own.1)
+          (come_at x accounts journal transcripts row i own.0 ended legal most own.1 (same i own.0 own.1));
+      initial = setup_whole x journal transcripts legal;
+    }
+  where
+    same : (i : ℕ) (v : ProcessValue) → slice_get row i ≡ Some v → part transcripts (suc i) ≡ steps_in v
+    same i v at = ap (λ (l : List (List Step)). part l (suc i)) left ∙ part_at row i v at
 
 -- there is room for all of them
 pub room_back : {A : Type 0} (f : A → Account) (x : Outline) (accounts : List Account) (row : List ProcessValue) (own beyond : List A)
     → AreInPlace accounts row → AreAudited x accounts row → map f own ≡ accounts_in row
     → map f beyond ≡ drop (length row) accounts → length own + length beyond ≡ length accounts
 room_back f x accounts row own beyond all told first second =
-    let whole = ap length (all_back f x accounts row own beyond (own ++ beyond) all told first second refl)
-    ∙ as_many accounts (map denials (map steps_in row)) in
+    let more = all_told_of x accounts row all told in
+    let whole = ap length (all_back f x accounts row own beyond (own ++ beyond) more first second refl)
+    ∙ as_many accounts more.told in
     let many = map_length f (own ++ beyond) in
     let both = length-append own beyond in
     omega (arith, whole, many, both)
@@ -150,12 +195,6 @@ passes_of_all accounts n row passes many all are =
       owners = λ place o at. let v = of_map pass_in row place o at in
           ap (λ (q : PassValue journaled.Entry). q.view.process) v.is ∙ (all place v.x v.at).process;
     })
-
-part_at : (row : List ProcessValue) (place : ℕ) (v : ProcessValue) → slice_get row place ≡ Some v
-    → part (map steps_in row) place ≡ steps_in v
-part_at [] place v at = cc
-part_at (w ∷ row) zero v at = let same : w ≡ v = cc in ap steps_in same
-part_at (w ∷ row) (suc place) v at = part_at row place v at
 
 -- The run is legal.
 pub legal_run : (x : Outline) (setup : List journaled.Entry) (accounts : List Account) (row : List ProcessValue)
@@ -212,11 +251,24 @@ auditors_more f old new yielded v auditor put is was =
 
 pub audited_more : (x : Outline) (accounts : List Account) (yielded : List ProcessValue) (v : ProcessValue)
     → AreAudited x accounts yielded
-    → IsAudited (length (script_of x v.pass.view.process)) (slice_get accounts (v.pass.view.process - 1)) (steps_in v) v.account
+    → IsAudited x v.pass.view.process (slice_get accounts (v.pass.view.process - 1)) v.state v.account
     → AreAudited x accounts (yielded ++ v ∷ [])
 audited_more x accounts yielded v all here =
-    each_more (λ place w. IsAudited (length (script_of x w.pass.view.process)) (slice_get accounts (w.pass.view.process - 1))
-    (steps_in w) w.account) yielded v all here
+    each_more (λ place w. IsAudited x w.pass.view.process (slice_get accounts (w.pass.view.process - 1)) w.state w.account) yielded v
+    all here
+
+pub alone_more : (x : Outline) (accounts : List Account) (yielded : List ProcessValue) (v : ProcessValue)
+    → AreUncutAlone x accounts yielded
+    → (slice_get accounts (v.pass.view.process - 1) ≡ None → IsUncut x v.pass.view.process v.state)
+    → AreUncutAlone x accounts (yielded ++ v ∷ [])
+alone_more x accounts yielded v all here =
+    each_more (λ place w. slice_get accounts (w.pass.view.process - 1) ≡ None → IsUncut x w.pass.view.process w.state) yielded v all
+    here
+
+pub within_more : (x : Outline) (yielded : List ProcessValue) (v : ProcessValue) → AreWithin x yielded
+    → place_in x v.pass.view.process v.state ≤ length (lines_of x v.pass.view.process) → AreWithin x (yielded ++ v ∷ [])
+within_more x yielded v all here =
+    each_more (λ place w. place_in x w.pass.view.process w.state ≤ length (lines_of x w.pass.view.process)) yielded v all here
 
 pub worked_more : (x : Outline) (setup : List journaled.Entry) (yielded : List ProcessValue) (v : ProcessValue) (steps : List Step)
     (pass : PassValue journaled.Entry) → HaveWorked x setup yielded → HasWorked x setup pass.view.process steps (view_in pass)

@@ -3,7 +3,8 @@ use Rattle.std.proofs.Common.{◌≡◌, ◌+◌, ◌<◌, ◌≤◌, ℕ, zero,
 use Rattle.std.specs.List.{slice_get}
 use Rattle.mx_audit.specs.Accounts.{Account}
 use Rattle.mx_process.specs.Lines.{HasEnded, HasGoneOn, HasNoLine, IsAwake, IsOwn}
-use Rattle.mx_process.specs.Processes.{HasLine, ProcessValue, left_of}
+use Rattle.mx_process.specs.Plans.{left_of}
+use Rattle.mx_process.specs.Processes.{HasLine, ProcessValue}
 use Rattle.mx_process.specs.declared.lines.Turned.{Turned}
 use Rattle.mx_process.specs.declared.lines.Turned.TheVariants.{Done, Waits}
 use Rattle.mx_script.specs.Sessions.{Outline}
@@ -59,10 +60,10 @@ all_done x row v all done = each_more (λ place. HasNoLine x) row v all done
 
 -- where it is not so that a line is left, none is
 pub no_line_left : (x : Outline) (v : ProcessValue) → (HasLine x v → ⊥) → HasNoLine x v
-no_line_left x v none = by_lines (left_of x v.pass.view.process v.state.recording.steps) refl
+no_line_left x v none = by_lines (left_of x v.pass.view.process v.state) refl
   where
-    by_lines : (lines : List (ℕ × Line)) → left_of x v.pass.view.process v.state.recording.steps ≡ lines
-        → left_of x v.pass.view.process v.state.recording.steps ≡ []
+    by_lines : (lines : List (ℕ × Line)) → left_of x v.pass.view.process v.state ≡ lines
+        → left_of x v.pass.view.process v.state ≡ []
     by_lines [] e = e
     by_lines (line ∷ lines) e =
         absurd (none (record { number = line.0; line = line.1; at = record { left = lines; at = e } }))

@@ -5,7 +5,7 @@ ghost use Rattle.std.specs.Option.{option_map};
 ghost use Rattle.mx_audit.specs.Accounts.{HaveGrown};
 ghost use Rattle.mx_proc.specs.Auditors.{WereTold};
 ghost use Rattle.mx_proc.specs.Ending.{AreBeyond, HaveRoomToEnd, IsBegun};
-ghost use Rattle.mx_proc.specs.Leaving.{AreAudited, HaveWorked, accounts_in, pass_in, steps_in};
+ghost use Rattle.mx_proc.specs.Leaving.{AreAudited, AreUncutAlone, AreWithin, HaveWorked, accounts_in, pass_in, steps_in};
 ghost use Rattle.mx_proc.specs.Rows.{AreInPlace, HaveNoLine};
 ghost use Rattle.mx_transcript.specs.Legal.{HasGatedFalls, HasSoundRegisters, IsLegal};
 
@@ -35,10 +35,10 @@ pub(crate) struct Ends<B: Attending, A: Auditor> {
     pub(crate) beyond: Vec<A>,
 }
 
-/// The end of a run, after its processes did what they could. Where all have done all their lines, the journal and the
-/// transcripts, which are a legal run, and each auditor was told what its process was denied; the only error is that of the
+/// The end of a run, after its processes did what they could. Where none has a line left, the journal and the transcripts,
+/// which are a legal run, and each auditor was told what its process was denied, and was heeded; the only error is that of the
 /// work. All auditors are put back in their order, whatever came. Takes no memory. Conditions: the processes are those of the
-/// session, each in its place, and have done all their lines where the work was done; and there is room.
+/// session, each in its place, and have no line left where the work was done; and there is room.
 pub(crate) fn end<B: Attending, A: Auditor>(
     office: Office<'_, B>,
     row: Vec<Process<'_, B, A>>,
@@ -58,7 +58,7 @@ pub(crate) fn end<B: Attending, A: Auditor>(
     ensures legal { IfOk result (λ ran. IsLegal B.session ran.0 ran.1) }
     ensures gated { IfOk result (λ ran. HasGatedFalls B.session ran.0 ran.1) }
     ensures sound { IfOk result (λ ran. HasSoundRegisters B.session ran.0 ran.1) }
-    ensures told { IfOk result (λ ran. WereTold B.accounts ran.1 (map A.account auditors.new.items)) }
+    ensures told { IfOk result (λ ran. WereTold B.session B.accounts ran.1 (map A.account auditors.new.items)) }
     ensures grown { HaveGrown B.accounts (map A.account auditors.new.items) }
 {
     let Ends {
@@ -85,7 +85,7 @@ pub(crate) fn end<B: Attending, A: Auditor>(
     }
 }
 
-// What processes that have done all their lines leave, each behind those of the processes before it.
+// What processes that have no line left leave, each behind those of the processes before it.
 fn finish_all<B: Attending, A: Auditor>(
     row: Vec<Process<'_, B, A>>,
     transcripts: &mut Vec<Transcript>,
@@ -102,6 +102,8 @@ fn finish_all<B: Attending, A: Auditor>(
     ensures passes { passes.new.items ≡ passes.old.items ++ map pass_in row.entry.items }
     ensures auditors { map A.account auditors.new.items ≡ accounts_in row.entry.items }
     ensures told { AreAudited B.session B.accounts row.entry.items }
+    ensures alone { AreUncutAlone B.session B.accounts row.entry.items }
+    ensures within { AreWithin B.session row.entry.items }
     ensures worked { HaveWorked B.session B.setup row.entry.items }
     ensures space { vec_capacity auditors.old ≤ vec_capacity auditors.new }
 {

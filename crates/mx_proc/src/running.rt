@@ -40,7 +40,7 @@ pub fn run<R: Threads + Wait + Sync, G: Gate>(
     ensures legal { IfOk result (λ ran. IsLegal session.now ran.0 ran.1) }
     ensures gated { IfOk result (λ ran. HasGatedFalls session.now ran.0 ran.1) }
     ensures sound { IfOk result (λ ran. HasSoundRegisters session.now ran.0 ran.1) }
-    ensures told { IfOk result (λ ran. WereTold (map account auditors.old.items) ran.1 (map account auditors.new.items)) }
+    ensures told { IfOk result (λ ran. WereTold session.now (map account auditors.old.items) ran.1 (map account auditors.new.items)) }
     ensures grown { HaveGrown (map account auditors.old.items) (map account auditors.new.items) }
 {
     run_with(rt, alloc, session, gate, auditors)
@@ -62,7 +62,7 @@ pub fn run_in_order<R: Wait, G: Gate>(
     ensures legal { IfOk result (λ ran. IsLegal session.now ran.0 ran.1) }
     ensures gated { IfOk result (λ ran. HasGatedFalls session.now ran.0 ran.1) }
     ensures sound { IfOk result (λ ran. HasSoundRegisters session.now ran.0 ran.1) }
-    ensures told { IfOk result (λ ran. WereTold (map account auditors.old.items) ran.1 (map account auditors.new.items)) }
+    ensures told { IfOk result (λ ran. WereTold session.now (map account auditors.old.items) ran.1 (map account auditors.new.items)) }
     ensures grown { HaveGrown (map account auditors.old.items) (map account auditors.new.items) }
 {
     run_in_order_with(rt, alloc, session, order, gate, auditors)
@@ -80,7 +80,7 @@ fn run_with<R: Threads + Wait + Sync, G: Gate, A: Auditor + Send>(
     ensures legal { IfOk result (λ ran. IsLegal session.now ran.0 ran.1) }
     ensures gated { IfOk result (λ ran. HasGatedFalls session.now ran.0 ran.1) }
     ensures sound { IfOk result (λ ran. HasSoundRegisters session.now ran.0 ran.1) }
-    ensures told { IfOk result (λ ran. WereTold (map A.account auditors.old.items) ran.1 (map A.account auditors.new.items)) }
+    ensures told { IfOk result (λ ran. WereTold session.now (map A.account auditors.old.items) ran.1 (map A.account auditors.new.items)) }
     ensures grown { HaveGrown (map A.account auditors.old.items) (map A.account auditors.new.items) }
 {
     let prepared = prepare(alloc, session)?;
@@ -101,7 +101,7 @@ fn run_in_order_with<R: Wait, G: Gate, A: Auditor>(
     ensures legal { IfOk result (λ ran. IsLegal session.now ran.0 ran.1) }
     ensures gated { IfOk result (λ ran. HasGatedFalls session.now ran.0 ran.1) }
     ensures sound { IfOk result (λ ran. HasSoundRegisters session.now ran.0 ran.1) }
-    ensures told { IfOk result (λ ran. WereTold (map A.account auditors.old.items) ran.1 (map A.account auditors.new.items)) }
+    ensures told { IfOk result (λ ran. WereTold session.now (map A.account auditors.old.items) ran.1 (map A.account auditors.new.items)) }
     ensures grown { HaveGrown (map A.account auditors.old.items) (map A.account auditors.new.items) }
 {
     let prepared = prepare(alloc, session)?;
@@ -140,7 +140,7 @@ fn run_named<R: Threads + Wait + Sync, G: Gate, B: Attending + Send, A: Auditor 
     ensures legal { IfOk result (λ ran. IsLegal B.session ran.0 ran.1) }
     ensures gated { IfOk result (λ ran. HasGatedFalls B.session ran.0 ran.1) }
     ensures sound { IfOk result (λ ran. HasSoundRegisters B.session ran.0 ran.1) }
-    ensures told { IfOk result (λ ran. WereTold B.accounts ran.1 (map A.account auditors.new.items)) }
+    ensures told { IfOk result (λ ran. WereTold B.session B.accounts ran.1 (map A.account auditors.new.items)) }
     ensures grown { HaveGrown B.accounts (map A.account auditors.new.items) }
 {
     let Seated { office, row, ends } = seat::<B, A>(alloc, session, prepared, blank, auditors)?;
@@ -173,7 +173,7 @@ fn run_in_order_named<R: Wait, G: Gate, B: Attending, A: Auditor>(
     ensures legal { IfOk result (λ ran. IsLegal B.session ran.0 ran.1) }
     ensures gated { IfOk result (λ ran. HasGatedFalls B.session ran.0 ran.1) }
     ensures sound { IfOk result (λ ran. HasSoundRegisters B.session ran.0 ran.1) }
-    ensures told { IfOk result (λ ran. WereTold B.accounts ran.1 (map A.account auditors.new.items)) }
+    ensures told { IfOk result (λ ran. WereTold B.session B.accounts ran.1 (map A.account auditors.new.items)) }
     ensures grown { HaveGrown B.accounts (map A.account auditors.new.items) }
 {
     let Seated { office, row, ends } = seat::<B, A>(alloc, session, prepared, blank, auditors)?;

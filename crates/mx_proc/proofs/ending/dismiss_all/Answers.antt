@@ -24,7 +24,7 @@ loop-process-preserved g c =
           c.in-Some.ensures.steps.0;
       auditors = auditors_more g.A.Auditor.account c.loop-process.auditors.items c.put_back.new.auditors.items yielded v
           c.dismiss.result c.put_back.ensures.accounts c.dismiss.ensures was.auditors;
-      told = audited_more g.B.Sitting.session g.B.Attending.accounts yielded v was.told c.tells_its_auditor.ensures;
+      told = audited_more g.B.Sitting.session g.B.Attending.accounts yielded v was.told c.tells_its_auditor.ensures.audited;
       few = (let before = was.few in let len = c.put_back.ensures.len in omega (arith, before, len, many));
       space = (let before = was.space in let room = c.put_back.ensures.space in omega (arith, before, room));
     }

@@ -1,9 +1,10 @@
-use Rattle.std.proofs.Common.{◌≡◌, ◌∙◌, ◌∷◌, ◌++◌, List, drop, length, map, ap, arith, sym}
+use Rattle.std.proofs.Common.{◌≡◌, ◌∙◌, ◌∷◌, ◌++◌, List, OnOk, drop, length, map, ap, arith, subst, sym}
 use Rattle.mx_audit.specs.Accounts.{Account}
 use Rattle.mx_desc.specs.Passes.{PassValue}
 use Rattle.mx_state.specs.declared.journal.Entry as journaled
 use Rattle.mx_transcript.specs.Transcripts.{Step}
-use Rattle.mx_proc.proofs.EndLaws.{all_grown, all_told, beyond_row, legal_rings, legal_run, passes_left, passes_of_all, room_back, transcripts_left}
+use Rattle.mx_proc.proofs.EndLaws.{HaveEnded, all_grown, all_told, beyond_row, legal_rings, legal_run, passes_left, passes_of_all, room_back, transcripts_left}
+use Rattle.mx_proc.specs.Rows.{HaveNoLine}
 use Rattle.mx_proc.proofs.ending.end.Goals as goal
 
 pub put-requires : goal.put-requires
@@ -92,8 +93,16 @@ returns-in-Ok-clause-told g c =
     let many : length c.args.row.items ≡ length g.B.Sitting.session.principals
     = (let len = c.requires.len in let same = c.args.row.ok.0 in omega (arith, len, same)) in
     let back = c.finish_all.ensures in
+    let ended : HaveEnded g.B.Sitting.session g.B.Attending.accounts c.args.row.items = record {
+      place = c.requires.place;
+      done = subst (λ r. OnOk r (HaveNoLine g.B.Sitting.session c.args.row.items)) c.in-Ok.is c.requires.done;
+      within = back.within;
+      audited = back.told;
+      alone = back.alone;
+    } in
     all_told g.A.Auditor.account g.B.Sitting.session g.B.Attending.accounts c.args.row.items c.finish_all.new.auditors.items
-    c.args.ends.beyond.items c.put_all.new.list.items c.args.ends.part c.of-in-Ok.result c.requires.place back.told back.auditors
+    c.args.ends.beyond.items c.put_all.new.list.items c.args.ends.part c.finish-journal.result c.of-in-Ok.result many ended
+    (returns-in-Ok-clause-legal g c) back.auditors
     (beyond_row g.A.Auditor.account g.B.Attending.accounts _ c.args.row.items c.args.ends.beyond.items many c.requires.beyond)
     c.put_all.ensures
     (c.of-in-Ok.ensures ∙ transcripts_left c.args.row.items c.args.ends.transcripts.items c.put.new.list.items

@@ -1,7 +1,7 @@
 use Rattle.std.proofs.Common.{[], ◌∷◌, ap, arith, length, length-append, sym, subst, rules, ◌≡◌}
 use Rattle.mx_closing.proofs.Returns.{taken}
-use Rattle.mx_proc.proofs.EndLaws.{all_yielded, audited_more, auditors_more, is_next, list_more, room_next, worked_more}
-use Rattle.mx_proc.specs.Leaving.{AreAudited, HaveWorked, pass_in, steps_in}
+use Rattle.mx_proc.proofs.EndLaws.{all_yielded, alone_more, audited_more, auditors_more, is_next, list_more, room_next, within_more, worked_more}
+use Rattle.mx_proc.specs.Leaving.{AreAudited, AreUncutAlone, AreWithin, HaveWorked, pass_in, steps_in}
 use Rattle.mx_proc.proofs.ending.finish_all.Goals as goal
 
 pub finish-transcript-requires : goal.finish-transcript-requires
@@ -42,7 +42,9 @@ loop-process-preserved g c =
           c.put-in-loop-process.ensures.items left.pass was.passes;
       auditors = auditors_more g.A.Auditor.account c.loop-process.auditors.items c.put_back.new.auditors.items yielded v
           c.finish-transcript.result.2 c.put_back.ensures.accounts left.auditor was.auditors;
-      told = audited_more x g.B.Attending.accounts yielded v was.told c.tells_its_auditor.ensures;
+      told = audited_more x g.B.Attending.accounts yielded v was.told c.tells_its_auditor.ensures.audited;
+      alone = alone_more x g.B.Attending.accounts yielded v was.alone c.tells_its_auditor.ensures.alone;
+      within = within_more x yielded v was.within c.tells_its_auditor.ensures.within;
       worked = worked_more x g.B.Sitting.setup yielded v transcript pass was.worked left.worked left.pass left.steps;
       steps = (let before = was.steps in let len = c.put.ensures.len in let room = c.put.ensures.capacity in
           omega (arith, before, len, room, others));
@@ -58,6 +60,20 @@ returns-clause-told g c =
     let all = all_yielded c.args.row.items c.loop-process.yielded c.loop-process.process-iterator.rest.items
     c.loop-process.invariant.all none in
     subst (AreAudited g.B.Sitting.session g.B.Attending.accounts) (sym all) c.loop-process.invariant.told
+
+pub returns-clause-alone : goal.returns-clause-alone
+returns-clause-alone g c =
+    let none : length c.loop-process.process-iterator.rest.items ≡ 0 = search rules in
+    let all = all_yielded c.args.row.items c.loop-process.yielded c.loop-process.process-iterator.rest.items
+    c.loop-process.invariant.all none in
+    subst (AreUncutAlone g.B.Sitting.session g.B.Attending.accounts) (sym all) c.loop-process.invariant.alone
+
+pub returns-clause-within : goal.returns-clause-within
+returns-clause-within g c =
+    let none : length c.loop-process.process-iterator.rest.items ≡ 0 = search rules in
+    let all = all_yielded c.args.row.items c.loop-process.yielded c.loop-process.process-iterator.rest.items
+    c.loop-process.invariant.all none in
+    subst (AreWithin g.B.Sitting.session) (sym all) c.loop-process.invariant.within
 
 pub returns-clause-worked : goal.returns-clause-worked
 returns-clause-worked g c =
