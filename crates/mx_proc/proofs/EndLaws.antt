@@ -73,17 +73,17 @@ all_told_of : (x : Outline) (accounts : List Account) (row : List ProcessValue) 
 all_told_of x accounts row all told = told_all x accounts row (from_at x accounts row all told)
 
 -- those that are put back
-pub all_back : {A : Type 0} (f : A → Account) (x : Outline) (accounts : List Account) (row : List ProcessValue) (own beyond back : List A)
-    (told : AreTold x accounts row) → map f own ≡ accounts_in row → map f beyond ≡ drop (length row) accounts → back ≡ own ++ beyond
-    → map f back ≡ with_all accounts told.told
+pub all_back : {A : Type 0} (f : A → Account) (x : Outline) (accounts : List Account) (row : List ProcessValue)
+    (own beyond back : List A) (told : AreTold x accounts row) → map f own ≡ accounts_in row
+    → map f beyond ≡ drop (length row) accounts → back ≡ own ++ beyond → map f back ≡ with_all accounts told.told
 all_back f x accounts row own beyond back told first second are =
     ap (map f) are ∙ map_more f own beyond
     ∙ ap (λ (l : List Account). l ++ map f beyond) first
     ∙ ap (λ (l : List Account). accounts_in row ++ l) second
     ∙ told.grown
 
-pub all_grown : {A : Type 0} (f : A → Account) (x : Outline) (accounts : List Account) (row : List ProcessValue) (own beyond back : List A)
-    → AreInPlace accounts row → AreAudited x accounts row → map f own ≡ accounts_in row
+pub all_grown : {A : Type 0} (f : A → Account) (x : Outline) (accounts : List Account) (row : List ProcessValue)
+    (own beyond back : List A) → AreInPlace accounts row → AreAudited x accounts row → map f own ≡ accounts_in row
     → map f beyond ≡ drop (length row) accounts → back ≡ own ++ beyond → HaveGrown accounts (map f back)
 all_grown f x accounts row own beyond back all audited first second are =
     let told = all_told_of x accounts row all audited in
@@ -147,8 +147,8 @@ alone_at x accounts row i v steps ended at none is come =
     (uncut_part x v.pass.view.process v.state come
     (ended.alone i v at (subst (λ n. slice_get accounts n ≡ None) here none))))
 
-pub all_told : {A : Type 0} (f : A → Account) (x : Outline) (accounts : List Account) (row : List ProcessValue) (own beyond back : List A)
-    (first : List Step) (journal : List journaled.Entry) (transcripts : List (List Step))
+pub all_told : {A : Type 0} (f : A → Account) (x : Outline) (accounts : List Account) (row : List ProcessValue)
+    (own beyond back : List A) (first : List Step) (journal : List journaled.Entry) (transcripts : List (List Step))
     → length row ≡ length x.principals → HaveEnded x accounts row → IsLegal x journal transcripts → map f own ≡ accounts_in row
     → map f beyond ≡ drop (length row) accounts → back ≡ own ++ beyond → transcripts ≡ first ∷ map steps_in row
     → WereTold x accounts transcripts (map f back)
@@ -254,16 +254,16 @@ pub audited_more : (x : Outline) (accounts : List Account) (yielded : List Proce
     → IsAudited x v.pass.view.process (slice_get accounts (v.pass.view.process - 1)) v.state v.account
     → AreAudited x accounts (yielded ++ v ∷ [])
 audited_more x accounts yielded v all here =
-    each_more (λ place w. IsAudited x w.pass.view.process (slice_get accounts (w.pass.view.process - 1)) w.state w.account) yielded v
-    all here
+    each_more (λ place w. IsAudited x w.pass.view.process (slice_get accounts (w.pass.view.process - 1)) w.state w.account)
+    yielded v all here
 
 pub alone_more : (x : Outline) (accounts : List Account) (yielded : List ProcessValue) (v : ProcessValue)
     → AreUncutAlone x accounts yielded
     → (slice_get accounts (v.pass.view.process - 1) ≡ None → IsUncut x v.pass.view.process v.state)
     → AreUncutAlone x accounts (yielded ++ v ∷ [])
 alone_more x accounts yielded v all here =
-    each_more (λ place w. slice_get accounts (w.pass.view.process - 1) ≡ None → IsUncut x w.pass.view.process w.state) yielded v all
-    here
+    each_more (λ place w. slice_get accounts (w.pass.view.process - 1) ≡ None → IsUncut x w.pass.view.process w.state)
+    yielded v all here
 
 pub within_more : (x : Outline) (yielded : List ProcessValue) (v : ProcessValue) → AreWithin x yielded
     → place_in x v.pass.view.process v.state ≤ length (lines_of x v.pass.view.process) → AreWithin x (yielded ++ v ∷ [])

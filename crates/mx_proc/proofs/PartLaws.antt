@@ -1,7 +1,7 @@
--- Which lines the parts of a legal run have, by what processes tell that have no line left: those of their scripts, or those up to
--- a denial and then the last. The initializer's part has all lines of the setup.
-use Rattle.std.proofs.Common.{◌≡◌, ◌⊎◌, inl, inr, ℕ, zero, suc, ◌+◌, ◌-◌, ◌<◌, ◌≤◌, List, [], ◌∷◌, ◌++◌, Option, Some, None, map, take, drop, length, length-append, length-drop, length-take, take-append-drop, refl, ap, sym, ◌∙◌, subst, arith}
-use Rattle.std.specs.List.{All, slice_get, cons_option}
+-- Which lines the parts of a legal run have, by what processes tell that have no line left: those of their scripts, or those up
+-- to a denial and then the last. The initializer's part has all lines of the setup.
+use Rattle.std.proofs.Common.{◌≡◌, inl, inr, ℕ, suc, ◌+◌, ◌-◌, ◌<◌, ◌≤◌, List, [], ◌∷◌, ◌++◌, Option, Some, None, map, take, drop, length, length-append, length-drop, length-take, take-append-drop, refl, ap, sym, ◌∙◌, subst, arith}
+use Rattle.std.specs.List.{All, cons_option}
 use Rattle.std.proofs.lemmas.List.Elements.{All-nil, All-cons, All-head, All-tail}
 use Rattle.mx_audit.specs.Accounts.{Told}
 use Rattle.mx_audit.specs.Verdicts.{denial_in}
@@ -21,9 +21,9 @@ use Rattle.mx_sdw.specs.declared.denials.Denial.{Denial}
 use Rattle.mx_state.specs.declared.journal.Entry as journaled
 use Rattle.mx_transcript.proofs.AwaitLaws.{awaits_no_end}
 use Rattle.mx_transcript.proofs.PartLines.{all_of_part, all_ran}
-use Rattle.mx_transcript.specs.Asking.{answered, awaits, first_due, next, replied}
+use Rattle.mx_transcript.specs.Asking.{awaits, first_due, next, replied}
 use Rattle.mx_transcript.specs.Courses.{Course, Attempt, Answer}
-use Rattle.mx_transcript.specs.Denials.{denial_of, denials, denied_with}
+use Rattle.mx_transcript.specs.Denials.{denials, denied_with}
 use Rattle.mx_transcript.specs.Filling.{due}
 use Rattle.mx_transcript.specs.Legal.{IsLegal, setting_of}
 use Rattle.mx_transcript.specs.Lines.{IsEnd, IsLine}
@@ -181,8 +181,8 @@ replied_so s g asked reply.Sent ends after number end = ap (denied_with number) 
 replied_so s g asked (reply.Message sender word) ends after number end = ap (denied_with number) end.0
 replied_so s g asked reply.Nobody ends after number end = ap (denied_with number) end.0
 
-undue : (s : Setting) (g : Control) (first : Option Reference) (asked : Request) (given : Reply) (ends : Result2) (after : Control)
-    (number : ℕ) → IsEnd s g (first_due first (replied g asked given)) ends after → denied_with number ends ≡ None
+undue : (s : Setting) (g : Control) (first : Option Reference) (asked : Request) (given : Reply) (ends : Result2)
+    (after : Control) (number : ℕ) → IsEnd s g (first_due first (replied g asked given)) ends after → denied_with number ends ≡ None
 undue s g (Some reference) asked given ends after number end = absurd end
 undue s g None asked given ends after number end = replied_so s g asked given ends after number end
 

@@ -1,7 +1,7 @@
 -- What stands at each place of a list, as it is built, written to and cut.
-use Rattle.std.proofs.Common.{◌≡◌, ◌⊎◌, ◌+◌, ◌-◌, ◌<◌, ◌≤◌, ℕ, zero, suc, List, [], ◌∷◌, ◌++◌, Option, Some, None, drop, length, map, inl, inr, refl, ap, sym, ◌∙◌, subst, slice_set, arith}
+use Rattle.std.proofs.Common.{◌≡◌, ◌<◌, ◌≤◌, ℕ, zero, suc, List, [], ◌∷◌, ◌++◌, Some, None, drop, length, map, inl, inr, refl, ap, sym, subst, slice_set, arith}
 use Rattle.std.specs.List.{slice_get}
-use Rattle.mx_state.proofs.Lists.{slice_get-push, slice_get-pushed, slice_get-push_other}
+use Rattle.mx_state.proofs.Lists.{slice_get-push, slice_get-pushed}
 
 -- so it is at each place
 abbrev pub AtEach : {X : Type 0} → (ℕ → X → Type 0) → List X → Type 0

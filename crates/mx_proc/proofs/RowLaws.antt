@@ -94,7 +94,7 @@ none_below x (u ∷ row) (suc n) w at none below zero v less there = below zero 
 none_below x (u ∷ row) (suc n) w at none below (suc i) v less there =
     none_below x row n w at none (λ j z l t. below (suc j) z (omega (arith, l)) t) i v (omega (arith, less)) there
 
--- a row of one process, which has done all its lines
+-- a row of one process, which has no line left
 pub alone_done : (x : Outline) (row : List ProcessValue) (v : ProcessValue) → length row ≤ 1 → HasNoLine x v
     → HaveNoLine x (slice_set row 0 v)
 alone_done x [] v few done place w at = absurd (none at)

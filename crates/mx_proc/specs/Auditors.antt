@@ -1,7 +1,7 @@
--- What auditors are told, what their verdicts do, and how much room they need. Auditor i, counted from 0, belongs to process i + 1
--- and is told of each of its denials, in order. Processes beyond the auditors have none, and auditors beyond the processes are
--- told nothing.
-use Rattle.std.specs.Prelude.{◌≡◌, ℕ, suc, ◌-◌, ◌≤◌, List, [], ◌++◌, map, take, length, Option, Some, None, slice_get}
+-- What auditors are told, what their verdicts do, and how much room they need. Auditor i, counted from 0, belongs to process
+-- i + 1 and is told of each of its denials, in order. Processes beyond the auditors have none, and auditors beyond the processes
+-- are told nothing.
+use Rattle.std.specs.Prelude.{◌≡◌, ℕ, suc, ◌≤◌, List, [], ◌++◌, map, take, length, Option, Some, None, slice_get}
 use Rattle.std.specs.List.{slice_index_or}
 use Rattle.mx_audit.specs.Accounts.{Account, Told, with_all, HaveRoomFor}
 use Rattle.mx_audit.specs.Verdicts.{GoOnToLast, denial_in, last_told}

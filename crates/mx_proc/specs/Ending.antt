@@ -1,5 +1,5 @@
 -- What a run keeps for its end.
-use Rattle.std.specs.Prelude.{◌≡◌, ℕ, ◌+◌, ◌≤◌, List, [], drop, length}
+use Rattle.std.specs.Prelude.{◌≡◌, ℕ, ◌+◌, ◌≤◌, List, [], drop}
 use Rattle.mx_audit.specs.Accounts.{Account}
 use Rattle.mx_desc.specs.Passes.{PassValue}
 use Rattle.mx_script.specs.Sessions.{Outline}

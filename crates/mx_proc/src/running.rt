@@ -24,11 +24,14 @@ use std::sync::ledger::Blank;
 use std::thread::Threads;
 
 /// Runs a session: the setup by the initializer, and then the processes' scripts, each process on a thread of its own where
-/// one can be had. The gate is told of each script line before it begins. Auditor `i`, counted from 0, belongs to process
-/// `i + 1` and is told of each line of it that ends denied, in the step that ends the line; processes beyond the auditors have
-/// none, and auditors beyond the processes are not called. The auditors are lent to the threads and are put back in their order.
-/// The journal and the transcripts are a legal run of the session, its rings fall only through gates, and each auditor was told
-/// what the transcript of its process says. The only error is want of memory; then each auditor was told of some denials, or none.
+/// one can be had. The gate is told of each script line that is run, before it begins. Auditor `i`, counted from 0, belongs to
+/// process `i + 1` and is told of each line of it that ends denied, with the line's number, in the step that ends the line. Its
+/// verdict is heeded: behind a denial that it answers with `Logout` the process runs no further line of its script but the last,
+/// its `logout`; and else all of them. Processes beyond the auditors have none and run all lines, and auditors beyond the
+/// processes are not called. The auditors are lent to the threads and are put back in their order. The journal and the
+/// transcripts are a legal run of the session, its rings fall only through gates, and each auditor was told just what the
+/// transcript of its process says, which has the lines that its verdicts leave. The only error is want of memory; then each
+/// auditor was told of some denials, or none.
 pub fn run<R: Threads + Wait + Sync, G: Gate>(
     rt: &R,
     alloc: Global,
@@ -40,7 +43,8 @@ pub fn run<R: Threads + Wait + Sync, G: Gate>(
     ensures legal { IfOk result (λ ran. IsLegal session.now ran.0 ran.1) }
     ensures gated { IfOk result (λ ran. HasGatedFalls session.now ran.0 ran.1) }
     ensures sound { IfOk result (λ ran. HasSoundRegisters session.now ran.0 ran.1) }
-    ensures told { IfOk result (λ ran. WereTold session.now (map account auditors.old.items) ran.1 (map account auditors.new.items)) }
+    ensures told { IfOk result (λ ran. WereTold session.now (map account auditors.old.items) ran.1
+        (map account auditors.new.items)) }
     ensures grown { HaveGrown (map account auditors.old.items) (map account auditors.new.items) }
 {
     run_with(rt, alloc, session, gate, auditors)
@@ -62,7 +66,8 @@ pub fn run_in_order<R: Wait, G: Gate>(
     ensures legal { IfOk result (λ ran. IsLegal session.now ran.0 ran.1) }
     ensures gated { IfOk result (λ ran. HasGatedFalls session.now ran.0 ran.1) }
     ensures sound { IfOk result (λ ran. HasSoundRegisters session.now ran.0 ran.1) }
-    ensures told { IfOk result (λ ran. WereTold session.now (map account auditors.old.items) ran.1 (map account auditors.new.items)) }
+    ensures told { IfOk result (λ ran. WereTold session.now (map account auditors.old.items) ran.1
+        (map account auditors.new.items)) }
     ensures grown { HaveGrown (map account auditors.old.items) (map account auditors.new.items) }
 {
     run_in_order_with(rt, alloc, session, order, gate, auditors)
@@ -80,7 +85,8 @@ fn run_with<R: Threads + Wait + Sync, G: Gate, A: Auditor + Send>(
     ensures legal { IfOk result (λ ran. IsLegal session.now ran.0 ran.1) }
     ensures gated { IfOk result (λ ran. HasGatedFalls session.now ran.0 ran.1) }
     ensures sound { IfOk result (λ ran. HasSoundRegisters session.now ran.0 ran.1) }
-    ensures told { IfOk result (λ ran. WereTold session.now (map A.account auditors.old.items) ran.1 (map A.account auditors.new.items)) }
+    ensures told { IfOk result (λ ran. WereTold session.now (map A.account auditors.old.items) ran.1
+        (map A.account auditors.new.items)) }
     ensures grown { HaveGrown (map A.account auditors.old.items) (map A.account auditors.new.items) }
 {
     let prepared = prepare(alloc, session)?;
@@ -101,7 +107,8 @@ fn run_in_order_with<R: Wait, G: Gate, A: Auditor>(
     ensures legal { IfOk result (λ ran. IsLegal session.now ran.0 ran.1) }
     ensures gated { IfOk result (λ ran. HasGatedFalls session.now ran.0 ran.1) }
     ensures sound { IfOk result (λ ran. HasSoundRegisters session.now ran.0 ran.1) }
-    ensures told { IfOk result (λ ran. WereTold session.now (map A.account auditors.old.items) ran.1 (map A.account auditors.new.items)) }
+    ensures told { IfOk result (λ ran. WereTold session.now (map A.account auditors.old.items) ran.1
+        (map A.account auditors.new.items)) }
     ensures grown { HaveGrown (map A.account auditors.old.items) (map A.account auditors.new.items) }
 {
     let prepared = prepare(alloc, session)?;

@@ -15,9 +15,9 @@ use std::sync::Wait;
 use std::thread;
 use std::thread::{Promise, Scope, Threads};
 
-/// Does all lines of a row's processes, each on a thread of its own where one can be had, but the first on this one; all
-/// begin together. Where no thread can be had for a process, it and those before it take turns on this one. Returns when all
-/// threads have ended. The only error is want of memory; some lines may be left then.
+/// Does the lines of a row's processes until none is left, each on a thread of its own where one can be had, but the first on
+/// this one; all begin together. Where no thread can be had for a process, it and those before it take turns on this one.
+/// Returns when all threads have ended. The only error is want of memory; some lines may be left then.
 pub(crate) fn work_on_threads<
     'a,
     R: Threads + Wait + Sync,
@@ -56,7 +56,7 @@ pub(crate) fn work_on_threads<
     )
 }
 
-/// A process that a thread hands back, and whether it has done all its lines.
+/// A process that a thread hands back, and whether it has no line left.
 #[derive(Drop)]
 struct Worked<'a, B: Attending, A: Auditor> {
     process: Process<'a, B, A>,
@@ -138,7 +138,7 @@ fn work_from<
     }
 }
 
-// All lines of the one process of a row, if it has one.
+// All lines of the one process of a row that are left, if it has one.
 fn work_alone<R: Wait, G: Gate, B: Attending, A: Auditor>(
     rt: &R,
     alloc: Global,

@@ -1,4 +1,4 @@
-use Rattle.std.proofs.Common.{[], ◌∷◌, ap, arith, length, length-append, sym, subst, rules, ◌≡◌}
+use Rattle.std.proofs.Common.{[], ◌∷◌, arith, length, length-append, sym, subst, rules, ◌≡◌}
 use Rattle.mx_closing.proofs.Returns.{taken}
 use Rattle.mx_proc.proofs.EndLaws.{all_yielded, audited_more, auditors_more, is_next, room_next}
 use Rattle.mx_proc.specs.Leaving.{AreAudited}

@@ -1,8 +1,4 @@
-use Rattle.std.proofs.Common.{◌≡◌, ◌∙◌, ◌∷◌, ◌++◌, List, OnOk, drop, length, map, ap, arith, subst, sym}
-use Rattle.mx_audit.specs.Accounts.{Account}
-use Rattle.mx_desc.specs.Passes.{PassValue}
-use Rattle.mx_state.specs.declared.journal.Entry as journaled
-use Rattle.mx_transcript.specs.Transcripts.{Step}
+use Rattle.std.proofs.Common.{◌≡◌, ◌∙◌, OnOk, length, ap, arith, subst}
 use Rattle.mx_proc.proofs.EndLaws.{HaveEnded, all_grown, all_told, beyond_row, legal_rings, legal_run, passes_left, passes_of_all, room_back, transcripts_left}
 use Rattle.mx_proc.specs.Rows.{HaveNoLine}
 use Rattle.mx_proc.proofs.ending.end.Goals as goal
