@@ -1,6 +1,7 @@
 -- Status 0, the headline. Under `run` the source held the text of a session, and the sink gained the run text of a legal
 -- run of it. Under `drill N` the sink gained the summary of a legal run of the drill of that number. Each auditor was told
--- what the run's transcripts say of its process. Under `check` the source held a session and a legal run of it, and the sink
+-- what the run's transcripts say of its process, and was heeded: behind a denial that it answered with `Logout` they have the
+-- last line of the script, and else all lines. Under `check` the source held a session and a legal run of it, and the sink
 -- gained `legal`; no auditor was told. A source's bytes and a sink's are spoken of where they are told.
 use Rattle.std.specs.Prelude.{◌≡◌, ℕ, ◌≤◌, ◌⊎◌, List, length, Option, codes}
 use Rattle.mx_io.specs.Bytes.{TakesAll, Appends}
@@ -39,7 +40,7 @@ pub record IsDone (source source' sink sink' : Option (List ℕ)) (accounts acco
   pub journal : List Entry
   pub transcripts : List (List Step)
   pub run : IsRunFrom source source' journal transcripts
-  pub told : WereTold accounts transcripts accounts'
+  pub told : WereTold run.session accounts transcripts accounts'
   pub printed : Appends sink sink' (run_text journal transcripts)
 
 -- under `drill N`
@@ -50,7 +51,7 @@ pub record IsDrilled (words : List (List ℕ)) (sink sink' : Option (List ℕ)) 
   pub transcripts : List (List Step)
   pub run : IsRunOf (drill_session number) journal transcripts
   pub spellable : IsSpellable journal transcripts
-  pub told : WereTold accounts transcripts accounts'
+  pub told : WereTold (drill_session number) accounts transcripts accounts'
   pub printed : Appends sink sink' (summary_text number journal transcripts)
 
 -- under `check`

@@ -25,13 +25,13 @@ pub record IsBadLineOf (source source' : Option (List ℕ)) (number : ℕ) : Typ
   pub first : IsFirstBad spelled number
 
 -- The verdict is right for the words of a command, what its source held, and what it holds afterwards. Each auditor was told what its
--- process was denied in the run, and nothing where none was made.
+-- process was denied in the run, and was heeded; it was told nothing where none was made.
 abbrev pub IsVerdict : List (List ℕ) → Option (List ℕ) → Option (List ℕ) → List Account → List Account → Verdict → Type 0
 IsVerdict words source source' accounts accounts' (Ran journal transcripts) =
-    IsRun words × IsRunFrom source source' journal transcripts × WereTold accounts transcripts accounts'
+    IsRun words × (run : IsRunFrom source source' journal transcripts) × WereTold run.session accounts transcripts accounts'
 IsVerdict words source source' accounts accounts' (Drilled number journal transcripts) =
     IsDrill words number × IsRunOf (drill_session number) journal transcripts × IsSpellable journal transcripts × (source' ≡ source)
-    × WereTold accounts transcripts accounts'
+    × WereTold (drill_session number) accounts transcripts accounts'
 IsVerdict words source source' accounts accounts' (Checked judgement) =
     IsCheck words × IsJudgement source source' judgement × (accounts' ≡ accounts)
 IsVerdict words source source' accounts accounts' BadWords = (IsAccepted words → ⊥) × (source' ≡ source) × (accounts' ≡ accounts)

@@ -33,10 +33,11 @@ const SINK_FAULT: u8 = 4;
 /// is written to the sink. Under `drill` and one word of 1 to 6 decimal digits the drill of that number is run in the same way, and its
 /// summary is written; the source is not read. Under `check` the source is read to its end as the text of a session followed at once by
 /// that of a run, and the judgement on the run is written: whether it is a legal one of the session. No other words are accepted. The gate
-/// is told of each script line before it begins. Auditor `i`, counted from 0, belongs to process `i + 1` and is told of each line of it that
-/// ends denied, in the step that ends it; processes beyond the auditors have none, and auditors beyond the processes are not called. Each
-/// needs room for 700,000 denials. At the return the vector holds the same auditors in the same order. The call may wait; what it promises
-/// holds when it returns.
+/// is told of each script line that is run, before it begins. Auditor `i`, counted from 0, belongs to process `i + 1` and is told of each
+/// line of it that ends denied, in the step that ends it. Its verdict is heeded: behind a denial that it answers with `Logout` the process
+/// runs no further line of its script but the last, its `logout`; and else all of them. Processes beyond the auditors have none and run all
+/// lines, and auditors beyond the processes are not called. Each needs room for 700,000 denials. At the return the vector holds the same
+/// auditors in the same order. The call may wait; what it promises holds when it returns.
 ///
 /// | Status | Comes | Written | Auditors were told of |
 /// |---|---|---|---|
@@ -91,7 +92,8 @@ pub fn multics<R: Threads + Wait + Sync, S: Source, K: Sink, G: Gate>(
     ensures unwritten { result ≡ 3 → sink.new ≡ sink.old }
     ensures untold { result ≡ 3 → map account auditors.new.items ≡ map account auditors.old.items }
 
-    // Whatever comes, no auditor is lost, and none is told of anything but denials behind those that it was told before.
+    // Whatever comes, no auditor is lost, and none is told of anything but denials behind those that it was told before, each with
+    // its verdict.
     ensures grown { HaveGrown (map account auditors.old.items) (map account auditors.new.items) }
 
     // At status 4 the sink failed, and the front of what was due was written.

@@ -76,7 +76,7 @@ impl From<AllocError> for Unreached {
 impl Verdict {
     /// The verdict on a command. Under `run` the source is read to its end, and its session is run. Under `drill` the drill is run, and the
     /// source is left as it is. Under `check` the source is read to its end and judged. Otherwise the source is left as it is and no memory
-    /// is taken. The auditors are told of the run's denials; under `check` of nothing.
+    /// is taken. The auditors are told of the run's denials, and their verdicts are heeded; under `check` they are told of nothing.
     pub(crate) fn reach<R: Threads + Wait + Sync, S: Source, G: Gate>(
         rt: &R,
         alloc: Global,
@@ -238,7 +238,8 @@ fn drilled<R: Threads + Wait + Sync, G: Gate>(
     requires room { HaveRoom 700000 (map account auditors.old.items) }
     ensures run { IfOk result (λ ran. IsRunOf (drill_session number) ran.0 ran.1) }
     ensures spellable { IfOk result (λ ran. IsSpellable ran.0 ran.1) }
-    ensures told { IfOk result (λ ran. WereTold (map account auditors.old.items) ran.1 (map account auditors.new.items)) }
+    ensures told { IfOk result (λ ran. WereTold (drill_session number) (map account auditors.old.items) ran.1
+        (map account auditors.new.items)) }
     ensures grown { HaveGrown (map account auditors.old.items) (map account auditors.new.items) }
 {
     let session = session_of(alloc, number)?;
@@ -257,7 +258,8 @@ fn ran<R: Threads + Wait + Sync, G: Gate>(
     requires room { HaveRoomForLines session.now (map account auditors.old.items) }
     ensures run { IfOk result (λ ran. IsRunOf session.now ran.0 ran.1) }
     ensures spellable { IfOk result (λ ran. IsSpellable ran.0 ran.1) }
-    ensures told { IfOk result (λ ran. WereTold (map account auditors.old.items) ran.1 (map account auditors.new.items)) }
+    ensures told { IfOk result (λ ran. WereTold session.now (map account auditors.old.items) ran.1
+        (map account auditors.new.items)) }
     ensures grown { HaveGrown (map account auditors.old.items) (map account auditors.new.items) }
 {
     // The lines of each session have numbers of 32 bits.
