@@ -5,8 +5,8 @@ use Rattle.std.proofs.lemmas.Option.{slice_get_within}
 use Rattle.mx_script.specs.Sessions.{Outline}
 use Rattle.mx_state.specs.declared.journal.Entry as journaled
 use Rattle.mx_transcript.specs.Scripts.{lines_of}
-use Rattle.mx_transcript.specs.Transcripts.{Step}
-use Rattle.mx_legal.specs.Breach.{IsBadLine, IsBreach, IsEntryBreach, IsLineBreach, IsUnnamedBreach, number_at}
+use Rattle.mx_transcript.specs.Transcripts.{Step, part}
+use Rattle.mx_legal.specs.Breach.{IsBadLine, IsBreach, IsEntryBreach, IsLineBreach, IsUnnamedBreach, blamed}
 use Rattle.mx_legal.specs.BreachLaws.{FrontLaw, IsGoodRun, OneBreachLaw}
 use Rattle.mx_legal.specs.Entries.{AreGoodTo, IsFirstBad, IsGoodAt}
 
@@ -69,8 +69,8 @@ module _ (session : Outline) (journal : List journaled.Entry) where
         let place : b.place ≡ c.place =
         same_number b.place c.place (not_shorter front q b.place c.place there c.bad) (not_shorter front q c.place b.place c.bad there) in (
           same,
-          b.number ∙ ap (λ (u : ℕ). number_at (lines_of session u) b.place) same
-              ∙ ap (number_at (lines_of session q)) place ∙ sym c.number,
+          b.number ∙ ap (λ (u : ℕ). blamed (lines_of session u) (part transcripts u) b.place) same
+              ∙ ap (blamed (lines_of session q) (part transcripts q)) place ∙ sym c.number,
         )
 
     one_unnamed : (p line q other : ℕ) → IsUnnamedBreach session journal transcripts p line

@@ -7,14 +7,13 @@ use Rattle.std.specs.Prelude.{get_or}
 use Rattle.std.proofs.lemmas.List.Elements.{All-head, All-tail}
 use Rattle.std.proofs.lemmas.Result.{IfOk-weaker}
 use Rattle.mx_access.specs.Answers.{judged_on}
-use Rattle.mx_parts.specs.FirstBad.{AreBeside, IsFirstBadLine}
+use Rattle.mx_parts.specs.FirstBad.{AreBeside, AreKept, IsFirstBadLine}
 use Rattle.mx_points.specs.Fronts.{AreSetupLinesTo}
 use Rattle.mx_sdw.specs.Admissible.{IsAdmissible}
 use Rattle.mx_sdw.specs.Descriptors.{Descriptor}
 use Rattle.mx_transcript.specs.Access.{descriptor_of}
 use Rattle.mx_transcript.specs.Legal.{setting_of}
 use Rattle.mx_transcript.specs.Openings.{opening_control}
-use Rattle.mx_transcript.specs.Parts.{AreDone}
 use Rattle.mx_transcript.specs.References.{cell_of}
 use Rattle.mx_transcript.specs.Scripts.{lines_of}
 use Rattle.mx_transcript.specs.Uses.{use_of}
@@ -348,27 +347,26 @@ pub none_undone : (session : Outline) (journal : List journaled.Entry) (p : ℕ)
     → AreDoneTo session journal p steps (length steps)
 none_undone session journal p steps none =
     subst (λ (s : List Step). AreDoneTo session journal p s (length s)) (sym none)
-    (record { left = lines_of session p; now = opening_control session p; done = (refl, refl) })
+    (record {
+      ran = lines_of session p;
+      are = inl refl;
+      left = lines_of session p;
+      now = opening_control session p;
+      done = (refl, refl);
+    })
 
 -- the line rule, as its decider says it
 pub undone_found : (session : Outline) (journal : List journaled.Entry) (p : ℕ) (steps : List Step) (found : Option ℕ)
     → IsFirstBadLine (setting_of session journal p) (opening_control session p) (lines_of session p) steps found
     → IsFirstBad (AreDoneTo session journal p steps) (length steps) found
-undone_found session journal p steps None are = record {
-  left = are.left;
-  now = are.now;
-  done = subst (λ (s : List Step). AreDone (setting_of session journal p) (opening_control session p) (lines_of session p) s are.left are.now)
-      (sym (take_all (length steps) steps (omega arith))) are.done;
-}
+undone_found session journal p steps None are =
+    subst (AreKept (setting_of session journal p) (opening_control session p) (lines_of session p))
+    (sym (take_all (length steps) steps (omega arith))) are
 undone_found session journal p steps (Some place) first = elim (cases_lt place (length steps)) [
-  | inl l ↦ record {
-    within = l;
-    good = record { left = first.before.left; now = first.before.now; done = first.before.done };
-    bad = λ are. first.bad are.left are.now are.done;
-  }
-  | inr l ↦ absurd (first.bad first.before.left first.before.now
-      (subst (λ (s : List Step). AreDone (setting_of session journal p) (opening_control session p) (lines_of session p) s first.before.left first.before.now)
-      (take_all place steps l ∙ sym (take_all (suc place) steps (omega (arith, l)))) first.before.done))
+  | inl l ↦ record { within = l; good = first.before; bad = first.bad }
+  | inr l ↦ absurd (first.bad
+      (subst (AreKept (setting_of session journal p) (opening_control session p) (lines_of session p))
+      (take_all place steps l ∙ sym (take_all (suc place) steps (omega (arith, l)))) first.before))
 ]
 
 pub undone_of : {Y : Type 0} (session : Outline) (journal : List journaled.Entry) (transcripts : List (List Step)) (p : ℕ) (steps : List Step)

@@ -6,8 +6,12 @@ use Rattle.std.specs.Prelude.{min}
 use Rattle.mx_script.specs.Sessions.{Outline}
 use Rattle.mx_state.specs.declared.journal.Entry as journaled
 use Rattle.mx_stores.specs.Least.{least}
+use Rattle.mx_transcript.specs.Legal.{setting_of}
+use Rattle.mx_transcript.specs.Openings.{opening_control}
+use Rattle.mx_transcript.specs.Parts.{AreLines}
 use Rattle.mx_transcript.specs.Scripts.{lines_of}
 use Rattle.mx_transcript.specs.Transcripts.{Step, events_of, part}
+use Rattle.mx_upcall.specs.Control.{Control}
 use Rattle.mx_legal.specs.Breach.{IsBadLine}
 use Rattle.mx_legal.specs.BreachLaws.{FrontLaw}
 use Rattle.mx_legal.specs.Deciding.{IsLineOfEvent}
@@ -99,11 +103,12 @@ bad_line front session journal transcripts p k first =
 
 pub missing_line : (session : Outline) (journal : List journaled.Entry) (transcripts : List (List Step)) (p : ℕ)
     → IsGoodTo session journal transcripts p (length (part transcripts p))
-    → (p ≤ length session.principals → length (part transcripts p) ≡ length (lines_of session p) → ⊥)
+    → (p ≤ length session.principals → (after : Control) → AreLines (setting_of session journal p) (opening_control session p)
+    (lines_of session p) (part transcripts p) after → ⊥)
     → IsBadLine session journal transcripts p (length (part transcripts p))
 missing_line session journal transcripts p good missing = record {
   within = omega arith;
   good = good;
   next = λ l good'. absurd (omega (arith, l));
-  bad = λ whole. missing whole.process whole.whole;
+  bad = λ whole. missing whole.process whole.whole.0 whole.whole.1;
 }

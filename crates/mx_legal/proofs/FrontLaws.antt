@@ -1,18 +1,15 @@
 -- Fewer lines of a part keep the rules where more do.
 use Rattle.std.proofs.Common.{◌≡◌, ℕ, zero, suc, ◌+◌, ◌<◌, ◌≤◌, List, [], ◌∷◌, ◌++◌, length, take, refl, ap, sym, ◌∙◌, arith}
 use Rattle.std.proofs.lemmas.List.{length-append}
+use Rattle.mx_parts.proofs.KeptLaws.{fewer_kept}
 use Rattle.mx_script.specs.Sessions.{Outline}
-use Rattle.mx_script.specs.declared.lines.Line.{Line}
 use Rattle.mx_state.specs.declared.journal.Entry as journaled
 use Rattle.mx_transcript.specs.Legal.{setting_of}
 use Rattle.mx_transcript.specs.Openings.{opening_control}
-use Rattle.mx_transcript.specs.Parts.{AreDone}
 use Rattle.mx_transcript.specs.Scripts.{lines_of}
-use Rattle.mx_transcript.specs.Settings.{Setting}
 use Rattle.mx_transcript.specs.Transcripts.{Step, entries_named, events_of, part}
 use Rattle.mx_transcript.specs.declared.transcripts.Event2.{Event2}
 use Rattle.mx_transcript.proofs.Named.{named_append}
-use Rattle.mx_upcall.specs.Control.{Control}
 use Rattle.mx_legal.specs.BreachLaws.{FrontLaw}
 use Rattle.mx_legal.specs.Fronts.{AreDoneTo, IsGoodTo, events_to}
 use Rattle.mx_points.specs.Fronts.{AreNamedTo}
@@ -20,22 +17,6 @@ use Rattle.mx_points.specs.Fronts.{AreNamedTo}
 append_assoc : {A : Type 0} (a b c : List A) → (a ++ b) ++ c ≡ a ++ (b ++ c)
 append_assoc [] b c = refl
 append_assoc {A} (x ∷ a) b c = ap (λ (l : List A). x ∷ l) (append_assoc a b c)
-
--- these steps are done, whatever is left
-record AreSomeDone (s : Setting) (start : Control) (lines : List (ℕ × Line)) (steps : List Step) : Type 0 where
-  left : List (ℕ × Line)
-  now : Control
-  done : AreDone s start lines steps left now
-
-fewer_done : (s : Setting) (start : Control) (lines : List (ℕ × Line)) (steps : List Step) (left : List (ℕ × Line)) (now : Control)
-    (j k : ℕ) → j ≤ k → AreDone s start lines (take k steps) left now → AreSomeDone s start lines (take j steps)
-fewer_done s start lines steps left now zero k l are = record { left = lines; now = start; done = (refl, refl) }
-fewer_done s start lines steps left now (suc j) zero l are = absurd (omega arith)
-fewer_done s start lines [] left now (suc j) (suc k) l are = record { left = lines; now = start; done = (refl, refl) }
-fewer_done s start [] (step ∷ steps) left now (suc j) (suc k) l are = absurd are
-fewer_done s start (line ∷ lines) (step ∷ steps) left now (suc j) (suc k) l are =
-    let rest = fewer_done s are.1 lines steps left now j k (omega arith) are.3 in
-    record { left = rest.left; now = rest.now; done = (are.0, are.1, are.2, rest.done) }
 
 -- more lines have the events of fewer, and others after them
 record HasMore (more fewer : List Event2) : Type 0 where
@@ -63,8 +44,7 @@ fewer_events steps j k l =
 pub fewer_lines : (session : Outline) (journal : List journaled.Entry) (p : ℕ) (steps : List Step) (j k : ℕ) → j ≤ k
     → AreDoneTo session journal p steps k → AreDoneTo session journal p steps j
 fewer_lines session journal p steps j k l are =
-    let some = fewer_done (setting_of session journal p) (opening_control session p) (lines_of session p) steps are.left are.now j k l are.done in
-    record { left = some.left; now = some.now; done = some.done }
+    fewer_kept (setting_of session journal p) (opening_control session p) (lines_of session p) steps j k l are
 
 pub fewer_named : (journal : List journaled.Entry) (p : ℕ) (steps : List Step) (j k : ℕ) → j ≤ k
     → AreNamedTo journal p steps k → AreNamedTo journal p steps j

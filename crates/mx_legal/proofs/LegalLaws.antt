@@ -5,6 +5,7 @@ use Rattle.std.specs.List.{list_all}
 use Rattle.std.proofs.lemmas.Bool.{cases_lt}
 use Rattle.std.proofs.lemmas.List.{append-nil, length-map, take_all}
 use Rattle.std.proofs.lemmas.Option.{slice_get-get_or, slice_get_within}
+use Rattle.mx_parts.specs.FirstBad.{AreKept}
 use Rattle.mx_reads.specs.Deeds.{Deed, Deeds, Misses, point_of}
 use Rattle.mx_reads.specs.ReadRule.{AreRightReads}
 use Rattle.mx_request.proofs.StepLaws.{both}
@@ -43,17 +44,13 @@ use Rattle.mx_legal.specs.Fronts.{AreRightReadsTo, IsGoodPart, IsGoodTo, events_
 use Rattle.mx_legal.proofs.EntryLaws.{right_at}
 use Rattle.mx_legal.proofs.LineNumbers.{numbered_count}
 use Rattle.mx_legal.proofs.ReadLaws.{as_decided, as_in_run, right_so}
-use Rattle.mx_legal.proofs.SetupSteps.{AreFinal, HasOneEntry, IsCallOf, IsEntered, IsFull, first_calls, named_at, named_entry, named_in_ring, no_full_reply, number_is, own_first, setup_steps}
+use Rattle.mx_legal.proofs.SetupSteps.{AreFinal, HasOneEntry, IsCallOf, IsEntered, IsFull, first_calls, named_at, named_entry, named_in_ring, no_full_reply, number_is, own_first, setup_steps, setup_whole}
 
 -- there is no part beyond the last
 pub no_part : (parts : List (List Step)) (p : ℕ) → length parts ≤ p → part parts p ≡ []
 no_part [] p l = refl
 no_part (steps ∷ parts) zero l = absurd (omega (arith, l))
 no_part (steps ∷ parts) (suc p) l = no_part parts p (omega (arith, l))
-
-none_left : {A : Type 0} (left : List A) → length left ≡ 0 → left ≡ []
-none_left [] e = refl
-none_left (x ∷ left) e = absurd cc
 
 -- the lines that are done and those that are left
 pub done_count : (s : Setting) (start : Control) (lines : List (ℕ × Line)) (steps : List Step) (left : List (ℕ × Line)) (now : Control)
@@ -63,6 +60,13 @@ done_count s start lines [] left now are =
 done_count s start [] (step ∷ steps) left now are = absurd are
 done_count s start (line ∷ lines) (step ∷ steps) left now are =
     let rest = done_count s are.1 lines steps left now are.3 in omega (arith, rest)
+
+-- a part with no step has no line
+pub none_of_none : (s : Setting) (start : Control) (lines : List (ℕ × Line)) (after : Control) → AreLines s start lines [] after → lines ≡ []
+none_of_none s start lines after are = elim are.are [
+  | inl whole ↦ sym whole ∙ sym are.done.0
+  | inr cut ↦ let at = cut.at in absurd cc
+]
 
 -- each script has a line
 some_line : (version : ℕ) (scripts : List (List Line)) (p : ℕ) → list_all (is_script version) scripts ≡ true → p < length scripts
@@ -148,8 +152,11 @@ module _ (session : Outline) (journal : List journaled.Entry) (transcripts : Lis
             let count = is.scripts in
             let lines = script_line session is p (omega (arith, count, same)) in
             let whole = (good.parts (suc p) (omega (arith, same))).whole in
-            let none = ap (λ (s : List Step). length s) (no_part transcripts (suc p) (omega (arith, same, l))) in
-            omega (arith, lines, whole, none)
+            let none = none_of_none (setting_of session journal (suc p)) (opening_control session (suc p)) (lines_of session (suc p)) whole.0
+            (subst (λ (s : List Step). AreLines (setting_of session journal (suc p)) (opening_control session (suc p)) (lines_of session (suc p)) s whole.0)
+            (no_part transcripts (suc p) (omega (arith, same, l))) whole.1) in
+            let no_line = ap (λ (ls : List (ℕ × Line)). length ls) none in
+            omega (arith, lines, no_line)
 
     -- each part
     good_part : (p : ℕ) → p < length transcripts → IsGoodPart session journal transcripts p
@@ -157,18 +164,7 @@ module _ (session : Outline) (journal : List journaled.Entry) (transcripts : Lis
 
     all_lines : (p : ℕ) → p < length transcripts
         → (after : Control) × AreLines (setting_of session journal p) (opening_control session p) (lines_of session p) (steps_of p) after
-    all_lines p l =
-        let own = good_part p l in
-        let lines = own.good.lines in
-        let are : AreDone (setting_of session journal p) (opening_control session p) (lines_of session p) (steps_of p) lines.left lines.now =
-        subst (λ (s : List Step). AreDone (setting_of session journal p) (opening_control session p) (lines_of session p) s lines.left lines.now)
-        (take_all (length (steps_of p)) (steps_of p) (omega arith)) lines.done in
-        let count = done_count (setting_of session journal p) (opening_control session p) (lines_of session p) (steps_of p) lines.left lines.now are in
-        let whole = own.whole in (
-          lines.now,
-          subst (λ (left : List (ℕ × Line)). AreDone (setting_of session journal p) (opening_control session p) (lines_of session p) (steps_of p) left lines.now)
-              (none_left lines.left (omega (arith, count, whole))) are,
-        )
+    all_lines p l = (good_part p l).whole
 
     all_last : (p : ℕ) → HasNoneAfterFull (steps_of p)
     all_last p = record {
@@ -217,14 +213,17 @@ module _ (session : Outline) (journal : List journaled.Entry) (transcripts : Lis
     -- the setup's first entries
     setup_done : AreDone (setting_of session journal 0) (opening_control session 0) (lines_of session 0) (steps_of 0) []
         (all_lines 0 (omega (arith, at_least))).0
-    setup_done = (all_lines 0 (omega (arith, at_least))).1
+    setup_done =
+        setup_whole (setting_of session journal 0) (opening_control session 0) (first_line session 0) session.setup (steps_of 0)
+        (all_lines 0 (omega (arith, at_least))).0 (final_replies good.entries) refl (all_lines 0 (omega (arith, at_least))).1
 
     setup_count : length session.setup ≡ length (steps_of 0)
     setup_count =
-        let whole = (good_part 0 (omega (arith, at_least))).whole in
+        let done_all = done_count (setting_of session journal 0) (opening_control session 0) (lines_of session 0) (steps_of 0) []
+        (all_lines 0 (omega (arith, at_least))).0 setup_done in
         let long = numbered_count (first_line session 0) (map Ask session.setup) in
         let count = length-map session.setup Ask in
-        omega (arith, whole, long, count)
+        omega (arith, done_all, long, count)
 
     abbrev count : ℕ
     count = setup_entries session
@@ -318,6 +317,11 @@ module _ (session : Outline) (journal : List journaled.Entry) (transcripts : Lis
     setup_lines : (after : Control) × AreLines (setting_of session journal 0) (opening_control session 0) (lines_of session 0) (steps_of 0) after
     setup_lines = let parts = legal.parts in legal.lines 0 (omega (arith, parts))
 
+    setup_all : AreDone (setting_of session journal 0) (opening_control session 0) (lines_of session 0) (steps_of 0) [] setup_lines.0
+    setup_all =
+        setup_whole (setting_of session journal 0) (opening_control session 0) (first_line session 0) session.setup (steps_of 0)
+        setup_lines.0 legal_final refl setup_lines.1
+
     legal_entries : GoodEntriesLaw → AreGoodTo session journal (length journal)
     legal_entries good_entries = (good_entries session journal).1 (record {
       within_limit = legal.within_limit;
@@ -330,7 +334,7 @@ module _ (session : Outline) (journal : List journaled.Entry) (transcripts : Lis
         setup_first = λ below. own_first (setup_entries session) place journal session.setup entry legal.setup_first below at;
         ring = λ own. named_entry (setting_of session journal 0) (entries_named (events_of (steps_of 0)))
             (named_in_ring (setting_of session journal 0) (opening_control session 0) (first_line session 0) session.setup (steps_of 0) []
-            setup_lines.0 legal_final refl setup_lines.1)
+            setup_lines.0 legal_final refl setup_all)
             (legal.each_call_once 0) place entry at own;
       };
     })
@@ -341,10 +345,10 @@ module _ (session : Outline) (journal : List journaled.Entry) (transcripts : Lis
     not_full lines_law place step below at full =
         let event = lines_law session journal transcripts legal place step below at in
         let count = done_count (setting_of session journal 0) (opening_control session 0) (lines_of session 0) (steps_of 0) [] setup_lines.0
-        setup_lines.1 in
+        setup_all in
         let asked = some_at session.setup place (omega (arith, below)) in
         elim (setup_steps (setting_of session journal 0) (opening_control session 0) (first_line session 0) session.setup (steps_of 0) []
-        setup_lines.0 legal_final refl setup_lines.1 place step asked.0 at asked.1) [
+        setup_lines.0 legal_final refl setup_all place step asked.0 at asked.1) [
           | inl entered ↦ no_full_reply entered.entry.reply (sym entered.ended ∙ full)
           | inr none ↦ no_more step.1 (place + 1) event none.event
         ]
@@ -353,17 +357,12 @@ module _ (session : Outline) (journal : List journaled.Entry) (transcripts : Lis
     legal_part lines_law p l =
         let parts = legal.parts in
         let lines = legal.lines p (omega (arith, l, parts)) in
-        let count = done_count (setting_of session journal p) (opening_control session p) (lines_of session p) (steps_of p) [] lines.0 lines.1 in
         let all : take (length (steps_of p)) (steps_of p) ≡ steps_of p = take_all (length (steps_of p)) (steps_of p) (omega arith) in
         record {
           process = omega (arith, l, parts);
           good = record {
-            lines = record {
-              left = [];
-              now = lines.0;
-              done = subst (λ (s : List Step). AreLines (setting_of session journal p) (opening_control session p) (lines_of session p) s lines.0)
-                  (sym all) lines.1;
-            };
+            lines = subst (AreKept (setting_of session journal p) (opening_control session p) (lines_of session p)) (sym all)
+                (record { ran = lines.1.ran; are = lines.1.are; left = []; now = lines.0; done = lines.1.done });
             named = record {
               later = [];
               named = sym (legal.each_call_once p) ∙ ap (λ (s : List Step). entries_named (events_of s)) (sym all)
@@ -379,7 +378,7 @@ module _ (session : Outline) (journal : List journaled.Entry) (transcripts : Lis
             points = λ place deed q h at point. legal.points p place deed q at point;
             reads = record { source = legal.reads.source; right = λ read has own h. legal.reads.right read has };
           };
-          whole = omega (arith, count);
+          whole = lines;
         }
       where
         beyond : SetupLinesLaw → (place : ℕ) (step : Step) → slice_get (steps_of 0) place ≡ Some step → step.2 ≡ HistoryFull

@@ -6,6 +6,7 @@ mod BreachLaws
 mod LineNumbers
 mod SetupSteps
 mod LegalLaws
+mod OverLaws
 mod FirstLaws
 mod DeciderLaws
 mod EarlyLaws

@@ -48,7 +48,7 @@ no_line_count session (suc p) first l =
     sym (numbered_count (first_line session (suc p)) (script_at session.scripts p) ∙ no_script session.scripts p (omega (arith, l)))
 
 -- the number at a place of lines that are numbered from one on
-numbered_at : (first k : ℕ) (lines : List Line) → 1 ≤ length lines → number_at (numbered first lines) k ≡ first + min k (length lines - 1)
+pub numbered_at : (first k : ℕ) (lines : List Line) → 1 ≤ length lines → number_at (numbered first lines) k ≡ first + min k (length lines - 1)
 numbered_at first k [] l = absurd (omega (arith, l))
 numbered_at first k (line ∷ []) l = omega arith
 numbered_at first zero (line ∷ next ∷ lines) l = omega arith

@@ -1,12 +1,15 @@
 -- What the lines of a setup came to: each entered its request in ring 0, or found the journal full.
-use Rattle.std.proofs.Common.{◌≡◌, ◌⊎◌, inl, inr, ℕ, zero, suc, ◌+◌, ◌<◌, ◌==◌, Bool, true, false, if◌then◌else◌, List, [], ◌∷◌, ◌++◌, Some, refl, ap, sym, ◌∙◌, subst, arith, slice_get}
+use Rattle.std.proofs.Common.{◌≡◌, ◌⊎◌, inl, inr, ℕ, zero, suc, ◌+◌, ◌<◌, ◌==◌, Bool, true, false, if◌then◌else◌, List, [], ◌∷◌, ◌++◌, Option, Some, None, refl, ap, sym, ◌∙◌, subst, arith, slice_get}
 use Rattle.std.specs.Prelude.{map, take}
+use Rattle.std.specs.List.{All, cons_option}
+use Rattle.std.proofs.lemmas.List.Elements.{All-cons, All-head, All-nil, All-tail}
 use Rattle.mx_core.specs.declared.elements.Event.TheVariants.{Seen, Missing}
 use Rattle.mx_request.specs.declared.replies.Reply.{Reply}
 use Rattle.mx_request.specs.declared.replies.Reply.TheVariants as reply
 use Rattle.mx_request.specs.declared.requests.Request.{Request}
 use Rattle.mx_script.specs.declared.lines.Line.{Line}
 use Rattle.mx_script.specs.declared.lines.Line.TheVariants.{Ask}
+use Rattle.mx_sdw.specs.declared.denials.Denial.{Denial}
 use Rattle.mx_state.specs.declared.journal.Entry as journaled
 use Rattle.mx_transcript.specs.Asking.{next, result_of}
 use Rattle.mx_transcript.specs.Courses.{Course, Attempt, Answer}
@@ -14,7 +17,8 @@ use Rattle.mx_transcript.specs.Events.{IsEvent}
 use Rattle.mx_transcript.specs.Legal.{Call, call_of, setup_call}
 use Rattle.mx_transcript.specs.Lines.{IsEnd, IsLine}
 use Rattle.mx_transcript.specs.Next.{Next, Calls, Ends}
-use Rattle.mx_transcript.specs.Parts.{AreDone}
+use Rattle.mx_transcript.specs.Denials.{denial_of, denials, denied_with}
+use Rattle.mx_transcript.specs.Parts.{AreDone, AreLines}
 use Rattle.mx_transcript.specs.Scripts.{numbered}
 use Rattle.mx_transcript.specs.Settings.{Setting, entry_at}
 use Rattle.mx_transcript.specs.Transcripts.{Step, entries_named, events_of, numbers_from}
@@ -23,6 +27,7 @@ use Rattle.mx_transcript.specs.declared.transcripts.Event2.TheVariants.{Core, En
 use Rattle.mx_transcript.specs.declared.transcripts.Result2.{Result2}
 use Rattle.mx_transcript.specs.declared.transcripts.Result2.TheVariants as result
 use Rattle.mx_transcript.proofs.FinalReplies.{IsFinal, final_ends}
+use Rattle.mx_transcript.proofs.PartLines.{all_done, all_of_part}
 use Rattle.mx_upcall.specs.Control.{Control}
 
 -- the replies to the process end its lines
@@ -125,6 +130,59 @@ setup_steps s g first (own ∷ requests) (made ∷ steps) left now final ring ar
 setup_steps s g first (own ∷ requests) (made ∷ steps) left now final ring are (suc place) step request at asked =
     setup_steps s are.1 (suc first) requests steps left now final
     (next_ring g are.1 (setup_line s g own made.1 made.2 are.1 final ring are.2).same ring) are.3 place step request at asked
+
+-- the lines of a setup are requests
+record IsAsk (line : ℕ × Line) : Type 0 where
+  request : Request
+  is : line.1 ≡ Ask request
+
+all_ask : (first : ℕ) (requests : List Request) → All IsAsk (numbered first (map Ask requests))
+all_ask first [] = All-nil IsAsk
+all_ask first (request ∷ requests) =
+    All-cons IsAsk (first, Ask request) (numbered (suc first) (map Ask requests))
+    (record { request = request; is = refl }) (all_ask (suc first) requests)
+
+-- none of them is denied
+no_denial : (number : ℕ) (given : Reply) → denied_with number (result_of given) ≡ None
+no_denial number (reply.Refused why) = refl
+no_denial number reply.Done = refl
+no_denial number (reply.Status status) = refl
+no_denial number (reply.Names names) = refl
+no_denial number (reply.Segno known) = refl
+no_denial number (reply.Linked segno word fresh linkage) = refl
+no_denial number reply.Sent = refl
+no_denial number (reply.Message sender word) = refl
+no_denial number reply.Nobody = refl
+no_denial number reply.Waiting = refl
+
+not_denied : (s : Setting) (request : Request) (step : Step) → IsEntered s request step.1 step.2 ⊎ IsFull step.1 step.2
+    → denial_of step ≡ None
+not_denied s request step came = elim came [
+  | inl entered ↦ ap (denied_with step.0) entered.ended ∙ no_denial step.0 entered.entry.reply
+  | inr full ↦ ap (denied_with step.0) full.ended
+]
+
+no_denials : (s : Setting) (g : Control) (lines : List (ℕ × Line)) (steps : List Step) (left : List (ℕ × Line)) (now : Control)
+    → AreFinal s → g.registers.ring ≡ 0 → All IsAsk lines → AreDone s g lines steps left now → denials steps ≡ []
+no_denials s g lines [] left now final ring ask are = refl
+no_denials s g [] (made ∷ steps) left now final ring ask are = absurd are
+no_denials s g (line ∷ lines) (made ∷ steps) left now final ring ask are =
+    let own = All-head IsAsk line lines ask in
+    let came = setup_line s g own.request made.1 made.2 are.1 final ring
+    (subst (λ (l : Line). IsLine s g l made.1 made.2 are.1) own.is are.2) in
+    ap (λ (first : Option (ℕ × Denial)). cons_option first (denials steps)) (not_denied s own.request made came.came)
+    ∙ no_denials s are.1 lines steps left now final (next_ring g are.1 came.same ring) (All-tail IsAsk line lines ask) are.3
+
+-- so the part of a setup has all its lines
+pub setup_whole : (s : Setting) (g : Control) (first : ℕ) (requests : List Request) (steps : List Step) (after : Control)
+    → AreFinal s → g.registers.ring ≡ 0 → AreLines s g (numbered first (map Ask requests)) steps after
+    → AreDone s g (numbered first (map Ask requests)) steps [] after
+setup_whole s g first requests steps after final ring are =
+    let lines = numbered first (map Ask requests) in
+    all_done s g after lines steps
+    (no_denials s g are.ran steps [] after final ring
+    (all_of_part IsAsk lines are.ran steps are.are (all_ask first requests)) are.done)
+    are
 
 -- an entry that was made in ring 0
 pub record IsInRingZero (s : Setting) (number : ℕ) : Type 0 where

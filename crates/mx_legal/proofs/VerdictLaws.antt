@@ -21,7 +21,7 @@ use Rattle.mx_transcript.specs.Legal.{IsLegal, deeds}
 use Rattle.mx_transcript.specs.Reads.{IsKnown}
 use Rattle.mx_transcript.specs.Scripts.{lines_of}
 use Rattle.mx_transcript.specs.Transcripts.{Step, entries_named, events_of, numbers_from, part}
-use Rattle.mx_legal.specs.Breach.{HasNamed, IsBadLine, IsBreach, number_at, parts_in}
+use Rattle.mx_legal.specs.Breach.{HasNamed, IsBadLine, IsBreach, blamed, parts_in}
 use Rattle.mx_legal.specs.BreachLaws.{LegalLaw, ReadsToLaw}
 use Rattle.mx_legal.specs.Deciding.{AreGoodParts, AreOwnReadsTo, IsUnnamedTo, or_unnamed, place_of}
 use Rattle.mx_legal.specs.Judging.{AreJudged, IsJudged}
@@ -227,7 +227,7 @@ unnamed_breach session journal transcripts end parts process parts_are l entries
 pub line_breach : (session : Outline) (journal : List journaled.Entry) (transcripts : List (List Step)) (p place line parts : ℕ)
     → parts ≡ parts_in session transcripts → p < parts → AreGoodTo session journal (length journal)
     → AreGoodParts session journal transcripts p → IsBadLine session journal transcripts p place
-    → line ≡ number_at (lines_of session p) place → IsBreach session journal transcripts p line
+    → line ≡ blamed (lines_of session p) (part transcripts p) place → IsBreach session journal transcripts p line
 line_breach session journal transcripts p place line parts parts_are l entries before bad number = inr (inl (record {
   entries = entries;
   there = omega (arith, l, parts_are);

@@ -1,9 +1,10 @@
 -- Helpers that only private contracts cite: the rules of a part as they are decided.
-use Rattle.std.specs.Prelude.{◌≡◌, ◌==◌, ℕ, ◌<◌, ◌≤◌, Bool, true, false, List, [], length, Option, Some, None, slice_get, if◌then◌else◌}
+use Rattle.std.specs.Prelude.{◌≡◌, ◌==◌, ℕ, ◌-◌, ◌<◌, ◌≤◌, Bool, true, false, List, [], length, Option, Some, None, slice_get, if◌then◌else◌}
 use Rattle.mx_points.specs.Fronts.{AreNamedTo, ArePointsTo, AreRightMissesTo, AreSetupLinesTo, IsLineOf}
 use Rattle.mx_points.specs.declared.naming.Naming.{Naming}
 use Rattle.mx_points.specs.declared.naming.Naming.TheVariants.{Whole, Short, Misnamed}
 use Rattle.mx_script.specs.Sessions.{Outline}
+use Rattle.mx_script.specs.declared.lines.Line.{Line}
 use Rattle.mx_state.specs.declared.journal.Entry as journaled
 use Rattle.mx_stores.specs.declared.deciding.Breach.{Breach}
 use Rattle.mx_transcript.specs.Legal.{deeds, setup_entries}
@@ -11,7 +12,7 @@ use Rattle.mx_transcript.specs.Misses.{IsChanged}
 use Rattle.mx_transcript.specs.Reads.{IsKnown}
 use Rattle.mx_transcript.specs.Transcripts.{Step, entries_named, part}
 use Rattle.mx_transcript.specs.declared.transcripts.Result2.TheVariants.{HistoryFull}
-use Rattle.mx_legal.specs.Breach.{HasNamed}
+use Rattle.mx_legal.specs.Breach.{HasNamed, is_last}
 use Rattle.mx_legal.specs.Fronts.{AreDoneTo, AreRightReadsTo, HasNoEarlyFullTo, IsGoodPart}
 
 -- the reads of process p below a place are right
@@ -46,6 +47,10 @@ abbrev pub is_whole : Naming → Bool
 is_whole Whole = true
 is_whole Short = false
 is_whole (Misnamed place) = false
+
+-- a part with these steps is over: it ends with the last of these lines; or it has none, and neither are there lines
+abbrev pub is_over : List (ℕ × Line) → List Step → Bool
+is_over lines steps = if length steps == 0 then length lines == 0 else is_last lines (slice_get steps (length steps - 1))
 
 -- the line of an event, where there is one
 abbrev pub IsLineOfEvent : List Step → Option ℕ → Option ℕ → Type 0

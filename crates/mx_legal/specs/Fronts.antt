@@ -1,15 +1,15 @@
 -- How far the part of a process keeps the rules of a legal run: each rule said of its first lines.
 use Rattle.std.specs.Prelude.{◌≡◌, ℕ, ◌<◌, ◌≤◌, List, [], length, Some, slice_get, take}
+use Rattle.mx_parts.specs.FirstBad.{AreKept}
 use Rattle.mx_reads.specs.Deeds.{Deeds}
 use Rattle.mx_reads.specs.ReadRule.{HasRead, IsRightRead, Known, Reading}
 use Rattle.mx_reads.specs.Sightings.{Source}
 use Rattle.mx_script.specs.Sessions.{Outline}
-use Rattle.mx_script.specs.declared.lines.Line.{Line}
 use Rattle.mx_state.specs.declared.journal.Entry as journaled
 use Rattle.mx_transcript.specs.Legal.{deeds, setting_of, setup_entries}
 use Rattle.mx_transcript.specs.Misses.{IsChanged}
 use Rattle.mx_transcript.specs.Openings.{opening_control}
-use Rattle.mx_transcript.specs.Parts.{AreDone}
+use Rattle.mx_transcript.specs.Parts.{AreLines}
 use Rattle.mx_transcript.specs.Reads.{IsKnown}
 use Rattle.mx_transcript.specs.Scripts.{lines_of}
 use Rattle.mx_transcript.specs.Transcripts.{Step, entries_named, events_of, part}
@@ -21,12 +21,11 @@ use Rattle.mx_points.specs.Fronts.{AreNamedTo, ArePointsTo, AreRightMissesTo, Ar
 abbrev pub events_to : List Step → ℕ → ℕ
 events_to steps k = length (events_of (take k steps))
 
--- the first k lines are those of the session, in order, and keep the line rule and the register rules; these lines are
--- left, and these are the registers and return gates now
-pub record AreDoneTo (session : Outline) (journal : List journaled.Entry) (p : ℕ) (steps : List Step) (k : ℕ) : Type 0 where
-  pub left : List (ℕ × Line)
-  pub now : Control
-  pub done : AreDone (setting_of session journal p) (opening_control session p) (lines_of session p) (take k steps) left now
+-- the first k lines are those of the session, in order, all of these or those of a part that is cut after a denied line, and
+-- keep the line rule and the register rules
+abbrev pub AreDoneTo : Outline → List journaled.Entry → ℕ → List Step → ℕ → Type 0
+AreDoneTo session journal p steps k =
+    AreKept (setting_of session journal p) (opening_control session p) (lines_of session p) (take k steps)
 
 -- none of the first k lines found the journal full before a line that has an entry
 abbrev pub HasNoEarlyFullTo : List Step → ℕ → Type 0
@@ -51,8 +50,9 @@ pub record IsGoodTo (session : Outline) (journal : List journaled.Entry) (transc
   pub reads : AreRightReadsTo (deeds session journal transcripts) (IsKnown (deeds session journal transcripts)) p
       (events_to (part transcripts p) k)
 
--- the whole part keeps the rules: the session has the process, and no line of its is left
+-- the whole part keeps the rules: the session has the process, and the part has all its lines, or those of a part that is cut
 pub record IsGoodPart (session : Outline) (journal : List journaled.Entry) (transcripts : List (List Step)) (p : ℕ) : Type 0 where
   pub process : p ≤ length session.principals
   pub good : IsGoodTo session journal transcripts p (length (part transcripts p))
-  pub whole : length (part transcripts p) ≡ length (lines_of session p)
+  pub whole : (after : Control) × AreLines (setting_of session journal p) (opening_control session p) (lines_of session p)
+      (part transcripts p) after

@@ -8,10 +8,11 @@ ghost use Rattle.mx_script.specs.SessionTexts.{fits, rows_of};
 ghost use Rattle.mx_spelling.specs.Spelling.{fits_entry};
 ghost use Rattle.mx_transcript.specs.Legal.{IsLegal};
 
+use crate::blame::blamed;
 use crate::entries::first_bad_entry;
-use crate::judging::{judge_beside, judged_at, or_unnamed};
+use crate::judging::{judge_beside, judged_at, or_unnamed, part_of};
 use crate::laws::{good_entries_law, legal_law};
-use crate::places::{number_at, parts_in};
+use crate::places::parts_in;
 use mx_access::access_of;
 use mx_fresh::PlainSupervisor;
 use mx_script::Session;
@@ -26,15 +27,17 @@ use std::thread::Threads;
 pub struct Breach {
     /// The process whose entry or line is bad, or whose entry no line names.
     pub process: usize,
-    /// The number of the bad line in the session text, that of the process's last line where there is one too many; 0 for an
-    /// entry, and where the session has no line of the process.
+    /// The number of the bad line in the session text: of the next line of the process there, which may be missing; of its last
+    /// line where that was printed before, or where it is printed here behind a line that was denied; 0 for an entry, and where
+    /// the session has no line of the process.
     pub line: u32,
 }
 
 /// Whether a run is a legal one of a session: None where it is, and else its first breach. That is the first bad entry of the
 /// journal, if there is one; else the first bad line, in the order of processes and then of lines; else the first process with
 /// an entry that its lines do not name. The session and the journal are such as texts can say. The parts of the session's
-/// processes are judged side by side, each with its reads on a thread of its own where one can be had; the answer does not hang on it.
+/// processes are judged side by side, each with its reads on a thread of its own where one can be had; the answer does not
+/// hang on it.
 ///
 /// # Errors
 ///
@@ -93,9 +96,10 @@ fn legal_lines<S: PlainSupervisor, R: Threads + Sync>(
             beside,
         )?;
         if let Some(place) = judged.bad {
+            let lines = part_of(alloc, transcripts, p)?;
             return Ok(Some(Breach {
                 process: p,
-                line: number_at(session, p, place),
+                line: blamed(session, p, &lines, place),
             }));
         }
         unnamed = or_unnamed(unnamed, p, judged.is_named);

@@ -13,8 +13,9 @@ ghost use Rattle.mx_transcript.specs.Legal.{deeds};
 ghost use Rattle.mx_transcript.specs.Transcripts.{entries_named, part};
 ghost use Rattle.mx_transcript.specs.declared.transcripts.Result2.TheVariants.{HistoryFull};
 
+use crate::blame::is_over;
 use crate::laws::front_law;
-use crate::places::{earlier, line_count};
+use crate::places::earlier;
 use mx_access::{Access, change_law};
 use mx_list::Sequence;
 use mx_parts::first_bad_line;
@@ -237,7 +238,7 @@ pub(crate) fn bad_line(
         naming,
         wrong_read,
     )?;
-    Ok(or_missing(session, journal, transcripts, p, lines.len(), place))
+    Ok(or_missing(session, journal, transcripts, p, lines, place))
 }
 
 // The place of the first printed line of process `p` that breaks a rule.
@@ -274,18 +275,18 @@ fn first_bad(
     Ok(earlier(step, line_of(lines, deed)))
 }
 
-// The bad line, where it is known which of so many printed lines is, if any: else one may be missing, or the session has no
-// such process.
+// The bad line, where it is known which of the printed lines is, if any: else one may be missing, or the session has no such
+// process.
 fn or_missing(
     session: &Session,
     journal: &Journal,
     transcripts: &Transcripts,
     p: usize,
-    lines: usize,
+    lines: &[Line<'_>],
     bad: Option<usize>,
 ) -> Option<usize>
-    requires lines { lines ≡ length (part transcripts.now p) }
-    requires bad { IsFirstBad (IsGoodTo session.now journal.now transcripts.now p) lines bad }
+    requires lines { lines.now ≡ part transcripts.now p }
+    requires bad { IsFirstBad (IsGoodTo session.now journal.now transcripts.now p) (length lines.now) bad }
     ensures { MatchOption result (IsGoodPart session.now journal.now transcripts.now p) (IsBadLine session.now journal.now transcripts.now p) }
 {
     front_law();
@@ -293,10 +294,13 @@ fn or_missing(
         Some(place) => Some(place),
         None => {
             let processes = session.principals().items().len();
-            if p <= processes && lines == line_count(session, p) {
+            if p > processes {
+                return Some(lines.len());
+            }
+            if is_over(session, p, lines) {
                 None
             } else {
-                Some(lines)
+                Some(lines.len())
             }
         },
     }

@@ -6,12 +6,15 @@
 //! (`specs/Fronts.antt`), so that no rule is written a second time. Laws say that a run is legal exactly where nothing in it
 //! is a breach ([`legal_law`], [`no_breach_law`]), and that it has one breach at most ([`one_breach_law`]). Each rule has one
 //! decider, most of them in crates below (`mx_access`, `mx_parts`, `mx_points`, `mx_stores`); the breach is the least place
-//! that they give. The parts of the session's processes are judged side by side, each on a thread where one can be had, and their
-//! judgements are gone through in order (`judging.rt`). [`failing_of`] has these places one beside the other, and [`supervisor_at`] the plain supervisor at a place, for
-//! who tells why a run is not legal. It is written over the trait of plain supervisors, so that either may judge. It takes what a text can say,
+//! that they give. A part has all lines of its process, or is cut behind a line that was denied: it is over where it ends with
+//! the last line, and behind a denied line that line may be blamed (`blame.rt`). The parts of the session's processes are judged
+//! side by side, each on a thread where one can be had, and their judgements are gone through in order (`judging.rt`).
+//! [`failing_of`] has these places one beside the other, and [`supervisor_at`] the plain supervisor at a place, for who tells why
+//! a run is not legal. It is written over the trait of plain supervisors, so that either may judge. It takes what a text can say,
 //! and tells two replies apart by their texts.
 #![tactic(auto)]
 
+mod blame;
 mod checking;
 mod entries;
 mod failing;

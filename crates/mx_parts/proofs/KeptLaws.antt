@@ -20,8 +20,11 @@ take_of_take zero (suc n) (x ∷ xs) h = refl
 take_of_take (suc k) zero (x ∷ xs) h = absurd (omega (arith, h))
 take_of_take (suc k) (suc n) (x ∷ xs) h = ap (λ ys. x ∷ ys) (take_of_take k n xs (omega (arith, h)))
 
+pub fewer_kept : (setting : Setting) (start : Control) (lines : List (ℕ × Line)) (steps : List Step) (j k : ℕ) → j ≤ k
+    → AreKept setting start lines (take k steps) → AreKept setting start lines (take j steps)
+fewer_kept setting start lines steps j k h are =
+    subst (AreKept setting start lines) (take_of_take j k steps h) (kept_to setting start lines (take k steps) j are)
+
 pub kept_before : (setting : Setting) (start : Control) (lines : List (ℕ × Line)) (steps : List Step) (place k : ℕ)
     → IsFirstBad setting start lines steps place → k ≤ place → AreKept setting start lines (take k steps)
-kept_before setting start lines steps place k bad h =
-    subst (AreKept setting start lines) (take_of_take k place steps h)
-    (kept_to setting start lines (take place steps) k bad.before)
+kept_before setting start lines steps place k bad h = fewer_kept setting start lines steps k place h bad.before

@@ -57,6 +57,15 @@ const ROWS: &[Row] = &[
     // a line is left out, and one is there twice
     ("line 6 done\n", "", Some((1, 6))),
     ("line 6 done\n", "line 6 done\nline 6 done\n", Some((1, 7))),
+    // no line was denied, and yet the part is cut
+    (
+        "write 10|5 ring 4 point 3 word 52\n\
+         line 7 done\n\
+         read 10|5 ring 4 point 3 word 52 from 1 stamp 3\n\
+         line 8 a 52\n",
+        "",
+        Some((1, 7)),
+    ),
     // a point before the process's own entry
     (
         "write 10|5 ring 4 point 3",
@@ -78,6 +87,64 @@ const ROWS: &[Row] = &[
         "process 0\n",
         Some((0, 2)),
     ),
+];
+
+// A session with a line that is denied, and a run in which the process's part is cut behind it.
+const DENIED_SESSION: &[u8] = b"multics 1\n\
+    create_seg >a 64 4 4 4\n\
+    set_acl >a Jones.Faculty.a r\n\
+    process Jones.Faculty.a\n\
+    initiate >a\n\
+    sta 10|5\n\
+    set 52\n\
+    lda 10|5\n\
+    logout\n\
+    end\n";
+
+const CUT_RUN: &str = "journal 4\n\
+    1 0 0 create_seg >a 64 4 4 4 = ok\n\
+    2 0 0 set_acl >a Jones.Faculty.a r = ok\n\
+    3 1 4 initiate >a = segno 10 new\n\
+    4 1 4 logout = ok\n\
+    process 0\n\
+    entry 1\n\
+    line 2 done\n\
+    entry 2\n\
+    line 3 done\n\
+    process 1\n\
+    entry 3\n\
+    line 5 done\n\
+    write 10|5 ring 4 point 3 denied not_writable\n\
+    line 6 denied not_writable\n\
+    entry 4\n\
+    line 9 done\n\
+    end\n";
+
+const CUT_ROWS: &[Row] = &[
+    ("", "", None),
+    // it goes on behind the denied line
+    (
+        "entry 4\n",
+        "line 7 done\nread 10|5 ring 4 point 3 word 0 from 0 stamp 0\nline 8 a 0\nentry 4\n",
+        None,
+    ),
+    // behind the denied line stands neither the next nor the last
+    (
+        "entry 4\n",
+        "read 10|5 ring 4 point 3 word 0 from 0 stamp 0\nline 8 a 0\nentry 4\n",
+        Some((1, 7)),
+    ),
+    // the last is missing; and it is not as it should be
+    ("entry 4\nline 9 done\n", "", Some((1, 7))),
+    (
+        "entry 4\nline 9 done\n",
+        "line 9 history_full\n",
+        Some((1, 9)),
+    ),
+    // a line stands behind the last
+    ("line 9 done\n", "line 9 done\nline 7 done\n", Some((1, 9))),
+    // it is cut a line later
+    ("entry 4\n", "line 7 done\nentry 4\n", Some((1, 8))),
 ];
 
 // A text in which this stands in place of that, where it stands first.
@@ -120,6 +187,21 @@ fn told(found: Option<Option<Breach>>) -> Option<Option<(usize, u32)>> {
         Some(None) => Some(None),
         None => None,
     }
+}
+
+#[test]
+fn a_part_may_be_cut_behind_a_denied_line(rt: HostRuntime) -> Result<(), Fail> {
+    for (old, new, breach) in CUT_ROWS {
+        let run = with(rt.alloc(), CUT_RUN, old, new)?;
+        let by_state = told(found::<State, _>(&rt, rt.alloc(), DENIED_SESSION, run.as_bytes())?);
+        let by_fresh = told(found::<Fresh, _>(&rt, rt.alloc(), DENIED_SESSION, run.as_bytes())?);
+        assert_eq!(rt;
+            (by_state, by_fresh),
+            (Some(*breach), Some(*breach)),
+            "{old:?} {new:?}"
+        );
+    }
+    Ok(())
 }
 
 #[test]
