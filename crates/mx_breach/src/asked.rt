@@ -71,7 +71,7 @@ fn add_called(
     called: &Called,
 ) -> Result<(), AllocError> {
     match called {
-        Called::Own => bad.run.add_line(alloc, out, bad.p, bad.place),
+        Called::Own => bad.run.add_line(alloc, out, bad.p, bad.line),
         Called::Resume => add_request(alloc, out, &Request::Resume),
         Called::Link { segno, word } => add_parts(out, &[Text("link "), Place(*segno, *word)]),
     }

@@ -11,28 +11,29 @@ ghost use Rattle.mx_transcript.specs.Opened.{opening_of};
 
 use crate::departing::departure_of;
 use crate::entries::add_bad_entry;
-use crate::lines::{BadLine, add_bad_line};
+use crate::lines::{BadLine, add_bad_line, add_next_or_last};
 use crate::printed::add_request;
-use crate::rules::{bad_line, broken_at, events_before, named_before, own_entry};
+use crate::rules::{bad_line, broken_at, events_before, line_before, named_before, own_entry};
 use crate::runs::Run;
 use mx_access::{Access, access_of};
-use mx_legal::{Failing, failing_of, first_bad_entry, good_entries_law};
+use mx_legal::{Breach, Failing, failing_of, first_bad_entry, good_entries_law};
 use mx_parts::Departure;
+use mx_points::Line;
 use mx_script::Session;
 use mx_show::Part::{self, Decimal, Text};
 use mx_show::add_parts;
 use mx_state::{Journal, State};
 use mx_stores::first_breach;
-use mx_transcript::{Transcripts, entry_at};
+use mx_transcript::{Result2, Transcripts, entry_at};
 use std::alloc::{AllocError, Global};
 
-/// What is told of the breach of a run, which is this process's.
+/// What is told of the breach of a run, which is this.
 pub(crate) fn told_of(
     alloc: Global,
     session: &Session,
     journal: &Journal,
     transcripts: &Transcripts,
-    p: usize,
+    breach: Breach,
 ) -> Result<String, AllocError>
     requires session { list_all fits (rows_of session.now) ≡ true }
     requires journal { list_all fits_entry journal.now ≡ true }
@@ -40,7 +41,7 @@ pub(crate) fn told_of(
     let mut out = String::new(alloc);
     match first_bad_entry::<State>(alloc, session, journal)? {
         Some(place) => add_bad_entry(alloc, &mut out, session, journal, place)?,
-        None => add_bad_part(alloc, &mut out, session, journal, transcripts, p)?,
+        None => add_bad_part(alloc, &mut out, session, journal, transcripts, breach)?,
     }
     Ok(out)
 }
@@ -52,7 +53,7 @@ fn add_bad_part(
     session: &Session,
     journal: &Journal,
     transcripts: &Transcripts,
-    p: usize,
+    breach: Breach,
 ) -> Result<(), AllocError>
     requires session { list_all fits (rows_of session.now) ≡ true }
     requires journal { list_all fits_entry journal.now ≡ true }
@@ -64,11 +65,12 @@ fn add_bad_part(
         journal,
         transcripts,
     };
+    let p = breach.process;
     let access = access_of::<State>(alloc, session, journal, transcripts)?;
     let wrong = first_breach(alloc, &access.deeds)?;
     let failing = failing_of(alloc, session, journal, transcripts, &access, p, wrong)?;
     match bad_line(&failing) {
-        None => add_missing(alloc, out, &run, p, failing.lines.len()),
+        None => add_missing(alloc, out, &run, &failing, breach),
         Some(place) => {
             match departure_of(alloc, session, journal, transcripts, &access, p, place) {
                 Ok(departure) => {
@@ -77,8 +79,8 @@ fn add_bad_part(
                         out,
                         &run,
                         &access,
-                        p,
                         &failing,
+                        breach,
                         place,
                         departure.as_ref(),
                     )
@@ -106,28 +108,35 @@ fn add_bad(
     out: &mut String,
     run: &Run<'_>,
     access: &Access,
-    p: usize,
     failing: &Failing<'_>,
+    breach: Breach,
     place: usize,
     departure: Option<&Departure>,
 ) -> Result<(), AllocError>
     requires right { IsRight (opening_of run.now.session.now) run.now.journal.now }
-    requires failing { AreFailing run.now.session.now run.now.journal.now run.now.transcripts.now p failing.now }
+    requires failing { AreFailing run.now.session.now run.now.journal.now run.now.transcripts.now breach.process failing.now }
 {
     let lines = failing.lines.as_slice();
     let Some(line) = lines.get(place) else {
         return Ok(());
     };
     let departs = event_of(departure, line.events.len());
-    let Some(broken) = broken_at(run, failing, p, place, departs) else {
+    let Some(broken) = broken_at(run, failing, breach.process, place, departs) else {
         return Ok(());
     };
-    add_heading(alloc, out, run, p, place)?;
+    let before = line_before(lines, place);
+    if is_behind_last(before, breach) {
+        let behind = Text("behind the last line of process ");
+        add_parts(out, &[behind, process(breach.process), Text("\n")])?;
+    } else {
+        add_heading(alloc, out, run, breach)?;
+    }
     let bad = BadLine {
         run,
         access,
-        p,
-        place,
+        p: breach.process,
+        line: breach.line,
+        denied: denied_before(run, before, breach),
         number: line.number,
         events: line.events,
         ends: line.ends,
@@ -137,33 +146,47 @@ fn add_bad(
     add_bad_line(alloc, out, &bad, &broken, departure)
 }
 
-// Adds which line of the session it is.
+// Whether a breach stands behind the last of the session's lines: the session has none, or the line before has its number.
+fn is_behind_last(before: Option<&Line<'_>>, breach: Breach) -> bool {
+    match before {
+        None => breach.line == 0,
+        Some(before) => breach.line == 0 || before.number == breach.line,
+    }
+}
+
+// The number of the line before a breach, where that was denied and the session's last line could stand behind it as well.
+fn denied_before(run: &Run<'_>, before: Option<&Line<'_>>, breach: Breach) -> Option<u32> {
+    let Some(line) = before else {
+        return None;
+    };
+    if breach.line >= run.last_number(breach.process) {
+        return None;
+    }
+    match &line.ends {
+        Result2::Denied(_) => Some(line.number),
+        _ => None,
+    }
+}
+
+// Adds which line of the session the breach is.
 fn add_heading(
     alloc: Global,
     out: &mut String,
     run: &Run<'_>,
-    p: usize,
-    place: usize,
+    breach: Breach,
 ) -> Result<(), AllocError> {
-    let process = process(p);
-    if place < run.line_count(p) {
-        let number = Decimal(run.line_number(p, place));
-        add_parts(
-            out,
-            &[
-                Text("line "),
-                number,
-                Text(" of process "),
-                process,
-                Text(": "),
-            ],
-        )?;
-        run.add_line(alloc, out, p, place)?;
-        out.push_str("\n")
-    } else {
-        let behind = Text("behind the last line of process ");
-        add_parts(out, &[behind, process, Text("\n")])
-    }
+    add_parts(
+        out,
+        &[
+            Text("line "),
+            Decimal(breach.line),
+            Text(" of process "),
+            process(breach.process),
+            Text(": "),
+        ],
+    )?;
+    run.add_line(alloc, out, breach.process, breach.line)?;
+    out.push_str("\n")
 }
 
 // The number of a process.
@@ -171,14 +194,16 @@ fn process(p: usize) -> Part<'static> {
     Decimal(u32::try_from(p).unwrap_or(u32::MAX))
 }
 
-// Adds what is wanting of a part whose lines, so many, keep all rules: the process itself, lines, or entries that no line names.
+// Adds what is wanting of a part whose lines keep all rules: the process itself, the line that is next, or entries that no line
+// names, which have no number of a line.
 fn add_missing(
     alloc: Global,
     out: &mut String,
     run: &Run<'_>,
-    p: usize,
-    lines: usize,
+    failing: &Failing<'_>,
+    breach: Breach,
 ) -> Result<(), AllocError> {
+    let p = breach.process;
     let processes = run.session.principals().items().len();
     if p > processes {
         return add_parts(
@@ -192,13 +217,16 @@ fn add_missing(
             ],
         );
     }
-    if lines < run.line_count(p) {
-        add_heading(alloc, out, run, p, lines)?;
-        return out.push_str(
-            "  printed: nothing\n  the session's lines: each is printed, in order\n",
-        );
+    if breach.line == 0 {
+        return add_unnamed(alloc, out, run, p);
     }
-    add_unnamed(alloc, out, run, p)
+    add_heading(alloc, out, run, breach)?;
+    out.push_str("  printed: nothing\n")?;
+    let lines = failing.lines.as_slice();
+    match denied_before(run, line_before(lines, lines.len()), breach) {
+        Some(denied) => add_next_or_last(out, run, p, denied, breach.line),
+        None => out.push_str("  the session's lines: each is printed, in order\n"),
+    }
 }
 
 // Adds the first entry of a process that no line names.

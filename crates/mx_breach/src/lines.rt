@@ -24,8 +24,10 @@ pub(crate) struct BadLine<'a> {
     pub(crate) access: &'a Access,
     /// Whose it is.
     pub(crate) p: usize,
-    /// Its place among the lines of the part.
-    pub(crate) place: usize,
+    /// The number of the session's line that is to stand there.
+    pub(crate) line: u32,
+    /// The number of the denied line before it, behind which the session's last line could stand as well.
+    pub(crate) denied: Option<u32>,
     /// Its printed number, its events and its result.
     pub(crate) number: u32,
     pub(crate) events: &'a [Event2],
@@ -96,9 +98,8 @@ fn add_departure(
             "  the session's lines: it has no further line of this process\n",
         ),
         Departure::Number { number } => {
-            let number = Decimal(u32::try_from(*number).unwrap_or(u32::MAX));
-            let next = Text("  the session's lines: the next of this process is line ");
-            add_parts(out, &[next, number, Text("\n")])
+            let number = u32::try_from(*number).unwrap_or(u32::MAX);
+            add_next(out, bad, number)
         }
         Departure::Event { place, asks } => add_asked(alloc, out, bad, *place, asks),
         Departure::End { end, asks } => match end {
@@ -115,6 +116,43 @@ fn add_departure(
             }
         },
     }
+}
+
+// Adds which of the session's lines is the next of the process.
+fn add_next(out: &mut String, bad: &BadLine<'_>, next: u32) -> Result<(), AllocError> {
+    match bad.denied {
+        Some(denied) => add_next_or_last(out, bad.run, bad.p, denied, next),
+        None => {
+            let lines = Text("  the session's lines: the next of this process is line ");
+            add_parts(out, &[lines, Decimal(next), Text("\n")])
+        }
+    }
+}
+
+/// Adds that behind this line of process `p`, which was denied, this is the next of the session's lines, or the last.
+pub(crate) fn add_next_or_last(
+    out: &mut String,
+    run: &Run<'_>,
+    p: usize,
+    denied: u32,
+    next: u32,
+) -> Result<(), AllocError> {
+    let lines = Text("  the session's lines: behind line ");
+    let then = Text(", which was denied, the next of this process is line ");
+    let or = Text(" or line ");
+    let last = Decimal(run.last_number(p));
+    add_parts(
+        out,
+        &[
+            lines,
+            Decimal(denied),
+            then,
+            Decimal(next),
+            or,
+            last,
+            Text("\n"),
+        ],
+    )
 }
 
 // Adds that the journal is not full, where the line ends so.

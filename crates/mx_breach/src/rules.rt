@@ -15,7 +15,8 @@ use mx_transcript::Event2;
 /// A rule on the part of a process.
 #[derive(Clone, Copy, Debug, PartialEq, Eq)]
 pub(crate) enum Rule {
-    /// The lines are the session's, in order, and each keeps the line rule.
+    /// The lines are the session's, in order, all of them or, where one was denied, those up to it and the last; and each keeps
+    /// the line rule.
     Lines,
     /// They name the entries of the process, in order.
     Naming,
@@ -72,6 +73,14 @@ pub(crate) fn bad_line(failing: &Failing<'_>) -> Option<usize> {
     let miss = line_of(lines, failing.miss);
     let point = line_of(lines, failing.point);
     earlier(earlier(line, full), earlier(read, earlier(miss, point)))
+}
+
+/// The line of a part before a place.
+pub(crate) fn line_before<'a, 'b>(lines: &'b [Line<'a>], place: usize) -> Option<&'b Line<'a>> {
+    if place == 0 {
+        return None;
+    }
+    lines.get(place - 1)
 }
 
 /// How many events the lines before this place have.

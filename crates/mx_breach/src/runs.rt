@@ -23,14 +23,17 @@ pub(crate) struct Run<'a> {
 }
 
 impl<'a> Run<'a> {
-    /// Adds the session's line of process `p` at a place, counted from 0; nothing where it has none.
+    /// Adds the session's line of process `p` that has this number; nothing where it has none.
     pub(crate) fn add_line(
         &self,
         alloc: Global,
         out: &mut String,
         p: usize,
-        place: usize,
+        number: u32,
     ) -> Result<(), AllocError> {
+        let Some(place) = self.place_of(p, number) else {
+            return Ok(());
+        };
         let mut bytes = Vec::new(alloc);
         if p == 0 {
             if let Some(request) = self.session.setup().items().get(place) {
@@ -71,17 +74,33 @@ impl<'a> Run<'a> {
         None
     }
 
-    /// The number in the session text of the line of process `p` at this place.
-    pub(crate) fn line_number(&self, p: usize, place: usize) -> u32 {
-        let place = u32::try_from(place).unwrap_or(u32::MAX);
+    // The place of process `p`'s line of this number among its lines of the session, counted from 0; none before the first.
+    fn place_of(&self, p: usize, number: u32) -> Option<usize> {
+        let Ok(process) = u8::try_from(p) else {
+            return None;
+        };
+        let first = first_line(self.session, process);
+        if number < first {
+            return None;
+        }
+        Some((number - first) as usize)
+    }
+
+    /// The number in the session text of the last line of process `p`; 0 where it has none.
+    pub(crate) fn last_number(&self, p: usize) -> u32 {
+        let count = self.line_count(p);
+        if count == 0 {
+            return 0;
+        }
+        let place = u32::try_from(count - 1).unwrap_or(u32::MAX);
         match u8::try_from(p) {
             Ok(process) => first_line(self.session, process).saturating_add(place),
             Err(_) => 0,
         }
     }
 
-    /// How many lines the session has for process `p`.
-    pub(crate) fn line_count(&self, p: usize) -> usize {
+    // How many lines the session has for process `p`.
+    fn line_count(&self, p: usize) -> usize {
         if p == 0 {
             return self.session.setup().items().len();
         }

@@ -87,7 +87,7 @@ fn breach_text(
 {
     let mut text = Vec::new(alloc);
     add_breach(&mut text, breach)?;
-    let told = told_of(alloc, session, journal, transcripts, breach.process)?;
+    let told = told_of(alloc, session, journal, transcripts, breach)?;
     text.extend_from_slice(told.as_bytes())?;
     Ok(text)
 }
