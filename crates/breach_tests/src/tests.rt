@@ -1,4 +1,5 @@
 mod alone;
 mod changes;
+mod cut;
 mod full;
 mod sharing;
