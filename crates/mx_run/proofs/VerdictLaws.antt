@@ -9,10 +9,16 @@ use Rattle.mx_check.specs.Laws.{DueStatusLaw}
 use Rattle.mx_check.specs.declared.judgements.Judgement.{Judgement}
 use Rattle.mx_check.specs.declared.judgements.Judgement.TheVariants as judged
 use Rattle.mx_run.proofs.CommandLaws.{check_is_no_drill, run_is_no_check, run_is_no_drill}
+use Rattle.mx_proc.specs.Auditors.{WereTold}
 use Rattle.mx_script.specs.FirstBadLine.{IsFirstBad}
 use Rattle.mx_script.specs.SessionTexts.{IsText}
+use Rattle.mx_script.specs.Sessions.{Outline}
 use Rattle.mx_script.specs.declared.reading.SessionError.{SessionError}
 use Rattle.mx_script.specs.declared.reading.SessionError.TheVariants as session
+use Rattle.mx_spelling.specs.Spelling.{IsSpellable}
+use Rattle.mx_state.specs.declared.journal.Entry.{Entry}
+use Rattle.mx_transcript.specs.Runs.{IsRunOf}
+use Rattle.mx_transcript.specs.Transcripts.{Step}
 use Rattle.mx_run.specs.Commands.{IsCheck, IsRun}
 use Rattle.mx_run.specs.Done.{most_bytes, IsChecked, IsDone, IsDoneBy}
 use Rattle.mx_run.specs.Statuses.{HasPrinted, IsDueStatus}
@@ -143,6 +149,24 @@ front_of words source source' sink sink' accounts accounts' verdict grown right 
   status_is = sym run;
   printed = front;
 }
+
+-- that these bytes are a session's and that it was run is one on the bytes
+pub ran_right : (bytes : List ℕ) (x : Outline) (journal : List Entry) (transcripts : List (List Step))
+    (accounts accounts' : List Account) → length bytes ≤ most_bytes → IsText bytes x → IsRunOf x journal transcripts → IsSpellable journal transcripts
+    → WereTold x accounts transcripts accounts'
+    → IsVerdict (codes "run" ∷ []) (Some bytes) (Some []) accounts accounts' (Ran journal transcripts)
+ran_right bytes x journal transcripts accounts accounts' within text run spellable told = (
+  refl,
+  record { spelled = bytes; session = x; read = (refl, refl); within = within; text = text; run = run; spellable = spellable },
+  told,
+)
+
+-- a verdict on other words is one on words that are the same
+pub of_words : (words others : List (List ℕ)) (source source' : Option (List ℕ)) (accounts accounts' : List Account)
+    (result : Result Verdict Unreached) → words ≡ others → IfOk result (IsVerdict others source source' accounts accounts')
+    → IfOk result (IsVerdict words source source' accounts accounts')
+of_words words others source source' accounts accounts' result same right =
+    subst (λ (l : List (List ℕ)). IfOk result (IsVerdict l source source' accounts accounts')) (sym same) right
 
 -- a verdict on the bytes that a source gave is one on the source
 of_read : (words : List (List ℕ)) (source source' : Option (List ℕ)) (spelled : List ℕ) (accounts accounts' : List Account)

@@ -1,7 +1,7 @@
 use Rattle.std.proofs.Common.{◌∙◌, ap, Err}
 use Rattle.mx_audit.proofs.AccountLaws.{grown_none}
 use Rattle.mx_run.proofs.RoomLaws.{room_for_text}
-use Rattle.mx_run.proofs.VerdictLaws.{no_session_memory, no_session_right}
+use Rattle.mx_run.proofs.VerdictLaws.{no_session_memory, no_session_right, ran_right}
 use Rattle.mx_run.proofs.verdicts.Verdict.of_bytes.Goals as goal
 
 pub returns-in-Err-clause-right : goal.returns-in-Err-clause-right
@@ -18,3 +18,8 @@ returns-in-Err-clause-cause g c = no_session_memory c.in-Err.error c.no_session.
 -- the text's scripts are short
 pub ran-requires-clause-room : goal.ran-requires-clause-room
 ran-requires-clause-room g c κs within = room_for_text c.args.bytes.now _ _ c.in-Ok.ensures.found c.requires.within c.requires.room
+
+pub returns-in_ok-journal-in-Ok-clause-right : goal.returns-in_ok-journal-in-Ok-clause-right
+returns-in_ok-journal-in-Ok-clause-right g c =
+    ran_right c.args.bytes.now _ c.in_ok-journal-in-Ok.journal c.in_ok-journal-in-Ok.transcripts _ _ c.requires.within
+    c.in-Ok.ensures.found c.in_ok-journal-in-Ok.ensures.run c.in_ok-journal-in-Ok.ensures.spellable c.in_ok-journal-in-Ok.ensures.told
