@@ -7,8 +7,8 @@ use Rattle.mx_commands.specs.Commands.{IsLint, IsLines, IsPicture, IsOutcomes, I
 use Rattle.mx_commands.specs.PlainTexts.{plain_text}
 use Rattle.mx_commands.specs.Usage.{usage, refusal}
 use Rattle.mx_explore.specs.OutcomesTexts.{TellsAll, TellsTwo}
+use Rattle.mx_explore.specs.WholeRuns.{IsWholeRun}
 use Rattle.mx_io.specs.Bytes.{TakesAll, TakesTooMany, Appends, AppendsPart}
-use Rattle.mx_transcript.specs.Runs.{IsRunOf}
 use Rattle.mx_transcript.specs.Transcripts.{Step}
 use Rattle.mx_lint.specs.Diagnoses.{IsAbout}
 use Rattle.mx_picture.specs.Drawings.{GainsDrawing}
@@ -27,18 +27,18 @@ pub record IsRead (source source' : Option (List ℕ)) (spelled : List ℕ) : Ty
   pub taken : TakesAll source source' spelled
   pub within : length spelled ≤ most_bytes
 
--- the sink gained the text of `lines` of such a run
+-- the sink gained the text of `lines` of a run in which each process did all its lines
 pub record IsToldRun (x : Outline) (sink sink' : Option (List ℕ)) : Type 0 where
   pub journal : List journaled.Entry
   pub transcripts : List (List Step)
-  pub run : IsRunOf x journal transcripts
+  pub run : IsWholeRun x journal transcripts
   pub told : GainsLines sink sink' x journal transcripts
 
 -- such a run stands behind what the sink gained
 pub record IsDrawnRun (x : Outline) (sink sink' : Option (List ℕ)) : Type 0 where
   pub journal : List journaled.Entry
   pub transcripts : List (List Step)
-  pub run : IsRunOf x journal transcripts
+  pub run : IsWholeRun x journal transcripts
   pub drawn : GainsDrawing sink sink'
 
 -- the sink gained what the lines come to in all orders, or what two of them come to together

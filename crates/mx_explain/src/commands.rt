@@ -6,10 +6,10 @@ ghost use Rattle.mx_drill.specs.Drills.{drill_session};
 ghost use Rattle.mx_io.specs.Bytes.{Appends, AppendsPart, TakesTooMany};
 ghost use Rattle.mx_io.specs.Faults.{Rose};
 ghost use Rattle.mx_script.specs.SessionTexts.{session_text};
-ghost use Rattle.mx_transcript.specs.Runs.{IsRunOf};
 ghost use Rattle.mx_commands.specs.Commands.{IsReading, IsBreach, IsAnswered, IsCommand};
 ghost use Rattle.mx_commands.specs.PlainTexts.{plain_text};
 ghost use Rattle.mx_lint.specs.Diagnoses.{IsBadLine};
+ghost use Rattle.mx_explore.specs.WholeRuns.{IsWholeRun};
 ghost use Rattle.mx_explain.specs.Statuses.{IsDone, IsRefused, IsToldOf, IsCutOffOf, IsBadText, IsBadTextCut, GainsFront, IsStopped, IsDueStatus};
 ghost use Rattle.mx_commands.specs.Usage.{usage, refusal};
 ghost use Rattle.mx_explain.specs.Views.{ShowsOf, GainsOutcomes, TellsOutcomes, TellsSession, Tells, CutsOff, TellsFrontOfSession, TellsFront};
@@ -281,13 +281,14 @@ fn told_outcomes<R: Wait>(
 }
 
 // Runs a session with no gate and no auditors, its processes taking turns so.
+#[tactic(auto, using(mx_explore::proofs::WholeRunLaws::whole_run))]
 fn run_alone<R: Threads + Wait + Sync>(
     turns: Turns<'_>,
     rt: &R,
     alloc: Global,
     session: &Session,
 ) -> Result<(Journal, Transcripts), AllocError>
-    ensures { IfOk result (λ ran. IsRunOf session.now ran.0 ran.1) }
+    ensures { IfOk result (λ ran. IsWholeRun session.now ran.0 ran.1) }
 {
     match turns {
         Turns::Threads => run(rt, alloc, session, &NoGate, &mut Vec::new(alloc)),
@@ -303,13 +304,14 @@ fn run_alone<R: Threads + Wait + Sync>(
 }
 
 // Runs a session on one thread, the lines of its processes in this order, with no gate and no auditors.
+#[tactic(auto, using(mx_explore::proofs::WholeRunLaws::whole_run))]
 fn run_in_turns<R: Wait>(
     rt: &R,
     alloc: Global,
     session: &Session,
     order: &[u8],
 ) -> Result<(Journal, Transcripts), AllocError>
-    ensures { IfOk result (λ ran. IsRunOf session.now ran.0 ran.1) }
+    ensures { IfOk result (λ ran. IsWholeRun session.now ran.0 ran.1) }
 {
     run_in_order(rt, alloc, session, order, &NoGate, &mut Vec::new(alloc))
 }

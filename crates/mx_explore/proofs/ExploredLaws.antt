@@ -7,11 +7,11 @@ use Rattle.mx_explore.proofs.AllOrderLaws.{all_orders, follow_more}
 use Rattle.mx_explore.specs.AllOrders.{AreAllOrders, Follow}
 use Rattle.mx_explore.specs.Explored.{Run, AreRunsOf, IsExplored, line_counts, order_of, told_of}
 use Rattle.mx_explore.specs.Exploring.{HasCome, IsMade, fresh}
+use Rattle.mx_explore.specs.WholeRuns.{IsWholeRun}
 use Rattle.mx_outcomes.specs.Interleavings.{IsFirst, IsInterleaving, IsLast, IsNext}
 use Rattle.mx_script.specs.Sessions.{Outline}
 use Rattle.mx_tally.specs.Tallies.{Told, Tallied, tallied, tally_of, with_run, add_run, rows_of}
 use Rattle.mx_tally.specs.declared.tallies.Row.{Row}
-use Rattle.mx_transcript.specs.Runs.{IsRunOf}
 
 fold_more : {A B : Type 0} (f : B → A → B) (b : B) (xs : List A) (x : A) → fold f b (xs ++ x ∷ []) ≡ f (fold f b xs) x
 fold_more f b [] x = refl
@@ -30,7 +30,7 @@ fresh_all before whole [] so none = sym (append-nil before) ∙ so
 fresh_all before whole (places ∷ rest) so none = absurd (omega (arith, none))
 
 -- a run more
-runs_more : (session : Outline) (runs : List Run) (run : Run) → AreRunsOf session runs → IsRunOf session run.1 run.2
+runs_more : (session : Outline) (runs : List Run) (run : Run) → AreRunsOf session runs → IsWholeRun session run.1 run.2
     → AreRunsOf session (runs ++ run ∷ [])
 runs_more session [] run are is = (is, tt)
 runs_more session (first ∷ runs) run are is = (are.0, runs_more session runs run are.1 is)

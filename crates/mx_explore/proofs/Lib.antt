@@ -1,3 +1,4 @@
 mod AllOrderLaws
 mod ExploredLaws
 mod TextLaws
+pub mod WholeRunLaws

@@ -1,12 +1,12 @@
 -- Runs of a session in all orders of its lines, and what its lines came to in them.
 use Rattle.std.specs.Prelude.{◌≡◌, ◌^◌, ◌-◌, ℕ, List, [], ◌∷◌, length, map, min, ⊤}
 use Rattle.mx_explore.specs.AllOrders.{AreAllOrders}
+use Rattle.mx_explore.specs.WholeRuns.{IsWholeRun}
 use Rattle.mx_outcomes.specs.Counts.{orders_of}
 use Rattle.mx_outcomes.specs.Words.{outcomes_in}
 use Rattle.mx_script.specs.Sessions.{Outline}
 use Rattle.mx_state.specs.declared.journal.Entry as journaled
 use Rattle.mx_tally.specs.Tallies.{Told, Tallied, tally_of}
-use Rattle.mx_transcript.specs.Runs.{IsRunOf}
 use Rattle.mx_transcript.specs.Transcripts.{Step}
 
 -- a run: the order in which its lines were asked for, its journal, and its transcripts
@@ -19,16 +19,16 @@ order_of run = run.0
 abbrev pub told_of : Run → Told
 told_of run = (run.0, outcomes_in run.1 run.2)
 
--- each is a legal run of the session
+-- each is a legal run of the session, in which each process did all its lines
 abbrev pub AreRunsOf : Outline → List Run → Type 0
 AreRunsOf session [] = ⊤
-AreRunsOf session (run ∷ runs) = IsRunOf session run.1 run.2 × AreRunsOf session runs
+AreRunsOf session (run ∷ runs) = IsWholeRun session run.1 run.2 × AreRunsOf session runs
 
 -- how many lines each process has
 abbrev pub line_counts : Outline → List ℕ
 line_counts session = map length session.scripts
 
--- There are legal runs of the session, one for each order of its lines; and of each group of lines, which are named by their places
+-- There are legal runs of the session in which no process was logged out, one for each order of its lines; and of each group of lines, which are named by their places
 -- among all, this is what they came to together in these runs.
 pub record IsExplored (session : Outline) (groups : List (List ℕ)) (tallies : List Tallied) : Type 0 where
   pub runs : List Run

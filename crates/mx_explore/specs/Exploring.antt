@@ -3,6 +3,7 @@ use Rattle.std.specs.Prelude.{◌≡◌, ◌≤◌, ◌<◌, ℕ, List, [], map}
 use Rattle.mx_explore.specs.AllOrders.{Follow}
 use Rattle.mx_explore.specs.Explored.{Run, AreRunsOf, IsExplored, count_of, line_counts, most_orders, order_of, told_of}
 use Rattle.mx_explore.specs.OutcomesTexts.{Numbered}
+use Rattle.mx_explore.specs.WholeRuns.{IsWholeRun}
 use Rattle.mx_explore.specs.declared.exploring.Explored.{Explored}
 use Rattle.mx_explore.specs.declared.exploring.Explored.TheVariants as found
 use Rattle.mx_explore.specs.declared.lines.ScriptLine.{ScriptLine}
@@ -11,7 +12,6 @@ use Rattle.mx_outcomes.specs.Words.{outcomes_in}
 use Rattle.mx_script.specs.Sessions.{Outline}
 use Rattle.mx_state.specs.declared.journal.Entry as journaled
 use Rattle.mx_tally.specs.Tallies.{Tallied, tallied, tally_of, with_run}
-use Rattle.mx_transcript.specs.Runs.{IsRunOf}
 use Rattle.mx_transcript.specs.Transcripts.{Step}
 
 -- groups before any run
@@ -22,7 +22,7 @@ fresh places = tallied places []
 pub record IsMade (session : Outline) (order : List ℕ) (before after : List Tallied) : Type 0 where
   pub journal : List journaled.Entry
   pub transcripts : List (List Step)
-  pub run : IsRunOf session journal transcripts
+  pub run : IsWholeRun session journal transcripts
   pub added : after ≡ map (with_run (order, outcomes_in journal transcripts)) before
 
 -- runs were made in all orders from the first on up to this one, which comes next

@@ -4,9 +4,9 @@ ghost use Rattle.std.specs.Prelude.{◌≡◌, ◌<◌, ◌≤◌, ◌^◌, ◌+
 ghost use Rattle.std.specs.List.{sum, sum_by};
 ghost use Rattle.mx_explore.specs.Explored.{IsExplored, line_counts};
 ghost use Rattle.mx_explore.specs.Exploring.{IsFound, IsMade, fresh};
+ghost use Rattle.mx_explore.specs.WholeRuns.{IsWholeRun};
 ghost use Rattle.mx_outcomes.specs.Interleavings.{IsFirst, IsInterleaving};
 ghost use Rattle.mx_tally.specs.Tallies.{with_run};
-ghost use Rattle.mx_transcript.specs.Runs.{IsRunOf};
 
 use mx_list::Bytes;
 use mx_outcomes::{advance, count_orders, first_order, outcomes_in};
@@ -123,14 +123,15 @@ fn make<R: Wait>(
     add_run(alloc, tallies, order, &outcomes)
 }
 
-// A run in this order, with no gate and no auditors.
+// A run in this order, with no gate and no auditors, so that no process is logged out.
+#[tactic(auto, using(crate::proofs::WholeRunLaws::whole_run))]
 fn run<R: Wait>(
     rt: &R,
     alloc: Global,
     session: &Session,
     order: &[u8],
 ) -> Result<(Journal, Transcripts), AllocError>
-    ensures { IfOk result (λ ran. IsRunOf session.now ran.0 ran.1) }
+    ensures { IfOk result (λ ran. IsWholeRun session.now ran.0 ran.1) }
 {
     run_in_order(rt, alloc, session, order, &NoGate, &mut Vec::new(alloc))
 }
