@@ -1,4 +1,7 @@
-//! Three tables: what each command comes to, what is told of a printed run, and what each denial is explained by.
+//! Three tables: what each command comes to, what is told of a printed run, and what each denial is explained by. A fourth has runs
+//! in which a process was logged out.
+
+mod cut;
 
 use mx_explain::show;
 use mx_io::{MemorySink, MemorySource};
@@ -270,6 +273,13 @@ const CHANGES: &[Change] = &[
         \x20 printed: line 8 a 1\n\
         \x20 the line rule: its events give the line's end\n\
         \x20 could stand there: line 8 a 0\n",
+    ),
+    // The process was logged out at the denial.
+    (
+        "read 10|5 ring 4 point 3 word 0 from 0 stamp 0\nline 8 a 0\n",
+        "",
+        0,
+        "legal\n",
     ),
     ("line 9 done", "line 9 don", 5, "bad line 30\n"),
 ];
