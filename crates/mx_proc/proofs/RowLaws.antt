@@ -1,5 +1,5 @@
 -- A row of processes, as one of them goes on, leaves it or comes back.
-use Rattle.std.proofs.Common.{◌≡◌, ◌+◌, ◌<◌, ◌≤◌, ℕ, zero, suc, arith, List, [], ◌∷◌, ◌++◌, length, Some, refl, sym, ◌∙◌, ap, subst, slice_set}
+use Rattle.std.proofs.Common.{◌≡◌, ◌+◌, ◌<◌, ◌≤◌, ℕ, zero, suc, arith, List, [], ◌∷◌, ◌++◌, length, Some, refl, ◌∙◌, subst, slice_set}
 use Rattle.std.specs.List.{slice_get}
 use Rattle.mx_audit.specs.Accounts.{Account}
 use Rattle.mx_process.specs.Lines.{HasEnded, HasGoneOn, HasNoLine, IsAwake, IsOwn}

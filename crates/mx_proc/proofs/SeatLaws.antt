@@ -1,26 +1,23 @@
 -- A row of processes before its first line, as it is made of passes, and as each process gets its auditor.
-use Rattle.std.proofs.Common.{◌≡◌, ◌+◌, ◌-◌, ◌<◌, ◌≤◌, ℕ, zero, suc, List, [], ◌∷◌, ◌++◌, Option, Some, None, IsSome, drop, length, map, refl, ap, sym, ◌∙◌, subst, slice_set, arith, append-nil}
+use Rattle.std.proofs.Common.{◌≡◌, ◌+◌, ◌-◌, ◌<◌, ◌≤◌, ℕ, zero, suc, List, [], ◌∷◌, ◌++◌, Option, Some, None, IsSome, drop, length, map, refl, ap, sym, ◌∙◌, subst, slice_set, arith}
 use Rattle.std.specs.List.{slice_get}
 use Rattle.std.specs.Prelude.{get_or}
 use Rattle.mx_audit.specs.Accounts.{Account, HaveRoomFor}
 use Rattle.mx_closing.specs.Closing.{AreOfAll}
 use Rattle.mx_desc.specs.Openings.{AreFreshPasses}
 use Rattle.mx_desc.specs.Passes.{PassValue}
-use Rattle.mx_line.specs.declared.operands.Progress.{Progress}
 use Rattle.mx_line.specs.declared.operands.Progress.TheVariants.{Before, Waiting}
-use Rattle.mx_process.specs.Lines.{IsAwake}
 use Rattle.mx_process.specs.Processes.{IsNew, IsNewPass, ProcessValue, script_of}
 use Rattle.mx_rule.specs.Shown.{fresh_view}
-use Rattle.mx_rule.specs.declared.views.PassView.{PassView}
 use Rattle.mx_script.specs.Sessions.{Outline}
 use Rattle.mx_script.specs.declared.lines.Line.{Line}
 use Rattle.mx_state.specs.declared.journal.Entry as journaled
 use Rattle.mx_state.proofs.Lists.{slice_get-pushed, slice_get-push_other}
 use Rattle.mx_transcript.specs.Legal.{setup_entries}
 use Rattle.mx_transcript.specs.Scripts.{script_at}
-use Rattle.mx_proc.proofs.PlaceLaws.{drop_all, drop_more, each_more, each_set, get_beyond, get_left, get_map, get_middle, get_within, map_length, map_more}
+use Rattle.mx_proc.proofs.PlaceLaws.{drop_all, drop_more, each_more, each_set, get_beyond, get_middle, get_within, map_length, map_more}
 use Rattle.mx_proc.specs.Auditors.{HaveRoomForLines}
-use Rattle.mx_proc.specs.Rows.{AreAwake, AreFirst, AreInPlace, IsFirst, IsInPlace}
+use Rattle.mx_proc.specs.Rows.{AreAwake, AreFirst, AreInPlace, IsFirst}
 use Rattle.mx_proc.specs.Seating.{IsAttended}
 
 -- the pass at a place among fresh ones

@@ -1,10 +1,8 @@
-use Rattle.std.proofs.Common.{◌≡◌, ◌+◌, ◌-◌, ◌∙◌, ◌<◌, ◌≤◌, ℕ, suc, Some, List, [], ◌∷◌, ◌++◌, ap, arith, length, length-append, map, refl, rules, subst, sym, slice_set, vec_len, vec_capacity}
+use Rattle.std.proofs.Common.{◌≡◌, ◌-◌, ◌∙◌, ◌<◌, ◌≤◌, Some, [], ◌∷◌, ap, arith, length, length-append, map, refl, rules, subst, sym, slice_set, vec_len, vec_capacity}
 use Rattle.std.specs.List.{slice_get}
-use Rattle.mx_audit.specs.Accounts.{Account}
 use Rattle.mx_closing.proofs.Returns.{taken}
-use Rattle.mx_process.specs.Processes.{ProcessValue}
 use Rattle.mx_proc.proofs.PlaceLaws.{drop_all, map_length}
-use Rattle.mx_proc.proofs.SeatLaws.{all_awake, all_in_place, attended_more, beyond_more, get_of, has_room, next_none, next_own, none_attended, unattended_more, within_still}
+use Rattle.mx_proc.proofs.SeatLaws.{attended_more, beyond_more, get_of, has_room, next_none, next_own, none_attended, unattended_more, within_still}
 use Rattle.mx_proc.specs.Seating.{IsAttended}
 use Rattle.mx_proc.proofs.seating.attend.Goals as goal
 use Rattle.mx_proc.proofs.seating.attend.Goals.{then-place-len, else-place-len}

@@ -1,4 +1,4 @@
-use Rattle.std.proofs.Common.{◌≡◌, ◌+◌, ◌∙◌, [], ◌∷◌, ◌++◌, List, ap, arith, length, length-append, subst, sym}
+use Rattle.std.proofs.Common.{◌∙◌, [], ◌∷◌, ◌++◌, List, ap, arith, length, length-append, subst, sym}
 use Rattle.mx_closing.proofs.Returns.{taken}
 use Rattle.mx_desc.specs.Passes.{PassValue}
 use Rattle.mx_process.specs.Processes.{ProcessValue}

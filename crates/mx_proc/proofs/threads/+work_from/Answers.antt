@@ -1,4 +1,4 @@
-use Rattle.std.proofs.Common.{◌≡◌, ◌∙◌, ◌++◌, ◌∷◌, [], ℕ, List, Result, Ok, Err, OnOk, arith, length, rules, subst, sym}
+use Rattle.std.proofs.Common.{◌≡◌, ◌∙◌, ◌++◌, ◌∷◌, [], List, Result, Ok, Err, OnOk, arith, length, rules, subst, sym}
 use Rattle.mx_process.specs.Lines.{HasNoLine}
 use Rattle.mx_process.specs.Processes.{ProcessValue}
 use Rattle.mx_script.specs.Sessions.{Outline}

@@ -1,4 +1,4 @@
-use Rattle.std.proofs.Common.{◌≡◌, ◌≤◌, Bool, true, false, Some, ap, sym, ◌∙◌, length, rules, arith}
+use Rattle.std.proofs.Common.{◌≡◌, ◌≤◌, true, false, Some, ap, sym, ◌∙◌, length, rules, arith}
 use Rattle.std.proofs.lemmas.Option.{slice_get-get_or}
 use Rattle.mx_proc.proofs.PlaceLaws.{get_within}
 use Rattle.mx_proc.proofs.RowLaws.{no_line_left, none_below}
