@@ -4,17 +4,30 @@ use Rattle.std.proofs.Common.{◌≡◌, ℕ, ◌≤◌, List, [], ◌∷◌, le
 use Rattle.std.specs.Prelude.{codes, IfSome}
 use Rattle.mx_audit.specs.Accounts.{Account}
 use Rattle.mx_check.specs.Judgements.{IsLegalText}
+use Rattle.mx_drill.specs.Drills.{drill_session}
+use Rattle.mx_proc.specs.Auditors.{WereTold}
 use Rattle.mx_run.proofs.VerdictLaws.{run_done}
 use Rattle.mx_run.specs.Commands.{IsCheck, IsRun}
 use Rattle.mx_run.specs.Done.{IsDrilled, IsDoneBy}
 use Rattle.mx_run.specs.Statuses.{IsDueStatus}
 use Rattle.mx_script.specs.Sessions.{Outline}
 use Rattle.mx_script.specs.SessionTexts.{IsText}
+use Rattle.mx_transcript.specs.Transcripts.{Step}
 use Rattle.session_files.specs.Runs.{IsRunOf, IsPrintedOf, IsSummaryOf, IsCheckEnded, IsEnded, IsDrillEnded, IsEndedBy}
 use Rattle.session_files.specs.declared.runs.Ended.{Ended}
 use Rattle.session_files.specs.declared.runs.Ended.TheVariants.{Ran, Otherwise}
 
 -- where there were no auditors there are none
+pub none_told : (x : Outline) (transcripts : List (List Step)) (after : List Account) → WereTold x [] transcripts after
+    → WereTold x [] transcripts []
+none_told x transcripts after told = subst (WereTold x [] transcripts) told.grown told
+
+pub none_told_in : {J T E : Type 0} (x : Outline) (parts : T → List (List Step)) (before after : List Account) (r : Result (J × T) E)
+    → before ≡ [] → IfOk r (λ ran. WereTold x before (parts ran.1) after) → IfOk r (λ ran. WereTold x [] (parts ran.1) [])
+none_told_in x parts before after (Ok ran) none told =
+    none_told x (parts ran.1) after (subst (λ (a : List Account). WereTold x a (parts ran.1) after) none told)
+none_told_in x parts before after (Err error) none told = told
+
 without : (words : List (List ℕ)) (source left sink sink' : Option (List ℕ)) (told : List Account)
     → IsDoneBy words source left sink sink' [] told → IsDoneBy words source left sink sink' [] []
 without words source left sink sink' told (inl done) = inl (
@@ -23,7 +36,7 @@ without words source left sink sink' told (inl done) = inl (
     journal = done.1.journal;
     transcripts = done.1.transcripts;
     run = done.1.run;
-    told = refl;
+    told = none_told done.1.run.session done.1.transcripts told done.1.told;
     printed = done.1.printed;
   },
 )
@@ -34,7 +47,7 @@ without words source left sink sink' told (inr (inl drilled)) = inr (inl (record
   transcripts = drilled.transcripts;
   run = drilled.run;
   spellable = drilled.spellable;
-  told = refl;
+  told = none_told (drill_session drilled.number) drilled.transcripts told drilled.told;
   printed = drilled.printed;
 }))
 without words source left sink sink' told (inr (inr checked)) = inr (inr (record {
@@ -129,7 +142,7 @@ printed_of text printed session within spelled told = (
       run = told.run;
       spellable = told.spellable;
     };
-    told = refl;
+    told = told.told;
     printed = ap Some told.text;
   },
 )

@@ -3,6 +3,7 @@ use Rattle.std.specs.Prelude.{◌≡◌, ◌≢◌, ◌⊎◌, ℕ, List, [], �
 use Rattle.mx_transcript.specs.Runs as legal
 use Rattle.mx_transcript.specs.Transcripts.{Step}
 use Rattle.mx_check.specs.Judgements.{IsLegalText}
+use Rattle.mx_proc.specs.Auditors.{WereTold}
 use Rattle.mx_run.specs.Done.{IsDone, IsDrilled, IsDoneBy}
 use Rattle.mx_run.specs.Statuses.{IsStopped, IsDueStatus}
 use Rattle.mx_script.specs.Sessions.{Outline}
@@ -16,12 +17,13 @@ use Rattle.session_files.specs.declared.runs.Ended.TheVariants.{Ran, Otherwise}
 abbrev pub IsRunOf : List ℕ → List ℕ → Type 0
 IsRunOf session printed = (left : Option (List ℕ)) × IsDone (Some session) left (Some []) (Some printed) [] []
 
--- The bytes are the run text of a legal run of a session, which it can say.
+-- The bytes are the run text of a legal run of a session, which it can say. It had no auditors, so each part is whole.
 pub record IsPrintedOf (session : Outline) (printed : List ℕ) : Type 0 where
   pub journal : List Entry
   pub transcripts : List (List Step)
   pub run : legal.IsRunOf session journal transcripts
   pub spellable : IsSpellable journal transcripts
+  pub told : WereTold session [] transcripts []
   pub text : printed ≡ run_text journal transcripts
 
 -- The status of a command to run these bytes that is not 0: that of one which memory or an end stopped, or else the one that is due.

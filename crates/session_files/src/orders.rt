@@ -1,7 +1,8 @@
 //! A run of a session in a chosen order.
 
-ghost use Rattle.std.specs.Prelude.{◌≡◌, true, IfOk, IfSome};
+ghost use Rattle.std.specs.Prelude.{◌≡◌, [], true, IfOk, IfSome};
 ghost use Rattle.std.specs.List.{list_all};
+ghost use Rattle.mx_proc.specs.Auditors.{WereTold};
 ghost use Rattle.mx_script.specs.SessionTexts.{fits, rows_of};
 ghost use Rattle.mx_spelling.specs.Spelling.{IsSpellable};
 ghost use Rattle.mx_text.specs.RunText.{run_text};
@@ -80,6 +81,7 @@ fn ran<R: Wait>(
     requires { list_all fits (rows_of session.now) ≡ true }
     ensures run { IfOk result (λ ran. legal.IsRunOf session.now ran.0 ran.1) }
     ensures spellable { IfOk result (λ ran. IsSpellable ran.0 ran.1) }
+    ensures told { IfOk result (λ ran. WereTold session.now [] ran.1 []) }
 {
     // The lines of each session have numbers of 32 bits.
     let _scripts = session.scripts();
