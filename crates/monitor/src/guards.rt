@@ -1,6 +1,6 @@
-//! Guards: auditors that act. Each lets its process be denied so often, and then logs it out.
+//! A guard: an auditor that acts. It lets its process be denied so often, and then logs it out.
 
-ghost use Rattle.std.specs.Prelude.{◌≤◌, IfOk, OnOk, map};
+ghost use Rattle.std.specs.Prelude.{◌≤◌, IfOk, map};
 ghost use Rattle.mx_audit.specs.Accounts.{HaveRoom};
 
 use mx_audit::{Auditor, Verdict};
@@ -8,15 +8,12 @@ use mx_sdw::Denial;
 use std::alloc::{AllocError, Global};
 use std::marker::Model;
 
-/// How many processes a session has at most.
-const PROCESSES: u32 = 15;
-
-/// For so many denials each guard has room, as the top call asks for.
-const ROOM: usize = 700_000;
+/// For so many denials a guard has room, as the top call asks for.
+pub(crate) const ROOM: usize = 700_000;
 
 /// An auditor that lets its process be denied so often, and logs it out at the next denial. It takes all its memory when it is made.
 #[derive(Drop)]
-pub struct Guard {
+pub(crate) struct Guard {
     told: Vec<(u32, Denial, Verdict)>,
     room: usize,
     patience: u32,
@@ -37,7 +34,7 @@ impl Guard {
     ghost use Rattle.std.specs.Prelude.{◌≡◌, IfOk};
 
     /// A guard that was told of nothing, with room for so many denials.
-    pub fn new(alloc: Global, room: usize, patience: u32) -> Result<Guard, AllocError>
+    pub(crate) fn new(alloc: Global, room: usize, patience: u32) -> Result<Guard, AllocError>
         ensures { IfOk result (λ guard. guard.room ≡ room) }
     {
         Ok(Guard {
@@ -73,31 +70,13 @@ impl Auditor for Guard {
     }
 }
 
-/// A guard for each process that a session may have, the first of process 1, each with this patience. The only error is want of
-/// memory.
-pub fn guard_all(alloc: Global, patience: u32) -> Result<Vec<Box<dyn Auditor + Send>>, AllocError>
-    ensures { IfOk result (λ guards. HaveRoom 700000 (map account guards.items)) }
-{
-    let mut guards: Vec<Box<dyn Auditor + Send>> = Vec::new(alloc);
-    for _ in 0..PROCESSES {
-        add(
-            &mut guards,
-            Box::new(alloc, Guard::new(alloc, ROOM, patience)?)?,
-        )?;
-    }
-    Ok(guards)
-}
-
-// One guard more.
-#[tactic(auto, using(crate::proofs::RoomLaws::room_more))]
-fn add(
-    guards: &mut Vec<Box<dyn Auditor + Send>>,
+/// The auditors of a session whose process 1 has this guard, and no other has one.
+pub(crate) fn alone(
+    alloc: Global,
     guard: Box<dyn Auditor + Send>,
-) -> Result<(), AllocError>
-    requires all { HaveRoom 700000 (map account guards.old.items) }
-    requires one { 700000 ≤ (account guard).room }
-    ensures { OnOk result (HaveRoom 700000 (map account guards.new.items)) }
+) -> Result<Vec<Box<dyn Auditor + Send>>, AllocError>
+    requires { 700000 ≤ (account guard).room }
+    ensures { IfOk result (λ auditors. HaveRoom 700000 (map account auditors.items)) }
 {
-    guards.push(guard)?;
-    Ok(())
+    Ok(vec![in alloc; guard]?)
 }

@@ -1,20 +1,23 @@
-//! The program: it runs a session under guards, one for each process, as an example of how a program uses the top call `multics` as a
-//! library with auditors of its own. `monitor PATIENCE < SESSION` prints the run text, and then what each guard was told and what
-//! it answered; PATIENCE says how often a process may be denied before it is logged out. The status is that of the top call, or
-//! 2 where the command line says something else.
+//! The program: it runs a session whose process 1 has a guard, as an example of how a program uses the top call `multics` as a library
+//! with an auditor of its own. `monitor PATIENCE < SESSION` prints the run text, and then what the guard was told and what it
+//! answered; PATIENCE says how often the process may be denied before it is logged out at the next denial. The status is that of
+//! the top call, or 2 where the command line says something else.
 //!
-//! That a guard is told of just its process's denials, and that a process whose guard answers with a logout runs no further line
-//! but its own `logout`, are clauses of the top call. How patient a guard is no clause says: it is the guard's own affair.
+//! That the guard is told of just its process's denials, and that the process runs no further line but its `logout` where the guard
+//! answers so, are clauses of the top call. How patient a guard is no clause says: it is the guard's own affair.
 #![tactic(auto)]
 
 mod guards;
 
-use guards::guard_all;
+use guards::{Guard, ROOM, alone};
 use mx_audit::{Auditor, Verdict};
-use mx_io::{StdSink, StdSource};
-use mx_run::{NoGate, OUT_OF_MEMORY, multics};
-use std::alloc::AllocError;
+use mx_io::{Sink, Source, StdSink, StdSource};
+use mx_run::{NoGate, multics};
+use mx_sdw::Denial;
+use std::alloc::Global;
 use std::process::ExitCode;
+use std::sync::Wait;
+use std::thread::Threads;
 use std::{env, io};
 
 const BAD_WORDS: u8 = 2;
@@ -22,28 +25,29 @@ const BAD_WORDS: u8 = 2;
 fn main(rt: HostRuntime) -> io::Result<ExitCode> {
     let words = env::args(&rt)?.skip(1).collect::<Vec<String>>(rt.alloc())?;
     let Some(patience) = patience_of(&words) else {
-        eprintln!(rt; "monitor PATIENCE < SESSION: runs a session under guards")?;
+        eprintln!(rt; "monitor PATIENCE < SESSION: runs a session whose process 1 has a guard")?;
         return Ok(ExitCode::from(BAD_WORDS));
-    };
-    let Ok(mut guards) = guard_all(rt.alloc(), patience) else {
-        return Ok(ExitCode::from(OUT_OF_MEMORY));
-    };
-    let Ok(run) = run_word(&rt) else {
-        return Ok(ExitCode::from(OUT_OF_MEMORY));
     };
     let mut source = StdSource::new(rt.stdin());
     let mut sink = StdSink::new(rt.stdout());
-    let status = multics(
-        &rt,
-        rt.alloc(),
-        &run,
-        &mut source,
-        &mut sink,
-        &NoGate,
-        &mut guards,
-    );
-    tell(&rt, &guards)?;
+    let status = run_guarded(&rt, rt.alloc(), patience, &mut source, &mut sink)?;
     Ok(ExitCode::from(status))
+}
+
+// Runs the session, whose process 1 has a guard of this patience: the status of the top call.
+fn run_guarded<R: Threads + Wait + Sync + Print, S: Source, K: Sink>(
+    rt: &R,
+    alloc: Global,
+    patience: u32,
+    source: &mut S,
+    sink: &mut K,
+) -> io::Result<u8> {
+    let guard = Box::new(alloc, Guard::new(alloc, ROOM, patience)?)?;
+    let mut auditors = alone(alloc, guard)?;
+    let words = vec![in alloc; String::from_str(alloc, "run")?]?;
+    let status = multics(rt, alloc, &words, source, sink, &NoGate, &mut auditors);
+    tell(rt, &auditors)?;
+    Ok(status)
 }
 
 // The only word, as a number.
@@ -54,36 +58,24 @@ fn patience_of(words: &[String]) -> Option<u32> {
     }
 }
 
-// The word by which the top call runs a session.
-fn run_word(rt: &HostRuntime) -> Result<Vec<String>, AllocError> {
-    let word = String::from_str(rt.alloc(), "run")?;
-    Ok(vec![in rt.alloc(); word]?)
-}
-
-// What each guard was told, and what it answered.
-fn tell<R: Print>(rt: &R, guards: &[Box<dyn Auditor + Send>]) -> io::Result<()> {
-    for place in 0..guards.len() {
-        let guard = &guards[place];
+// What the guard was told, and what it answered.
+fn tell<R: Print>(rt: &R, auditors: &[Box<dyn Auditor + Send>]) -> io::Result<()> {
+    for guard in auditors {
         for i in 0..guard.count() {
-            tell_one(rt, place + 1, guard, i)?;
+            tell_one(rt, guard.told(i))?;
         }
     }
     Ok(())
 }
 
-fn tell_one<R: Print>(
-    rt: &R,
-    process: usize,
-    guard: &Box<dyn Auditor + Send>,
-    i: u32,
-) -> io::Result<()> {
-    let Some((line, denial, verdict)) = guard.told(i) else {
+fn tell_one<R: Print>(rt: &R, told: Option<(u32, Denial, Verdict)>) -> io::Result<()> {
+    let Some((line, denial, verdict)) = told else {
         return Ok(());
     };
+    let name = denial.text();
     let answer = match verdict {
         Verdict::GoOn => "go on",
         Verdict::Logout => "log out",
     };
-    let name = denial.text();
-    println!(rt; "guard of process {process}: line {line} denied {name}: {answer}")
+    println!(rt; "guard of process 1: line {line} denied {name}: {answer}")
 }
