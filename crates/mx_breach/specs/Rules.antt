@@ -13,8 +13,9 @@ use Rattle.mx_transcript.specs.Legal.{deeds, setup_entries}
 use Rattle.mx_transcript.specs.Misses.{IsChanged}
 use Rattle.mx_transcript.specs.Transcripts.{Step, part}
 
--- The line at place k of process p's part breaks this rule. By `Lines` the lines up to it are the session's, in order, all of these
--- or those of a part that is cut after a denied line, and keep the line rule. Of reads it is said where the parts before are good.
+-- The line at place k of process p's part breaks this rule. By `Lines` the lines up to it are the session's, in order, all of
+-- these or those of a part that is cut after a denied line, and keep the line rule. Of reads it is said where the parts before
+-- are good.
 abbrev pub IsBroken : Outline → List journaled.Entry → List (List Step) → ℕ → ℕ → Rule → Type 0
 IsBroken session journal transcripts p k Lines = AreDoneTo session journal p (part transcripts p) (suc k) → ⊥
 IsBroken session journal transcripts p k Naming = AreNamedTo journal p (part transcripts p) (suc k) → ⊥
