@@ -1,13 +1,18 @@
 -- Laws on a line that is spelled from its last byte to its first.
 use Rattle.std.proofs.Common.{◌≡◌, ℕ, ◌+◌, ◌-◌, ◌<◌, ◌≤◌, ◌^◌, ◌/◌, ◌%◌, List, [], ◌++◌, length, drop, slice_set}
-use Rattle.std.proofs.Common.{refl, sym, ap, ◌∙◌, arith, append_assoc, codes, length-append}
+use Rattle.std.proofs.Common.{◌*◌, ◌∷◌, true, nat_eq, get_or, drop-cons, add-one, refl, sym, ap, subst, ◌∙◌, arith, append_assoc, codes, length-append, length-drop}
+use Rattle.std.proofs.lemmas.Bool.{agree_below_at}
+use Rattle.std.proofs.lemmas.Bool.Decides.{nat_tests}
+use Rattle.std.proofs.lemmas.Fmt.{length-decimal-le}
 use Rattle.std.proofs.lemmas.List.{drop-set, drop_all, length-set}
 use Rattle.mx_sdw.proofs.OctalLaws.{HasSpelled, below_with_more, last_written, octal_small, length-octal}
 use Rattle.mx_sdw.specs.Octal.{octal}
+use Rattle.std.specs.Fmt.{decimal}
+use Rattle.mx_text.specs.declared.printing.tails.TheConstants.{PAIRS}
 
 -- behind the last byte is nothing
-pub nothing : (bytes : List ℕ) → length bytes ≡ 384 → drop 384 bytes ≡ []
-nothing bytes e = drop_all 384 bytes (omega (arith, e))
+pub nothing : (bytes : List ℕ) → length bytes ≡ 3072 → drop 3072 bytes ≡ []
+nothing bytes e = drop_all 3072 bytes (omega (arith, e))
 
 -- before the last digit is written, the number and what follows it are still to come
 pub none_yet : (bytes : List ℕ) (end n : ℕ) → 22 ≤ end → n < 2 ^ 64
@@ -28,6 +33,55 @@ two_written whole bytes start n has s h =
     let within : start - 1 < length (slice_set bytes start (48 + n % 8)) = rw length-set (omega (arith, s)) in
     let other = last_written whole _ (start - 1) (n / 8) last.1 within (omega (arith, h)) in (last.0, other.0, other.1)
 
+same_number : (m n : ℕ) → nat_eq m n ≡ true → m ≡ n
+same_number m n e = grind (arith, nat_tests)
+
+-- the table has the two digits of each number below 64
+pub pair_digits : (p : ℕ) → p < 64 → (get_or PAIRS (2 * p) 0 ≡ 48 + p / 8) × (get_or PAIRS (2 * p + 1) 0 ≡ 48 + p % 8)
+pair_digits p h =
+    let first : nat_eq (get_or PAIRS (2 * p) 0) (48 + p / 8) ≡ true
+    = agree_below_at (λ q. nat_eq (get_or PAIRS (2 * q) 0) (48 + q / 8)) (λ q. true) 64 p refl h in
+    let last : nat_eq (get_or PAIRS (2 * p + 1) 0) (48 + p % 8) ≡ true
+    = agree_below_at (λ q. nat_eq (get_or PAIRS (2 * q + 1) 0) (48 + q % 8)) (λ q. true) 64 p refl h in
+    (same_number _ _ first, same_number _ _ last)
+
+-- two digits out of the table
+pub pair_written : (whole bytes : List ℕ) (start n first last : ℕ) → HasSpelled whole bytes start n → start < length bytes → 64 ≤ n
+    → first ≡ 48 + n % 64 / 8 → last ≡ 48 + n % 64 % 8
+    → (2 ≤ start) × HasSpelled whole (slice_set (slice_set bytes start last) (start - 1) first) (start - 2) (n / 64)
+pair_written whole bytes start n first last has s h f l =
+    let two = two_written whole bytes start n has s h in
+    let place : start - 1 - 1 ≡ start - 2 = omega arith in
+    let left : n / 8 / 8 ≡ n / 64 = omega arith in
+    let first_digit : first ≡ 48 + n / 8 % 8 = omega (arith, f) in
+    let last_digit : last ≡ 48 + n % 8 = omega (arith, l) in
+    (omega (arith, two.0, two.1), rw (first_digit, last_digit, ← place, ← left) two.2)
+
+-- before any letter is put, and when all are
+pub none_put : (bytes letters : List ℕ) (end n : ℕ) → length letters ≡ n → length letters ≤ end
+    → drop (end - n + n) bytes ≡ drop n letters ++ drop end bytes
+none_put bytes letters end n e room =
+    let place : end - n + n ≡ end = omega (arith, e, room) in
+    let none : drop n letters ≡ [] = drop_all n letters (omega (arith, e)) in
+    rw (place, none) refl
+
+pub all_put : (bytes letters old : List ℕ) (start left : ℕ) → left ≡ 0
+    → drop (start + left) bytes ≡ drop left letters ++ old → drop start bytes ≡ letters ++ old
+all_put bytes letters old start left none e =
+    let place : start + 0 ≡ start = omega arith in
+    let P : ℕ → Type 0 = λ k. drop (start + k) bytes ≡ drop k letters ++ old in
+    let Q : ℕ → Type 0 = λ k. drop k bytes ≡ letters ++ old in
+    subst Q place (subst P none e)
+
+-- one letter more is put before those that are put
+pub letter_put : (bytes letters old : List ℕ) (start left : ℕ) → start + left + 1 ≤ length bytes → left < length letters
+    → drop (start + (left + 1)) bytes ≡ drop (left + 1) letters ++ old
+    → drop (start + left) (slice_set bytes (start + left) (get_or letters left 0)) ≡ drop left letters ++ old
+letter_put bytes letters old start left room within e =
+    let place : start + left + 1 ≡ start + (left + 1) = omega arith in
+    let rest : drop left letters ≡ get_or letters left 0 ∷ drop (left + 1) letters = rw (add-one left) (drop-cons letters left 0 within) in
+    drop-set bytes (start + left) (get_or letters left 0) (omega (arith, room)) ∙ rw (place, e, rest) refl
+
 -- after the first digit is written, nothing is to come
 pub all_spelled : (whole bytes : List ℕ) (start n : ℕ) → HasSpelled whole bytes start n → start < length bytes → n < 8
     → drop start (slice_set bytes start (48 + n)) ≡ whole
@@ -41,7 +95,23 @@ pub element_before : (kind address ring point outcome old : List ℕ)
 element_before kind address ring point outcome old =
     rw (append_assoc, append_assoc, append_assoc, append_assoc, append_assoc, append_assoc, append_assoc, append_assoc, append_assoc) refl
 
--- a number has at most 22 digits
+-- a number has at most 20 digits in decimal, for which there is room
+pub decimal_fits : (n : ℕ) (bytes : List ℕ) (start : ℕ) (old : List ℕ) → drop start bytes ≡ old → length bytes ≡ 3072 → start ≤ 3072
+    → 20 + length old ≤ 3072 → n < 2 ^ 64 → (length (decimal n) ≤ start) × (start ≤ length bytes)
+decimal_fits n bytes start old e all within room h =
+    let d : length (decimal n) ≤ 20 = length-decimal-le 20 n (omega arith) (omega arith) h in
+    let k : length old ≡ length bytes - start = rw (← e) (length-drop start bytes) in
+    (omega (arith, d, k, all, within, room), omega (arith, all, within))
+
+pub decimal_short : (n : ℕ) (after before : List ℕ) → after ≡ decimal n ++ before → n < 2 ^ 64
+    → length after ≤ 20 + length before
+decimal_short n after before e h =
+    let b : length (decimal n ++ before) ≡ length (decimal n) + length before = length-append (decimal n) before in
+    let d : length (decimal n) ≤ 20 = length-decimal-le 20 n (omega arith) (omega arith) h in
+    let f : length after ≡ length (decimal n ++ before) = ap length e in
+    omega (arith, b, d, f)
+
+-- a number has at most 22 digits in octal
 pub octal_short : (n : ℕ) (after before : List ℕ) → after ≡ octal n ++ before → n < 2 ^ 64
     → length after ≤ 22 + length before
 octal_short n after before e h =

@@ -16,6 +16,9 @@ use mx_sdw::{Denial, Ring, Word};
 use mx_transcript::{Element, Event, Event2, Kind, Outcome, Result2};
 use std::alloc::AllocError;
 
+/// So many events of a line are spelled together with it, at most.
+const TOGETHER: usize = 15;
+
 /// Adds a line's events, then `line N RESULT`. Each is spelled in `tail`, which holds nothing that lasts.
 pub(super) fn add_step(
     out: &mut Vec<u8>,
@@ -26,9 +29,9 @@ pub(super) fn add_step(
 ) -> Result<(), AllocError>
     ensures { OnOk result (out.new.items ≡ out.old.items ++ step_text (number, events.now, ends)) }
 {
-    if let [event] = events {
+    if events.len() <= TOGETHER {
         spell_line(tail, number, &ends);
-        put_event(tail, event);
+        put_events(tail, events);
     } else {
         add_events(out, tail, events)?;
         spell_line(tail, number, &ends);
@@ -47,9 +50,23 @@ fn add_events(out: &mut Vec<u8>, tail: &mut Tail, events: &[Event2]) -> Result<(
     Ok(())
 }
 
+// Events, from the last to the first.
+fn put_events(tail: &mut Tail, events: &[Event2])
+    requires few { length events.now ≤ 15 }
+    requires room { length tail.old ≤ 192 }
+    ensures { tail.new ≡ events_text events.now ++ tail.old }
+{
+    let mut left = events.len();
+    while left > 0 {
+        left -= 1;
+        put_event(tail, &events[left]);
+    }
+}
+
 fn put_event(tail: &mut Tail, event: &Event2)
-    requires { 192 + length tail.old ≤ 384 }
-    ensures { tail.new ≡ event_text event.now ++ tail.old }
+    requires { 192 + length tail.old ≤ 3072 }
+    ensures spelled { tail.new ≡ event_text event.now ++ tail.old }
+    ensures short { length tail.new ≤ 192 + length tail.old }
 {
     match event {
         Event2::Core(Event::Seen(element)) => put_element(tail, element),
@@ -60,58 +77,61 @@ fn put_event(tail: &mut Tail, event: &Event2)
 
 // `entry N`
 fn put_entry(tail: &mut Tail, entry: u32)
-    requires { 192 + length tail.old ≤ 384 }
-    ensures { tail.new ≡ event_text (Entry entry) ++ tail.old }
+    requires { 192 + length tail.old ≤ 3072 }
+    ensures spelled { tail.new ≡ event_text (Entry entry) ++ tail.old }
+    ensures short { length tail.new ≤ 192 + length tail.old }
 {
     tail.byte(b'\n');
     tail.decimal(u64::from(entry));
-    tail.text(b"entry ");
+    tail.letters(b"entry ");
 }
 
 // `missing S by K`
 fn put_miss(tail: &mut Tail, segno: u16, by: u32)
-    requires { 192 + length tail.old ≤ 384 }
-    ensures { tail.new ≡ event_text (Core (Missing segno by)) ++ tail.old }
+    requires { 192 + length tail.old ≤ 3072 }
+    ensures spelled { tail.new ≡ event_text (Core (Missing segno by)) ++ tail.old }
+    ensures short { length tail.new ≤ 192 + length tail.old }
 {
     tail.byte(b'\n');
     tail.decimal(u64::from(by));
-    tail.text(b" by ");
+    tail.letters(b" by ");
     tail.octal(u64::from(segno));
-    tail.text(b"missing ");
+    tail.letters(b"missing ");
 }
 
 // `KIND S|W ring R point K ..`
 fn put_element(tail: &mut Tail, element: &Element)
-    requires { 192 + length tail.old ≤ 384 }
-    ensures { tail.new ≡ element_text element.now ++ tail.old }
+    requires { 192 + length tail.old ≤ 3072 }
+    ensures spelled { tail.new ≡ element_text element.now ++ tail.old }
+    ensures short { length tail.new ≤ 192 + length tail.old }
 {
     tail.byte(b'\n');
     put_outcome(tail, &element.outcome);
     tail.decimal(u64::from(element.point));
-    tail.text(b" point ");
+    tail.letters(b" point ");
     tail.decimal(u64::from(element.ring.number()));
-    tail.text(b" ring ");
+    tail.letters(b" ring ");
     tail.address(element.segno, element.word);
     put_kind(tail, &element.kind);
 }
 
 // A kind and a blank.
 fn put_kind(tail: &mut Tail, kind: &Kind)
-    requires { 7 + length tail.old ≤ 384 }
+    requires { 7 + length tail.old ≤ 3072 }
     ensures { tail.new ≡ kind_text kind.now ++ codes " " ++ tail.old }
 {
     match kind {
-        Kind::Read => tail.text(b"read "),
-        Kind::Ind => tail.text(b"ind "),
-        Kind::Write => tail.text(b"write "),
-        Kind::Fetch => tail.text(b"fetch "),
-        Kind::Call => tail.text(b"call "),
-        Kind::Return => tail.text(b"return "),
+        Kind::Read => tail.letters(b"read "),
+        Kind::Ind => tail.letters(b"ind "),
+        Kind::Write => tail.letters(b"write "),
+        Kind::Fetch => tail.letters(b"fetch "),
+        Kind::Call => tail.letters(b"call "),
+        Kind::Return => tail.letters(b"return "),
     }
 }
 
 fn put_outcome(tail: &mut Tail, outcome: &Outcome)
-    requires { 81 + length tail.old ≤ 384 }
+    requires { 81 + length tail.old ≤ 3072 }
     ensures spelled { tail.new ≡ outcome_text outcome.now ++ tail.old }
     ensures short { length tail.new ≤ 81 + length tail.old }
 {
@@ -122,36 +142,36 @@ fn put_outcome(tail: &mut Tail, outcome: &Outcome)
             stamp,
         } => {
             tail.decimal(u64::from(*stamp));
-            tail.text(b" stamp ");
+            tail.letters(b" stamp ");
             tail.decimal(u64::from(*writer));
-            tail.text(b" from ");
+            tail.letters(b" from ");
             put_word(tail, value);
         },
         Outcome::Written { value } => put_word(tail, value),
         Outcome::Entered { ring } => {
             tail.decimal(u64::from(ring.number()));
-            tail.text(b" enter ");
+            tail.letters(b" enter ");
         },
         Outcome::Denied(denial) => {
             put_denial(tail, denial);
-            tail.text(b" denied ");
+            tail.letters(b" denied ");
         },
     }
 }
 
 // ` word W`
 fn put_word(tail: &mut Tail, word: &Word)
-    requires { 28 + length tail.old ≤ 384 }
+    requires { 28 + length tail.old ≤ 3072 }
     ensures spelled { tail.new ≡ codes " word " ++ octal word.now ++ tail.old }
     ensures short { length tail.new ≤ 28 + length tail.old }
 {
     tail.octal(word.value());
-    tail.text(b" word ");
+    tail.letters(b" word ");
 }
 
 // The denial's name.
 fn put_denial(tail: &mut Tail, denial: &Denial)
-    requires { 15 + length tail.old ≤ 384 }
+    requires { 15 + length tail.old ≤ 3072 }
     ensures spelled { tail.new ≡ denial_text denial.now ++ tail.old }
     ensures short { length tail.new ≤ 15 + length tail.old }
 {
@@ -167,34 +187,34 @@ fn spell_line(tail: &mut Tail, number: u32, ends: &Result2)
     put_result(tail, ends);
     tail.byte(b' ');
     tail.decimal(u64::from(number));
-    tail.text(b"line ");
+    tail.letters(b"line ");
 }
 
 fn put_result(tail: &mut Tail, ends: &Result2)
-    requires { 100 + length tail.old ≤ 384 }
+    requires { 100 + length tail.old ≤ 3072 }
     ensures spelled { tail.new ≡ result_text ends.now ++ tail.old }
     ensures short { length tail.new ≤ 100 + length tail.old }
 {
     match ends {
-        Result2::Done => tail.text(b"done"),
+        Result2::Done => tail.letters(b"done"),
         Result2::A(word) => {
             tail.octal(word.value());
-            tail.text(b"a ");
+            tail.letters(b"a ");
         },
         Result2::Pr { n, pointer } => put_register(tail, *n, pointer),
         Result2::Moved { ring, procedure } => put_procedure(tail, *ring, procedure),
         Result2::Denied(denial) => {
             put_denial(tail, denial);
-            tail.text(b"denied ");
+            tail.letters(b"denied ");
         },
-        Result2::Refused => tail.text(b"refused"),
-        Result2::HistoryFull => tail.text(b"history_full"),
+        Result2::Refused => tail.letters(b"refused"),
+        Result2::HistoryFull => tail.letters(b"history_full"),
     }
 }
 
 // `pr N RING S|W`
 fn put_register(tail: &mut Tail, n: u8, pointer: &Pointer)
-    requires { 90 + length tail.old ≤ 384 }
+    requires { 90 + length tail.old ≤ 3072 }
     ensures spelled { tail.new ≡ result_text (Pr n pointer.now) ++ tail.old }
     ensures short { length tail.new ≤ 90 + length tail.old }
 {
@@ -203,17 +223,17 @@ fn put_register(tail: &mut Tail, n: u8, pointer: &Pointer)
     tail.decimal(u64::from(pointer.ring.number()));
     tail.byte(b' ');
     tail.decimal(u64::from(n));
-    tail.text(b"pr ");
+    tail.letters(b"pr ");
 }
 
 // `ring R at S|W`
 fn put_procedure(tail: &mut Tail, ring: Ring, procedure: &Pointer)
-    requires { 90 + length tail.old ≤ 384 }
+    requires { 90 + length tail.old ≤ 3072 }
     ensures spelled { tail.new ≡ result_text (Moved ring procedure.now) ++ tail.old }
     ensures short { length tail.new ≤ 90 + length tail.old }
 {
     tail.address(procedure.segno, procedure.word);
-    tail.text(b" at ");
+    tail.letters(b" at ");
     tail.decimal(u64::from(ring.number()));
-    tail.text(b"ring ");
+    tail.letters(b"ring ");
 }

@@ -1,6 +1,6 @@
-use Rattle.std.proofs.Common.{arith, ◌∙◌}
+use Rattle.std.proofs.Common.{◌<◌, ◌%◌, arith, ◌∙◌}
 use Rattle.std.proofs.lemmas.List.{length-set}
-use Rattle.mx_text.proofs.TailLaws.{none_yet, two_written}
+use Rattle.mx_text.proofs.TailLaws.{none_yet, pair_digits, pair_written}
 use Rattle.mx_text.proofs.printing.tails.spell_octal.Goals as goal
 
 pub loop-left-init : goal.loop-left-init
@@ -15,20 +15,18 @@ pub overflow_sub-start-in-loop-left : goal.overflow_sub-start-in-loop-left
 overflow_sub-start-in-loop-left c =
     let l = c.loop-left in
     let i = l.invariant in
-    (two_written _ l.bytes l.start l.left i.has (omega (arith, i.length, i.start)) c.loop-left-test.true).0
-
-pub overflow_sub-start-in-loop-left-2 : goal.overflow_sub-start-in-loop-left-2
-overflow_sub-start-in-loop-left-2 c =
-    let l = c.loop-left in
-    let i = l.invariant in
-    (two_written _ l.bytes l.start l.left i.has (omega (arith, i.length, i.start)) c.loop-left-test.true).1
+    let few : l.left % 64 < 64 = omega arith in
+    let digits = pair_digits (l.left % 64) few in
+    omega (arith, (pair_written _ l.bytes l.start l.left _ _ i.has (omega (arith, i.length, i.start)) c.loop-left-test.true digits.0 digits.1).0)
 
 pub loop-left-preserved : goal.loop-left-preserved
 loop-left-preserved c =
     let l = c.loop-left in
     let i = l.invariant in
+    let few : l.left % 64 < 64 = omega arith in
+    let digits = pair_digits (l.left % 64) few in
     record {
-      has = (two_written _ l.bytes l.start l.left i.has (omega (arith, i.length, i.start)) c.loop-left-test.true).2;
+      has = (pair_written _ l.bytes l.start l.left _ _ i.has (omega (arith, i.length, i.start)) c.loop-left-test.true digits.0 digits.1).1;
       length = length-set _ _ _ ∙ length-set l.bytes _ _ ∙ i.length;
       start = omega (arith, i.start);
       before = omega (arith, i.before);

@@ -7,8 +7,8 @@ use Rattle.mx_text.proofs.printing.tails.spell_octal.Given as goal
 abbrev pub invariant-loop-left : goal.invariant-loop-left
 invariant-loop-left l = record {
   has : HasSpelled (octal l.n ++ drop l.end l.initial.bytes) l.bytes l.start l.left;
-  length : length l.bytes ≡ 384;
-  start : l.start ≤ 383;
+  length : length l.bytes ≡ 3072;
+  start : l.start ≤ 3071;
   before : l.start < l.end;
 }
 
