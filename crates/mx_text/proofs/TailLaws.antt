@@ -3,11 +3,9 @@ use Rattle.std.proofs.Common.{◌≡◌, ℕ, ◌+◌, ◌-◌, ◌<◌, ◌≤�
 use Rattle.std.proofs.Common.{◌*◌, ◌∷◌, true, nat_eq, get_or, drop-cons, add-one, refl, sym, ap, subst, ◌∙◌, arith, append_assoc, codes, length-append, length-drop}
 use Rattle.std.proofs.lemmas.Bool.{agree_below_at}
 use Rattle.std.proofs.lemmas.Bool.Decides.{nat_tests}
-use Rattle.std.proofs.lemmas.Fmt.{length-decimal-le}
 use Rattle.std.proofs.lemmas.List.{drop-set, drop_all, length-set}
 use Rattle.mx_sdw.proofs.OctalLaws.{HasSpelled, below_with_more, last_written, octal_small, length-octal}
 use Rattle.mx_sdw.specs.Octal.{octal}
-use Rattle.std.specs.Fmt.{decimal}
 use Rattle.mx_text.specs.declared.printing.tails.TheConstants.{PAIRS}
 
 -- behind the last byte is nothing
@@ -95,27 +93,17 @@ pub element_before : (kind address ring point outcome old : List ℕ)
 element_before kind address ring point outcome old =
     rw (append_assoc, append_assoc, append_assoc, append_assoc, append_assoc, append_assoc, append_assoc, append_assoc, append_assoc) refl
 
--- a number has at most 20 digits in decimal, for which there is room
-pub decimal_fits : (n : ℕ) (bytes : List ℕ) (start : ℕ) (old : List ℕ) → drop start bytes ≡ old → length bytes ≡ 3072 → start ≤ 3072
-    → 20 + length old ≤ 3072 → n < 2 ^ 64 → (length (decimal n) ≤ start) × (start ≤ length bytes)
-decimal_fits n bytes start old e all within room h =
-    let d : length (decimal n) ≤ 20 = length-decimal-le 20 n (omega arith) (omega arith) h in
-    let k : length old ≡ length bytes - start = rw (← e) (length-drop start bytes) in
-    (omega (arith, d, k, all, within, room), omega (arith, all, within))
-
-pub decimal_short : (n : ℕ) (after before : List ℕ) → after ≡ decimal n ++ before → n < 2 ^ 64
-    → length after ≤ 20 + length before
-decimal_short n after before e h =
-    let b : length (decimal n ++ before) ≡ length (decimal n) + length before = length-append (decimal n) before in
-    let d : length (decimal n) ≤ 20 = length-decimal-le 20 n (omega arith) (omega arith) h in
-    let f : length after ≡ length (decimal n ++ before) = ap length e in
-    omega (arith, b, d, f)
+-- the text of a line's end
+pub line_before : (number result : List ℕ)
+    → codes "line " ++ (number ++ (32 ∷ (result ++ 10 ∷ []))) ≡ codes "line " ++ number ++ codes " " ++ result ++ codes "\n"
+line_before number result = rw (append_assoc, append_assoc, append_assoc) refl
 
 -- a number has at most 22 digits in octal
-pub octal_short : (n : ℕ) (after before : List ℕ) → after ≡ octal n ++ before → n < 2 ^ 64
-    → length after ≤ 22 + length before
-octal_short n after before e h =
-    let b : length (octal n ++ before) ≡ length (octal n) + length before = length-append (octal n) before in
+pub octal_short : (n : ℕ) (after before : List ℕ) (start end : ℕ) → drop start after ≡ octal n ++ drop end before → length after ≡ 3072
+    → length before ≡ 3072 → end ≤ 3072 → n < 2 ^ 64 → end ≤ 22 + start
+octal_short n after before start end e a b within h =
     let d : length (octal n) ≤ 22 = length-octal n 22 (omega arith) (omega arith) in
-    let f : length after ≡ length (octal n ++ before) = ap length e in
-    omega (arith, b, d, f)
+    let all : length (drop start after) ≡ length (octal n) + length (drop end before) = ap length e ∙ length-append (octal n) (drop end before) in
+    let left : length (drop start after) ≡ length after - start = length-drop start after in
+    let rest : length (drop end before) ≡ length before - end = length-drop end before in
+    omega (arith, d, all, left, rest, a, b, within)

@@ -20,7 +20,7 @@ use mx_state::{Entry, Journal};
 use mx_transcript::{Transcript, Transcripts};
 use numbers::add_labelled;
 use std::alloc::{AllocError, Global};
-use tails::Tail;
+use tails::ROOM;
 use thiserror::Error;
 
 /// Why a text was not printed whole.
@@ -138,9 +138,9 @@ fn print_steps<K: Sink>(
     ensures only { (IsErrOf result TextError.Fault → ⊥) → K.faults sink.new ≡ K.faults sink.old }
     ensures later { K.faults sink.old ≤ K.faults sink.new }
 {
-    let mut tail = Tail::new();
+    let mut bytes = [0; ROOM];
     for (number, events, ends) in transcript.steps() {
-        add_step(buffer, &mut tail, number, events, ends)?;
+        add_step(buffer, &mut bytes, number, events, ends)?;
         send_when_long(buffer, sink)?;
     }
     Ok(())

@@ -1,156 +1,44 @@
-//! The end of a printed line, spelled from its last byte to its first: so no number's digits are counted or turned
-//! round, and each line is added to the bytes at once.
+//! Texts that are spelled from their last byte to their first: so no number's digits are counted or turned round, and a line
+//! with its events is added to what is printed at once. Each function puts a text so that it ends where the bytes from `end`
+//! on begin, and says where it starts.
 
-ghost use Rattle.std.specs.Prelude.{◌≡◌, ◌≤◌, ◌<◌, ◌+◌, ◌++◌, ◌∷◌, [], codes, length, drop};
+ghost use Rattle.std.specs.Prelude.{◌≡◌, ◌≤◌, ◌<◌, ◌+◌, ◌++◌, ◌∷◌, length, drop};
 ghost use Rattle.std.specs.Fmt.{decimal};
 ghost use Rattle.mx_sdw.specs.Octal.{octal};
 ghost use Rattle.mx_request.specs.Fields.{address_text};
 
 use itoa::write_digits;
-use std::marker::Model;
 
-/// The bytes of the longest sixteen lines.
-const ROOM: usize = 3072;
+/// Room for the longest sixteen lines.
+pub(super) type Room = [u8; 3072];
+
+/// How many bytes that are.
+pub(super) const ROOM: usize = 3072;
 
 /// The two octal digits of each number below 64.
 static PAIRS: [u8; 128] =
     *b"00010203040506071011121314151617202122232425262730313233343536374041424344454647505152535455565760616263646566677071727374757677";
 
-/// The end of a line's text, at most 3,072 bytes of it.
-#[derive(Drop)]
-pub(super) struct Tail {
-    bytes: [u8; 3072],
-    start: usize,
-}
-
-impl Model for Tail {
-    ghost use Rattle.std.specs.Prelude.{List, ℕ, ◌≤◌, drop};
-
-    ghost Value = { List ℕ };
-
-    ghost view = { λ a. drop a.start a.bytes };
-
-    ghost invariant = { λ a. a.start ≤ 3072 };
-}
-
-impl Tail {
-    /// Nothing yet.
-    pub(super) fn new() -> Tail
-        ensures { result ≡ [] }
-    {
-        Tail {
-            bytes: [0; ROOM],
-            start: ROOM,
-        }
-    }
-
-    /// Begins a line with its end, the newline.
-    #[inline(always)]
-    pub(super) fn begin(&mut self)
-        ensures { self.new ≡ codes "\n" }
-    {
-        self.clear();
-        self.byte(b'\n');
-    }
-
-    #[inline(always)]
-    #[tactic(auto, using(crate::proofs::TailLaws::nothing))]
-    pub(super) fn clear(&mut self)
-        ensures { self.new ≡ [] }
-    {
-        self.start = ROOM;
-    }
-
-    /// The bytes spelled.
-    #[inline(always)]
-    pub(super) fn bytes(&self) -> &[u8]
-        ensures { result.now ≡ self.now }
-    {
-        &self.bytes[self.start..]
-    }
-
-    /// Puts a byte before what is spelled.
-    #[inline(always)]
-    pub(super) fn byte(&mut self, byte: u8)
-        requires { length self.old < 3072 }
-        ensures { self.new ≡ byte ∷ self.old }
-    {
-        self.start -= 1;
-        self.bytes[self.start] = byte;
-    }
-
-    /// Puts letters before what is spelled.
-    #[inline(always)]
-    pub(super) fn letters<const N: usize>(&mut self, letters: &[u8; N])
-        requires { length letters.now + length self.old ≤ 3072 }
-        ensures { self.new ≡ letters.now ++ self.old }
-    {
-        self.start = put_letters(&mut self.bytes, self.start, letters);
-    }
-
-    /// Puts a text before what is spelled.
-    #[inline(always)]
-    pub(super) fn text(&mut self, text: &[u8])
-        requires { length text.now + length self.old ≤ 3072 }
-        ensures { self.new ≡ text.now ++ self.old }
-    {
-        let end = self.start;
-        self.start -= text.len();
-        self.bytes[self.start..end].copy_from_slice(text);
-    }
-
-    /// Puts a number in octal before what is spelled, in at most 22 digits.
-    pub(super) fn octal(&mut self, n: u64)
-        requires { 22 + length self.old ≤ 3072 }
-        ensures spelled { self.new ≡ octal n ++ self.old }
-        ensures short { length self.new ≤ 22 + length self.old }
-    {
-        self.start = spell_octal(&mut self.bytes, self.start, n);
-    }
-
-    /// Puts the address `S|W` before what is spelled.
-    pub(super) fn address(&mut self, segno: u16, word: u16)
-        requires { 45 + length self.old ≤ 3072 }
-        ensures spelled { self.new ≡ address_text segno word ++ self.old }
-        ensures short { length self.new ≤ 45 + length self.old }
-    {
-        self.octal(u64::from(word));
-        self.byte(b'|');
-        self.octal(u64::from(segno));
-    }
-
-    /// Puts a number in decimal before what is spelled, in at most 20 digits.
-    #[inline(always)]
-    #[tactic(auto, using(std::proofs::lemmas::Fmt::decimal_digit))]
-    pub(super) fn decimal(&mut self, n: u64)
-        requires { 20 + length self.old ≤ 3072 }
-        ensures spelled { self.new ≡ decimal n ++ self.old }
-        ensures short { length self.new ≤ 20 + length self.old }
-    {
-        if n < 10 {
-            self.byte(b'0' + n as u8);
-        } else {
-            self.long_decimal(n);
-        }
-    }
-
-    #[inline(never)]
-    fn long_decimal(&mut self, n: u64)
-        requires { 20 + length self.old ≤ 3072 }
-        ensures spelled { self.new ≡ decimal n ++ self.old }
-        ensures short { length self.new ≤ 20 + length self.old }
-    {
-        self.start = write_digits(n, &mut self.bytes, self.start);
-    }
-}
-
-// Puts letters so that they end where the bytes from `end` on begin; where they start.
+/// Puts a byte.
 #[inline(always)]
-fn put_letters<const N: usize>(bytes: &mut [u8; 3072], end: usize, letters: &[u8; N]) -> usize
+pub(super) fn put_byte(bytes: &mut Room, end: usize, byte: u8) -> usize
+    requires within { end ≤ 3072 }
+    requires room { 1 ≤ end }
+    ensures put { drop result bytes.new ≡ byte ∷ drop end bytes.old }
+    ensures start { result + 1 ≡ end }
+{
+    let start = end - 1;
+    bytes[start] = byte;
+    start
+}
+
+/// Puts letters.
+#[inline(always)]
+pub(super) fn put_letters<const N: usize>(bytes: &mut Room, end: usize, letters: &[u8; N]) -> usize
     requires within { end ≤ 3072 }
     requires room { length letters.now ≤ end }
     ensures put { drop result bytes.new ≡ letters.now ++ drop end bytes.old }
-    ensures within { result ≤ end }
+    ensures start { result + length letters.now ≡ end }
 {
     let start = end - N;
     let mut left = N;
@@ -161,9 +49,75 @@ fn put_letters<const N: usize>(bytes: &mut [u8; 3072], end: usize, letters: &[u8
     start
 }
 
+/// Puts a text.
+pub(super) fn put_text(bytes: &mut Room, end: usize, text: &[u8]) -> usize
+    requires within { end ≤ 3072 }
+    requires room { length text.now ≤ end }
+    ensures put { drop result bytes.new ≡ text.now ++ drop end bytes.old }
+    ensures start { result + length text.now ≡ end }
+{
+    let start = end - text.len();
+    bytes[start..end].copy_from_slice(text);
+    start
+}
+
+/// Puts a number in octal, in at most 22 digits.
+#[inline(always)]
+pub(super) fn put_octal(bytes: &mut Room, end: usize, n: u64) -> usize
+    requires within { end ≤ 3072 }
+    requires room { 22 ≤ end }
+    ensures put { drop result bytes.new ≡ octal n ++ drop end bytes.old }
+    ensures within { result ≤ end }
+    ensures short { end ≤ 22 + result }
+{
+    spell_octal(bytes, end, n)
+}
+
+/// Puts the address `S|W`, in at most 45 bytes.
+#[inline(always)]
+pub(super) fn put_address(bytes: &mut Room, end: usize, segno: u16, word: u16) -> usize
+    requires within { end ≤ 3072 }
+    requires room { 45 ≤ end }
+    ensures put { drop result bytes.new ≡ address_text segno word ++ drop end bytes.old }
+    ensures within { result ≤ end }
+    ensures short { end ≤ 45 + result }
+{
+    let at = put_octal(bytes, end, u64::from(word));
+    let at = put_byte(bytes, at, b'|');
+    put_octal(bytes, at, u64::from(segno))
+}
+
+/// Puts a number in decimal, in at most 20 digits.
+#[inline(always)]
+#[tactic(auto, using(std::proofs::lemmas::Fmt::decimal_digit))]
+pub(super) fn put_decimal(bytes: &mut Room, end: usize, n: u64) -> usize
+    requires within { end ≤ 3072 }
+    requires room { 20 ≤ end }
+    ensures put { drop result bytes.new ≡ decimal n ++ drop end bytes.old }
+    ensures within { result ≤ end }
+    ensures short { end ≤ 20 + result }
+{
+    if n < 10 {
+        put_byte(bytes, end, b'0' + n as u8)
+    } else {
+        put_long_decimal(bytes, end, n)
+    }
+}
+
+#[inline(never)]
+fn put_long_decimal(bytes: &mut Room, end: usize, n: u64) -> usize
+    requires within { end ≤ 3072 }
+    requires room { 20 ≤ end }
+    ensures put { drop result bytes.new ≡ decimal n ++ drop end bytes.old }
+    ensures within { result ≤ end }
+    ensures short { end ≤ 20 + result }
+{
+    write_digits(n, bytes, end)
+}
+
 // Spells the last digits of a number that are still to come, one or two, the last one at `start`; where they start.
 #[inline(always)]
-fn spell_front(bytes: &mut [u8; 3072], start: usize, left: u64) -> usize
+fn spell_front(bytes: &mut Room, start: usize, left: u64) -> usize
     requires few { left < 64 }
     requires within { start ≤ 3071 }
     requires room { 8 ≤ left → 1 ≤ start }
@@ -180,7 +134,8 @@ fn spell_front(bytes: &mut [u8; 3072], start: usize, left: u64) -> usize
 }
 
 // Spells a number in octal so that it ends where the bytes from `end` on begin; where it starts.
-fn spell_octal(bytes: &mut [u8; 3072], end: usize, n: u64) -> usize
+#[inline(always)]
+fn spell_octal(bytes: &mut Room, end: usize, n: u64) -> usize
     requires within { end ≤ 3072 }
     requires room { 22 ≤ end }
     ensures spelled { drop result bytes.new ≡ octal n ++ drop end bytes.old }

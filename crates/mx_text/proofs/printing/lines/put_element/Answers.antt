@@ -2,18 +2,18 @@ use Rattle.std.proofs.Common.{◌∙◌}
 use Rattle.mx_text.proofs.TailLaws.{element_before}
 use Rattle.mx_text.proofs.printing.lines.put_element.Goals as goal
 
-pub returns-clause-spelled : goal.returns-clause-spelled
-returns-clause-spelled c =
-    c.put_kind.ensures
+pub returns-clause-put : goal.returns-clause-put
+returns-clause-put c =
+    c.put_kind.ensures.put
     ∙ rw (
-      c.address.ensures.spelled,
-      c.letters-2.ensures,
-      c.decimal-2.ensures.spelled,
+      c.put_address-at.ensures.put,
+      c.put_letters-at-2.ensures.put,
+      c.put_decimal-at-2.ensures.put,
       c.from-2.ensures,
       c.number.ensures.number,
-      c.letters.ensures,
-      c.decimal.ensures.spelled,
+      c.put_letters-at.ensures.put,
+      c.put_decimal-at.ensures.put,
       c.from.ensures,
-      c.put_outcome.ensures.spelled,
-      c.byte.ensures,
+      c.put_outcome-at.ensures.put,
+      c.put_byte-at.ensures.put,
     ) (element_before _ _ _ _ _ _)
