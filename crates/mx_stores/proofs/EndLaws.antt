@@ -1,5 +1,5 @@
 -- From when on the stores in a table are superseded, gathered process by process.
-use Rattle.std.proofs.Common.{◌≡◌, inl, inr, ℕ, zero, suc, ◌+◌, ◌<◌, ◌≤◌, ◌==◌, true, false, if◌then◌else◌, drop, List, [], ◌∷◌, ◌++◌, slice_index_or, Option, Some, None, length, refl, ap, sym, ◌∙◌, subst, arith}
+use Rattle.std.proofs.Common.{◌≡◌, inl, inr, ℕ, zero, suc, ◌+◌, ◌<◌, ◌≤◌, ◌==◌, true, false, if◌then◌else◌, drop, List, [], ◌∷◌, ◌++◌, slice_index_or, Option, Some, None, Result, Ok, Err, IfOk, length, refl, ap, sym, ◌∙◌, subst, arith}
 use Rattle.std.specs.List.{slice_get, slice_set}
 use Rattle.std.proofs.Math.Nat.{min_comm}
 use Rattle.std.proofs.lemmas.Bool.{cases_eq, cases_lt}
@@ -8,11 +8,13 @@ use Rattle.mx_reads.specs.Deeds.{CellUse, Deed, Deeds}
 use Rattle.mx_stores.specs.Ends.{AreEnds, AreEndsOf}
 use Rattle.mx_stores.specs.Least.{least, least_of}
 use Rattle.mx_stores.specs.Parts.{deeds_of}
+use Rattle.mx_stores.specs.Rows.{ArePartRows, AreRows}
 use Rattle.mx_stores.specs.Since.{since}
 use Rattle.mx_stores.specs.Tables.{ArePartTables, AreTables}
 use Rattle.mx_stores.specs.Until.{overwritten, replaced, until}
 use Rattle.mx_stores.specs.declared.stores.Store.{Store}
 use Rattle.mx_stores.specs.declared.ends.Ends.{Ends}
+use Rattle.mx_stores.specs.declared.rows.Rows.{Rows}
 use Rattle.mx_stores.specs.declared.stores.Table.{Table}
 use Rattle.mx_stores.proofs.SightedLaws.{none_some, passes, picks, some_same}
 use Rattle.mx_stores.proofs.Tables.{get_pushed}
@@ -141,21 +143,21 @@ past_ends done u storer n stores ends out are k s e = elim (cases_lt k n) [
 ]
 
 -- those of one table more
-abbrev pub AreFirstTables : Deeds → List Table → List Ends → Type 0
-AreFirstTables done tables ends = (u : ℕ) (table : Table) (own : Ends) → slice_get tables u ≡ Some table
-    → slice_get ends u ≡ Some own → AreEndsOf done (length tables) u table.stores.items own.of.items
+abbrev pub AreFirstTables : Deeds → ℕ → List Table → List Ends → Type 0
+AreFirstTables done count tables ends = (u : ℕ) (table : Table) (own : Ends) → slice_get tables u ≡ Some table
+    → slice_get ends u ≡ Some own → AreEndsOf done count u table.stores.items own.of.items
 
-pub one_table_more : (done : Deeds) (tables : List Table) (n : ℕ) (table : Table) (ends : List Ends) (own : Ends)
-    → length ends ≡ n → slice_get tables n ≡ Some table → AreEndsOf done (length tables) n table.stores.items own.of.items
-    → AreFirstTables done tables ends → AreFirstTables done tables (ends ++ own ∷ [])
-one_table_more done tables n table ends own long at is old u t o e f = elim (get_pushed ends own o u f) [
+pub one_table_more : (done : Deeds) (count : ℕ) (tables : List Table) (n : ℕ) (table : Table) (ends : List Ends) (own : Ends)
+    → length ends ≡ n → slice_get tables n ≡ Some table → AreEndsOf done count n table.stores.items own.of.items
+    → AreFirstTables done count tables ends → AreFirstTables done count tables (ends ++ own ∷ [])
+one_table_more done count tables n table ends own long at is old u t o e f = elim (get_pushed ends own o u f) [
   | inl before ↦ old u t o e before
   | inr last ↦
       let here : n ≡ u = sym long ∙ sym last.0 in
       let same : table ≡ t = some_same table t (sym at ∙ ap (λ (i : ℕ). slice_get tables i) here ∙ e) in
-      subst (λ (x : Ends). AreEndsOf done (length tables) u t.stores.items x.of.items) last.1
-      (subst (λ (x : Table). AreEndsOf done (length tables) u x.stores.items own.of.items) same
-      (subst (λ (i : ℕ). AreEndsOf done (length tables) i table.stores.items own.of.items) here is))
+      subst (λ (x : Ends). AreEndsOf done count u t.stores.items x.of.items) last.1
+      (subst (λ (x : Table). AreEndsOf done count u x.stores.items own.of.items) same
+      (subst (λ (i : ℕ). AreEndsOf done count i table.stores.items own.of.items) here is))
 ]
 
 -- of the tables of parts, as lists that are handed on
@@ -169,3 +171,17 @@ part_ends parts tables first again ends given f a g are made = (
       (subst (λ (ts : List Table). AreEnds (deeds_of parts) ts ends) (f ∙ sym a)
       (made (subst (λ (ts : List Table). AreTables (deeds_of parts) ts) (sym f) are.each))),
 )
+
+-- rows that were made of the tables of parts
+pub part_rows : {E : Type 0} (parts : List (List Deed)) (tables given : List Table) (ends : List Ends) (r : Result Rows E)
+    → ArePartTables parts tables → given ≡ tables → (AreTables (deeds_of parts) given → AreEnds (deeds_of parts) given ends)
+    → IfOk r (λ rows. rows.tables.items ≡ tables)
+    → IfOk r (λ rows. (done : Deeds) → AreTables done tables → AreEnds done tables ends → AreRows done rows)
+    → IfOk r (ArePartRows parts)
+part_rows parts tables given ends (Ok rows) are same made is each = record {
+  long = ap (λ (ts : List Table). length ts) is ∙ are.long;
+  each = each (deeds_of parts) are.each
+      (subst (λ (ts : List Table). AreEnds (deeds_of parts) ts ends) same
+      (made (subst (λ (ts : List Table). AreTables (deeds_of parts) ts) (sym same) are.each)));
+}
+part_rows parts tables given ends (Err e) are same made is each = tt

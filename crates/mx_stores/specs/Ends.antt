@@ -11,8 +11,12 @@ abbrev pub AreEndsOf : Deeds → ℕ → ℕ → List Store → List (Option ℕ
 AreEndsOf done count storer stores ends = (here : ℕ) (s : Store) → slice_get stores here ≡ Some s
     → slice_get ends here ≡ Some (until done count storer s.place s.cell)
 
--- beside each table of the processes 0, 1, .. stand those of its stores
-pub record AreEnds (done : Deeds) (tables : List Table) (ends : List Ends) : Type 0 where
+-- beside each table of the processes 0, 1, .. stand those of its stores, by its own process or one below the count
+pub record AreEndsTo (done : Deeds) (count : ℕ) (tables : List Table) (ends : List Ends) : Type 0 where
   pub long : length ends ≡ length tables
   pub each : (u : ℕ) (table : Table) (own : Ends) → slice_get tables u ≡ Some table → slice_get ends u ≡ Some own
-      → AreEndsOf done (length tables) u table.stores.items own.of.items
+      → AreEndsOf done count u table.stores.items own.of.items
+
+-- or by any of these processes
+abbrev pub AreEnds : Deeds → List Table → List Ends → Type 0
+AreEnds done tables ends = AreEndsTo done (length tables) tables ends

@@ -17,6 +17,7 @@ use crate::rows::Rows;
 use mx_list::Sequence;
 use std::alloc::{AllocError, Global};
 use std::marker::Model;
+use std::thread::Threads;
 
 // The first place at which a read of process `p` is wrong, if any is, where its deeds are these.
 fn first_wrong(
@@ -67,6 +68,22 @@ impl<'a> Stores<'a> {
         ensures { IfOk result (λ stores. stores ≡ parts.now) }
     {
         let rows = Rows::new(alloc, parts)?;
+        Ok(Stores { parts, rows })
+    }
+
+    /// The same, made in threads where they can be had, at most sixteen.
+    ///
+    /// # Errors
+    ///
+    /// Want of memory.
+    pub fn beside<R: Threads + Sync>(
+        rt: &R,
+        alloc: Global,
+        parts: &'a [Sequence<Deed>],
+    ) -> Result<Stores<'a>, AllocError>
+        ensures { IfOk result (λ stores. stores ≡ parts.now) }
+    {
+        let rows = Rows::beside(rt, alloc, parts)?;
         Ok(Stores { parts, rows })
     }
 

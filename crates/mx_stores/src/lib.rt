@@ -8,11 +8,11 @@
 //! never falls, so the two are walked side by side. The cells are numbered once for all, and in each table it is kept where
 //! the stores in each begin.
 //!
-//! The reads of one process are then decided apart from those of the others ([`Stores`]). What a process has sighted of a
-//! cell is one place in each table, from which on a store is beyond that; these places stand in rows, by the number of the
-//! cell and its group in the table, so that no search is left. The store that a read stands for is the first from there that
-//! will do, and no other choice is right; since that place never falls, a process goes over each other's stores in a cell
-//! once.
+//! The reads of one process are then decided apart from those of the others ([`Stores`]); from when on each store is superseded
+//! may be found in threads, table by table ([`Stores::beside`]). What a process has sighted of a cell is one place in each
+//! table, from which on a store is beyond that; these places stand in rows, by the number of the cell and its group in the
+//! table, so that no search is left. The store that a read stands for is the first from there that will do, and no other choice
+//! is right; since that place never falls, a process goes over each other's stores in a cell once.
 #![tactic(auto)]
 
 mod cells;

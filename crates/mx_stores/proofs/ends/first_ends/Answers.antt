@@ -4,7 +4,7 @@ use Rattle.std.proofs.lemmas.Option.{slice_get-get_or}
 use Rattle.mx_stores.specs.declared.ends.Ends.{Ends}
 use Rattle.mx_stores.specs.declared.stores.Table.{Table}
 use Rattle.mx_stores.proofs.EndLaws.{AreFirstTables, longer, one_table_more}
-use Rattle.mx_stores.proofs.ends.ends_of.Goals as goal
+use Rattle.mx_stores.proofs.ends.first_ends.Goals as goal
 
 pub loop-storer-preserved : goal.loop-storer-preserved
 loop-storer-preserved c =
@@ -12,12 +12,12 @@ loop-storer-preserved c =
     let at : slice_get c.args.tables.now c.loop-storer.storer ≡ Some c.index-tables-storer.result =
     slice_get-get_or c.args.tables.now c.loop-storer.storer c.index-tables-storer.result within
     ∙ ap (λ (t : Table). Some t) (sym c.index-tables-storer.is) in
-    let pushed : c.push.new.self.items ≡ c.loop-storer.ends.items ++ c.in_ok-new.field-0 ∷ [] = search rules in
+    let pushed : c.push.new.self.items ≡ c.loop-storer.ends.items ++ c.in_ok-begin.field-0 ∷ [] = search rules in
     record {
-      long = longer c.loop-storer.ends.items c.push.new.self.items c.in_ok-new.field-0 c.loop-storer.storer pushed c.loop-storer.invariant.long;
-      each = λ done tables. subst (λ (xs : List Ends). AreFirstTables done c.args.tables.now xs) (sym pushed)
-          (one_table_more done c.args.tables.now c.loop-storer.storer c.index-tables-storer.result c.loop-storer.ends.items
-          c.in_ok-new.field-0 c.loop-storer.invariant.long at (c.in_ok-new.ensures done tables at)
+      long = longer c.loop-storer.ends.items c.push.new.self.items c.in_ok-begin.field-0 c.loop-storer.storer pushed c.loop-storer.invariant.long;
+      each = λ done tables. subst (λ (xs : List Ends). AreFirstTables done 0 c.args.tables.now xs) (sym pushed)
+          (one_table_more done 0 c.args.tables.now c.loop-storer.storer c.index-tables-storer.result c.loop-storer.ends.items
+          c.in_ok-begin.field-0 c.loop-storer.invariant.long at (c.in_ok-begin.ensures done c.loop-storer.storer (tables c.loop-storer.storer c.index-tables-storer.result at))
           (c.loop-storer.invariant.each done tables));
     }
 
