@@ -1,5 +1,5 @@
 -- The rule that is told is one that the line breaks.
-use Rattle.std.proofs.Common.{◌≡◌, ◌⊎◌, inl, inr, ℕ, suc, ◌<◌, ◌≤◌, List, length, Option, Some, None, refl, sym, subst, arith}
+use Rattle.std.proofs.Common.{◌≡◌, ◌⊎◌, inl, inr, ℕ, suc, ◌<◌, ◌≤◌, List, length, Option, Some, None, sym, subst, arith}
 use Rattle.std.specs.Prelude.{IfSome}
 use Rattle.mx_breach.specs.Rules.{AreFailing, IsBroken, IsOther, IsWithin}
 use Rattle.mx_breach.specs.declared.rules.Broken.{Broken}

@@ -1,5 +1,5 @@
 -- Which rule on the part of a process a line breaks: with it the lines do not keep the rule any more.
-use Rattle.std.specs.Prelude.{◌≡◌, ℕ, suc, ◌<◌, List, length, Option, Some, None}
+use Rattle.std.specs.Prelude.{◌≡◌, ℕ, suc, ◌<◌, List, length, Option, Some}
 use Rattle.mx_breach.specs.declared.rules.Broken.{Broken}
 use Rattle.mx_breach.specs.declared.rules.Rule.{Rule}
 use Rattle.mx_breach.specs.declared.rules.Rule.TheVariants.{Full, Lines, Misses, Naming, Points, Reads, Setup}
