@@ -113,8 +113,9 @@ fn work_from<
         ensures done { OnOk result.done (HasNoLine B.session result.process) }
     {
         let mut process = process;
+        let room = process.reserve_lines();
         let done = if start.wait(rt, place) {
-            process.run(rt, alloc, office, gate)
+            process.run_with(rt, alloc, office, gate, room)
         } else {
             Err(AllocError)
         };

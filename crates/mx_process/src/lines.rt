@@ -157,6 +157,28 @@ impl<'a, B: Attending, A: Auditor> Process<'a, B, A> {
         Ok(())
     }
 
+    /// The same, after room was made for its lines, or could not be had: then the run is to end for all.
+    pub fn run_with<R: Wait, G: Gate>(
+        &mut self,
+        rt: &R,
+        alloc: Global,
+        office: &Office<'_, B>,
+        gate: &G,
+        room: Result<(), AllocError>,
+    ) -> Result<(), AllocError>
+        requires awake { IsAwake self.old }
+        ensures ended { OnOk result (HasNoLine B.session self.new) }
+        ensures own { IsOwn self.old self.new }
+    {
+        match room {
+            Ok(()) => self.run(rt, alloc, office, gate),
+            Err(error) => {
+                office.stop(rt);
+                Err(error)
+            }
+        }
+    }
+
     // The next line, of which the gate is told; or, where the gate holds nobody, lines in one stay and the one after them.
     fn go_on<R: Wait, G: Gate>(
         &mut self,

@@ -5,6 +5,7 @@ ghost use Rattle.std.specs.Option.{option_map};
 ghost use Rattle.mx_core.specs.declared.words.Stage.TheVariants.{Outside};
 ghost use Rattle.mx_closing.specs.Views.{view_in};
 ghost use Rattle.mx_process.specs.Audited.{IsAudited};
+ghost use Rattle.mx_process.specs.Lines.{IsAwake, IsOwn};
 ghost use Rattle.mx_process.specs.Plans.{IsUncut, left_of, place_in};
 ghost use Rattle.mx_process.specs.Processes.{HasLine, HasRoom, IsNew, IsNewPass, IsStill, script_of};
 ghost use Rattle.mx_ties.specs.Working.{HasWorked};
@@ -62,7 +63,8 @@ impl<'a, B: Attending, A: Auditor> Model for Process<'a, B, A> {
 
 impl<'a, B: Attending, A: Auditor> Process<'a, B, A> {
     /// The process of a pass before its first line, without an auditor. Condition: the pass is that of a process of the
-    /// session, and did nothing yet. From then on the pass keeps no trace: what the process does is recorded by its lines.
+    /// session, and did nothing yet. From then on the pass keeps no trace: what the process does is recorded by its lines, for
+    /// which no room is made yet.
     /// The only error is want of memory; then the pass is given up.
     pub fn new(
         alloc: Global,
@@ -82,7 +84,7 @@ impl<'a, B: Attending, A: Auditor> Process<'a, B, A> {
             state: LineState {
                 first: first_line(session, p),
                 control: Control::opening(most_gates(session.version())),
-                recording: Recording::with_room(alloc, script.len())?,
+                recording: Recording::with_room(alloc, 0)?,
                 progress: Progress::Before,
             },
             missing: None,
@@ -112,6 +114,17 @@ impl<'a, B: Attending, A: Auditor> Process<'a, B, A> {
     {
         self.pass.reserve(ATTEMPT as usize)?;
         self.state.recording.reserve_events(ATTEMPT)
+    }
+
+    /// Makes room for all lines of its script and for as many events, by the thread that calls it, so that nothing that is
+    /// recorded is moved. Condition: it does not wait. Want of memory changes nothing but room.
+    pub fn reserve_lines(&mut self) -> Result<(), AllocError>
+        requires awake { IsAwake self.old }
+        ensures awake { IsAwake self.new }
+        ensures own { IsOwn self.old self.new }
+    {
+        let lines = self.script.len().saturating_add(ATTEMPT as usize);
+        self.state.recording.reserve_lines(lines)
     }
 
     /// Whether a line is left.

@@ -24,7 +24,7 @@ use mx_state::Entry;
 use std::alloc::AllocError;
 
 /// How many lines a stay has at most: who waits for the process to leave waits no longer.
-const LINES: u32 = 32;
+const LINES: u32 = 256;
 
 /// What a stay came to.
 pub(crate) enum Stayed {

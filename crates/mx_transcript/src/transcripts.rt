@@ -1,6 +1,6 @@
 //! Transcripts: what each line of a process's script came to.
 
-ghost use Rattle.std.specs.Prelude.{◌≡◌, ◌≤◌, ◌+◌, [], ◌∷◌, ◌++◌, IsTrue, length, OnOk, IfOk};
+ghost use Rattle.std.specs.Prelude.{◌≡◌, ◌≤◌, ◌<◌, ◌+◌, [], ◌∷◌, ◌++◌, IsTrue, length, OnOk, IfOk, vec_capacity, vec_len};
 ghost use Rattle.std.specs.Iterator.{YieldsFirstBy, item_count};
 ghost use Rattle.mx_transcript.specs.Asking.{result_of};
 ghost use Rattle.mx_transcript.specs.Denials.{last_denial};
@@ -202,6 +202,14 @@ impl Recording {
         self.lines.reserve(1)
     }
 
+    /// Makes room for so many more lines and for as many more events. Want of memory changes nothing but room.
+    pub fn reserve_lines(&mut self, lines: usize) -> Result<(), AllocError>
+        ensures same { IsStill self.old self.new }
+    {
+        self.events.reserve(lines)?;
+        self.lines.reserve(lines)
+    }
+
     /// Makes room for so many more events and for the end of one more line, as [`Recording::reserve`] does for one event.
     pub fn reserve_events(&mut self, events: u32) -> Result<(), AllocError>
         ensures spare { OnOk result (events ≤ self.new.spare) }
@@ -223,9 +231,7 @@ impl Recording {
         ensures room { self.new.line_room ≡ self.old.line_room }
         ensures spare { self.old.spare ≤ self.new.spare + 1 }
     {
-        let Ok(()) = self.events.extend_from_slice(&[event]) else {
-            unreachable!()
-        };
+        put(&mut self.events, &event);
     }
 
     /// One more event of the line at work.
@@ -235,9 +241,7 @@ impl Recording {
         ensures events { self.new.events ≡ self.old.events ++ event ∷ [] }
         ensures room { self.new.line_room ≡ self.old.line_room }
     {
-        let Ok(()) = self.events.extend_from_slice(&[event]) else {
-            unreachable!()
-        };
+        put(&mut self.events, &event);
     }
 
     /// The line at work has ended, with this number and this result.
@@ -253,9 +257,7 @@ impl Recording {
             end,
             result: ends,
         };
-        let Ok(()) = self.lines.extend_from_slice(&[line]) else {
-            unreachable!()
-        };
+        put(&mut self.lines, &line);
     }
 
     /// The lines that have ended. Takes no memory.
@@ -267,4 +269,17 @@ impl Recording {
             lines: self.lines,
         }
     }
+}
+
+// Puts an item behind the others. Condition: there is room for it. So it takes no memory.
+#[inline(always)]
+fn put<T: Copy>(list: &mut Vec<T>, item: &T)
+    requires { vec_len list.old < vec_capacity list.old }
+    ensures items { list.new.items ≡ list.old.items ++ item.now ∷ [] }
+    ensures len { vec_len list.new ≡ vec_len list.old + 1 }
+    ensures capacity { vec_capacity list.old ≤ vec_capacity list.new }
+{
+    let Ok(()) = list.push(*item) else {
+        unreachable!()
+    };
 }
