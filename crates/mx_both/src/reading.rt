@@ -10,7 +10,7 @@ ghost use Rattle.mx_state.specs.declared.journal.Entry.{Entry as EntryValue};
 ghost use Rattle.mx_transcript.specs.Transcripts.{Step};
 
 use crate::cutting::cut_behind_end;
-use mx_reader::{ReadText, read};
+use mx_reader::{ReadText, read_beside};
 use mx_script::{Session, SessionError, read_session};
 use mx_state::Journal;
 use mx_transcript::Transcripts;
@@ -44,9 +44,9 @@ pub enum ReadBoth {
 }
 
 /// Reads a session text followed at once by a run text: the one session, journal and transcripts that have these bytes as
-/// their texts, or the number of the first bad line. The run need not be one of that session. The two are read side by side
-/// where a thread can be had. Takes time linear in the bytes, and memory for the session, the journal and the transcripts
-/// alone.
+/// their texts, or the number of the first bad line. The run need not be one of that session. The two, and the parts of the
+/// run, are read side by side where threads can be had. Takes time linear in the bytes, and memory for the session, the
+/// journal and the transcripts alone.
 pub fn read_both<R: Threads + Sync>(rt: &R, alloc: Global, bytes: &[u8]) -> Result<Both, ReadBoth>
     requires { length bytes.now < 4294967295 }
     ensures found { IfOk result (λ both. IsBothText bytes.now both.session both.journal both.transcripts) }
@@ -116,6 +116,6 @@ fn read_texts<R: Threads + Sync>(
         || -> Result<(Journal, Transcripts), ReadText>
             requires { length run.now < 4294967295 }
             ensures { IsReadAsRun run.entry.now result }
-        { read(alloc, run) },
+        { read_beside(rt, alloc, run) },
     )
 }

@@ -10,3 +10,4 @@ pub mod RunLines
 pub mod ProgressLaws
 pub mod ReadLaws
 pub mod FirstBadLaws
+pub mod PartLaws

@@ -64,7 +64,7 @@ record Heads (journal : List journaled.Entry) (parts : List (List Step)) (line :
   pub texts : texts_so_far next ≡ front_lines journal parts ++ line ∷ []
   pub sound : IsSound next
 
-part_takes : (number : ℕ) (line : List ℕ) (p : ℕ) → part_at number line ≡ Some p → (process_line number ≡ line) × (is_process number ≡ true)
+pub part_takes : (number : ℕ) (line : List ℕ) (p : ℕ) → part_at number line ≡ Some p → (process_line number ≡ line) × (is_process number ≡ true)
 part_takes number line p e =
     let r = bind_some (after (codes "process ") line) _ p e in
     let k = bind_some (process_at r.0) _ p r.2 in
@@ -286,20 +286,20 @@ no_event : (rest : List ℕ) → event_at (codes "line " ++ rest) ≡ None
 unfolding event_at after cut_at
 no_event rest = refl
 
-process_no_event : (rest : List ℕ) → event_at (codes "process " ++ rest) ≡ None
+pub process_no_event : (rest : List ℕ) → event_at (codes "process " ++ rest) ≡ None
 unfolding event_at after cut_at
 process_no_event rest = refl
 
-end_no_event : event_at (codes "end") ≡ None
+pub end_no_event : event_at (codes "end") ≡ None
 unfolding event_at after cut_at
 end_no_event = refl
 
 -- nor ends of lines
-process_no_end : (rest : List ℕ) → end_at (codes "process " ++ rest) ≡ None
+pub process_no_end : (rest : List ℕ) → end_at (codes "process " ++ rest) ≡ None
 unfolding end_at after
 process_no_end rest = refl
 
-end_no_end : end_at (codes "end") ≡ None
+pub end_no_end : end_at (codes "end") ≡ None
 unfolding end_at after
 end_no_end = refl
 
@@ -325,21 +325,21 @@ steps_run journal parts first (step ∷ steps) rest e =
     ∙ ap (λ ss. run rest (Within journal parts ss [])) (append_assoc first (step ∷ []) steps)
 
 -- its parts: where the next line is a heading
-abbrev IsAtHead : Progress → List journaled.Entry → List (List Step) → Type 0
+abbrev pub IsAtHead : Progress → List journaled.Entry → List (List Step) → Type 0
 IsAtHead progress journal parts =
     (line : List ℕ) → event_at line ≡ None → end_at line ≡ None → step progress line ≡ head_step journal parts line
 
-within_head : (journal : List journaled.Entry) (parts : List (List Step)) (steps : List Step)
+pub within_head : (journal : List journaled.Entry) (parts : List (List Step)) (steps : List Step)
     → IsAtHead (Within journal parts steps []) journal (parts ++ steps ∷ [])
 within_head journal parts steps line e f = rw (e, f) refl
 
-counted_head : (journal : List journaled.Entry) → IsAtHead (Counted (length journal) journal) journal []
+pub counted_head : (journal : List journaled.Entry) → IsAtHead (Counted (length journal) journal) journal []
 counted_head journal line e f = rw (never (length journal)) refl
   where
     never : (n : ℕ) → nat_lt n n ≡ false
     never n = grind (arith, nat_tests)
 
-opens : (journal : List journaled.Entry) (parts : List (List Step)) → length parts ≤ 15
+pub opens : (journal : List journaled.Entry) (parts : List (List Step)) → length parts ≤ 15
     → head_step journal parts (process_line (length parts)) ≡ Some (Within journal parts [] [])
 unfolding after
 opens journal parts few =

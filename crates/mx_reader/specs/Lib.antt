@@ -9,4 +9,5 @@ pub mod ReadingReplies
 pub mod ReadingEvents
 pub mod ReadingEntries
 pub mod Progress
+pub mod Parts
 pub mod Laws

@@ -107,6 +107,11 @@ abbrev pub finished : Progress → List ℕ → Option (List journaled.Entry × 
 finished (Ended journal parts) [] = Some (journal, parts)
 finished _ _ = None
 
+-- the journal, if its entries were read, as many as were counted, and nothing follows
+abbrev pub all_counted : Progress → List ℕ → Option (List journaled.Entry)
+all_counted (Counted count journal) [] = when (length journal == count) journal
+all_counted _ _ = None
+
 -- what is kept: few entries are counted, and it is known whether a line is at work
 pub record IsDraft (count : ℕ) (open_line : Bool) (events : List Event2) : Type 0 where
   pub few : count ≤ 262143

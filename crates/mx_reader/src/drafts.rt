@@ -1,7 +1,7 @@
 //! Runs as far as their lines were read.
 
 ghost use Rattle.std.specs.Prelude.{◌≡◌, ◌≤◌, ◌<◌, ℕ, List, [], length, if◌then◌else◌, IfOk, OnErr, Some, None};
-ghost use Rattle.mx_reader.specs.Progress.{Counted, Follows, Nothing, count_at, counted_step, finished, headed, heading_at, part_at, progress_at, step};
+ghost use Rattle.mx_reader.specs.Progress.{Counted, Follows, Nothing, all_counted, count_at, counted_step, finished, headed, heading_at, part_at, progress_at, step};
 ghost use Rattle.mx_state.specs.declared.journal.Entry.{Entry as EntryValue};
 ghost use Rattle.mx_transcript.specs.Transcripts.{Step};
 
@@ -140,6 +140,23 @@ impl Draft {
             Stage::Nothing | Stage::Counted | Stage::Within => None,
         }
     }
+
+    /// The journal, where its entries were read, as many as were counted, and nothing behind them; `None` where something
+    /// follows.
+    pub(crate) fn counted(self, rest: &[u8]) -> Option<Journal>
+        ensures { result ≡ all_counted self rest.now }
+    {
+        match self.stage {
+            Stage::Counted => {
+                if rest.is_empty() && self.journal.items().len() == self.count as usize {
+                    Some(self.journal)
+                } else {
+                    None
+                }
+            }
+            Stage::Nothing | Stage::Within | Stage::Ended => None,
+        }
+    }
 }
 
 // The stage behind a heading.
@@ -172,9 +189,9 @@ fn add_entry(
     Ok(true)
 }
 
-// One more event, or the end of the line at work: whether a line is at work then. `None` where the line is neither.
+/// One more event, or the end of the line at work: whether a line is at work then. `None` where the line is neither.
 #[tactic(auto, using(crate::proofs::HeadLaws::end_first))]
-fn add_line(recording: &mut Recording, line: &[u8]) -> Result<Option<bool>, AllocError>
+pub(crate) fn add_line(recording: &mut Recording, line: &[u8]) -> Result<Option<bool>, AllocError>
     ensures goes { IfOk result (λ went. Follows recording.old line.now recording.new went) }
     ensures still { OnErr result (recording.new.events ≡ recording.old.events) }
 {
@@ -210,8 +227,8 @@ fn read_heading(number: usize, line: &[u8]) -> Option<Heading>
     }
 }
 
-// `process P`
-fn read_part(number: usize, line: &[u8]) -> Option<u8>
+/// `process P`
+pub(crate) fn read_part(number: usize, line: &[u8]) -> Option<u8>
     ensures { result ≡ part_at number line.now }
 {
     let p = read_process(after(b"process ", line)?)?;

@@ -55,8 +55,8 @@ pub fn read(alloc: Global, bytes: &[u8]) -> Result<(Journal, Transcripts), ReadT
     }
 }
 
-// Reads the whole lines of a text into an empty draft: what is left behind them, and its line's number.
-fn read_lines<'a>(
+/// Reads the whole lines of a text into an empty draft: what is left behind them, and its line's number.
+pub(crate) fn read_lines<'a>(
     alloc: Global,
     bytes: &'a [u8],
     draft: &mut Draft,
