@@ -1,6 +1,7 @@
 pub mod Replays
 pub mod Judging
 pub mod Reasons
+pub mod Wants
 pub mod Sources
 pub mod Lines
 pub mod Printing

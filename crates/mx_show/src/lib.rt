@@ -1,23 +1,31 @@
 //! A legal run of a session, told line by line.
 //!
-//! [`show_lines`] asks of its caller that the run is a legal one of that session. The access beside each reference is the descriptor
-//! at its point (`Judging`), a denial is explained by the comparison of its rule, with the numbers of that access (`Reasons`), and a
-//! read names the store that the transcript names (`Sources`). The words themselves are tested alone, those on return gates too,
-//! which are told from the rings that calls and returns enter. What a drawing of the run needs of it stands here as well:
-//! [`judge_all`], [`explain`], [`source_of`]. Stands on `mx_state` for the access at each point, and on `mx_transcript` for the run.
+//! [`show_lines`] asks of its caller that the run is a legal one of that session. The access beside each reference is the
+//! descriptor at its point (`Judging`), a denial is explained by the comparison of its rule, with the numbers of that access
+//! (`Reasons`), and a read names the store that the transcript names (`Sources`). Behind a refusal stands what was wanted and
+//! what was given, as the requests leave it that were done: why a letter of a directory's modes is not left has a definition
+//! (`Wants`). The words themselves are tested alone, those on return gates too, which are told from the rings that calls and
+//! returns enter. What a drawing of the run needs of it stands here as well: [`judge_all`], [`explain`], [`source_of`]. Stands
+//! on `mx_state` for the access at each point, and on `mx_transcript` for the run.
 #![tactic(auto)]
 
+mod because;
 mod errors;
 mod gates;
 mod judging;
+mod ledger;
 mod lines;
+mod notes;
 mod numbers;
 mod parts;
 mod reasons;
 mod refusals;
 mod replays;
 mod sources;
+mod stops;
 mod telling;
+mod tree;
+mod wants;
 mod words;
 
 pub use errors::ShowError;
@@ -27,4 +35,5 @@ pub use parts::{NOTHING, Part, add_parts, add_printable, ring};
 pub use reasons::{Bracket, Reason, explain};
 pub use replays::{Changed, Judged};
 pub use sources::{StoredBy, source_of};
+pub use wants::{Lack, Letter, lacking};
 pub use words::{access_word, extent, kind_word, modes};

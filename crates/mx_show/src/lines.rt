@@ -13,6 +13,7 @@ mod adding;
 
 use crate::errors::ShowError;
 use crate::judging::{Accesses, judge_all};
+use crate::notes::Notes;
 use crate::telling::Teller;
 use adding::{add_heading, add_left_out, add_opening, add_request_line, add_script_line};
 use mx_io::{Sink, WriteFault, write_all};
@@ -28,7 +29,7 @@ const PIECE: usize = 32_768;
 /// was judged on. Each line stands under its number, as the session spells it, and what is told of it behind it (`Lines`). Of a
 /// process that was logged out the lines up to a denied one are shown and then its last, the `logout`; in place of those between
 /// stands which they are. On an error a part was sent: `Fault` where the sink failed, `Memory` where memory was wanting. About
-/// 32 KiB are held between two lines, and for each reference its access.
+/// 32 KiB are held between two lines, for each reference its access, and for each refusal what stands behind it.
 pub fn show_lines<K: Sink>(
     alloc: Global,
     session: &Session,
@@ -43,15 +44,17 @@ pub fn show_lines<K: Sink>(
     ensures later { K.faults sink.old ≤ K.faults sink.new }
 {
     let accesses = judge_all(alloc, session, journal, transcripts)?;
+    let notes = Notes::new(alloc, session, journal)?;
     let entrants = session.principals().items();
     let parts = transcripts.items();
     let mut out = Vec::new(alloc);
     add_opening(&mut out, entrants.len(), journal.items().len())?;
-    let mut teller = Teller::new(alloc, journal, &accesses, 0);
+    let mut teller = Teller::new(alloc, journal, &accesses, &notes, 0);
     print_setup(alloc, session, &parts[0], &mut teller, &mut out, sink)?;
     let told = Told {
         journal,
         accesses: &accesses,
+        notes: &notes,
     };
     print_processes(alloc, session, parts, told, &mut out, sink)?;
     write_all(sink, &out)?;
@@ -63,6 +66,7 @@ pub fn show_lines<K: Sink>(
 struct Told<'a> {
     journal: &'a Journal,
     accesses: &'a Accesses,
+    notes: &'a Notes,
 }
 
 // The lines of the setup.
@@ -114,7 +118,7 @@ fn print_processes<K: Sink>(
     for (i, entrant) in entrants.iter().enumerate() {
         let process = i as u8 + 1;
         add_heading(out, process, entrant)?;
-        let mut teller = Teller::new(alloc, told.journal, told.accesses, process);
+        let mut teller = Teller::new(alloc, told.journal, told.accesses, told.notes, process);
         let (first, script) = (first_line(session, process), scripts[i].items());
         let transcript = &transcripts[i + 1];
         print_script(alloc, first, script, transcript, &mut teller, out, sink)?;

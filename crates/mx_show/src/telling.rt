@@ -2,26 +2,32 @@
 
 use crate::gates::Gates;
 use crate::judging::{Accesses, FIRST_RING};
+use crate::notes::Notes;
 use crate::numbers::Numbers;
 use crate::parts::Part::{self, Decimal, Octal, Place, Text};
-use crate::parts::{NOTHING, add_parts, add_sentences, ring};
+use crate::parts::{NOTHING, add_parts, add_printable, add_sentences, ring};
 use crate::reasons::{Reason, explain};
 use crate::replays::{Changed, Judged};
 use crate::sources::source_of;
 use crate::words::{
     access_word, add_access, add_lack, add_reply, extent, kind_word, standing, walk_words,
 };
+use mx_name::cut;
 use mx_ptr::{Pointer, is_link};
 use mx_sdw::{Denial, DescKind, Ring, Word};
 use mx_state::Journal;
 use mx_transcript::{Element, Event, Event2, Kind, Outcome, Result2, entry_at};
 use std::alloc::{AllocError, Global};
 
+/// How long a line becomes by what stands behind a refusal, beside the four spaces before it.
+const WIDTH: usize = 124;
+
 /// Tells of one process after another, what each of its lines came to.
 #[derive(Drop)]
 pub(crate) struct Teller<'a> {
     journal: &'a Journal,
     accesses: &'a Accesses,
+    notes: &'a Notes,
     process: u8,
     ring: u8,
     gates: Gates,
@@ -36,11 +42,13 @@ impl<'a> Teller<'a> {
         alloc: Global,
         journal: &'a Journal,
         accesses: &'a Accesses,
+        notes: &'a Notes,
         process: u8,
     ) -> Teller<'a> {
         Teller {
             journal,
             accesses,
+            notes,
             process,
             ring: FIRST_RING,
             gates: Gates::new(alloc, FIRST_RING),
@@ -107,12 +115,14 @@ impl<'a> Teller<'a> {
         let Some(entry) = entry_at(self.journal, number) else {
             return Ok(());
         };
+        let start = out.len();
         let (at, within) = (Decimal(number), ring(entry.ring));
         add_parts(
             out,
             &[Text("entry "), at, Text(" in ring "), within, Text(": ")],
         )?;
         add_reply(alloc, out, entry)?;
+        add_notes(out, start, self.notes.of(number))?;
         out.push_str("\n")?;
         self.numbers.note(number, entry)?;
         self.add_changes(out, number)
@@ -183,6 +193,29 @@ impl<'a> Teller<'a> {
             _ => Ok(()),
         }
     }
+}
+
+// Adds sentences to the line that begins at this place, or, where it would be too long, each to a further line.
+fn add_notes(out: &mut String, start: usize, notes: &[u8]) -> Result<(), AllocError> {
+    let mut line = start;
+    let mut rest = notes;
+    while let Some((sentence, after)) = cut(b'\n', rest) {
+        let width = (out.len().saturating_sub(line)).saturating_add(sentence.len());
+        if width <= WIDTH {
+            out.push_str(if sentence.starts_with(b"(") {
+                " "
+            } else {
+                "; "
+            })?;
+        } else {
+            out.push_str("\n")?;
+            line = out.len();
+            out.push_str("    ")?;
+        }
+        add_printable(out, sentence)?;
+        rest = after;
+    }
+    Ok(())
 }
 
 // The reference that an event is, if it is one.

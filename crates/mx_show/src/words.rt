@@ -154,8 +154,8 @@ fn is_unmatched(judged: &Judged) -> bool {
     judged.entry.is_none() && desc.kind() == DescKind::Segment && !desc.r() && !desc.w()
 }
 
-// The identifier of an entry, as it is written.
-fn id_text(alloc: Global, id: &AclId) -> Result<String, AllocError> {
+/// The identifier of an entry, as it is written.
+pub(crate) fn id_text(alloc: Global, id: &AclId) -> Result<String, AllocError> {
     let mut bytes = Vec::new(alloc);
     id.append_to(&mut bytes)?;
     let mut text = String::new(alloc);
