@@ -2,11 +2,11 @@
 
 use crate::ledger::{Ledger, Lot, Own, pages_for, rules_of};
 use crate::parts::Part::{Decimal, Octal, Place, Text};
-use crate::parts::{add_parts, add_printable};
+use crate::parts::{add_parts, add_printable, ring};
 use crate::reasons::Bracket;
 use crate::stops::{About, Stop, find_stop, is_left};
 use crate::tree::{Caller, Led, NoPath, Thing, resolved};
-use crate::wants::{Letter, lacking};
+use crate::wants::{Closed, Letter, Use, closing, lacking};
 use crate::words::id_text;
 use mx_acl::{Acl, AclKind, Modes};
 use mx_aim::Class;
@@ -251,28 +251,43 @@ impl<'t> Told<'t> {
             add_classes(out, "; the authorization ", &self.caller.authorization)?;
             return add_classes(out, " does not dominate the class ", &segment.class);
         }
-        let ring = self.caller.ring.number();
-        let [r1, r2, r3] = [
-            segment.brackets[0].number(),
-            segment.brackets[1].number(),
-            segment.brackets[2].number(),
-        ];
         let mut others = false;
-        if modes.r() && ring > r2 {
-            others = add_closed(out, others, ring, " above ", Bracket::R2(r2), " for r")?;
-        }
-        if modes.e() && ring < r1 {
-            others = add_closed(out, others, ring, " below ", Bracket::R1(r1), " for e")?;
-        }
-        if modes.e() && ring > r3 {
-            others = add_closed(out, others, ring, " above ", Bracket::R3(r3), " for e")?;
-        }
-        if modes.w() && ring > r1 {
-            add_closed(out, others, ring, " above ", Bracket::R1(r1), " for w")?;
-        } else if modes.w() && aim != Aim::Equal {
-            out.push_str("; for w the authorization has to equal the class")?;
+        for letter in [Use::R, Use::E, Use::W] {
+            match closing(modes, letter, aim, self.caller.ring, &segment.brackets) {
+                Some(Closed::Above(bracket)) => {
+                    self.add_closed(out, others, " above ", bracket, letter)?;
+                    others = true;
+                }
+                Some(Closed::Below(bracket)) => {
+                    self.add_closed(out, others, " below ", bracket, letter)?;
+                    others = true;
+                }
+                Some(Closed::Class) => {
+                    out.push_str("; for w the authorization has to equal the class")?;
+                }
+                Some(Closed::NotGiven) | None => {}
+            }
         }
         Ok(())
+    }
+
+    // Adds against which bracket the ring stands, for a letter; whether others were told before.
+    fn add_closed(
+        &self,
+        out: &mut String,
+        others: bool,
+        how: &'static str,
+        bracket: Bracket,
+        letter: Use,
+    ) -> Result<(), AllocError> {
+        if others {
+            out.push_str(",")?;
+        } else {
+            let ring = ring(self.caller.ring);
+            add_parts(out, &[Text(", but ring "), ring, Text(" is")])?;
+        }
+        let [name, limit] = bracket.parts();
+        add_parts(out, &[Text(how), name, limit, Text(letter.words())])
     }
 
     // What the entry is that a request of another kind of entry leads to.
@@ -751,26 +766,6 @@ fn has_links(map: Option<&ObjectMap>) -> bool {
         Some(map) => !map.links().is_empty(),
         None => false,
     }
-}
-
-// Adds against which bracket the ring stands, for a letter; whether others were told before. Says that one was told.
-fn add_closed(
-    out: &mut String,
-    others: bool,
-    ring: u8,
-    how: &'static str,
-    bracket: Bracket,
-    letter: &'static str,
-) -> Result<bool, AllocError> {
-    if others {
-        out.push_str(",")?;
-    } else {
-        let ring = Decimal(u32::from(ring));
-        add_parts(out, &[Text(", but ring "), ring, Text(" is")])?;
-    }
-    let [name, limit] = bracket.parts();
-    add_parts(out, &[Text(how), name, limit, Text(letter)])?;
-    Ok(true)
 }
 
 fn add_classes(out: &mut String, before: &'static str, class: &Class) -> Result<(), AllocError> {

@@ -1,6 +1,7 @@
 //! What the entries of a journal leave: the hierarchy, and what each process has of its own.
 
 use crate::tree::{Caller, Led, ROOT, Tree, resolved};
+use crate::wants::{Use, closing};
 use indexmap::IndexMap;
 use mx_aim::Class;
 use mx_kst::Known;
@@ -8,7 +9,6 @@ use mx_name::{EntryName, Path, Principal};
 use mx_object::ObjectMap;
 use mx_request::{Reply, Request, last_number};
 use mx_script::Session;
-use mx_sdw::Aim;
 use mx_search::{Rule, Rules};
 use mx_state::Entry;
 use std::alloc::{AllocError, Global};
@@ -205,20 +205,10 @@ impl Ledger {
         };
         let modes = segment.acl.modes_of(caller.principal);
         let aim = caller.authorization.aim(&segment.class);
-        let ring = caller.ring.number();
-        let [r1, r2, r3] = [
-            segment.brackets[0].number(),
-            segment.brackets[1].number(),
-            segment.brackets[2].number(),
-        ];
-        match aim {
-            Aim::Neither => false,
-            Aim::Equal | Aim::Dominates => {
-                modes.r() && ring <= r2
-                    || modes.w() && aim == Aim::Equal && ring <= r1
-                    || modes.e() && r1 <= ring && ring <= r3
-            }
-        }
+        let (ring, brackets) = (caller.ring, &segment.brackets);
+        closing(modes, Use::R, aim, ring, brackets).is_none()
+            || closing(modes, Use::E, aim, ring, brackets).is_none()
+            || closing(modes, Use::W, aim, ring, brackets).is_none()
     }
 
     /// What the entry at this place of the journal leaves.

@@ -35,5 +35,5 @@ pub use parts::{NOTHING, Part, add_parts, add_printable, ring};
 pub use reasons::{Bracket, Reason, explain};
 pub use replays::{Changed, Judged};
 pub use sources::{StoredBy, source_of};
-pub use wants::{Lack, Letter, lacking};
+pub use wants::{Closed, Lack, Letter, Use, closing, lacking};
 pub use words::{access_word, extent, kind_word, modes};
