@@ -1,15 +1,15 @@
 -- What was told of an event says what it was.
-use Rattle.std.proofs.Common.{◌≡◌, ℕ, zero, suc, ◌+◌, ◌-◌, ◌*◌, ◌/◌, ◌<◌, nat_lt, min, not, Bool, true, false, ◌&&◌, List, [], ◌∷◌, ◌++◌, map, take, length, Some, Result, Ok, Err, Option, refl, ap, sym, subst, ◌∙◌, arith}
+use Rattle.std.proofs.Common.{◌≡◌, ℕ, zero, suc, ◌+◌, ◌-◌, ◌*◌, ◌/◌, ◌<◌, nat_lt, min, not, Bool, true, false, ◌&&◌, List, [], ◌∷◌, ◌++◌, map, take, drop, length, Some, Result, Ok, Err, Option, refl, ap, sym, subst, ◌∙◌, arith, append_assoc, append-nil}
 use Rattle.std.proofs.lemmas.Bool.{ltb-false, ltb-true}
-use Rattle.std.proofs.lemmas.List.{map_more}
-use Rattle.std.proofs.lemmas.List.Elements.{All-append, All-cons, All-nil}
+use Rattle.std.proofs.lemmas.List.{length-append, length-drop, map-append, map_more}
+use Rattle.std.proofs.lemmas.List.Elements.{All-cons, All-nil}
 use Rattle.std.proofs.lemmas.Option.{none-some, same_Some}
 use Rattle.std.specs.List.{slice_get, slice_index_or, All}
 use Rattle.mx_access.specs.Admissible.{HasAdmissible}
 use Rattle.mx_access.specs.Answers.{is_changed, judged_on, missed_changed}
 use Rattle.mx_access.specs.Passing.{IsTold, IsToldNow}
 use Rattle.mx_access.specs.Questions.{question_of}
-use Rattle.mx_access.specs.Rows.{event_change, told_cell, told_change, told_desc, use_since}
+use Rattle.mx_access.specs.Rows.{AreToldOf, event_change, told_cell, told_change, told_desc, use_since}
 use Rattle.mx_access.specs.declared.questions.Told.{Told}
 use Rattle.mx_access.proofs.ChangeLaws.{descriptor_within, unchanged_within, use_within}
 use Rattle.mx_core.specs.Pages.{cell_at, page_of, use_at}
@@ -128,18 +128,74 @@ module _ (session : Outline) (journal : List journaled.Entry) (p : ℕ) where
   judged_admissible (Core (Missing segno by)) can = unknown_admissible
   judged_admissible (Core (Seen e)) can = can.each e.point p e.segno
 
+-- items of two lists, one behind the other
+pub front_get : {X : Type 0} (xs ys : List X) (i : ℕ) (x : X) → slice_get xs i ≡ Some x → slice_get (xs ++ ys) i ≡ Some x
+front_get [] ys i x e = cc
+front_get (y ∷ xs) ys zero x e = e
+front_get (y ∷ xs) ys (suc i) x e = front_get xs ys i x e
+
+pub back_get : {X : Type 0} (xs ys : List X) (i : ℕ) (x : X) → slice_get ys i ≡ Some x → slice_get (xs ++ ys) (length xs + i) ≡ Some x
+back_get [] ys i x e = let same : 0 + i ≡ i = omega arith in ap (slice_get ys) same ∙ e
+back_get (y ∷ xs) ys i x e =
+    let same : length (y ∷ xs) + i ≡ suc (length xs + i) = omega arith in
+    ap (slice_get (y ∷ (xs ++ ys))) same ∙ back_get xs ys i x e
+
+pub drop_get : {X : Type 0} (xs : List X) (n i : ℕ) (x : X) → slice_get (drop n xs) i ≡ Some x → slice_get xs (n + i) ≡ Some x
+drop_get xs zero i x e = let same : 0 + i ≡ i = omega arith in ap (slice_get xs) same ∙ e
+drop_get [] (suc n) i x e = cc
+drop_get (y ∷ xs) (suc n) i x e =
+    let same : suc n + i ≡ suc (n + i) = omega arith in
+    ap (slice_get (y ∷ xs)) same ∙ drop_get xs n i x e
+
 -- one item more of a row
-pub row_more : {X Y : Type 0} (f : X → Y) (xs : List X) (i : ℕ) (x : X) (y : Y) (old new : List Y) → i < length xs
-    → x ≡ slice_index_or xs i x → old ≡ map f (take i xs) → new ≡ old ++ y ∷ [] → y ≡ f x → new ≡ map f (take (i + 1) xs)
-row_more {X} {Y} f xs i x y old new below is was pushed same =
-    pushed ∙ ap (λ (l : List Y). l ++ y ∷ []) was ∙ ap (λ (z : Y). map f (take i xs) ++ z ∷ []) (same ∙ ap f is)
-    ∙ sym (map_more f xs i x below)
+pub row_more : {X Y : Type 0} (f : X → Y) (xs : List X) (i : ℕ) (x : X) (y : Y) (base old new : List Y) → i < length xs
+    → x ≡ slice_index_or xs i x → old ≡ base ++ map f (take i xs) → new ≡ old ++ y ∷ [] → y ≡ f x
+    → new ≡ base ++ map f (take (i + 1) xs)
+row_more {X} {Y} f xs i x y base old new below is was pushed same =
+    pushed ∙ ap (λ (l : List Y). l ++ y ∷ []) was ∙ append_assoc base (map f (take i xs)) (y ∷ [])
+    ∙ ap (λ (z : Y). base ++ (map f (take i xs) ++ z ∷ [])) (same ∙ ap f is)
+    ∙ ap (λ (l : List Y). base ++ l) (sym (map_more f xs i x below))
+
+-- the items of events more, of some that are left
+pub items_more : {X Y : Type 0} (f : X → Y) (old new : List Y) (left xs ys all : List X) → left ≡ xs ++ ys
+    → old ++ map f left ≡ map f all → new ≡ old ++ map f xs → new ++ map f ys ≡ map f all
+items_more {X} {Y} f old new left xs ys all cut was added =
+    ap (λ (l : List Y). l ++ map f ys) added
+    ∙ append_assoc old (map f xs) (map f ys)
+    ∙ ap (λ (l : List Y). old ++ l) (sym (map-append f xs ys))
+    ∙ ap (λ (l : List X). old ++ map f l) (sym cut)
+    ∙ was
+
+pub items_all : {X Y : Type 0} (f : X → Y) (items : List Y) (left all : List X) → left ≡ [] → items ++ map f left ≡ map f all
+    → items ≡ map f all
+items_all {X} {Y} f items left all none was =
+    sym (append-nil items) ∙ ap (λ (l : List X). items ++ map f l) (sym none) ∙ was
 
 pub get_map : {X Y : Type 0} (f : X → Y) (xs : List X) (i : ℕ) (x : X) → slice_get xs i ≡ Some x → slice_get (map f xs) i ≡ Some (f x)
 get_map f [] i x e = absurd (none-some x e)
 get_map f (y ∷ xs) zero x e = ap (λ (z : _). Some (f z)) (same_Some y x e)
 get_map f (y ∷ xs) (suc i) x e = get_map f xs i x e
 
-pub all_more : {X : Type 0} (P : X → Type 0) (old new : List X) (x : X) → All P old → new ≡ old ++ x ∷ [] → P x → All P new
-all_more P old new x all pushed one =
-    subst (All P) (sym pushed) (All-append P old (x ∷ []) all (All-cons P x [] one (All-nil P)))
+-- a table of descriptors may hold each
+pub all_admissible : (session : Outline) (journal : List journaled.Entry) (p : ℕ) (events : List Event2) → HasAdmissible session journal
+    → All IsAdmissible (map (judged_on (descriptor_of session journal p)) events)
+all_admissible session journal p [] can = All-nil IsAdmissible
+all_admissible session journal p (event ∷ events) can =
+    All-cons IsAdmissible (judged_on (descriptor_of session journal p) event) (map (judged_on (descriptor_of session journal p)) events)
+    (judged_admissible session journal p event can) (all_admissible session journal p events can)
+
+-- what was told of events, and of those behind them
+pub told_front : (session : Outline) (journal : List journaled.Entry) (p : ℕ) (xs ys : List Event2) (told : List Told)
+    → AreToldOf session journal p (xs ++ ys) told → AreToldOf session journal p xs told
+told_front session journal p xs ys told is = record {
+  long = omega (arith, is.long, length-append xs ys);
+  each = λ at event answer found answered. is.each at event answer (front_get xs ys at event found) answered;
+}
+
+pub told_back : (session : Outline) (journal : List journaled.Entry) (p : ℕ) (xs ys : List Event2) (told : List Told)
+    → AreToldOf session journal p (xs ++ ys) told → AreToldOf session journal p ys (drop (length xs) told)
+told_back session journal p xs ys told is = record {
+  long = omega (arith, is.long, length-append xs ys, length-drop (length xs) told);
+  each = λ at event answer found answered.
+      is.each (length xs + at) event answer (back_get xs ys at event found) (drop_get told (length xs) at answer answered);
+}

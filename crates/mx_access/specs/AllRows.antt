@@ -1,26 +1,32 @@
 -- Helpers that only private contracts cite: the rows of all processes.
-use Rattle.std.specs.Prelude.{◌≡◌, ℕ, ◌<◌, List, [], length, map, slice_index_or}
-use Rattle.std.specs.List.{All}
-use Rattle.mx_access.specs.Answers.{is_changed, judged_on, missed_changed}
+use Rattle.std.specs.Prelude.{◌≡◌, ℕ, ◌≤◌, ◌<◌, List, ◌++◌, length, map, drop, Ok, Result, Some, slice_get, slice_index_or}
+use Rattle.std.specs.declared.alloc.AllocError.{AllocError}
+use Rattle.mx_access.specs.Rows.{AreToldOf, IsRow}
 use Rattle.mx_access.specs.declared.access.Access.{Access}
+use Rattle.mx_access.specs.declared.answers.Row.{Row}
+use Rattle.mx_access.specs.declared.questions.Told.{Told}
 use Rattle.mx_script.specs.Sessions.{Outline}
-use Rattle.mx_sdw.specs.Admissible.{IsAdmissible}
 use Rattle.mx_state.specs.declared.journal.Entry as journaled
-use Rattle.mx_transcript.specs.Access.{descriptor_of}
-use Rattle.mx_transcript.specs.References.{cell_of, deed_by}
-use Rattle.mx_transcript.specs.Uses.{use_of}
-use Rattle.mx_transcript.specs.declared.transcripts.Event2.{Event2}
+use Rattle.mx_transcript.specs.Transcripts.{Step, part, events_of}
 
--- the rows of the first so many processes
-pub record AreRows (session : Outline) (journal : List journaled.Entry) (parts : List (List Event2)) (count : ℕ)
-    (access : Access) : Type 0 where
-  pub rows : length access.descriptors.items ≡ count
-  pub deed_rows : length access.deeds.items ≡ count
-  pub change_rows : length access.changes.items ≡ count
-  pub deeds : (p : ℕ) → p < count → slice_index_or access.deeds.items p []
-      ≡ map (deed_by (cell_of (use_of session journal) (descriptor_of session journal p))) (slice_index_or parts p [])
-  pub descriptors : (p : ℕ) → p < count → slice_index_or access.descriptors.items p []
-      ≡ map (judged_on (descriptor_of session journal p)) (slice_index_or parts p [])
-  pub changes : (p : ℕ) → p < count → slice_index_or access.changes.items p []
-      ≡ map (missed_changed (is_changed session journal p)) (slice_index_or parts p [])
-  pub admissible : (p : ℕ) → p < count → All IsAdmissible (slice_index_or access.descriptors.items p [])
+-- what was told of the events of each process stands behind so much that was told of others
+pub record AreToldFrom (session : Outline) (journal : List journaled.Entry) (transcripts : List (List Step)) (starts : List ℕ)
+    (told : List Told) : Type 0 where
+  pub long : length starts ≡ length transcripts
+  pub within : (p : ℕ) → p < length transcripts → slice_index_or starts p 0 ≤ length told
+  pub each : (p : ℕ) → p < length transcripts
+      → AreToldOf session journal p (events_of (part transcripts p)) (drop (slice_index_or starts p 0) told)
+
+-- for each transcript a row, made or wanting memory; each that was made is that of its process
+pub record AreRows (session : Outline) (journal : List journaled.Entry) (transcripts : List (List Step))
+    (made : List (Result Row AllocError)) : Type 0 where
+  pub long : length made ≡ length transcripts
+  pub each : (p : ℕ) (row : Row) → slice_get made p ≡ Some (Ok row) → IsRow session journal p (events_of (part transcripts p)) row
+
+-- these rows but those that are left were all made, and stand in the access
+pub record IsOf (made left : List (Result Row AllocError)) (access : Access) : Type 0 where
+  pub rows : List Row
+  pub all : made ≡ map Ok rows ++ left
+  pub deeds : access.deeds.items ≡ map (λ row. row.deeds) rows
+  pub descriptors : access.descriptors.items ≡ map (λ row. row.descriptors) rows
+  pub changes : access.changes.items ≡ map (λ row. row.changes) rows

@@ -1,9 +1,10 @@
 -- Helpers that only private contracts cite: what the plain supervisor is asked about events, when, and what it says.
-use Rattle.std.specs.Prelude.{◌≡◌, ℕ, suc, ◌-◌, ◌≤◌, ◌<◌, min, Bool, true, false, List, [], ◌∷◌, ◌++◌, map, Some, slice_get}
+use Rattle.std.specs.Prelude.{◌≡◌, ℕ, suc, ◌-◌, ◌≤◌, ◌<◌, min, Bool, true, false, List, [], ◌∷◌, ◌++◌, length, map, take, Some, slice_get, slice_index_or}
 use Rattle.std.specs.List.{Contains}
 use Rattle.mx_access.specs.declared.questions.Question.{Question}
 use Rattle.mx_access.specs.declared.questions.Turn.{Turn}
 use Rattle.mx_core.specs.declared.elements.Event.TheVariants.{Seen, Missing}
+use Rattle.mx_transcript.specs.Transcripts.{Step, events_of}
 use Rattle.mx_transcript.specs.declared.transcripts.Event2.{Event2}
 use Rattle.mx_transcript.specs.declared.transcripts.Event2.TheVariants.{Core, Entry}
 
@@ -30,6 +31,13 @@ question_of entries p (Entry number) = record { process = p; segno = 0; word = 0
 abbrev pub questions_from : ℕ → ℕ → List (List Event2) → List Question
 questions_from entries p [] = []
 questions_from entries p (events ∷ parts) = map (question_of entries p) events ++ questions_from entries (suc p) parts
+
+-- the questions about the events of transcripts, and behind how many of them those of each process begin
+pub record AreQuestions (entries : ℕ) (transcripts : List (List Step)) (asked : List Question) (starts : List ℕ) : Type 0 where
+  pub all : asked ≡ questions_from entries 0 (map events_of transcripts)
+  pub long : length starts ≡ length transcripts
+  pub each : (p : ℕ) → p < length transcripts
+      → slice_index_or starts p 0 ≡ length (questions_from entries 0 (take p (map events_of transcripts)))
 
 -- its points are those of the journal
 pub record IsWithin (entries : ℕ) (question : Question) : Type 0 where

@@ -1,17 +1,16 @@
 //! The rows of all processes.
 
-ghost use Rattle.std.specs.Prelude.{◌≡◌, ◌++◌, [], ◌∷◌, true, length, map, IfOk, OnOk};
+ghost use Rattle.std.specs.Prelude.{◌≡◌, ◌<◌, ◌++◌, [], ◌∷◌, true, length, IfOk, OnOk};
 ghost use Rattle.std.specs.List.{list_all};
 ghost use Rattle.mx_access.specs.Answers.{IsAccess};
 ghost use Rattle.mx_access.specs.Admissible.{HasAdmissible};
-ghost use Rattle.mx_access.specs.Passing.{AreTold};
-ghost use Rattle.mx_access.specs.Questions.{questions_from};
-ghost use Rattle.mx_access.specs.AllRows.{AreRows};
+ghost use Rattle.mx_access.specs.AllRows.{AreRows, AreToldFrom, IsOf};
+ghost use Rattle.mx_access.specs.Rows.{IsRow};
 ghost use Rattle.mx_script.specs.Sessions.{IsSession};
 ghost use Rattle.mx_spelling.specs.Spelling.{fits_entry};
 ghost use Rattle.mx_state.specs.History.{IsRight};
 ghost use Rattle.mx_transcript.specs.Opened.{opening_of};
-ghost use Rattle.mx_transcript.specs.Transcripts.{events_of};
+ghost use Rattle.mx_transcript.specs.Transcripts.{part, events_of};
 
 use crate::answers::Row;
 use crate::laws::descriptors_are_admissible;
@@ -23,8 +22,10 @@ use mx_script::Session;
 use mx_sdw::Desc;
 use mx_state::{Entry, Journal};
 use mx_stores::Deed;
-use mx_transcript::{Event2, Transcript, Transcripts};
+use mx_transcript::{Transcript, Transcripts};
 use std::alloc::{AllocError, Global};
+use std::thread;
+use std::thread::Threads;
 
 /// On which access each event of a run stood: for each transcript a row, and in it for each event, in order, one item.
 #[derive(Debug, Drop)]
@@ -37,26 +38,104 @@ pub struct Access {
     pub changes: Vec<Sequence<bool>>,
 }
 
-// The events of a transcript in order.
-fn events_of(alloc: Global, transcript: &Transcript) -> Result<Sequence<Event2>, AllocError>
-    ensures { IfOk result (λ events. events ≡ events_of transcript.now) }
-{
-    let mut all = Vec::new(alloc);
-    for (_, events, _) in transcript.steps() {
-        all.extend_from_slice(events)?;
-    }
-    Ok(Sequence::of(all))
+/// What was told of the events of all processes, and behind how much of it stands what was told of each process's.
+#[derive(Debug, Drop)]
+struct Answers {
+    starts: Vec<usize>,
+    told: Vec<Told>,
 }
 
-// The events of all transcripts.
-fn parts_of(alloc: Global, transcripts: &[Transcript]) -> Result<Vec<Sequence<Event2>>, AllocError>
-    ensures { IfOk result (λ parts. parts.items ≡ map events_of transcripts.now) }
+// What a plain supervisor says of the events of transcripts, as it goes through a right journal once.
+fn answers_on<S: PlainSupervisor>(
+    alloc: Global,
+    session: &Session,
+    entries: &[Entry],
+    transcripts: &[Transcript],
+) -> Result<Answers, AllocError>
+    requires right { IsRight (opening_of session.now) entries.now }
+    ensures { IfOk result (λ answers. AreToldFrom session.now entries.now transcripts.now answers.starts.items answers.told.items) }
 {
-    let mut parts = Vec::new(alloc);
-    for transcript in transcripts {
-        parts.push(events_of(alloc, transcript)?)?;
+    let questions = questions_of(alloc, entries.len(), transcripts)?;
+    let told = answers::<S>(alloc, session, entries, &questions.asked)?;
+    Ok(Answers {
+        starts: questions.starts,
+        told,
+    })
+}
+
+// The row of process `p`, by what was told of all.
+fn row_at(
+    alloc: Global,
+    session: &Session,
+    entries: &[Entry],
+    transcripts: &[Transcript],
+    starts: &[usize],
+    told: &[Told],
+    p: usize,
+) -> Result<Row, AllocError>
+    requires place { p < length transcripts.now }
+    requires told { AreToldFrom session.now entries.now transcripts.now starts.now told.now }
+    requires admissible { HasAdmissible session.now entries.now }
+    ensures { IfOk result (IsRow session.now entries.now p (events_of (part transcripts.now p))) }
+{
+    let start = starts[p];
+    let end = match starts.get(p + 1) {
+        None => told.len(),
+        Some(end) => *end,
+    };
+    let (_, own) = told.split_at(start);
+    Row::of(
+        alloc,
+        session,
+        entries,
+        p,
+        &transcripts[p],
+        own,
+        end.saturating_sub(start),
+    )
+}
+
+// The rows of all processes, made side by side, each on a thread of its own where one can be had.
+fn rows_beside<R: Threads + Sync>(
+    rt: &R,
+    alloc: Global,
+    session: &Session,
+    entries: &[Entry],
+    transcripts: &[Transcript],
+    starts: &[usize],
+    told: &[Told],
+) -> Result<Vec<Result<Row, AllocError>>, AllocError>
+    requires told { AreToldFrom session.now entries.now transcripts.now starts.now told.now }
+    requires admissible { HasAdmissible session.now entries.now }
+    ensures { IfOk result (λ rows. AreRows session.now entries.now transcripts.now rows.items) }
+{
+    let one = |p: usize| -> Result<Row, AllocError>
+        requires place { p < length transcripts.now }
+        requires told { AreToldFrom session.now entries.now transcripts.now starts.now told.now }
+        requires admissible { HasAdmissible session.now entries.now }
+        ensures { IfOk result (IsRow session.entry.now entries.entry.now p (events_of (part transcripts.entry.now p))) }
+    { row_at(alloc, session, entries, transcripts, starts, told, p) };
+    thread::map_indices(rt, alloc, transcripts.len(), &one)
+}
+
+// The rows of all processes, made one after another.
+fn rows_in_turn(
+    alloc: Global,
+    session: &Session,
+    entries: &[Entry],
+    transcripts: &[Transcript],
+    starts: &[usize],
+    told: &[Told],
+) -> Result<Vec<Result<Row, AllocError>>, AllocError>
+    requires told { AreToldFrom session.now entries.now transcripts.now starts.now told.now }
+    requires admissible { HasAdmissible session.now entries.now }
+    ensures { IfOk result (λ rows. AreRows session.now entries.now transcripts.now rows.items) }
+{
+    let mut rows = Vec::new(alloc);
+    for p in 0..transcripts.len() {
+        rows.push(row_at(alloc, session, entries, transcripts, starts, told, p))?;
     }
-    Ok(parts)
+    Ok(rows)
 }
 
 impl Access {
@@ -72,29 +151,17 @@ impl Access {
         Ok(())
     }
 
-    // The rows of parts with these events, by what was told of each.
-    fn of(
-        alloc: Global,
-        session: &Session,
-        entries: &[Entry],
-        parts: &[Sequence<Event2>],
-        told: &[Told],
-    ) -> Result<Access, AllocError>
-        requires told { AreTold session.now entries.now (questions_from (length entries.now) 0 parts.now) told.now }
-        requires admissible { HasAdmissible session.now entries.now }
-        ensures { IfOk result (AreRows session.now entries.now parts.now (length parts.now)) }
+    // These rows, if all of them were made.
+    fn of(alloc: Global, rows: Vec<Result<Row, AllocError>>) -> Result<Access, AllocError>
+        ensures { IfOk result (IsOf rows.items []) }
     {
         let mut access = Access {
             descriptors: Vec::new(alloc),
             deeds: Vec::new(alloc),
             changes: Vec::new(alloc),
         };
-        let mut left = told;
-        for p in 0..parts.len() {
-            let events = parts[p].items();
-            let (own, others) = left.split_at(events.len());
-            access.push(Row::of(alloc, session, entries, p, events, own)?)?;
-            left = others;
+        for row in rows {
+            access.push(row?)?;
         }
         Ok(access)
     }
@@ -102,12 +169,14 @@ impl Access {
 
 /// On which access each event of the transcripts stood, where a plain supervisor goes through the journal once. The journal
 /// is right, and such as a text can say; the transcripts may be any. A transcript beyond those of the session's processes,
-/// and the initializer's, has unknown descriptors; a point beyond the journal is its end.
+/// and the initializer's, has unknown descriptors; a point beyond the journal is its end. What each event was, by what the
+/// supervisor said, is found for each transcript on a thread of its own where one can be had; the answer does not hang on it.
 ///
 /// # Errors
 ///
 /// Want of memory.
-pub fn access_of<S: PlainSupervisor>(
+pub fn access_of<S: PlainSupervisor, R: Threads + Sync>(
+    rt: &R,
     alloc: Global,
     session: &Session,
     journal: &Journal,
@@ -120,8 +189,47 @@ pub fn access_of<S: PlainSupervisor>(
     descriptors_are_admissible();
     let _scripts = session.scripts();
     let entries = journal.items();
-    let parts = parts_of(alloc, transcripts.items())?;
-    let questions = questions_of(alloc, entries.len(), &parts)?;
-    let told = answers::<S>(alloc, session, entries, &questions)?;
-    Access::of(alloc, session, entries, &parts, &told)
+    let parts = transcripts.items();
+    let answers = answers_on::<S>(alloc, session, entries, parts)?;
+    let rows = rows_beside(
+        rt,
+        alloc,
+        session,
+        entries,
+        parts,
+        &answers.starts,
+        &answers.told,
+    )?;
+    Access::of(alloc, rows)
+}
+
+/// The same, found on one thread.
+///
+/// # Errors
+///
+/// Want of memory.
+pub fn access_in_turn<S: PlainSupervisor>(
+    alloc: Global,
+    session: &Session,
+    journal: &Journal,
+    transcripts: &Transcripts,
+) -> Result<Access, AllocError>
+    requires right { IsRight (opening_of session.now) journal.now }
+    requires fits { list_all fits_entry journal.now ≡ true }
+    ensures { IfOk result (IsAccess session.now journal.now transcripts.now) }
+{
+    descriptors_are_admissible();
+    let _scripts = session.scripts();
+    let entries = journal.items();
+    let parts = transcripts.items();
+    let answers = answers_on::<S>(alloc, session, entries, parts)?;
+    let rows = rows_in_turn(
+        alloc,
+        session,
+        entries,
+        parts,
+        &answers.starts,
+        &answers.told,
+    )?;
+    Access::of(alloc, rows)
 }

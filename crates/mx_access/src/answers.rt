@@ -1,13 +1,14 @@
 //! What each event was, by what was told of it.
 
-ghost use Rattle.std.specs.Prelude.{◌≡◌, ◌++◌, [], ◌∷◌, length, map, IfOk, OnOk};
+ghost use Rattle.std.specs.Prelude.{◌≡◌, ◌++◌, [], ◌∷◌, map, IfOk, OnOk};
 ghost use Rattle.mx_access.specs.Admissible.{HasAdmissible};
-ghost use Rattle.mx_access.specs.Passing.{AreTold};
-ghost use Rattle.mx_access.specs.Questions.{question_of};
-ghost use Rattle.mx_access.specs.Rows.{event_change, IsRow, told_cell, told_desc, use_since};
+ghost use Rattle.mx_access.specs.Answers.{is_changed, judged_on, missed_changed};
+ghost use Rattle.mx_access.specs.Rows.{AreToldOf, deed_of_process, event_change, IsRow, told_cell, told_desc, use_since};
 ghost use Rattle.mx_sdw.specs.Judging.{judgement};
 ghost use Rattle.mx_stores.specs.Parts.{deed_of};
+ghost use Rattle.mx_transcript.specs.Access.{descriptor_of};
 ghost use Rattle.mx_transcript.specs.References.{deed_by, granted_cell, reference};
+ghost use Rattle.mx_transcript.specs.Transcripts.{events_of};
 
 use crate::questions::{Question, Told};
 use mx_core::{Element, Event, Kind, Outcome};
@@ -16,7 +17,7 @@ use mx_script::Session;
 use mx_sdw::{Desc, Op, Ring, judge};
 use mx_state::Entry;
 use mx_stores::{CellUse, Deed, Form};
-use mx_transcript::Event2;
+use mx_transcript::{Event2, Transcript};
 use std::alloc::{AllocError, Global};
 
 /// For each event of a process, in order: what deed it was, on which descriptor it was judged, and whether its entry
@@ -143,26 +144,51 @@ impl Row {
         self.changes.push(is_change(entries, p, event, told))
     }
 
-    /// The row of process `p`, by its events and what was told of each.
-    pub(crate) fn of(
-        alloc: Global,
+    // Adds events of process `p`, by what was told of each.
+    fn add(
+        &mut self,
         session: &Session,
         entries: &[Entry],
         p: usize,
         events: &[Event2],
         told: &[Told],
-    ) -> Result<Row, AllocError>
-        requires told { AreTold session.now entries.now (map (question_of (length entries.now) p) events.now) told.now }
+    ) -> Result<(), AllocError>
+        requires told { AreToldOf session.now entries.now p events.now told.now }
         requires admissible { HasAdmissible session.now entries.now }
-        ensures { IfOk result (IsRow session.now entries.now p events.now) }
+        ensures deeds { OnOk result (self.new.deeds ≡ self.old.deeds ++ map (deed_of_process session.now entries.now p) events.now) }
+        ensures descriptors { OnOk result (self.new.descriptors ≡ self.old.descriptors ++ map (judged_on (descriptor_of session.now entries.now p)) events.now) }
+        ensures changes { OnOk result (self.new.changes ≡ self.old.changes ++ map (missed_changed (is_changed session.now entries.now p)) events.now) }
+    {
+        for place in 0..events.len() {
+            self.push(entries.len(), p, &events[place], &told[place])?;
+        }
+        Ok(())
+    }
+
+    /// The row of process `p`, whose transcript this is, by what was told of its events. There is room for so many at once.
+    pub(crate) fn of(
+        alloc: Global,
+        session: &Session,
+        entries: &[Entry],
+        p: usize,
+        transcript: &Transcript,
+        told: &[Told],
+        room: usize,
+    ) -> Result<Row, AllocError>
+        requires told { AreToldOf session.now entries.now p (events_of transcript.now) told.now }
+        requires admissible { HasAdmissible session.now entries.now }
+        ensures { IfOk result (IsRow session.now entries.now p (events_of transcript.now)) }
     {
         let mut row = Row {
-            deeds: Sequence::new(alloc),
-            descriptors: Sequence::new(alloc),
-            changes: Sequence::new(alloc),
+            deeds: Sequence::of(Vec::with_capacity(alloc, room)?),
+            descriptors: Sequence::of(Vec::with_capacity(alloc, room)?),
+            changes: Sequence::of(Vec::with_capacity(alloc, room)?),
         };
-        for place in 0..events.len() {
-            row.push(entries.len(), p, &events[place], &told[place])?;
+        let mut left = told;
+        for (_, events, _) in transcript.steps() {
+            row.add(session, entries, p, events, left)?;
+            let (_, others) = left.split_at(events.len());
+            left = others;
         }
         Ok(row)
     }

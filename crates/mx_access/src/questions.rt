@@ -2,12 +2,12 @@
 
 ghost use Rattle.std.specs.Prelude.{◌≡◌, ◌+◌, ◌++◌, ◌≤◌, ◌<◌, length, map, min, IfOk, OnOk};
 ghost use Rattle.std.specs.List.Sorted.{IsNonDecreasingBy};
-ghost use Rattle.mx_access.specs.Questions.{AreTurns, question_of, questions_from};
+ghost use Rattle.mx_access.specs.Questions.{AreQuestions, AreTurns, question_of};
+ghost use Rattle.mx_transcript.specs.Transcripts.{events_of};
 
 use mx_core::Event;
-use mx_list::Sequence;
 use mx_sdw::Desc;
-use mx_transcript::Event2;
+use mx_transcript::{Event2, Transcript};
 use std::alloc::{AllocError, Global};
 
 /// What is asked about an event: the descriptor that a process has of a segment number after so many entries, `point`, and
@@ -19,6 +19,13 @@ pub(crate) struct Question {
     pub(crate) word: u16,
     pub(crate) before: u32,
     pub(crate) point: u32,
+}
+
+/// What is asked about the events of all processes, and behind how many questions those of each process begin.
+#[derive(Debug, Drop)]
+pub(crate) struct Questions {
+    pub(crate) asked: Vec<Question>,
+    pub(crate) starts: Vec<usize>,
 }
 
 /// What was said: the descriptor before the point, the one at it, and the entry that gave out the word's page last.
@@ -108,19 +115,36 @@ fn add_questions(
     Ok(())
 }
 
+// Adds what is asked about the events of a transcript, that of process `p`.
+fn add_part(
+    questions: &mut Vec<Question>,
+    entries: usize,
+    p: usize,
+    transcript: &Transcript,
+) -> Result<(), AllocError>
+    ensures { OnOk result (questions.new.items ≡ questions.old.items ++ map (question_of entries p) (events_of transcript.now)) }
+{
+    for (_, events, _) in transcript.steps() {
+        add_questions(questions, entries, p, events)?;
+    }
+    Ok(())
+}
+
 /// What is asked about the events of all processes, those of process 0 first.
 pub(crate) fn questions_of(
     alloc: Global,
     entries: usize,
-    parts: &[Sequence<Event2>],
-) -> Result<Vec<Question>, AllocError>
-    ensures { IfOk result (λ questions. questions.items ≡ questions_from entries 0 parts.now) }
+    transcripts: &[Transcript],
+) -> Result<Questions, AllocError>
+    ensures { IfOk result (λ questions. AreQuestions entries transcripts.now questions.asked.items questions.starts.items) }
 {
-    let mut questions = Vec::new(alloc);
-    for p in 0..parts.len() {
-        add_questions(&mut questions, entries, p, parts[p].items())?;
+    let mut asked = Vec::new(alloc);
+    let mut starts = Vec::new(alloc);
+    for p in 0..transcripts.len() {
+        starts.push(asked.len())?;
+        add_part(&mut asked, entries, p, &transcripts[p])?;
     }
-    Ok(questions)
+    Ok(Questions { asked, starts })
 }
 
 // Adds the turns of the question at a place, after those of the questions before it.
@@ -159,7 +183,7 @@ pub(crate) fn turns_of(alloc: Global, questions: &[Question]) -> Result<Vec<Turn
 fn all_turns(alloc: Global, questions: &[Question]) -> Result<Vec<Turn>, AllocError>
     ensures { IfOk result (λ turns. AreTurns questions.now (length questions.now) turns.items) }
 {
-    let mut turns = Vec::new(alloc);
+    let mut turns = Vec::with_capacity(alloc, questions.len())?;
     for at in 0..questions.len() {
         add_turns(&mut turns, questions, at)?;
     }

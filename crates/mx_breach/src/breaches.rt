@@ -15,7 +15,7 @@ use crate::lines::{BadLine, add_bad_line, add_next_or_last};
 use crate::printed::add_request;
 use crate::rules::{bad_line, broken_at, events_before, line_before, named_before, own_entry};
 use crate::runs::Run;
-use mx_access::{Access, access_of};
+use mx_access::{Access, access_in_turn};
 use mx_legal::{Breach, Failing, failing_of, first_bad_entry, good_entries_law};
 use mx_parts::Departure;
 use mx_points::Line;
@@ -66,7 +66,7 @@ fn add_bad_part(
         transcripts,
     };
     let p = breach.process;
-    let access = access_of::<State>(alloc, session, journal, transcripts)?;
+    let access = access_in_turn::<State>(alloc, session, journal, transcripts)?;
     let wrong = first_breach(alloc, &access.deeds)?;
     let failing = failing_of(alloc, session, journal, transcripts, &access, p, wrong)?;
     match bad_line(&failing) {

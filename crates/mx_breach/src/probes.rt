@@ -5,7 +5,7 @@ ghost use Rattle.mx_state.specs.History.{IsRight};
 ghost use Rattle.mx_transcript.specs.Opened.{opening_of};
 
 use crate::runs::Run;
-use mx_access::{Access, access_of};
+use mx_access::{Access, access_in_turn};
 use mx_list::Sequence;
 use mx_sdw::Desc;
 use mx_state::State;
@@ -27,7 +27,7 @@ pub(crate) fn access_on(
         parts.push(transcript_of(alloc, &[])?)?;
     }
     parts.push(transcript_of(alloc, events)?)?;
-    access_of::<State>(alloc, run.session, run.journal, &parts)
+    access_in_turn::<State>(alloc, run.session, run.journal, &parts)
 }
 
 // A transcript of one line with these events.

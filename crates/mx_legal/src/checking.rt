@@ -79,7 +79,7 @@ fn legal_lines<S: PlainSupervisor, R: Threads + Sync>(
     good_entries_law();
     legal_law();
     let _scripts = session.scripts();
-    let access = access_of::<S>(alloc, session, journal, transcripts)?;
+    let access = access_of::<S, R>(rt, alloc, session, journal, transcripts)?;
     let stores = Stores::beside(rt, alloc, &access.deeds)?;
     let all = judge_beside(rt, alloc, session, journal, transcripts, &access, &stores)?;
     let beside = all.as_slice();

@@ -1,17 +1,18 @@
-use Rattle.std.proofs.Common.{◌≡◌, map, take}
-use Rattle.std.specs.List.{All}
+use Rattle.std.proofs.Common.{◌≡◌, ◌++◌, map}
 use Rattle.mx_access.specs.Answers.{is_changed, judged_on, missed_changed}
-use Rattle.mx_sdw.specs.Admissible.{IsAdmissible}
+use Rattle.mx_access.specs.Rows.{AreToldOf, deed_of_process}
 use Rattle.mx_transcript.specs.Access.{descriptor_of}
-use Rattle.mx_transcript.specs.References.{cell_of, deed_by}
-use Rattle.mx_transcript.specs.Uses.{use_of}
+use Rattle.mx_transcript.specs.Transcripts.{events_of}
 use Rattle.mx_access.proofs.answers.Row.of.Given as goal
 
--- the row of the events before this place
-abbrev pub invariant-loop-place : goal.invariant-loop-place
-invariant-loop-place l = record {
-  deeds : l.row.deeds ≡ map (deed_by (cell_of (use_of l.session l.entries) (descriptor_of l.session l.entries l.p))) (take l.place l.events);
-  descriptors : l.row.descriptors ≡ map (judged_on (descriptor_of l.session l.entries l.p)) (take l.place l.events);
-  changes : l.row.changes ≡ map (missed_changed (is_changed l.session l.entries l.p)) (take l.place l.events);
-  admissible : All IsAdmissible l.row.descriptors;
+-- the row so far, and what was told of the events that are left
+abbrev pub invariant-loop-events : goal.invariant-loop-events
+invariant-loop-events l = record {
+  deeds : l.row.deeds ++ map (deed_of_process l.session l.entries l.p) (events_of l.events-iterator)
+      ≡ map (deed_of_process l.session l.entries l.p) (events_of l.transcript);
+  descriptors : l.row.descriptors ++ map (judged_on (descriptor_of l.session l.entries l.p)) (events_of l.events-iterator)
+      ≡ map (judged_on (descriptor_of l.session l.entries l.p)) (events_of l.transcript);
+  changes : l.row.changes ++ map (missed_changed (is_changed l.session l.entries l.p)) (events_of l.events-iterator)
+      ≡ map (missed_changed (is_changed l.session l.entries l.p)) (events_of l.transcript);
+  told : AreToldOf l.session l.entries l.p (events_of l.events-iterator) l.left;
 }
