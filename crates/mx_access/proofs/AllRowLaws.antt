@@ -1,5 +1,5 @@
 -- What was told of the events of each process, and the rows of all processes.
-use Rattle.std.proofs.Common.{◌≡◌, ◌⊎◌, inl, inr, ℕ, zero, suc, ◌+◌, ◌<◌, ◌≤◌, List, [], ◌∷◌, ◌++◌, map, take, drop, length, Option, None, Some, Result, Ok, Err, IfOk, refl, ap, sym, subst, ◌∙◌, arith, append_assoc, append-nil}
+use Rattle.std.proofs.Common.{◌≡◌, ◌⊎◌, inl, inr, ℕ, zero, suc, ◌+◌, ◌<◌, ◌≤◌, List, [], ◌∷◌, ◌++◌, map, take, drop, length, Option, None, Some, Result, Ok, IfOk, refl, ap, sym, subst, ◌∙◌, arith, append_assoc, append-nil}
 use Rattle.std.proofs.lemmas.Bool.{cases_lt}
 use Rattle.std.proofs.lemmas.List.{drop_more, get_or_append_left, get_or_default, get_or_push, length-append, length-drop, length-map, map-append}
 use Rattle.std.proofs.lemmas.Option.{none-some, same_Some, slice_get-get_or, slice_get_within}
@@ -196,21 +196,19 @@ module _ (session : Outline) (journal : List journaled.Entry) (transcripts : Lis
           ∙ ap (λ (n : ℕ). length (front p) + n) (length-append (own p) (rest p))
 
   -- the rows that calls side by side made
-  pub all_made : {V E : Type 0} (items : V → List (Result Row AllocError)) (result : Result V E)
-      → IfOk result (λ v. length (items v) ≡ length transcripts)
-      → IfOk result (λ v. (p : ℕ) (d : Result Row AllocError) → p < length transcripts
-      → IfOk (slice_index_or (items v) p d) (λ row. IsRow session journal p (events_of (part transcripts p)) row))
-      → IfOk result (λ v. AreRows session journal transcripts (items v))
-  all_made items (Ok v) len each = record {
+  pub all_made : (made : List (Result Row AllocError)) (count : ℕ) → length made ≡ count
+      → ((p : ℕ) (d : Result Row AllocError) → p < count
+      → IfOk (slice_index_or made p d) (λ row. IsRow session journal p (events_of (part transcripts p)) row))
+      → AreRows session journal transcripts count made
+  all_made made count len each = record {
     long = len;
     each = λ p row at.
-        let within : p < length (items v) = slice_get_within (items v) p (Ok row) at in
-        let read : slice_index_or (items v) p (Ok row) ≡ Ok row =
-        same_Some (slice_index_or (items v) p (Ok row)) (Ok row) (sym (slice_get-get_or (items v) p (Ok row) within) ∙ at) in
+        let within : p < length made = slice_get_within made p (Ok row) at in
+        let read : slice_index_or made p (Ok row) ≡ Ok row =
+        same_Some (slice_index_or made p (Ok row)) (Ok row) (sym (slice_get-get_or made p (Ok row) within) ∙ at) in
         subst (λ (r : Result Row AllocError). IfOk r (λ row. IsRow session journal p (events_of (part transcripts p)) row)) read
         (each p (Ok row) (omega (arith, within, len)));
   }
-  all_made items (Err e) len each = tt
 
   -- one row more, made or not
   pub made_more : (old new : List (Result Row AllocError)) (made : Result Row AllocError) (p : ℕ) → length old ≡ p
@@ -238,7 +236,7 @@ module _ (session : Outline) (journal : List journaled.Entry) (transcripts : Lis
           ∙ sym (ap (λ (steps : List Step). map (f p) (events_of steps)) (no_part transcripts p (omega (arith, long, none_beyond rows p e))))
       by_row (Some row) e = row_of g rows p row e ∙ each p row e
 
-  pub is_access : (made : List (Result Row AllocError)) (access : Access) → AreRows session journal transcripts made
+  pub is_access : (made : List (Result Row AllocError)) (access : Access) → AreRows session journal transcripts (length transcripts) made
       → IsOf made [] access → IsAccess session journal transcripts access
   is_access made access are is = record {
     rows = ap length is.descriptors ∙ length-map is.rows _ ∙ many;

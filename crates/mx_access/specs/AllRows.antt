@@ -17,10 +17,10 @@ pub record AreToldFrom (session : Outline) (journal : List journaled.Entry) (tra
   pub each : (p : ℕ) → p < length transcripts
       → AreToldOf session journal p (events_of (part transcripts p)) (drop (slice_index_or starts p 0) told)
 
--- for each transcript a row, made or wanting memory; each that was made is that of its process
-pub record AreRows (session : Outline) (journal : List journaled.Entry) (transcripts : List (List Step))
+-- for each of the first so many transcripts a row, made or wanting memory; each that was made is that of its process
+pub record AreRows (session : Outline) (journal : List journaled.Entry) (transcripts : List (List Step)) (count : ℕ)
     (made : List (Result Row AllocError)) : Type 0 where
-  pub long : length made ≡ length transcripts
+  pub long : length made ≡ count
   pub each : (p : ℕ) (row : Row) → slice_get made p ≡ Some (Ok row) → IsRow session journal p (events_of (part transcripts p)) row
 
 -- these rows but those that are left were all made, and stand in the access

@@ -1,6 +1,6 @@
 //! The rows of all processes.
 
-ghost use Rattle.std.specs.Prelude.{◌≡◌, ◌<◌, ◌++◌, [], ◌∷◌, true, length, IfOk, OnOk};
+ghost use Rattle.std.specs.Prelude.{◌≡◌, ◌≤◌, ◌<◌, ◌++◌, [], ◌∷◌, true, length, IfOk, OnOk};
 ghost use Rattle.std.specs.List.{list_all};
 ghost use Rattle.mx_access.specs.Answers.{IsAccess};
 ghost use Rattle.mx_access.specs.Admissible.{HasAdmissible};
@@ -95,27 +95,27 @@ fn row_at(
     )
 }
 
-// The rows of all processes, made side by side, each on a thread of its own where one can be had.
-fn rows_beside<R: Threads + Sync>(
-    rt: &R,
+// Adds the rows of the processes from this one on, made one after another.
+fn add_rows(
+    rows: &mut Vec<Result<Row, AllocError>>,
     alloc: Global,
     session: &Session,
     entries: &[Entry],
     transcripts: &[Transcript],
     starts: &[usize],
     told: &[Told],
-) -> Result<Vec<Result<Row, AllocError>>, AllocError>
+    first: usize,
+) -> Result<(), AllocError>
+    requires first { first ≤ length transcripts.now }
+    requires rows { AreRows session.now entries.now transcripts.now first rows.old.items }
     requires told { AreToldFrom session.now entries.now transcripts.now starts.now told.now }
     requires admissible { HasAdmissible session.now entries.now }
-    ensures { IfOk result (λ rows. AreRows session.now entries.now transcripts.now rows.items) }
+    ensures { OnOk result (AreRows session.now entries.now transcripts.now (length transcripts.now) rows.new.items) }
 {
-    let one = |p: usize| -> Result<Row, AllocError>
-        requires place { p < length transcripts.now }
-        requires told { AreToldFrom session.now entries.now transcripts.now starts.now told.now }
-        requires admissible { HasAdmissible session.now entries.now }
-        ensures { IfOk result (IsRow session.entry.now entries.entry.now p (events_of (part transcripts.entry.now p))) }
-    { row_at(alloc, session, entries, transcripts, starts, told, p) };
-    thread::map_indices(rt, alloc, transcripts.len(), &one)
+    for p in first..transcripts.len() {
+        rows.push(row_at(alloc, session, entries, transcripts, starts, told, p))?;
+    }
+    Ok(())
 }
 
 // The rows of all processes, made one after another.
@@ -129,12 +129,66 @@ fn rows_in_turn(
 ) -> Result<Vec<Result<Row, AllocError>>, AllocError>
     requires told { AreToldFrom session.now entries.now transcripts.now starts.now told.now }
     requires admissible { HasAdmissible session.now entries.now }
-    ensures { IfOk result (λ rows. AreRows session.now entries.now transcripts.now rows.items) }
+    ensures { IfOk result (λ rows. AreRows session.now entries.now transcripts.now (length transcripts.now) rows.items) }
 {
     let mut rows = Vec::new(alloc);
-    for p in 0..transcripts.len() {
-        rows.push(row_at(alloc, session, entries, transcripts, starts, told, p))?;
+    add_rows(
+        &mut rows,
+        alloc,
+        session,
+        entries,
+        transcripts,
+        starts,
+        told,
+        0,
+    )?;
+    Ok(rows)
+}
+
+// How many rows are made side by side: those of the initializer and the session's processes, of so many transcripts.
+fn beside_of(session: &Session, transcripts: usize) -> usize
+    ensures { result ≤ transcripts }
+{
+    let processes = session.principals().items().len() + 1;
+    if transcripts < processes {
+        transcripts
+    } else {
+        processes
     }
+}
+
+// The rows of all processes, those of the session's made side by side, each on a thread of its own where one can be had.
+fn rows_beside<R: Threads + Sync>(
+    rt: &R,
+    alloc: Global,
+    session: &Session,
+    entries: &[Entry],
+    transcripts: &[Transcript],
+    starts: &[usize],
+    told: &[Told],
+) -> Result<Vec<Result<Row, AllocError>>, AllocError>
+    requires told { AreToldFrom session.now entries.now transcripts.now starts.now told.now }
+    requires admissible { HasAdmissible session.now entries.now }
+    ensures { IfOk result (λ rows. AreRows session.now entries.now transcripts.now (length transcripts.now) rows.items) }
+{
+    let beside = beside_of(session, transcripts.len());
+    let one = |p: usize| -> Result<Row, AllocError>
+        requires place { p < length transcripts.now }
+        requires told { AreToldFrom session.now entries.now transcripts.now starts.now told.now }
+        requires admissible { HasAdmissible session.now entries.now }
+        ensures { IfOk result (IsRow session.entry.now entries.entry.now p (events_of (part transcripts.entry.now p))) }
+    { row_at(alloc, session, entries, transcripts, starts, told, p) };
+    let mut rows = thread::map_indices(rt, alloc, beside, &one)?;
+    add_rows(
+        &mut rows,
+        alloc,
+        session,
+        entries,
+        transcripts,
+        starts,
+        told,
+        beside,
+    )?;
     Ok(rows)
 }
 
@@ -170,7 +224,8 @@ impl Access {
 /// On which access each event of the transcripts stood, where a plain supervisor goes through the journal once. The journal
 /// is right, and such as a text can say; the transcripts may be any. A transcript beyond those of the session's processes,
 /// and the initializer's, has unknown descriptors; a point beyond the journal is its end. What each event was, by what the
-/// supervisor said, is found for each transcript on a thread of its own where one can be had; the answer does not hang on it.
+/// supervisor said, is found for each of those processes on a thread of its own where one can be had; the answer does not hang
+/// on it.
 ///
 /// # Errors
 ///

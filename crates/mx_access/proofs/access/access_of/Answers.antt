@@ -1,4 +1,4 @@
-use Rattle.std.proofs.Common.{[], List, subst}
+use Rattle.std.proofs.Common.{[], List, length, subst}
 use Rattle.std.proofs.lemmas.Result.{IfOk-weaker}
 use Rattle.mx_access.specs.Answers.{IsAccess}
 use Rattle.mx_access.specs.AllRows.{AreRows, IsOf}
@@ -11,7 +11,7 @@ returns g c =
     let rows = c.in_ok-rows.rows.items in
     IfOk-weaker c.of.result (IsOf rows []) (IsAccess session c.args.journal.now c.args.transcripts.now)
     (λ access is. is_access session c.args.journal.now c.args.transcripts.now rows access
-    (subst (λ (parts : List _). AreRows session c.args.journal.now parts rows) c.items-parts.ensures
-    (subst (λ (entries : List _). AreRows session entries c.items-parts.result.now rows) c.items-entries.ensures c.in_ok-rows.ensures))
+    (subst (λ (parts : List _). AreRows session c.args.journal.now parts (length parts) rows) c.items-parts.ensures
+    (subst (λ (entries : List _). AreRows session entries c.items-parts.result.now (length c.items-parts.result.now) rows) c.items-entries.ensures c.in_ok-rows.ensures))
     is)
     c.of.ensures

@@ -1,6 +1,6 @@
 use Rattle.std.proofs.Common.{arith}
 use Rattle.mx_access.proofs.AllRowLaws.{made_more}
-use Rattle.mx_access.proofs.access.rows_in_turn.Goals as goal
+use Rattle.mx_access.proofs.access.add_rows.Goals as goal
 
 pub loop-p-preserved : goal.loop-p-preserved
 loop-p-preserved c = record {
