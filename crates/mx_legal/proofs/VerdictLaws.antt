@@ -24,9 +24,9 @@ use Rattle.mx_transcript.specs.Transcripts.{Step, entries_named, events_of, numb
 use Rattle.mx_legal.specs.Breach.{HasNamed, IsBadLine, IsBreach, blamed, parts_in}
 use Rattle.mx_legal.specs.BreachLaws.{LegalLaw, ReadsToLaw}
 use Rattle.mx_legal.specs.Deciding.{AreGoodParts, AreOwnReadsTo, IsUnnamedTo, or_unnamed, place_of}
-use Rattle.mx_legal.specs.Judging.{AreJudged, IsJudged}
+use Rattle.mx_legal.specs.Judging.{AreJudged, AreUndone, IsJudged}
 use Rattle.mx_legal.specs.Entries.{AreGoodTo, AreOfProcessesTo, IsFirstBad, IsFirstBadEntry}
-use Rattle.mx_legal.specs.Fronts.{AreRightReadsTo, IsGoodPart, events_to}
+use Rattle.mx_legal.specs.Fronts.{AreDoneTo, AreRightReadsTo, IsGoodPart, events_to}
 use Rattle.mx_legal.specs.declared.judging.Judged.{Judged}
 use Rattle.mx_legal.proofs.FirstLaws.{all_events}
 use Rattle.mx_legal.proofs.LegalLaws.{no_part}
@@ -152,6 +152,23 @@ all_judged session journal transcripts items count (Ok v) len each = λ p judged
     some_same : {a b : Result Judged AllocError} → Some a ≡ Some b → a ≡ b
     some_same e = cc
 all_judged session journal transcripts items count (Err e) len each = tt
+
+-- the same of the first lines that depart from the line rule
+pub all_undone : {V E : Type 0} (session : Outline) (journal : List journaled.Entry) (transcripts : List (List Step))
+    (items : V → List (Result (Option ℕ) AllocError)) (count : ℕ) (result : Result V E) → IfOk result (λ v. length (items v) ≡ count)
+    → IfOk result (λ v. (p : ℕ) (d : Result (Option ℕ) AllocError) → p < count
+    → IfOk (slice_index_or (items v) p d) (front.IsFirstBad (AreDoneTo session journal p (part transcripts p)) (length (part transcripts p))))
+    → IfOk result (λ v. AreUndone session journal transcripts (items v))
+all_undone session journal transcripts items count (Ok v) len each = λ p found at.
+    let within : p < length (items v) = slice_get_within (items v) p (Ok found) at in
+    let read : slice_index_or (items v) p (Ok found) ≡ Ok found =
+    some_same (sym (slice_get-get_or (items v) p (Ok found) within) ∙ at) in
+    subst (λ (r : Result (Option ℕ) AllocError). IfOk r (front.IsFirstBad (AreDoneTo session journal p (part transcripts p))
+    (length (part transcripts p)))) read (each p (Ok found) (omega (arith, within, len)))
+  where
+    some_same : {a b : Result (Option ℕ) AllocError} → Some a ≡ Some b → a ≡ b
+    some_same e = cc
+all_undone session journal transcripts items count (Err e) len each = tt
 
 -- one part more
 pub parts_more : (session : Outline) (journal : List journaled.Entry) (transcripts : List (List Step)) (p : ℕ)

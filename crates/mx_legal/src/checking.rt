@@ -10,14 +10,13 @@ ghost use Rattle.mx_transcript.specs.Legal.{IsLegal};
 
 use crate::blame::blamed;
 use crate::entries::first_bad_entry;
-use crate::judging::{judge_beside, judged_at, or_unnamed, part_of};
+use crate::judging::{judge_beside, judged_at, or_unnamed, part_of, undone_and_stores};
 use crate::laws::{good_entries_law, legal_law};
 use crate::places::parts_in;
 use mx_access::access_of;
 use mx_fresh::PlainSupervisor;
 use mx_script::Session;
 use mx_state::Journal;
-use mx_stores::Stores;
 use mx_transcript::Transcripts;
 use std::alloc::{AllocError, Global};
 use std::thread::Threads;
@@ -80,8 +79,19 @@ fn legal_lines<S: PlainSupervisor, R: Threads + Sync>(
     legal_law();
     let _scripts = session.scripts();
     let access = access_of::<S, R>(rt, alloc, session, journal, transcripts)?;
-    let stores = Stores::beside(rt, alloc, &access.deeds)?;
-    let all = judge_beside(rt, alloc, session, journal, transcripts, &access, &stores)?;
+    let (undone, stores) = undone_and_stores(rt, alloc, session, journal, transcripts, &access);
+    let undone = undone?;
+    let stores = stores?;
+    let all = judge_beside(
+        rt,
+        alloc,
+        session,
+        journal,
+        transcripts,
+        &access,
+        &undone,
+        &stores,
+    )?;
     let beside = all.as_slice();
     let mut unnamed = None;
     for p in 0..parts_in(session, transcripts) {
@@ -91,6 +101,7 @@ fn legal_lines<S: PlainSupervisor, R: Threads + Sync>(
             journal,
             transcripts,
             &access,
+            &undone,
             &stores,
             p,
             beside,

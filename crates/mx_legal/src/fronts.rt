@@ -162,28 +162,25 @@ fn misnamed(naming: Naming) -> Option<usize>
     }
 }
 
-// The place of the first line that breaks a rule on lines, where it is known how the lines name entries.
+// The place of the first line that breaks a rule on lines, where it is known which departs from the line rule, and how the lines
+// name entries.
 fn first_bad_step(
-    alloc: Global,
     session: &Session,
-    journal: &Journal,
-    transcripts: &Transcripts,
-    access: &Access,
+    _journal: &Journal,
+    _transcripts: &Transcripts,
     p: usize,
     lines: &[Line<'_>],
     naming: Naming,
-) -> Result<Option<usize>, AllocError>
-    requires session { list_all fits (rows_of session.now) ≡ true }
-    requires journal { list_all fits_entry journal.now ≡ true }
-    requires access { IsAccess session.now journal.now transcripts.now access.now }
-    requires lines { lines.now ≡ part transcripts.now p }
-    requires naming { IsNaming journal.now p lines.now naming }
-    ensures { IfOk result (IsFirstBad (AreRightLinesTo session.now journal.now p lines.now) (length lines.now)) }
+    undone: Option<usize>,
+) -> Option<usize>
+    requires lines { lines.now ≡ part _transcripts.now p }
+    requires naming { IsNaming _journal.now p lines.now naming }
+    requires undone { IsFirstBad (AreDoneTo session.now _journal.now p (part _transcripts.now p)) (length (part _transcripts.now p)) undone }
+    ensures { IsFirstBad (AreRightLinesTo session.now _journal.now p lines.now) (length lines.now) result }
 {
-    let undone = first_undone(alloc, session, journal, transcripts, access, p)?;
     let initial = first_bad_initial(session, p, lines);
     let full = first_early_full(lines);
-    Ok(earlier(earlier(undone, misnamed(naming)), earlier(initial, full)))
+    earlier(earlier(undone, misnamed(naming)), earlier(initial, full))
 }
 
 /// Whether the lines name all entries of their process.
@@ -207,7 +204,7 @@ fn line_of(lines: &[Line<'_>], event: Option<usize>) -> Option<usize>
 }
 
 /// The place of the first bad line of process `p`'s part, which may be missing; none where the part keeps all rules. It is
-/// known where the process's first wrong read is, and how its lines name entries.
+/// known which line departs from the line rule first, where the process's first wrong read is, and how its lines name entries.
 pub(crate) fn bad_line(
     alloc: Global,
     session: &Session,
@@ -217,6 +214,7 @@ pub(crate) fn bad_line(
     p: usize,
     lines: &[Line<'_>],
     naming: Naming,
+    undone: Option<usize>,
     wrong_read: Option<usize>,
 ) -> Result<Option<usize>, AllocError>
     requires session { list_all fits (rows_of session.now) ≡ true }
@@ -224,6 +222,7 @@ pub(crate) fn bad_line(
     requires access { IsAccess session.now journal.now transcripts.now access.now }
     requires lines { lines.now ≡ part transcripts.now p }
     requires naming { IsNaming journal.now p lines.now naming }
+    requires undone { IsFirstBad (AreDoneTo session.now journal.now p (part transcripts.now p)) (length (part transcripts.now p)) undone }
     requires reads { IsFirstBad (AreOwnReadsTo session.now journal.now transcripts.now p) (length (deeds session.now journal.now transcripts.now p)) wrong_read }
     ensures { IfOk result (λ found. MatchOption found (IsGoodPart session.now journal.now transcripts.now p) (IsBadLine session.now journal.now transcripts.now p)) }
 {
@@ -236,6 +235,7 @@ pub(crate) fn bad_line(
         p,
         lines,
         naming,
+        undone,
         wrong_read,
     )?;
     Ok(or_missing(session, journal, transcripts, p, lines, place))
@@ -251,6 +251,7 @@ fn first_bad(
     p: usize,
     lines: &[Line<'_>],
     naming: Naming,
+    undone: Option<usize>,
     wrong_read: Option<usize>,
 ) -> Result<Option<usize>, AllocError>
     requires session { list_all fits (rows_of session.now) ≡ true }
@@ -258,19 +259,11 @@ fn first_bad(
     requires access { IsAccess session.now journal.now transcripts.now access.now }
     requires lines { lines.now ≡ part transcripts.now p }
     requires naming { IsNaming journal.now p lines.now naming }
+    requires undone { IsFirstBad (AreDoneTo session.now journal.now p (part transcripts.now p)) (length (part transcripts.now p)) undone }
     requires reads { IsFirstBad (AreOwnReadsTo session.now journal.now transcripts.now p) (length (deeds session.now journal.now transcripts.now p)) wrong_read }
     ensures { IfOk result (IsFirstBad (IsGoodTo session.now journal.now transcripts.now p) (length lines.now)) }
 {
-    let step = first_bad_step(
-        alloc,
-        session,
-        journal,
-        transcripts,
-        access,
-        p,
-        lines,
-        naming,
-    )?;
+    let step = first_bad_step(session, journal, transcripts, p, lines, naming, undone);
     let deed = first_bad_deed(alloc, session, journal, transcripts, access, p, wrong_read)?;
     Ok(earlier(step, line_of(lines, deed)))
 }

@@ -9,4 +9,4 @@ returns c =
     subst (IsFirstBad (IsGoodTo c.args.session.now c.args.journal.now c.args.transcripts.now c.args.p) (length c.args.lines.now))
     (sym c.earlier.ensures)
     (first_of_part c.args.session.now c.args.journal.now c.args.transcripts.now c.args.p c.args.lines.now c.requires.lines
-    c.in_ok-step.step c.in_ok-deed.deed c.line_of.result c.in_ok-step.ensures c.in_ok-deed.ensures c.line_of.ensures)
+    c.first_bad_step-step.result c.in_ok-deed.deed c.line_of.result c.first_bad_step-step.ensures c.in_ok-deed.ensures c.line_of.ensures)

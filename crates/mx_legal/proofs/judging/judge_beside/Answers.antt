@@ -6,7 +6,7 @@ use Rattle.mx_legal.proofs.judging.judge_beside.Goals as goal
 pub map_indices-requires-after_bounds : goal.map_indices-requires-after_bounds
 map_indices-requires-after_bounds g c κs within = λ p below. (
   c.requires.session,
-  (c.requires.journal, (c.requires.access, c.requires.stores)),
+  (c.requires.journal, (c.requires.access, (c.requires.undone, c.requires.stores))),
 )
 
 pub returns : goal.returns
