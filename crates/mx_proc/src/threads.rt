@@ -158,5 +158,5 @@ fn work_alone<R: Wait, G: Gate, B: Attending, A: Auditor>(
     if row.is_empty() {
         return Ok(());
     }
-    row[0].run(rt, alloc, office, gate)
+    row[0].run_alone(rt, alloc, office, gate)
 }

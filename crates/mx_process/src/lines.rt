@@ -157,6 +157,23 @@ impl<'a, B: Attending, A: Auditor> Process<'a, B, A> {
         Ok(())
     }
 
+    /// The same, after room is made for its lines.
+    #[tactic(auto, using(crate::proofs::LegLaws::own_on))]
+    pub fn run_alone<R: Wait, G: Gate>(
+        &mut self,
+        rt: &R,
+        alloc: Global,
+        office: &Office<'_, B>,
+        gate: &G,
+    ) -> Result<(), AllocError>
+        requires awake { IsAwake self.old }
+        ensures ended { OnOk result (HasNoLine B.session self.new) }
+        ensures own { IsOwn self.old self.new }
+    {
+        let room = self.reserve_lines();
+        self.run_with(rt, alloc, office, gate, room)
+    }
+
     /// The same, after room was made for its lines, or could not be had: then the run is to end for all.
     pub fn run_with<R: Wait, G: Gate>(
         &mut self,

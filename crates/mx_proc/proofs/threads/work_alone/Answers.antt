@@ -30,11 +30,11 @@ returns-clause-place g c =
     let many = c.args.row.now.ok.0 in
     let some : 0 < length row = some_row (vec_len c.args.row.now) (length row) (omega (arith, many))
     (sym c.if-is_empty.false ∙ c.is_empty.ensures) in
-    one_goes_on g.B.Attending.accounts row 0 old c.run.new.self (slice_get-get_or row 0 old some ∙ ap Some (sym c.index_mut.ensures.value))
-    c.run.ensures.own c.requires.place
+    one_goes_on g.B.Attending.accounts row 0 old c.run_alone.new.self (slice_get-get_or row 0 old some ∙ ap Some (sym c.index_mut.ensures.value))
+    c.run_alone.ensures.own c.requires.place
 
 pub returns-clause-done : goal.returns-clause-done
 returns-clause-done g c =
     let many = c.args.row.now.ok.0 in
     let few = c.requires.few in
-    done_so g.B.Sitting.session c.args.row.now.items c.run.new.self c.run.result (omega (arith, many, few)) c.run.ensures.ended
+    done_so g.B.Sitting.session c.args.row.now.items c.run_alone.new.self c.run_alone.result (omega (arith, many, few)) c.run_alone.ensures.ended
