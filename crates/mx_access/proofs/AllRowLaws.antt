@@ -8,7 +8,7 @@ use Rattle.std.specs.declared.alloc.AllocError.{AllocError}
 use Rattle.mx_access.specs.AllRows.{AreRows, AreToldFrom, IsOf}
 use Rattle.mx_access.specs.Answers.{IsAccess, is_changed, judged_on, missed_changed}
 use Rattle.mx_access.specs.Passing.{AreTold}
-use Rattle.mx_access.specs.Questions.{AreQuestions, question_of, questions_from}
+use Rattle.mx_access.specs.Questions.{AreStarts, asked_of, question_of, questions_from}
 use Rattle.mx_access.specs.Rows.{deed_of_process, IsRow}
 use Rattle.mx_access.specs.declared.access.Access.{Access}
 use Rattle.mx_access.specs.declared.answers.Row.{Row}
@@ -164,9 +164,9 @@ module _ (session : Outline) (journal : List journaled.Entry) (transcripts : Lis
       ∙ ap (λ (questions : List Question). front p ++ questions)
       (next_questions (length journal) p parts events many (events_at transcripts p below))
 
-  pub told_from : (asked : List Question) (starts : List ℕ) (told : List Told) → AreQuestions (length journal) transcripts asked starts
-      → AreTold session journal asked told → AreToldFrom session journal transcripts starts told
-  told_from asked starts told are is = record {
+  pub told_from : (starts : List ℕ) (told : List Told) → AreStarts (length journal) transcripts starts
+      → AreTold session journal (asked_of (length journal) transcripts) told → AreToldFrom session journal transcripts starts told
+  told_from starts told are is = record {
     long = are.long;
     within = λ p below. omega (arith, many p below, are.each p below, is.long);
     each = λ p below. record {
@@ -180,7 +180,7 @@ module _ (session : Outline) (journal : List journaled.Entry) (transcripts : Lis
       );
       each = λ at event answer found answered.
           is.each (length (front p) + at) (question_of (length journal) p event) answer
-          (ap (λ (questions : List Question). slice_get questions (length (front p) + at)) (are.all ∙ whole p below)
+          (ap (λ (questions : List Question). slice_get questions (length (front p) + at)) (whole p below)
           ∙ back_get (front p) (own p ++ rest p) at (question_of (length journal) p event)
           (front_get (own p) (rest p) at (question_of (length journal) p event)
           (get_map (question_of (length journal) p) (events_of (part transcripts p)) at event found)))
@@ -189,9 +189,10 @@ module _ (session : Outline) (journal : List journaled.Entry) (transcripts : Lis
     };
   }
     where
-      many : (p : ℕ) → p < length transcripts → length asked ≡ length (front p) + (length (own p) + length (rest p))
+      many : (p : ℕ) → p < length transcripts
+          → length (asked_of (length journal) transcripts) ≡ length (front p) + (length (own p) + length (rest p))
       many p below =
-          ap length (are.all ∙ whole p below)
+          ap length (whole p below)
           ∙ length-append (front p) (own p ++ rest p)
           ∙ ap (λ (n : ℕ). length (front p) + n) (length-append (own p) (rest p))
 

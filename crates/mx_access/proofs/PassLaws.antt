@@ -1,8 +1,8 @@
 -- The plain supervisor goes through a right journal entry by entry, and what it says on the way is so.
-use Rattle.std.proofs.Common.{◌≡◌, ◌⊎◌, ℕ, zero, suc, ◌+◌, ◌<◌, ◌≤◌, nat_le, Bool, true, false, cond, ◌&&◌, List, [], ◌∷◌, length, replicate, take, Option, Some, refl, ap, sym, subst, ◌∙◌, arith, inl, inr}
+use Rattle.std.proofs.Common.{◌≡◌, ◌⊎◌, ℕ, zero, suc, ◌+◌, ◌-◌, ◌<◌, ◌≤◌, nat_le, min, Bool, true, false, cond, ◌&&◌, List, [], ◌∷◌, length, replicate, take, Option, Some, refl, ap, sym, subst, ◌∙◌, arith, inl, inr}
 use Rattle.std.proofs.lemmas.Bool.{cases_lt, le-leb}
 use Rattle.std.proofs.lemmas.List.{get_or-replicate, length-map, length-replicate, length-set}
-use Rattle.std.proofs.lemmas.Option.{none-some, same_Some, slice_get-get_or, slice_get_within, get_or_from_slice_get}
+use Rattle.std.proofs.lemmas.Option.{none-some, same_Some, slice_get-get_or, slice_get_past, slice_get_within, get_or_from_slice_get}
 use Rattle.std.specs.List.{slice_get, slice_index_or, slice_set}
 use Rattle.std.specs.List.Sorted.{IsNonDecreasingBy}
 use Rattle.mx_access.specs.Passing.{AreNoted, AreNotBefore, AreTold, AreToldTo, AreUses, IsAt, IsToldAt, IsToldIn, told_by}
@@ -17,12 +17,15 @@ use Rattle.mx_pages.specs.Runs.{page_count}
 use Rattle.mx_pages.specs.declared.pages.PageRun.{PageRun}
 use Rattle.mx_request.specs.declared.replies.Reply.{Reply}
 use Rattle.mx_script.specs.Sessions.{Outline}
+use Rattle.mx_sdw.specs.Descriptors.{unknown_desc}
+use Rattle.mx_state.proofs.Descriptors.{process_at_place}
 use Rattle.mx_state.specs.Given.{AreGiven, gives, is_page_of}
 use Rattle.mx_state.specs.History.{IsRight, IsRightEntry, MayAsk, fresh, replay}
 use Rattle.mx_state.specs.Plain.{Plain, answer}
 use Rattle.mx_state.specs.Requests.{plain}
-use Rattle.mx_state.specs.Table.{descriptor}
+use Rattle.mx_state.specs.Table.{descriptor, process_desc}
 use Rattle.mx_state.specs.declared.journal.Entry as journaled
+use Rattle.mx_state.specs.declared.states.ProcessState.{ProcessState}
 use Rattle.mx_transcript.specs.Opened.{opening_of}
 use Rattle.mx_transcript.specs.Uses.{given_by}
 
@@ -109,25 +112,49 @@ at_first session journal now held is zeros = record {
   };
 }
 
--- what is told at a question's point
-told_now : (session : Outline) (journal : List journaled.Entry) (question : Question) (is_before : Bool) (now : Plain) (held : List ℕ)
-    (answer : Told) → IsAt session journal (point_in question is_before) now held
-    → IsToldIn session journal question is_before (told_by now held question is_before answer)
-told_now session journal question true now held answer is =
-    record { desc = ap (λ (s : Plain). descriptor s question.process question.segno) is.state }
-told_now session journal question false now held answer is = record {
-  desc = ap (λ (s : Plain). descriptor s question.process question.segno) is.state;
-  since = λ below. is.uses.each _ below;
-}
+-- a process beyond those that there are has no number known
+unknown_beyond : (s : Plain) (p segno : ℕ) → length s.processes < p → descriptor s p segno ≡ unknown_desc
+unknown_beyond s p segno beyond =
+    ap (λ (o : Option ProcessState). process_desc s.hierarchy p o segno)
+    (process_at_place s.processes p (omega (arith, beyond)) ∙ slice_get_past s.processes (p - 1) (omega (arith, beyond)))
 
--- and what was told before stays
-told_keeps : (session : Outline) (journal : List journaled.Entry) (question : Question) (one other : Bool) (now : Plain) (held : List ℕ)
-    (answer : Told) → IsAt session journal (point_in question other) now held → IsToldIn session journal question one answer
-    → IsToldIn session journal question one (told_by now held question other answer)
-told_keeps session journal question true true now held answer is was = told_now session journal question true now held answer is
-told_keeps session journal question true false now held answer is was = record { desc = was.desc }
-told_keeps session journal question false true now held answer is was = record { desc = was.desc; since = was.since }
-told_keeps session journal question false false now held answer is was = told_now session journal question false now held answer is
+numbered : (s : Plain) (p segno : ℕ) → length s.processes ≤ 65534 → descriptor s (min p 65535) segno ≡ descriptor s p segno
+numbered s p segno few = elim (cases_lt p 65535) [
+  | inl lower ↦
+      let same : min p 65535 ≡ p = omega (arith, lower) in
+      ap (λ (n : ℕ). descriptor s n segno) same
+  | inr higher ↦
+      let last : min p 65535 ≡ 65535 = omega (arith, higher) in
+      ap (λ (n : ℕ). descriptor s n segno) last
+      ∙ unknown_beyond s 65535 segno (omega (arith, few))
+      ∙ sym (unknown_beyond s p segno (omega (arith, few, higher)))
+]
+
+module _ (session : Outline) (journal : List journaled.Entry) (few : length session.principals ≤ 65534) where
+  -- what is told at a question's point
+  told_now : (at : ℕ) (question : Question) (is_before : Bool) (now : Plain) (held : List ℕ)
+      (answer : Told) → IsAt session journal (point_in question is_before) now held
+      → IsToldIn session journal question is_before (told_by now held (turn at question is_before) is_before answer)
+  told_now at question true now held answer is = record {
+    desc =
+        numbered now question.process question.segno (omega (arith, is.processes, few))
+        ∙ ap (λ (s : Plain). descriptor s question.process question.segno) is.state;
+  }
+  told_now at question false now held answer is = record {
+    desc =
+        numbered now question.process question.segno (omega (arith, is.processes, few))
+        ∙ ap (λ (s : Plain). descriptor s question.process question.segno) is.state;
+    since = λ below. is.uses.each _ below;
+  }
+
+  -- and what was told before stays
+  told_keeps : (at : ℕ) (question : Question) (one other : Bool) (now : Plain) (held : List ℕ)
+      (answer : Told) → IsAt session journal (point_in question other) now held → IsToldIn session journal question one answer
+      → IsToldIn session journal question one (told_by now held (turn at question other) other answer)
+  told_keeps at question true true now held answer is was = told_now at question true now held answer is
+  told_keeps at question true false now held answer is was = record { desc = was.desc }
+  told_keeps at question false true now held answer is was = record { desc = was.desc; since = was.since }
+  told_keeps at question false false now held answer is was = told_now at question false now held answer is
 
 get_set : {X : Type 0} (xs : List X) (i j : ℕ) (x y : X) → slice_get (slice_set xs i x) j ≡ Some y
     → ((i ≡ j) × (x ≡ y)) ⊎ ((i ≡ j → ⊥) × (slice_get xs j ≡ Some y))
@@ -142,39 +169,44 @@ get_set (z ∷ xs) (suc i) (suc j) x y e = elim (get_set xs i j x y e) [
 
 -- one turn more was answered
 pub told_more : (session : Outline) (journal : List journaled.Entry) (questions : List Question) (turns : List Turn) (k : ℕ) (t : Turn)
-    (now : Plain) (held : List ℕ) (old new : List Told) → slice_get turns k ≡ Some t → IsTurn questions t
-    → IsAt session journal t.point now held → IsToldAt now held questions t old new
+    (now : Plain) (held : List ℕ) (old new : List Told) → length session.principals ≤ 65534 → slice_get turns k ≡ Some t
+    → IsTurn questions t → IsAt session journal t.point now held → IsToldAt now held t old new
     → AreToldTo session journal questions turns k old → AreToldTo session journal questions turns (k + 1) new
-told_more session journal questions turns k t now held old new is_turn due is told was = record {
+told_more session journal questions turns k t now held old new few is_turn due is told was = record {
   long = ap length told.told ∙ length-set old t.at _ ∙ was.long;
   each = each;
 }
   where
     question : Question
-    question = told.question
+    question = due.question
 
     at_point : IsAt session journal (point_in question t.is_before) now held
-    at_point =
-        let same : due.question ≡ question = same_Some due.question question (sym due.is ∙ told.is) in
-        subst (λ (q : Question). IsAt session journal (point_in q t.is_before) now held) same
-        (subst (λ (n : ℕ). IsAt session journal n now held) due.point is)
+    at_point = subst (λ (n : ℕ). IsAt session journal n now held) (ap (λ (u : Turn). u.point) due.whole) is
+
+    saying : Question → Told
+    saying q = told_by now held (turn t.at q t.is_before) t.is_before told.answer
 
     said : Told
-    said = told_by now held question t.is_before told.answer
+    said = saying question
+
+    set : new ≡ slice_set old t.at said
+    set =
+        told.told
+        ∙ ap (λ (u : Turn). slice_set old t.at (told_by now held u t.is_before told.answer)) due.whole
 
     each : (j : ℕ) (u : Turn) (q : Question) (a : Told) → j < k + 1 → slice_get turns j ≡ Some u
         → slice_get questions u.at ≡ Some q → slice_get new u.at ≡ Some a → IsToldIn session journal q u.is_before a
     each j u q a under found asked answered =
-        elim (get_set old t.at u.at said a (ap (λ (l : List Told). slice_get l u.at) (sym told.told) ∙ answered)) [
+        elim (get_set old t.at u.at said a (ap (λ (l : List Told). slice_get l u.at) (sym set) ∙ answered)) [
           | inl here ↦
-              let same : question ≡ q = same_Some question q (sym told.is ∙ ap (slice_get questions) here.0 ∙ asked) in
+              let same : question ≡ q = same_Some question q (sym due.is ∙ ap (slice_get questions) here.0 ∙ asked) in
               elim (cases_lt j k) [
                 | inl lower ↦
                     let before : IsToldIn session journal q u.is_before told.answer
                     = was.each j u q told.answer lower found asked (ap (slice_get old) (sym here.0) ∙ told.was) in
                     subst (IsToldIn session journal q u.is_before) here.1
-                    (subst (λ (x : Question). IsToldIn session journal q u.is_before (told_by now held x t.is_before told.answer)) (sym same)
-                    (told_keeps session journal q u.is_before t.is_before now held told.answer
+                    (subst (λ (x : Question). IsToldIn session journal q u.is_before (saying x)) (sym same)
+                    (told_keeps session journal few t.at q u.is_before t.is_before now held told.answer
                     (subst (λ (x : Question). IsAt session journal (point_in x t.is_before) now held) same at_point) before))
                 | inr higher ↦
                     let place : j ≡ k = omega (arith, under, higher) in
@@ -182,7 +214,7 @@ told_more session journal questions turns k t now held old new is_turn due is to
                     subst (IsToldIn session journal q u.is_before) here.1
                     (subst (λ (x : Question). IsToldIn session journal x u.is_before said) same
                     (subst (λ (b : Turn). IsToldIn session journal question b.is_before said) turned
-                    (told_now session journal question t.is_before now held told.answer at_point)))
+                    (told_now session journal few t.at question t.is_before now held told.answer at_point)))
               ]
           | inr other ↦ elim (cases_lt j k) [
             | inl lower ↦ was.each j u q a lower found asked other.1
@@ -213,11 +245,11 @@ all_told session journal questions turns count told enough due was = record {
   each = λ at question answer asked answered. record {
     now =
         let there = due.now at question (slice_get_within questions at question asked) asked in
-        let t : Turn = turn question.point at false in
+        let t : Turn = turn at question false in
         was.each there.0 t question answer (omega (arith, enough, there.1)) (slice_get-get_or turns there.0 t there.1 ∙ ap Some there.2) asked answered;
     before = λ less.
         let there = due.before at question (slice_get_within questions at question asked) asked less in
-        let t : Turn = turn question.before at true in
+        let t : Turn = turn at question true in
         was.each there.0 t question answer (omega (arith, enough, there.1)) (slice_get-get_or turns there.0 t there.1 ∙ ap Some there.2) asked answered;
   };
 }
@@ -228,7 +260,8 @@ pub turn_there : (questions : List Question) (count : ℕ) (turns : List Turn) (
 turn_there questions count turns k d due below = due.each (slice_index_or turns k d) (Contains-get_or turns k d below)
 
 pub turn_within : (entries : ℕ) (questions : List Question) (t : Turn) → IsTurn questions t → AreWithin entries questions → t.point ≤ entries
-turn_within entries questions t due within = omega (arith, due.point, by_flag t.is_before (within t.at due.question due.is))
+turn_within entries questions t due within =
+    omega (arith, ap (λ (u : Turn). u.point) due.whole, by_flag t.is_before (within t.at due.question due.is))
   where
     by_flag : (b : Bool) → IsWithin entries due.question → point_in due.question b ≤ entries
     by_flag true w = w.before

@@ -45,20 +45,18 @@ abbrev pub IsAskedTo : ℕ → ℕ → Option Asked → Option Asked → Type 0
 IsAskedTo at point old new = (state : ℕ → Plain) → IsAsked (state at) old → IsAsked (state point) new
 
 -- what it says there: the descriptor before, or the descriptor and the use of the word's page
-abbrev pub told_by : Plain → List ℕ → Question → Bool → Told → Told
-told_by state uses question true told = record told { before = descriptor state question.process question.segno }
-told_by state uses question false told = record told {
-  desc = descriptor state question.process question.segno;
-  since = slice_index_or uses (page_of (cell_at (descriptor state question.process question.segno) question.word)) 0;
+abbrev pub told_by : Plain → List ℕ → Turn → Bool → Told → Told
+told_by state uses t true told = record told { before = descriptor state t.process t.segno }
+told_by state uses t false told = record told {
+  desc = descriptor state t.process t.segno;
+  since = slice_index_or uses (page_of (cell_at (descriptor state t.process t.segno) t.word)) 0;
 }
 
 -- the question whose turn it is was answered so, and no other
-pub record IsToldAt (state : Plain) (uses : List ℕ) (questions : List Question) (t : Turn) (old new : List Told) : Type 0 where
-  pub question : Question
-  pub is : slice_get questions t.at ≡ Some question
+pub record IsToldAt (state : Plain) (uses : List ℕ) (t : Turn) (old new : List Told) : Type 0 where
   pub answer : Told
   pub was : slice_get old t.at ≡ Some answer
-  pub told : new ≡ slice_set old t.at (told_by state uses question t.is_before answer)
+  pub told : new ≡ slice_set old t.at (told_by state uses t t.is_before answer)
 
 -- what was told is so, of the descriptor before the point
 pub record IsToldBefore (session : Outline) (journal : List journaled.Entry) (question : Question) (told : Told) : Type 0 where

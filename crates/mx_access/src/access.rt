@@ -15,7 +15,7 @@ ghost use Rattle.mx_transcript.specs.Transcripts.{part, events_of};
 use crate::answers::Row;
 use crate::laws::descriptors_are_admissible;
 use crate::passing::answers;
-use crate::questions::{Told, questions_of};
+use crate::questions::{Told, turns_of};
 use mx_fresh::PlainSupervisor;
 use mx_list::Sequence;
 use mx_script::Session;
@@ -55,10 +55,17 @@ fn answers_on<S: PlainSupervisor>(
     requires right { IsRight (opening_of session.now) entries.now }
     ensures { IfOk result (λ answers. AreToldFrom session.now entries.now transcripts.now answers.starts.items answers.told.items) }
 {
-    let questions = questions_of(alloc, entries.len(), transcripts)?;
-    let told = answers::<S>(alloc, session, entries, &questions.asked)?;
+    let asked = turns_of(alloc, entries.len(), transcripts)?;
+    let told = answers::<S>(
+        alloc,
+        session,
+        entries,
+        transcripts,
+        &asked.turns,
+        asked.count,
+    )?;
     Ok(Answers {
-        starts: questions.starts,
+        starts: asked.starts,
         told,
     })
 }
@@ -229,7 +236,7 @@ impl Access {
 ///
 /// # Errors
 ///
-/// Want of memory.
+/// Want of memory; more than 4,294,967,295 events count as that.
 pub fn access_of<S: PlainSupervisor, R: Threads + Sync>(
     rt: &R,
     alloc: Global,
@@ -262,7 +269,7 @@ pub fn access_of<S: PlainSupervisor, R: Threads + Sync>(
 ///
 /// # Errors
 ///
-/// Want of memory.
+/// Want of memory; more than 4,294,967,295 events count as that.
 pub fn access_in_turn<S: PlainSupervisor>(
     alloc: Global,
     session: &Session,

@@ -3,19 +3,20 @@
 ghost use Rattle.std.specs.Prelude.{◌≡◌, ◌+◌, ◌^◌, ◌-◌, ◌≤◌, ◌<◌, length, IfOk, IfSome, OnOk, slice_index_or, slice_set};
 ghost use Rattle.mx_access.specs.Passing.{AreNoted, AreTold, IsAsked, IsAskedTo, IsAt, IsToldAt, told_by};
 ghost use Rattle.std.specs.List.Sorted.{IsNonDecreasingBy};
-ghost use Rattle.mx_access.specs.Questions.{AreTurns, AreWithin};
+ghost use Rattle.mx_access.specs.Questions.{AreTurnsOf, asked_of};
 ghost use Rattle.mx_core.specs.Pages.{cell_at, page_of};
 ghost use Rattle.mx_pages.specs.Runs.{IsPageRun, page_count};
 ghost use Rattle.mx_state.specs.History.{IsRight};
 ghost use Rattle.mx_state.specs.Table.{descriptor};
 ghost use Rattle.mx_transcript.specs.Opened.{opening_of};
 
-use crate::questions::{Question, Told, Turn, turns_of};
+use crate::questions::{Told, Turn};
 use mx_fresh::PlainSupervisor;
 use mx_pages::PageRun;
 use mx_script::Session;
 use mx_sdw::Desc;
 use mx_state::Entry;
+use mx_transcript::Transcript;
 use std::alloc::{AllocError, Global};
 
 /// How many pages memory has.
@@ -147,29 +148,28 @@ fn since_of(uses: &[u32], desc: &Desc, word: u16) -> u32
     }
 }
 
-// What the supervisor says of a question, beside what it said before.
+// What the supervisor says of the question whose turn it is, beside what it said before.
 fn told<S: PlainSupervisor>(
     supervisor: &S,
     uses: &[u32],
     session: &Session,
     latest: &mut Option<Asked>,
-    question: &Question,
-    is_before: bool,
+    turn: &Turn,
     told: &Told,
 ) -> Told
     requires processes { length (S.state supervisor.now).processes ≡ length session.now.principals }
     requires latest { IsAsked (S.state supervisor.now) latest.old }
-    ensures told { result ≡ told_by (S.state supervisor.now) uses.now question.now is_before told.now }
+    ensures told { result ≡ told_by (S.state supervisor.now) uses.now turn.now turn.now.is_before told.now }
     ensures latest { IsAsked (S.state supervisor.now) latest.new }
 {
     let desc = descriptor_again(
         supervisor,
         session,
         latest,
-        question.process,
-        question.segno,
+        usize::from(turn.process),
+        turn.segno,
     );
-    if is_before {
+    if turn.is_before {
         Told {
             before: desc,
             desc: told.desc,
@@ -179,7 +179,7 @@ fn told<S: PlainSupervisor>(
         Told {
             before: told.before,
             desc,
-            since: since_of(uses, &desc, question.word),
+            since: since_of(uses, &desc, turn.word),
         }
     }
 }
@@ -190,27 +190,18 @@ fn tell<S: PlainSupervisor>(
     uses: &[u32],
     session: &Session,
     latest: &mut Option<Asked>,
-    questions: &[Question],
     turn: &Turn,
     answers: &mut [Told],
 )
     requires processes { length (S.state supervisor.now).processes ≡ length session.now.principals }
-    requires question { turn.now.at < length questions.now }
     requires answer { turn.now.at < length answers.old }
     requires latest { IsAsked (S.state supervisor.now) latest.old }
-    ensures told { IsToldAt (S.state supervisor.now) uses.now questions.now turn.now answers.old answers.new }
+    ensures told { IsToldAt (S.state supervisor.now) uses.now turn.now answers.old answers.new }
     ensures latest { IsAsked (S.state supervisor.now) latest.new }
 {
-    let answer = told(
-        supervisor,
-        uses,
-        session,
-        latest,
-        &questions[turn.at],
-        turn.is_before,
-        &answers[turn.at],
-    );
-    answers[turn.at] = answer;
+    let at = turn.at as usize;
+    let answer = told(supervisor, uses, session, latest, turn, &answers[at]);
+    answers[at] = answer;
 }
 
 // Answers all questions, each in its turn, from the start of the journal on.
@@ -221,16 +212,16 @@ fn answer_turns<S: PlainSupervisor>(
     answers: &mut [Told],
     session: &Session,
     entries: &[Entry],
-    questions: &[Question],
+    transcripts: &[Transcript],
     turns: &[Turn],
 ) -> Result<(), AllocError>
     requires right { IsRight (opening_of session.now) entries.now }
-    requires within { AreWithin (length entries.now) questions.now }
-    requires turns { AreTurns questions.now (length questions.now) turns.now }
+    requires few { length session.now.principals ≤ 65534 }
+    requires turns { AreTurnsOf (length entries.now) transcripts.now turns.now }
     requires ordered { IsNonDecreasingBy (λ t. t.point) turns.now }
     requires is_at { IsAt session.now entries.now 0 (S.state supervisor.old) uses.old }
-    requires long { length answers.old ≡ length questions.now }
-    ensures { OnOk result (AreTold session.now entries.now questions.now answers.new) }
+    requires long { length answers.old ≡ length (asked_of (length entries.now) transcripts.now) }
+    ensures { OnOk result (AreTold session.now entries.now (asked_of (length entries.now) transcripts.now) answers.new) }
 {
     let mut at = 0u32;
     let mut latest = None;
@@ -239,34 +230,31 @@ fn answer_turns<S: PlainSupervisor>(
         go_to(alloc, supervisor, uses, session, entries, at, turn.point)?;
         latest = asked_at(latest, at, turn.point);
         at = turn.point;
-        tell(
-            supervisor,
-            uses,
-            session,
-            &mut latest,
-            questions,
-            turn,
-            answers,
-        );
+        tell(supervisor, uses, session, &mut latest, turn, answers);
     }
     Ok(())
 }
 
-/// What a plain supervisor says of each question as it goes through a right journal once.
+/// What a plain supervisor says of all that is asked about the events of transcripts, so many questions, as it goes through a
+/// right journal once.
 pub(crate) fn answers<S: PlainSupervisor>(
     alloc: Global,
     session: &Session,
     entries: &[Entry],
-    questions: &[Question],
+    transcripts: &[Transcript],
+    turns: &[Turn],
+    count: u32,
 ) -> Result<Vec<Told>, AllocError>
     requires right { IsRight (opening_of session.now) entries.now }
-    requires within { AreWithin (length entries.now) questions.now }
-    ensures { IfOk result (λ told. AreTold session.now entries.now questions.now told.items) }
+    requires turns { AreTurnsOf (length entries.now) transcripts.now turns.now }
+    requires ordered { IsNonDecreasingBy (λ t. t.point) turns.now }
+    requires count { count ≡ length (asked_of (length entries.now) transcripts.now) }
+    ensures { IfOk result (λ told. AreTold session.now entries.now (asked_of (length entries.now) transcripts.now) told.items) }
 {
-    let turns = turns_of(alloc, questions)?;
-    let mut supervisor = S::opening(alloc, session.principals().items(), session.version())?;
+    let principals = session.principals();
+    let mut supervisor = S::opening(alloc, principals.items(), session.version())?;
     let mut uses = vec![in alloc; 0u32; PAGES]?;
-    let mut told = vec![in alloc; Told::nothing(); questions.len()]?;
+    let mut told = vec![in alloc; Told::nothing(); count as usize]?;
     answer_turns(
         alloc,
         &mut supervisor,
@@ -274,8 +262,8 @@ pub(crate) fn answers<S: PlainSupervisor>(
         told.as_mut_slice(),
         session,
         entries,
-        questions,
-        turns.as_slice(),
+        transcripts,
+        turns,
     )?;
     Ok(told)
 }

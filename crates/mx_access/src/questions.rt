@@ -2,7 +2,7 @@
 
 ghost use Rattle.std.specs.Prelude.{◌≡◌, ◌+◌, ◌++◌, ◌≤◌, ◌<◌, length, map, min, IfOk, OnOk};
 ghost use Rattle.std.specs.List.Sorted.{IsNonDecreasingBy};
-ghost use Rattle.mx_access.specs.Questions.{AreQuestions, AreTurns, question_of};
+ghost use Rattle.mx_access.specs.Questions.{AreStarts, AreTurnsOf, asked_of, question_of, turn, turns_at, turns_from};
 ghost use Rattle.mx_transcript.specs.Transcripts.{events_of};
 
 use mx_core::Event;
@@ -21,13 +21,6 @@ pub(crate) struct Question {
     pub(crate) point: u32,
 }
 
-/// What is asked about the events of all processes, and behind how many questions those of each process begin.
-#[derive(Debug, Drop)]
-pub(crate) struct Questions {
-    pub(crate) asked: Vec<Question>,
-    pub(crate) starts: Vec<usize>,
-}
-
 /// What was said: the descriptor before the point, the one at it, and the entry that gave out the word's page last.
 #[derive(Clone, Copy, Debug)]
 pub(crate) struct Told {
@@ -36,12 +29,25 @@ pub(crate) struct Told {
     pub(crate) since: u32,
 }
 
-/// The question at a place is to be answered at a point: its own, or the one before.
+/// The question at a place is to be answered at a point: its own, or the one before. What is asked there stands in it, but that
+/// each process from 65,535 on bears that number: none of them is of the session.
 #[derive(Clone, Copy, Debug)]
 pub(crate) struct Turn {
     pub(crate) point: u32,
-    pub(crate) at: usize,
+    pub(crate) at: u32,
+    pub(crate) process: u16,
+    pub(crate) segno: u16,
+    pub(crate) word: u16,
     pub(crate) is_before: bool,
+}
+
+/// When what is asked about the events of all processes is answered, how much that is, and behind how much of it what is
+/// asked about each process's begins.
+#[derive(Debug, Drop)]
+pub(crate) struct Turns {
+    pub(crate) turns: Vec<Turn>,
+    pub(crate) count: u32,
+    pub(crate) starts: Vec<usize>,
 }
 
 impl Question {
@@ -100,92 +106,127 @@ fn within(point: u32, entries: usize) -> u32
     }
 }
 
-// Adds what is asked about the events of process `p`.
-fn add_questions(
-    questions: &mut Vec<Question>,
+// The number of a process, or 65,535 where it is beyond.
+fn numbered(p: usize) -> u16
+    ensures { result ≡ min p 65535 }
+{
+    if p < 65535 { p as u16 } else { 65535 }
+}
+
+impl Turn {
+    // The turn of the question at a place, at its point or at the one before.
+    fn of(at: u32, question: &Question, is_before: bool) -> Turn
+        ensures { result ≡ turn at question.now is_before }
+    {
+        let point = if is_before {
+            question.before
+        } else {
+            question.point
+        };
+        Turn {
+            point,
+            at,
+            process: numbered(question.process),
+            segno: question.segno,
+            word: question.word,
+            is_before,
+        }
+    }
+}
+
+// Adds the turns of the question at a place.
+fn add_turns(turns: &mut Vec<Turn>, at: u32, question: &Question) -> Result<(), AllocError>
+    ensures { OnOk result (turns.new.items ≡ turns.old.items ++ turns_at at question.now) }
+{
+    turns.push(Turn::of(at, question, false))?;
+    if question.before < question.point {
+        turns.push(Turn::of(at, question, true))?;
+    }
+    Ok(())
+}
+
+// Adds the turns of what is asked about events of process `p`, from a place on, and tells the place behind.
+fn add_events(
+    turns: &mut Vec<Turn>,
+    at: u32,
     entries: usize,
     p: usize,
     events: &[Event2],
-) -> Result<(), AllocError>
-    ensures { OnOk result (questions.new.items ≡ questions.old.items ++ map (question_of entries p) events.now) }
+) -> Result<u32, AllocError>
+    ensures turns { OnOk result (turns.new.items ≡ turns.old.items ++ turns_from at (map (question_of entries p) events.now)) }
+    ensures behind { IfOk result (λ behind. behind ≡ at + length events.now) }
 {
+    let mut next = at;
     for event in events {
-        questions.push(Question::of(entries, p, event))?;
+        add_turns(turns, next, &Question::of(entries, p, event))?;
+        next = next.checked_add(1).ok_or(AllocError)?;
     }
-    Ok(())
+    Ok(next)
 }
 
-// Adds what is asked about the events of a transcript, that of process `p`.
+// Adds the turns of what is asked about the events of a transcript, that of process `p`, from a place on, and tells the
+// place behind.
 fn add_part(
-    questions: &mut Vec<Question>,
+    turns: &mut Vec<Turn>,
+    at: u32,
     entries: usize,
     p: usize,
     transcript: &Transcript,
-) -> Result<(), AllocError>
-    ensures { OnOk result (questions.new.items ≡ questions.old.items ++ map (question_of entries p) (events_of transcript.now)) }
+) -> Result<u32, AllocError>
+    ensures turns { OnOk result (turns.new.items ≡ turns.old.items ++ turns_from at (map (question_of entries p) (events_of transcript.now))) }
+    ensures behind { IfOk result (λ behind. behind ≡ at + length (events_of transcript.now)) }
 {
+    let mut next = at;
     for (_, events, _) in transcript.steps() {
-        add_questions(questions, entries, p, events)?;
+        next = add_events(turns, next, entries, p, events)?;
     }
-    Ok(())
+    Ok(next)
 }
 
-/// What is asked about the events of all processes, those of process 0 first.
-pub(crate) fn questions_of(
+// How many events transcripts have.
+fn room_for(transcripts: &[Transcript]) -> usize {
+    let mut room = 0usize;
+    for transcript in transcripts {
+        for (_, events, _) in transcript.steps() {
+            room = room.saturating_add(events.len());
+        }
+    }
+    room
+}
+
+// When what is asked about the events of all processes is answered, those of process 0 first.
+fn all_turns(alloc: Global, entries: usize, transcripts: &[Transcript]) -> Result<Turns, AllocError>
+    ensures turns { IfOk result (λ r. r.turns.items ≡ turns_from 0 (asked_of entries transcripts.now)) }
+    ensures count { IfOk result (λ r. r.count ≡ length (asked_of entries transcripts.now)) }
+    ensures starts { IfOk result (λ r. AreStarts entries transcripts.now r.starts.items) }
+{
+    let mut turns = Vec::with_capacity(alloc, room_for(transcripts))?;
+    let mut count = 0u32;
+    let mut starts = Vec::new(alloc);
+    for p in 0..transcripts.len() {
+        starts.push(count as usize)?;
+        count = add_part(&mut turns, count, entries, p, &transcripts[p])?;
+    }
+    Ok(Turns {
+        turns,
+        count,
+        starts,
+    })
+}
+
+/// When what is asked about the events of all processes is answered, in order of points. More than 4,294,967,295 events
+/// count as want of memory.
+pub(crate) fn turns_of(
     alloc: Global,
     entries: usize,
     transcripts: &[Transcript],
-) -> Result<Questions, AllocError>
-    ensures { IfOk result (λ questions. AreQuestions entries transcripts.now questions.asked.items questions.starts.items) }
+) -> Result<Turns, AllocError>
+    ensures turns { IfOk result (λ r. AreTurnsOf entries transcripts.now r.turns.items) }
+    ensures ordered { IfOk result (λ r. IsNonDecreasingBy (λ t. t.point) r.turns.items) }
+    ensures count { IfOk result (λ r. r.count ≡ length (asked_of entries transcripts.now)) }
+    ensures starts { IfOk result (λ r. AreStarts entries transcripts.now r.starts.items) }
 {
-    let mut asked = Vec::new(alloc);
-    let mut starts = Vec::new(alloc);
-    for p in 0..transcripts.len() {
-        starts.push(asked.len())?;
-        add_part(&mut asked, entries, p, &transcripts[p])?;
-    }
-    Ok(Questions { asked, starts })
-}
-
-// Adds the turns of the question at a place, after those of the questions before it.
-fn add_turns(turns: &mut Vec<Turn>, questions: &[Question], at: usize) -> Result<(), AllocError>
-    requires place { at < length questions.now }
-    requires turns { AreTurns questions.now at turns.old.items }
-    ensures { OnOk result (AreTurns questions.now (at + 1) turns.new.items) }
-{
-    let question = &questions[at];
-    turns.push(Turn {
-        point: question.point,
-        at,
-        is_before: false,
-    })?;
-    if question.before < question.point {
-        turns.push(Turn {
-            point: question.before,
-            at,
-            is_before: true,
-        })?;
-    }
-    Ok(())
-}
-
-/// When each question is answered, in order of points.
-pub(crate) fn turns_of(alloc: Global, questions: &[Question]) -> Result<Vec<Turn>, AllocError>
-    ensures turns { IfOk result (λ turns. AreTurns questions.now (length questions.now) turns.items) }
-    ensures ordered { IfOk result (λ turns. IsNonDecreasingBy (λ t. t.point) turns.items) }
-{
-    let mut turns = all_turns(alloc, questions)?;
-    turns.sort_unstable_by_key(|turn| turn.point);
-    Ok(turns)
-}
-
-// The turns in any order.
-fn all_turns(alloc: Global, questions: &[Question]) -> Result<Vec<Turn>, AllocError>
-    ensures { IfOk result (λ turns. AreTurns questions.now (length questions.now) turns.items) }
-{
-    let mut turns = Vec::with_capacity(alloc, questions.len())?;
-    for at in 0..questions.len() {
-        add_turns(&mut turns, questions, at)?;
-    }
-    Ok(turns)
+    let mut all = all_turns(alloc, entries, transcripts)?;
+    all.turns.sort_unstable_by_key(|turn| turn.point);
+    Ok(all)
 }

@@ -1,13 +1,11 @@
-use Rattle.std.proofs.Common.{◌≡◌, replicate, rules, sym, subst}
-use Rattle.std.specs.List.Sorted.{IsNonDecreasingBy}
-use Rattle.mx_access.specs.declared.questions.Turn.{Turn}
+use Rattle.std.proofs.Common.{◌≡◌, length, replicate, ap, arith, rules}
 use Rattle.mx_access.proofs.PassLaws.{at_first}
 use Rattle.mx_transcript.specs.Opened.{opening_of}
 use Rattle.mx_access.proofs.passing.answers.Goals as goal
 
-pub answer_turns-requires-clause-ordered : goal.answer_turns-requires-clause-ordered
-answer_turns-requires-clause-ordered g c =
-    subst (IsNonDecreasingBy (λ (t : Turn). t.point)) (sym c.as_slice.ensures.value) c.in_ok-turns.ensures.ordered
+pub answer_turns-requires-clause-few : goal.answer_turns-requires-clause-few
+answer_turns-requires-clause-few g c =
+    omega (arith, ap length c.principals-principals.ensures.value, c.principals-principals.ensures.most)
 
 pub answer_turns-requires-clause-is_at : goal.answer_turns-requires-clause-is_at
 answer_turns-requires-clause-is_at g c =
