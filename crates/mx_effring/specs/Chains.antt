@@ -1,6 +1,6 @@
 -- An operand and the chain of indirect words that it goes through. The effective ring is Schroeder and Saltzer's: no
 -- reference is made with more privilege than the least privileged ring that could have had a hand in its address.
-use Rattle.std.specs.Prelude.{◌≡◌, ℕ, ◌≤◌, max, Bool, false, List, [], ◌∷◌, ◌++◌, length}
+use Rattle.std.specs.Prelude.{ℕ, max, Bool, List, [], ◌∷◌, ◌++◌}
 use Rattle.mx_ptr.specs.Pointers.{PointerParts}
 
 -- a pointer word that was read, and the first bracket of the segment that held it
@@ -45,8 +45,3 @@ place_of operand = last_pointer (record operand.base { further = operand.indirec
 -- the operand after one more word
 abbrev pub read_on : Operand → PointerParts → ℕ → Operand
 read_on operand pointer r1 = record operand { chain = operand.chain ++ record { pointer = pointer; r1 = r1 } ∷ [] }
-
--- at most eight words, of which an eighth asks for no further one
-pub record IsBounded (operand : Operand) : Type 0 where
-  pub short : length operand.chain ≤ 8
-  pub ended : length operand.chain ≡ 8 → (place_of operand).further ≡ false

@@ -1,13 +1,12 @@
 //! The effective ring: the walk of an operand through its indirect words.
 //!
-//! A [`Walk`] is given the words that it asks for, one by one. Its value is the operand with the chain of words read so
-//! far, and its contract gives what it asks for next as a function of that whole chain: which word at which ring, or
-//! the place where the operand ends, at the largest of all rings that had a hand in it (Schroeder and Saltzer). Laws
-//! say that it is the largest of them, and that it never falls. The crate stands on `mx_sdw` and `mx_ptr` and takes no
-//! memory.
+//! A [`Walk`] is given the words that it asks for, one by one. Its value is where the operand has come to (`Reached`): the
+//! place, the effective ring and the number of words read. By its contracts that is where the whole chain of words leads
+//! (`reached`), and what it asks for next is a function of it: which word at which ring, or the place where the operand
+//! ends, at the largest of all rings that had a hand in it (Schroeder and Saltzer). Laws say that it is the largest of
+//! them, and that it never falls. The crate stands on `mx_sdw` and `mx_ptr` and takes no memory.
 #![tactic(auto)]
 
-mod chains;
 mod laws;
 mod walks;
 

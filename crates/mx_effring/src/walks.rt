@@ -1,45 +1,33 @@
 //! The walk of an operand through its indirect words.
 
-ghost use Rattle.std.specs.Prelude.{◌≡◌, ◌↔◌, [], Some, None, IsOk, IfErr, OnOk, OnErr};
+ghost use Rattle.std.specs.Prelude.{◌≡◌, ◌↔◌, [], max, Some, None, IsOk, IfErr, OnOk, OnErr};
 ghost use Rattle.mx_ptr.specs.Pointers.{parts_of, IsPackable};
-ghost use Rattle.mx_effring.specs.Chains.{effective_ring, place_of, read_on, IsBounded};
-ghost use Rattle.mx_effring.specs.Walks.{wanted, refuses, IsPlace, IsWanting};
+ghost use Rattle.mx_effring.specs.Chains.{Operand, read_on};
+ghost use Rattle.mx_effring.specs.Walks.{reached, wanted_at, refuses_at, IsBounded, IsFurther, IsPlace, IsWanting};
 
-use crate::chains::{Indirection, last_pointer, raised, raised_along};
 use mx_ptr::{Pointer, is_link};
 use mx_sdw::{Ring, Word};
 use std::marker::Model;
 
-/// The walk of an operand: the words that it has read, at most eight, and through them where it stands and at which
-/// ring.
-#[derive(Debug, Drop)]
+/// The walk of an operand: where it stands and at which ring, after so many words, at most eight. Of the words that led
+/// there nothing else is kept.
+#[derive(Clone, Copy, Debug)]
 pub struct Walk {
-    current: Ring,
-    base: Pointer,
-    indirect: bool,
-    chain: [Indirection; 8],
-    count: usize,
+    place: Pointer,
+    ring: Ring,
+    count: u8,
 }
 
 impl Model for Walk {
-    ghost use Rattle.std.specs.Prelude.{◌≤◌, take};
-    ghost use Rattle.mx_effring.specs.Chains.{Operand, IsBounded};
+    ghost use Rattle.mx_effring.specs.Walks.{Reached, IsBounded};
 
-    ghost Value = { Operand };
+    ghost Value = { Reached };
 
-    ghost view = { λ w. record {
-      current = w.current;
-      base = w.base;
-      indirect = w.indirect;
-      chain = take w.count w.chain;
-    } };
+    ghost view = { λ w. record { place = w.place; ring = w.ring; count = w.count } };
 
-    ghost invariant = { λ w. (w.count ≤ 8) × IsBounded (record {
-      current = w.current;
-      base = w.base;
-      indirect = w.indirect;
-      chain = take w.count w.chain;
-    }) };
+    ghost invariant = { λ w. IsBounded (record { place = w.place; ring = w.ring; count = w.count }) };
+
+    ghost inverse = { λ at. record { place = at.place; ring = at.ring; count = at.count } };
 }
 
 /// What a walk asks for.
@@ -65,49 +53,51 @@ pub enum Stuck {
 impl Walk {
     /// The walk of an operand that begins at `base`, which a pointer register or the operand itself gives.
     pub fn start(current: Ring, base: Pointer, indirect: bool) -> Walk
-        ensures { result ≡ record { current = current; base = base; indirect = indirect; chain = [] } }
+        ensures value { result ≡ reached (record { current = current; base = base; indirect = indirect; chain = [] }) }
+        ensures bounded { IsBounded result }
     {
         Walk {
-            current,
-            base,
-            indirect,
-            chain: [Indirection::none(current); 8],
+            place: Pointer {
+                further: indirect,
+                ..base
+            },
+            ring: raised(current, base.ring),
             count: 0,
         }
     }
 
-    /// What it asks for: the next indirect word, at the effective ring so far, or nothing more. Where the base has a
-    /// pointer word, so has each place that the walk asks for.
+    /// What it asks for: the next indirect word, at the effective ring so far, or nothing more. Where a pointer word can
+    /// say the place at which it stands, so can one say the place that it asks for.
     pub fn want(&self) -> Want
-        ensures value { result ≡ wanted self.now }
-        ensures place { IsPackable self.now.base → IsPlace result }
+        ensures value { result ≡ wanted_at self.now }
+        ensures place { IsPackable self.now.place → IsPlace result }
         ensures bounded { IsBounded self.now }
     {
-        let place = self.place();
-        let ring = self.effective_ring();
-        if place.further {
+        if self.place.further {
             Want::Word {
-                segno: place.segno,
-                word: place.word,
-                ring,
+                segno: self.place.segno,
+                word: self.place.word,
+                ring: self.ring,
             }
         } else {
             Want::Done(Pointer {
-                ring,
-                segno: place.segno,
-                word: place.word,
+                ring: self.ring,
                 further: false,
+                ..self.place
             })
         }
     }
 
-    /// Reads on with the word that it asks for, from a segment with the first bracket `r1`. A refused word leaves it as
-    /// it was: a link word, a word that is no pointer, and an eighth word that asks for a further one, in this order.
+    /// Reads on with the word that it asks for, from a segment with the first bracket `r1`: it comes to where each operand
+    /// that had come here comes with that word. A refused word leaves it as it was: a link word, a word that is no pointer,
+    /// and an eighth word that asks for a further one, in this order.
     pub fn feed(&mut self, word: Word, r1: Ring) -> Result<(), Stuck>
         requires { IsWanting self.old }
-        ensures taken { IsOk result ↔ (refuses self.old word ≡ None) }
-        ensures why { IfErr result (λ stuck. refuses self.old word ≡ Some stuck) }
-        ensures ok { OnOk result (self.new ≡ read_on self.old (parts_of word) r1) }
+        ensures taken { IsOk result ↔ (refuses_at self.old word ≡ None) }
+        ensures why { IfErr result (λ stuck. refuses_at self.old word ≡ Some stuck) }
+        ensures ok { OnOk result ((operand : Operand) → reached operand ≡ self.old
+            → self.new ≡ reached (read_on operand (parts_of word) r1)) }
+        ensures further { OnOk result (IsFurther self.old self.new) }
         ensures err { OnErr result (self.new ≡ self.old) }
     {
         if is_link(word) {
@@ -119,31 +109,27 @@ impl Walk {
         if pointer.further && self.count == 7 {
             return Err(Stuck::Limit);
         }
-        self.chain[self.count] = Indirection { pointer, r1 };
+        self.place = pointer;
+        self.ring = ring_past(self.ring, pointer.ring, r1);
         self.count += 1;
         Ok(())
     }
+}
 
-    fn place(&self) -> Pointer
-        ensures value { result ≡ place_of self.now }
-        ensures packable { IsPackable self.now.base → IsPackable result }
-        ensures bounded { IsBounded self.now }
-    {
-        let base = Pointer {
-            ring: self.base.ring,
-            segno: self.base.segno,
-            word: self.base.word,
-            further: self.indirect,
-        };
-        last_pointer(base, &self.chain[..self.count])
-    }
+// The ring at which a walk goes on from a pointer word with this ring in it, in a segment with the first bracket `r1`.
+fn ring_past(ring: Ring, in_word: Ring, r1: Ring) -> Ring
+    ensures { result ≡ max (max ring in_word) r1 }
+{
+    raised(raised(ring, in_word), r1)
+}
 
-    fn effective_ring(&self) -> Ring
-        ensures { result ≡ effective_ring self.now }
-    {
-        raised_along(
-            raised(self.current, self.base.ring),
-            &self.chain[..self.count],
-        )
+// The larger of two rings.
+fn raised(ring: Ring, by: Ring) -> Ring
+    ensures { result ≡ max ring by }
+{
+    if by.number() > ring.number() {
+        by
+    } else {
+        ring
     }
 }

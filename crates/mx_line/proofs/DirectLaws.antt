@@ -9,7 +9,7 @@ use Rattle.mx_core.specs.declared.elements.Event.TheVariants.{Seen}
 use Rattle.mx_core.specs.declared.elements.Outcome.TheVariants.{Entered}
 use Rattle.mx_effring.specs.Chains as chains
 use Rattle.mx_effring.specs.Chains.{read_on}
-use Rattle.mx_effring.specs.Walks.{wanted}
+use Rattle.mx_effring.specs.Walks.{Reached, reached, wanted, wanted_at}
 use Rattle.mx_effring.specs.declared.walks.Want.{Want}
 use Rattle.mx_effring.specs.declared.walks.Want.TheVariants as want
 use Rattle.mx_ptr.specs.Pointers.{PointerParts, parts_of}
@@ -79,28 +79,28 @@ said_seen g l seen asks (at.At progress) e said = absurd said
 said_seen g l seen asks (at.Ended end) e said = e ∙ said
 said_seen g l seen asks at.Nowhere e said = e ∙ said
 
-told_leads : (g : Control) (l : Line) (walk : chains.Operand) (target : PointerParts) (e : Element) (d : Descriptor) (after : LineAtWork)
-    → wanted walk ≡ want.Done target → Tells g l target e d after → Leads g l walk e d after
-told_leads g l walk target e d after done tells seen asked walked at right =
+told_leads : (g : Control) (l : Line) (walk : Reached) (target : PointerParts) (e : Element) (d : Descriptor) (after : LineAtWork)
+    → wanted_at walk ≡ want.Done target → Tells g l target e d after → Leads g l walk e d after
+told_leads g l walk target e d after done tells seen asked come at right =
     said_seen g l (seen ++ beside e d ∷ []) (after_target g l target d e.outcome) after
-    (walked (beside e d ∷ []) ∙ ap (λ (w : Want). after_seen g l walk (beside e d) w rest) done)
+    (come.walked (beside e d ∷ []) ∙ ap (λ (w : Want). after_seen g l come.operand (beside e d) w rest) (ap wanted_at come.is ∙ done))
     (tells asked (sym (ap (wants g l) done) ∙ at) right)
   where
     rest : ℕ → Next
-    rest value = along g l (read_on walk (parts_of value) d.brackets.r1) []
+    rest value = along g l (read_on come.operand (parts_of value) d.brackets.r1) []
 
 pub direct_taken : (g : Control) (l : Line) (target : PointerParts) (e : Element) (d : Descriptor) (after : LineAtWork)
     → first_want g.registers l ≡ Some (want.Done target) → Tells g l target e d after → (setting : Setting) → setting.descriptor e ≡ d
     → IsTaken g l setting (Core (Seen e)) (at.At Before) after
 direct_taken g l target e d after is tells =
     let f = first_walk g.registers l (want.Done target) is in
-    begun_taken g l f.walk e d after f.is (told_leads g l f.walk target e d after f.asks tells)
+    begun_taken g l (reached f.walk) e d after (ap (option_map reached) f.is) (told_leads g l (reached f.walk) target e d after f.asks tells)
 
 pub direct_met : (g : Control) (l : Line) (target : PointerParts) (e : Element) (d : Descriptor)
     → first_want g.registers l ≡ Some (want.Done target) → (m : IsMet g l (at.At Before) e d) → at_target g l target ≡ Asks m.asked
 direct_met g l target e d is m =
     let f = first_walk g.registers l (want.Done target) is in
-    sym (ap (wants g l) f.asks) ∙ begun_met g l f.walk e d f.is m
+    sym (ap (wants g l) f.asks) ∙ begun_met g l (reached f.walk) e d (ap (option_map reached) f.is) m
 
 -- what is said of the end of a line is told of it
 pub ending_said : (g : Control) (asks : Next) (ends : Option Result2) → asks ≡ ending g ends → IsSaid g asks (left g ends)
@@ -117,16 +117,16 @@ pub ends_taken : (g : Control) (l : Line) (target : PointerParts) (e : Element) 
 ends_taken g l target e ends is at_end = λ d setting on.
     direct_taken g l target e d (left g (Some ends)) is (λ asked at right. at_end g target d) setting on
 
-pub walk_ends_taken : (g : Control) (l : Line) (walk : chains.Operand) (target : PointerParts) (e : Element) (ends : Result2)
-    → wanted walk ≡ want.Done target → EndsAt l e.outcome ends
+pub walk_ends_taken : (g : Control) (l : Line) (walk : Reached) (target : PointerParts) (e : Element) (ends : Result2)
+    → wanted_at walk ≡ want.Done target → EndsAt l e.outcome ends
     → IsTakenTo g l e (at.At (Walking walk)) (left g (Some ends))
 walk_ends_taken g l walk target e ends done at_end = λ d setting on.
     walking_taken g l walk e d (left g (Some ends)) (told_leads g l walk target e d (left g (Some ends)) done (λ asked at right. at_end g target d))
     setting on
 
 -- so it is with the end that is found
-pub walk_ends_in : (g : Control) (l : Line) (walk : chains.Operand) (target : PointerParts) (e : Element) (found : Option Result2)
-    → wanted walk ≡ want.Done target → IfSome found (EndsAt l e.outcome)
+pub walk_ends_in : (g : Control) (l : Line) (walk : Reached) (target : PointerParts) (e : Element) (found : Option Result2)
+    → wanted_at walk ≡ want.Done target → IfSome found (EndsAt l e.outcome)
     → IfSome found (λ ends. IsTakenTo g l e (at.At (Walking walk)) (left g (Some ends)))
 walk_ends_in g l walk target e None done at_end = tt
 walk_ends_in g l walk target e (Some ends) done at_end = walk_ends_taken g l walk target e ends done at_end

@@ -1,9 +1,8 @@
 -- What the line of a process asks for, and how it ends plainly, by where it stands.
-use Rattle.std.proofs.Common.{◌≡◌, ℕ, Option, Some, None, IfSome, refl, sym, ◌∙◌, subst}
+use Rattle.std.proofs.Common.{◌≡◌, ℕ, Option, Some, None, IfSome, sym, ◌∙◌, subst}
 use Rattle.mx_core.specs.declared.elements.Element.{Element}
 use Rattle.mx_core.specs.declared.elements.Event.TheVariants.{Seen}
-use Rattle.mx_effring.specs.Chains as chains
-use Rattle.mx_effring.specs.Walks.{wanted}
+use Rattle.mx_effring.specs.Walks.{Reached, wanted_at}
 use Rattle.mx_line.proofs.StandingLaws.{walking_asks, walking_refers}
 use Rattle.mx_line.specs.AtWork.{IsCome, IsGoodWork, IsStorableBy, IsTaken, IsTakenTo, left, moved_on, reference_in}
 use Rattle.mx_line.specs.Processes.{HasPlainEnd, HasPlainMove, HasPlainReply, IsReferring}
@@ -65,8 +64,8 @@ moves_in p l e d (Some after) is taken good = record {
 }
 
 -- a line that asks for this where its walk stands
-pub walking_referring : (p : Process) (l : Line) (walk : chains.Operand) (r : asked.Reference) → p.progress ≡ Walking walk
-    → wants p.control l (wanted walk) ≡ Asks (reference_in r) → IsStorableBy r.op r.stores → IsReferring p l r
+pub walking_referring : (p : Process) (l : Line) (walk : Reached) (r : asked.Reference) → p.progress ≡ Walking walk
+    → wants p.control l (wanted_at walk) ≡ Asks (reference_in r) → IsStorableBy r.op r.stores → IsReferring p l r
 walking_referring p l walk r is asks storable = record {
   memory = λ course come. walking_refers p.control l course walk (subst (IsCome p.control l course) is come);
   says = record {
@@ -78,8 +77,8 @@ walking_referring p l walk r is asks storable = record {
 }
 
 -- so it is with what is found
-pub referring_in : (p : Process) (l : Line) (walk : chains.Operand) (found : Option asked.Reference) → p.progress ≡ Walking walk
-    → IfSome found (λ r. wants p.control l (wanted walk) ≡ Asks (reference_in r))
+pub referring_in : (p : Process) (l : Line) (walk : Reached) (found : Option asked.Reference) → p.progress ≡ Walking walk
+    → IfSome found (λ r. wants p.control l (wanted_at walk) ≡ Asks (reference_in r))
     → IfSome found (λ r. IsStorableBy r.op r.stores) → IfSome found (IsReferring p l)
 referring_in p l walk None is asks storable = tt
 referring_in p l walk (Some r) is asks storable = walking_referring p l walk r is asks storable

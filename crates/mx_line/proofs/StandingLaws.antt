@@ -2,7 +2,7 @@
 use Rattle.std.proofs.Common.{◌≡◌, ℕ, List, [], ◌++◌, length, Option, Some, None, refl, sym, ◌∙◌, ap, append-nil}
 use Rattle.std.specs.List.{slice_get}
 use Rattle.mx_effring.specs.Chains as chains
-use Rattle.mx_effring.specs.Walks.{wanted}
+use Rattle.mx_effring.specs.Walks.{Reached, wanted, wanted_at}
 use Rattle.mx_effring.specs.declared.walks.Want.{Want}
 use Rattle.mx_effring.specs.declared.walks.Want.TheVariants as want
 use Rattle.mx_ptr.specs.Pointers.{PointerParts}
@@ -161,10 +161,11 @@ before_asks g l (Attempt seen) come = ap (attempts g l) come.0
 before_asks g l (Answer entry filled) come =
     ap (λ (d : Option Reference). first_due d (answered g l entry.request entry.reply)) come.none ∙ come.anew
 
-pub walking_asks : (g : Control) (l : Line) (course : Course) (walk : chains.Operand) → IsCome g l course (Walking walk)
-    → next g l course ≡ wants g l (wanted walk)
+pub walking_asks : (g : Control) (l : Line) (course : Course) (walk : Reached) → IsCome g l course (Walking walk)
+    → next g l course ≡ wants g l (wanted_at walk)
 walking_asks g l (Attempt seen) walk come =
-    memory_attempts g l seen come.1 ∙ ap (attempt g l) (sym (append-nil seen)) ∙ come.0 []
+    memory_attempts g l seen come.1 ∙ ap (attempt g l) (sym (append-nil seen)) ∙ come.0.walked []
+    ∙ ap (λ (at : Reached). wants g l (wanted_at at)) come.0.is
 walking_asks g l (Answer entry filled) walk come = absurd come
 
 pub link_calls : (g : Control) (l : Line) (course : Course) (place : Place) → IsCome g l course (AtLink place)
@@ -200,6 +201,6 @@ filling_asks g l (Attempt seen) it come = absurd come.0
 filling_asks g l (Answer entry filled) it come = asks_fill g l entry filled it come
 
 -- where it walks it refers to memory
-pub walking_refers : (g : Control) (l : Line) (course : Course) (walk : chains.Operand) → IsCome g l course (Walking walk) → IsMemoryLine l
+pub walking_refers : (g : Control) (l : Line) (course : Course) (walk : Reached) → IsCome g l course (Walking walk) → IsMemoryLine l
 walking_refers g l (Attempt seen) walk come = come.1
 walking_refers g l (Answer entry filled) walk come = absurd come

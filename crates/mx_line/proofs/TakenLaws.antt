@@ -2,12 +2,13 @@
 use Rattle.std.proofs.Common.{◌≡◌, inl, inr, ℕ, ◌<◌, ◌≤◌, ◌==◌, Bool, true, false, if◌then◌else◌, List, [], ◌∷◌, ◌++◌, length, Option, Some, None, Result, Ok, Err, refl, sym, ◌∙◌, ap, subst, IfSome, arith}
 use Rattle.std.proofs.lemmas.Bool.{eqb-true}
 use Rattle.std.specs.List.{slice_get}
+use Rattle.std.specs.Option.{option_map}
 use Rattle.mx_core.specs.declared.elements.Element.{Element}
 use Rattle.mx_core.specs.declared.elements.Event.TheVariants.{Seen}
 use Rattle.mx_core.specs.declared.elements.Outcome.{Outcome}
 use Rattle.mx_core.specs.declared.elements.Outcome.TheVariants as outcome
 use Rattle.mx_effring.specs.Chains as chains
-use Rattle.mx_effring.specs.Walks.{wanted}
+use Rattle.mx_effring.specs.Walks.{Reached, reached, wanted_at}
 use Rattle.mx_ptr.specs.Pointers.{PointerParts, link_word, pointer_word}
 use Rattle.mx_request.specs.declared.replies.Reply.{Reply}
 use Rattle.mx_request.specs.declared.requests.Request.{Request}
@@ -35,7 +36,6 @@ use Rattle.mx_transcript.specs.Next.{Next, Reference, Asks, Fills, Calls, Ends, 
 use Rattle.mx_transcript.specs.Targets.{at_target, spri_at}
 use Rattle.mx_transcript.specs.Operands.{walk_of}
 use Rattle.mx_transcript.specs.Settings.{Setting, entry_at, judged}
-use Rattle.mx_transcript.specs.Standing.{IsWalked}
 use Rattle.mx_transcript.specs.declared.transcripts.Event2.TheVariants.{Core, Entry}
 use Rattle.mx_transcript.specs.declared.transcripts.Result2.{Result2}
 use Rattle.mx_transcript.specs.declared.transcripts.Result2.TheVariants as result
@@ -45,7 +45,7 @@ use Rattle.mx_line.proofs.FillLaws.{Bounds, IsAfter, after_write}
 use Rattle.mx_line.proofs.StandingLaws.{walk_asks, no_walk_asks, wants_calls, memory_calls, begun_fills, refers, memory_attempts, before_asks, walking_asks, link_calls, link_refers, waiting_calls, waiting_blocks, filling_asks}
 use Rattle.mx_line.specs.AtWork.{IsCome, StandsAt, IsTaken, IsWithin, IsOver, IsReader, IsWriter, IsMover, IsMet, HasSeen, IsUnlinked, EndsByReply, OneCourseLaw, after_writing, beside, left, standing}
 use Rattle.mx_line.specs.Fills.{IsFilling, after_fill, counted, write_of}
-use Rattle.mx_line.specs.Operands.{IsMemoryLine, IsOnward, IsSayable, IsWalker}
+use Rattle.mx_line.specs.Operands.{HasComeTo, IsMemoryLine, IsOnward, IsSayable, IsWalker}
 use Rattle.mx_line.specs.declared.at_work.LineAtWork.{LineAtWork}
 use Rattle.mx_line.specs.declared.at_work.LineAtWork.TheVariants as at
 use Rattle.mx_line.specs.declared.fills.Fill.{Fill}
@@ -85,13 +85,13 @@ seen_stands g l seen (at.Ended end) memory has = memory_attempts g l seen memory
 seen_stands g l seen at.Nowhere memory has = memory_attempts g l seen memory ∙ has
 
 -- the reference that a walk asks for
-abbrev pub Leads : Control → Line → chains.Operand → Element → Descriptor → LineAtWork → Type 0
-Leads g l walk e d after = (seen : List Judged) (asked : Reference) → IsWalked g l seen walk
-    → wants g l (wanted walk) ≡ Asks asked → IsJudged asked d e → HasSeen g l (seen ++ beside e d ∷ []) after
+abbrev pub Leads : Control → Line → Reached → Element → Descriptor → LineAtWork → Type 0
+Leads g l walk e d after = (seen : List Judged) (asked : Reference) → HasComeTo g l seen walk
+    → wants g l (wanted_at walk) ≡ Asks asked → IsJudged asked d e → HasSeen g l (seen ++ beside e d ∷ []) after
 
-led_stands : (g : Control) (l : Line) (walk : chains.Operand) (e : Element) (d : Descriptor) (after : LineAtWork)
+led_stands : (g : Control) (l : Line) (walk : Reached) (e : Element) (d : Descriptor) (after : LineAtWork)
     (setting : Setting) (course later : Course) (asked : Reference) → Leads g l walk e d after → setting.descriptor e ≡ d
-    → IsMemoryLine l → IsWalked g l (seen_in course) walk → wants g l (wanted walk) ≡ Asks asked → IsJudged asked (setting.descriptor e) e
+    → IsMemoryLine l → HasComeTo g l (seen_in course) walk → wants g l (wanted_at walk) ≡ Asks asked → IsJudged asked (setting.descriptor e) e
     → later ≡ Attempt (seen_in course ++ judged setting e ∷ []) → StandsAt g l later after
 led_stands g l walk e d after setting course later asked leads on memory walked wants_it right is =
     subst (λ (c : Course). StandsAt g l c after) (sym is)
@@ -99,7 +99,7 @@ led_stands g l walk e d after setting course later asked leads on memory walked 
     (seen_stands g l (seen_in course ++ beside e d ∷ []) after memory
     (leads (seen_in course) asked walked wants_it (subst (λ (f : Descriptor). IsJudged asked f e) on right))))
 
-pub walking_taken : (g : Control) (l : Line) (walk : chains.Operand) (e : Element) (d : Descriptor) (after : LineAtWork)
+pub walking_taken : (g : Control) (l : Line) (walk : Reached) (e : Element) (d : Descriptor) (after : LineAtWork)
     → Leads g l walk e d after → (setting : Setting) → setting.descriptor e ≡ d
     → IsTaken g l setting (Core (Seen e)) (at.At (Walking walk)) after
 walking_taken g l walk e d after leads setting on (Answer entry filled) later come is = absurd come
@@ -117,15 +117,38 @@ none_seen : (g : Control) (l : Line) (course : Course) → IsCome g l course Bef
 none_seen g l (Attempt seen) come = come.0
 none_seen g l (Answer entry filled) come = refl
 
-pub begun_taken : (g : Control) (l : Line) (walk : chains.Operand) (e : Element) (d : Descriptor) (after : LineAtWork)
-    → walk_of g.registers l ≡ Some walk → Leads g l walk e d after → (setting : Setting) → setting.descriptor e ≡ d
+-- the operand of a line that begins here
+record HasBegun (g : Control) (l : Line) (walk : Reached) : Type 0 where
+  pub operand : chains.Operand
+  pub has : walk_of g.registers l ≡ Some operand
+  pub is : reached operand ≡ walk
+
+begun_at : (g : Control) (l : Line) (walk : Reached) → option_map reached (walk_of g.registers l) ≡ Some walk → HasBegun g l walk
+begun_at g l walk e = by_operand (walk_of g.registers l) refl e
+  where
+    one : (a b : Reached) → Some a ≡ Some b → a ≡ b
+    one a b e = cc
+
+    by_operand : (operand : Option chains.Operand) → walk_of g.registers l ≡ operand → option_map reached operand ≡ Some walk → HasBegun g l walk
+    by_operand None has e = absurd cc
+    by_operand (Some operand) has e = record { operand = operand; has = has; is = one (reached operand) walk e }
+
+begun_asks : (g : Control) (l : Line) (walk : Reached) → HasBegun g l walk → attempts g l [] ≡ wants g l (wanted_at walk)
+begun_asks g l walk b = walk_asks g l b.operand b.has ∙ ap (λ (at : Reached). wants g l (wanted_at at)) b.is
+
+begun_come : (g : Control) (l : Line) (walk : Reached) → HasBegun g l walk → HasComeTo g l [] walk
+begun_come g l walk b = record { operand = b.operand; is = b.is; walked = walk_begun_law g l b.operand b.has }
+
+pub begun_taken : (g : Control) (l : Line) (walk : Reached) (e : Element) (d : Descriptor) (after : LineAtWork)
+    → option_map reached (walk_of g.registers l) ≡ Some walk → Leads g l walk e d after → (setting : Setting) → setting.descriptor e ≡ d
     → IsTaken g l setting (Core (Seen e)) (at.At Before) after
 begun_taken g l walk e d after has leads setting on course later come is = elim is [
   | inl r ↦
       let begun = sym (before_asks g l course come) ∙ r.next in
+      let b = begun_at g l walk has in
       led_stands g l walk e d after setting course later r.asked leads on (refers g l [] r.asked begun)
-      (subst (λ (seen : List Judged). IsWalked g l seen walk) (sym (none_seen g l course come)) (walk_begun_law g l walk has))
-      (sym (walk_asks g l walk has) ∙ begun) r.right r.leads
+      (subst (λ (seen : List Judged). HasComeTo g l seen walk) (sym (none_seen g l course come)) (begun_come g l walk b))
+      (sym (begun_asks g l walk b) ∙ begun) r.right r.leads
   | inr f ↦ absurd (begun_fills g l f.asked (sym (before_asks g l course come) ∙ f.next))
 ]
 
@@ -290,10 +313,10 @@ resumed_taken g l given after stands setting number entry there said course late
     no_link segno word h = cc
 
 -- where a line calls nobody
-pub walking_entered : (g : Control) (l : Line) (walk : chains.Operand) (after : LineAtWork) (setting : Setting) (number : ℕ)
+pub walking_entered : (g : Control) (l : Line) (walk : Reached) (after : LineAtWork) (setting : Setting) (number : ℕ)
     → IsTaken g l setting (Entry number) (at.At (Walking walk)) after
 walking_entered g l walk after setting number course later come is =
-    absurd (wants_calls g l (wanted walk) is.entry.ring is.entry.request (sym (walking_asks g l course walk come) ∙ is.next))
+    absurd (wants_calls g l (wanted_at walk) is.entry.ring is.entry.request (sym (walking_asks g l course walk come) ∙ is.next))
 
 pub filling_entered : (g : Control) (l : Line) (it : Fill) (after : LineAtWork) (setting : Setting) (number : ℕ)
     → IsTaken g l setting (Entry number) (at.At (Filling it)) after
@@ -414,20 +437,25 @@ word_gives place d (outcome.Entered ring) gives = absurd gives
 word_gives place d (outcome.Denied denial) gives = absurd gives
 
 -- what a line asks for whose reference was made, by how far it has come
-pub begun_met : (g : Control) (l : Line) (walk : chains.Operand) (e : Element) (d : Descriptor) → walk_of g.registers l ≡ Some walk
-    → (m : IsMet g l (at.At Before) e d) → wants g l (wanted walk) ≡ Asks m.asked
-begun_met g l walk e d has m = sym (walk_asks g l walk has) ∙ sym (before_asks g l m.course m.stands) ∙ m.asks
+pub begun_met : (g : Control) (l : Line) (walk : Reached) (e : Element) (d : Descriptor)
+    → option_map reached (walk_of g.registers l) ≡ Some walk → (m : IsMet g l (at.At Before) e d) → wants g l (wanted_at walk) ≡ Asks m.asked
+begun_met g l walk e d has m = sym (begun_asks g l walk (begun_at g l walk has)) ∙ sym (before_asks g l m.course m.stands) ∙ m.asks
 
-pub unwalked_met : (g : Control) (l : Line) (e : Element) (d : Descriptor) → walk_of g.registers l ≡ None → IsMet g l (at.At Before) e d → ⊥
+pub unwalked_met : (g : Control) (l : Line) (e : Element) (d : Descriptor) → option_map reached (walk_of g.registers l) ≡ None
+    → IsMet g l (at.At Before) e d → ⊥
 unwalked_met g l e d none m =
     let begun = sym (before_asks g l m.course m.stands) ∙ m.asks in
-    nowhere m.asked (sym (no_walk_asks g l (refers g l [] m.asked begun) none) ∙ begun)
+    nowhere m.asked (sym (no_walk_asks g l (refers g l [] m.asked begun) (without (walk_of g.registers l) none)) ∙ begun)
   where
+    without : (operand : Option chains.Operand) → option_map reached operand ≡ None → operand ≡ None
+    without None e = refl
+    without (Some operand) e = absurd cc
+
     nowhere : (r : Reference) → Nowhere ≡ Asks r → ⊥
     nowhere r e = cc
 
-pub walking_met : (g : Control) (l : Line) (walk : chains.Operand) (e : Element) (d : Descriptor)
-    → (m : IsMet g l (at.At (Walking walk)) e d) → wants g l (wanted walk) ≡ Asks m.asked
+pub walking_met : (g : Control) (l : Line) (walk : Reached) (e : Element) (d : Descriptor)
+    → (m : IsMet g l (at.At (Walking walk)) e d) → wants g l (wanted_at walk) ≡ Asks m.asked
 walking_met g l walk e d m = sym (walking_asks g l m.course walk m.stands) ∙ m.asks
 
 pub filling_met : (g : Control) (l : Line) (it : Fill) (e : Element) (d : Descriptor) → IsMet g l (at.At (Filling it)) e d → ⊥

@@ -1,11 +1,10 @@
 -- Helpers: how far the line at work has come, and what its operand asks for.
-use Rattle.std.specs.Prelude.{◌≡◌, ℕ, ◌-◌, ◌<◌, ◌≤◌, true, false, if◌then◌else◌, List, [], Option, Some, length, slice_get}
+use Rattle.std.specs.Prelude.{◌≡◌, ℕ, ◌-◌, ◌<◌, ◌≤◌, true, false, if◌then◌else◌, List, [], Option, Some, slice_get}
 use Rattle.std.specs.Option.{option_map}
 use Rattle.mx_call.specs.Registers.{Registers, ArePackable}
 use Rattle.mx_upcall.specs.Control.{Control, with_registers}
 use Rattle.mx_effring.specs.Chains as chains
-use Rattle.mx_effring.specs.Chains.{IsBounded}
-use Rattle.mx_effring.specs.Walks.{wanted}
+use Rattle.mx_effring.specs.Walks.{Reached, IsBounded, reached, wanted}
 use Rattle.mx_effring.specs.declared.walks.Want.{Want}
 use Rattle.mx_effring.specs.declared.walks.Want.TheVariants.{Word, Done}
 use Rattle.mx_transcript.specs.Attempts.{attempt}
@@ -28,10 +27,16 @@ use Rattle.mx_line.specs.declared.operands.Progress.TheVariants.{Before, Walking
 abbrev pub IsSayable : Line → Type 0
 IsSayable line = (version : ℕ) × (is_script_line version line ≡ true)
 
+-- a walk has come here: after all this was seen the attempt goes on as the walk of an operand that has come here
+pub record HasComeTo (g : Control) (l : Line) (seen : List Judged) (at : Reached) : Type 0 where
+  pub operand : chains.Operand
+  pub is : reached operand ≡ at
+  pub walked : IsWalked g l seen operand
+
 -- after all this was seen, the operand has come so far
 abbrev pub HasWalked : Control → Line → List Judged → Progress → Type 0
 HasWalked g l seen Before = seen ≡ []
-HasWalked g l seen (Walking walk) = IsWalked g l seen walk
+HasWalked g l seen (Walking walk) = HasComeTo g l seen walk
 HasWalked g l seen (AtLink place) = attempt g l seen ≡ Calls place.ring (Link place.segno place.word)
 HasWalked g l seen Waiting = ⊥
 HasWalked g l seen (Filling fill) = ⊥
@@ -60,14 +65,14 @@ IsWalker l (Filling fill) = Unit {0}
 abbrev pub IsPlaced : Control → Line → List Judged → Progress → Type 0
 IsPlaced g l seen progress = HasWalked g l seen progress × IsWalker l progress
 
--- a walk began in the current ring, at a pointer that has a word
-pub record HasBegun (g : Registers) (walk : chains.Operand) : Type 0 where
-  pub current : walk.current ≡ g.ring
-  pub base : IsPackable walk.base
+-- a walk stands where a pointer word can say, and at no ring below the current one
+pub record IsGoodPlace (g : Registers) (at : Reached) : Type 0 where
+  pub packable : IsPackable at.place
+  pub high : g.ring ≤ at.ring
 
-pub record IsGoodWalk (g : Registers) (walk : chains.Operand) : Type 0 where
-  pub begun : HasBegun g walk
-  pub bounded : IsBounded walk
+pub record IsGoodWalk (g : Registers) (at : Reached) : Type 0 where
+  pub stands : IsGoodPlace g at
+  pub bounded : IsBounded at
 
 abbrev pub IsGoodProgress : Registers → Progress → Type 0
 IsGoodProgress g Before = Unit {0}
@@ -126,7 +131,7 @@ pub record IsRegisterWord (g : Registers) (n value : ℕ) : Type 0 where
 -- its own reference or a link; none where its process was told to wait
 abbrev pub steps_in : Progress → ℕ
 steps_in Before = 10
-steps_in (Walking walk) = 9 - length walk.chain
+steps_in (Walking walk) = 9 - walk.count
 steps_in (AtLink place) = 1
 steps_in Waiting = 0
 steps_in (Filling fill) = steps_to_fill fill

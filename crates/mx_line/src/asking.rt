@@ -5,7 +5,7 @@ ghost use Rattle.std.specs.Option.{option_map};
 ghost use Rattle.mx_effring.specs.declared.walks.Want.TheVariants.{Done};
 ghost use Rattle.mx_transcript.specs.Next.{Asks};
 ghost use Rattle.mx_call.specs.Registers.{ArePackable, way_back};
-ghost use Rattle.mx_effring.specs.Walks.{wanted};
+ghost use Rattle.mx_effring.specs.Walks.{reached, wanted_at};
 ghost use Rattle.mx_transcript.specs.Asking.{attempts};
 ghost use Rattle.mx_transcript.specs.Attempts.{wants};
 ghost use Rattle.mx_sdw.specs.declared.operations.Op.TheVariants.{Indirect, Write};
@@ -205,7 +205,7 @@ fn want_at(place: &Pointer) -> Want
 pub(crate) fn walk_of(line: &Line, registers: &Regs) -> Option<Walk>
     requires line { IsSayable line.now }
     requires packable { ArePackable registers.now }
-    ensures walk { result ≡ walk_of registers.now line.now }
+    ensures walk { result ≡ option_map reached (walk_of registers.now line.now) }
     ensures good { IfSome result (IsGoodWalk registers.now) }
     ensures some { IfSome result (λ walk. IsMemoryLine line.now) }
     ensures none { IsNone result → IsMemoryLine line.now → ⊥ }
@@ -227,7 +227,7 @@ pub(crate) fn wants(line: &Line, control: &Control, walk: &Walk) -> Next
     requires line { IsSayable line.now }
     requires packable { IsPackableControl control.now }
     requires good { IsGoodWalk control.now.registers walk.now }
-    ensures is { wants control.now line.now (wanted walk.now) ≡ meant control.now line.now result }
+    ensures is { wants control.now line.now (wanted_at walk.now) ≡ meant control.now line.now result }
     ensures storable { IsStorable result }
     ensures good { IsGoodNext control.now result }
     ensures plain { IsMemoryLine line.now → IsPlain line.now result }
@@ -240,7 +240,7 @@ pub(crate) fn next_reference(line: &Line, control: &Control, walk: &Walk) -> Opt
     requires line { IsSayable line.now }
     requires packable { IsPackableControl control.now }
     requires good { IsGoodWalk control.now.registers walk.now }
-    ensures some { IfSome result (λ asked. wants control.now line.now (wanted walk.now) ≡ Asks (reference_in asked)) }
+    ensures some { IfSome result (λ asked. wants control.now line.now (wanted_at walk.now) ≡ Asks (reference_in asked)) }
     ensures storable { IfSome result (λ asked. IsStorableBy asked.op asked.stores) }
 {
     match walk.want() {

@@ -1,10 +1,10 @@
 //! The line at work: where a process stands within its line, and what an event that answers makes of it.
 
-ghost use Rattle.std.specs.Prelude.{◌≡◌, ◌-◌, ◌≤◌, ℕ, true, false, List, [], ◌∷◌, ◌++◌, Some, IfSome, IsSome, MatchOption, length};
+ghost use Rattle.std.specs.Prelude.{◌≡◌, ◌-◌, ◌≤◌, ℕ, true, false, List, [], ◌∷◌, ◌++◌, Some, IfSome, IsSome, MatchOption};
 ghost use Rattle.mx_core.specs.declared.elements.Element.{Element as PlainElement};
 ghost use Rattle.mx_core.specs.declared.elements.Event.TheVariants.{Seen, Missing};
 ghost use Rattle.mx_core.specs.declared.elements.Outcome.TheVariants.{Read as WasRead, Written as WasWritten, Entered as HasEntered};
-ghost use Rattle.mx_effring.specs.Walks.{wanted};
+ghost use Rattle.mx_effring.specs.Walks.{wanted_at};
 ghost use Rattle.mx_effring.specs.declared.walks.Want.TheVariants.{Word as WantsWord};
 ghost use Rattle.mx_ptr.specs.Pointers.{PointerParts, pointer_word};
 ghost use Rattle.mx_request.specs.declared.requests.Request.{Request as PlainRequest};
@@ -22,7 +22,6 @@ ghost use Rattle.mx_transcript.specs.Elements.{IsJudged};
 ghost use Rattle.mx_transcript.specs.Lines.{IsEnd};
 ghost use Rattle.mx_transcript.specs.Next.{Asks, Calls, Nowhere as AsksNothing, Reference};
 ghost use Rattle.mx_transcript.specs.Settings.{Setting, entry_at};
-ghost use Rattle.mx_transcript.specs.Standing.{IsWalked};
 ghost use Rattle.mx_transcript.specs.Targets.{after_target, at_target};
 ghost use Rattle.mx_transcript.specs.declared.transcripts.Event2.TheVariants.{Core, Entry as EntryOf};
 ghost use Rattle.mx_upcall.specs.Changes.{changed};
@@ -31,7 +30,7 @@ ghost use Rattle.mx_upcall.specs.Soundness.{IsPackableControl};
 ghost use Rattle.mx_line.specs.AtWork.{EndsAt, EndsByReply, IsTakenTo, ending, left, left_in, HasSeen, IsCome, IsFree, IsGoodNext, IsGoodWork, IsKnown, IsMet, IsMover, IsNearer, IsOver, IsPlain, IsReader, IsSaid, IsStorable, IsTaken, IsUnlinked, IsWithin, IsWriter, OneCourseLaw, StandsAt, after_writing, begun, beside, end_of, ended, filling_or, meant, moved_on, moving, standing};
 ghost use Rattle.mx_line.specs.Fills.{IsNoRequest, IsShort, after_fill, counted, first_fill, steps_to_fill};
 ghost use Rattle.mx_line.specs.Looks.{looks};
-ghost use Rattle.mx_line.specs.Operands.{IsGoodProgress, IsGoodWalk, IsMemoryLine, IsSayable, IsTarget};
+ghost use Rattle.mx_line.specs.Operands.{HasComeTo, IsGoodProgress, IsGoodWalk, IsMemoryLine, IsSayable, IsTarget};
 ghost use Rattle.mx_line.specs.declared.at_work.LineAtWork.TheVariants.{At, Ended, Nowhere};
 ghost use Rattle.mx_line.specs.declared.operands.Progress.TheVariants.{Before, Waiting, Walking};
 
@@ -240,12 +239,12 @@ fn led_by(walk: Walk, line: &Line, control: &Control, element: &Element, desc: &
     requires packable { IsPackableControl control.now }
     requires good { IsGoodWalk control.now.registers walk }
     requires desc { IsAdmissible desc.now }
-    ensures leads { (seen : List Judged) (asked : Reference) → IsWalked control.now line.now seen walk
-        → wants control.now line.now (wanted walk) ≡ Asks asked → IsJudged asked desc.now element.now
+    ensures leads { (seen : List Judged) (asked : Reference) → HasComeTo control.now line.now seen walk
+        → wants control.now line.now (wanted_at walk) ≡ Asks asked → IsJudged asked desc.now element.now
         → HasSeen control.now line.now (seen ++ beside element.now desc.now ∷ []) result }
     ensures good { IsGoodWork control.now result }
-    ensures nearer { IsWithin (9 - length walk.chain) result }
-    ensures known { (asked : Reference) → wants control.now line.now (wanted walk) ≡ Asks asked
+    ensures nearer { IsWithin (9 - walk.count) result }
+    ensures known { (asked : Reference) → wants control.now line.now (wanted_at walk) ≡ Asks asked
         → IsJudged asked desc.now element.now → IsKnown result }
 {
     match walk.want() {
@@ -275,11 +274,11 @@ fn word_read(
     requires line { IsSayable line.now }
     requires packable { IsPackableControl control.now }
     requires good { IsGoodWalk control.now.registers walk }
-    requires wants { wanted walk ≡ WantsWord place.segno place.word place.ring }
-    ensures leads { (seen : List Judged) → IsWalked control.now line.now seen walk
+    requires wants { wanted_at walk ≡ WantsWord place.segno place.word place.ring }
+    ensures leads { (seen : List Judged) → HasComeTo control.now line.now seen walk
         → HasSeen control.now line.now (seen ++ beside element.now desc.now ∷ []) result }
     ensures good { IsGoodWork control.now result }
-    ensures nearer { IsWithin (9 - length walk.chain) result }
+    ensures nearer { IsWithin (9 - walk.count) result }
     ensures known { IsJudged (looks place) desc.now element.now → IsKnown result }
 {
     match element.outcome {

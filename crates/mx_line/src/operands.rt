@@ -1,18 +1,17 @@
 //! How far the line at work has come, and what an indirect word makes of its walk.
 
-ghost use Rattle.std.specs.Prelude.{◌≡◌, ◌≤◌, ◌-◌, ℕ, true, false, List, [], ◌∷◌, ◌++◌, Some, IfSome, length};
+ghost use Rattle.std.specs.Prelude.{◌≡◌, ◌≤◌, ◌-◌, ℕ, true, false, List, [], ◌∷◌, ◌++◌, Some, IfSome};
 ghost use Rattle.mx_call.specs.Loading.{loaded};
 ghost use Rattle.mx_call.specs.Registers.{ArePackable};
 ghost use Rattle.mx_core.specs.declared.elements.Outcome.TheVariants.{Read as WasRead};
-ghost use Rattle.mx_effring.specs.Walks.{wanted};
+ghost use Rattle.mx_effring.specs.Walks.{reached, wanted, wanted_at};
 ghost use Rattle.mx_effring.specs.declared.walks.Want.TheVariants.{Word as WantsWord};
 ghost use Rattle.mx_transcript.specs.Courses.{Judged};
 ghost use Rattle.mx_transcript.specs.Operands.{base_of, beyond, operand_walk, walk_from};
-ghost use Rattle.mx_transcript.specs.Standing.{IsWalked};
 ghost use Rattle.mx_transcript.specs.declared.transcripts.Result2.TheVariants as results;
 ghost use Rattle.mx_ptr.specs.Pointers.{IsPackable};
 ghost use Rattle.mx_script.specs.Sessions.{is_address};
-ghost use Rattle.mx_line.specs.Operands.{HasBegun, IsGoodWalk, IsGoodWant, IsTarget, IsOnward, IsGoodOnward, IsCloser, IsRegisterWord, IsSayable, want_at};
+ghost use Rattle.mx_line.specs.Operands.{HasComeTo, IsGoodPlace, IsGoodWalk, IsGoodWant, IsTarget, IsOnward, IsGoodOnward, IsCloser, IsRegisterWord, IsSayable, want_at};
 ghost use Rattle.std.specs.Option.{option_map};
 ghost use Rattle.mx_line.specs.declared.operands.Onward.TheVariants.{End};
 
@@ -60,7 +59,7 @@ pub(crate) enum Onward {
 pub(crate) fn start(registers: &Regs, operand: &Operand) -> Walk
     requires address { is_address operand.now ≡ true }
     requires packable { ArePackable registers.now }
-    ensures walk { operand_walk registers.now operand.now ≡ Some result }
+    ensures walk { option_map reached (operand_walk registers.now operand.now) ≡ Some result }
     ensures good { IsGoodWalk registers.now result }
 {
     let base = base_of(registers, operand);
@@ -134,12 +133,12 @@ pub(crate) fn feed(
     requires line { IsSayable line.now }
     requires packable { ArePackable control.now.registers }
     requires good { IsGoodWalk control.now.registers walk }
-    requires wants { wanted walk ≡ WantsWord place.segno place.word place.ring }
-    ensures onward { (seen : List Judged) (j : Judged) (writer stamp : ℕ) → IsWalked control.now line.now seen walk
+    requires wants { wanted_at walk ≡ WantsWord place.segno place.word place.ring }
+    ensures onward { (seen : List Judged) (j : Judged) (writer stamp : ℕ) → HasComeTo control.now line.now seen walk
         → j.element.outcome ≡ WasRead value writer stamp → j.desc.brackets.r1 ≡ r1
         → IsOnward control.now line.now (seen ++ j ∷ []) result }
     ensures good { IsGoodOnward control.now.registers result }
-    ensures closer { IsCloser (9 - length walk.chain) result }
+    ensures closer { IsCloser (9 - walk.count) result }
 {
     match walk.feed(value, r1) {
         Ok(()) => led(line, control, walk),
@@ -162,11 +161,11 @@ fn denied(control: &Control, denial: Denial) -> Onward
 fn led(line: &Line, control: &Control, walk: Walk) -> Onward
     requires line { IsSayable line.now }
     requires packable { ArePackable control.now.registers }
-    requires begun { HasBegun control.now.registers walk }
-    ensures onward { (seen : List Judged) → IsWalked control.now line.now seen walk
+    requires stands { IsGoodPlace control.now.registers walk }
+    ensures onward { (seen : List Judged) → HasComeTo control.now line.now seen walk
         → IsOnward control.now line.now seen result }
     ensures good { IsGoodOnward control.now.registers result }
-    ensures closer { IsCloser (10 - length walk.chain) result }
+    ensures closer { IsCloser (10 - walk.count) result }
 {
     match walk.want() {
         Want::Word { .. } => Onward::More(Progress::Walking(walk)),

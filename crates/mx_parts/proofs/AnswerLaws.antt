@@ -8,7 +8,7 @@ use Rattle.mx_core.specs.declared.elements.Outcome.{Outcome}
 use Rattle.mx_core.specs.declared.elements.Outcome.TheVariants as outcome
 use Rattle.mx_effring.specs.declared.walks.Want.{Want}
 use Rattle.mx_effring.specs.declared.walks.Want.TheVariants as want
-use Rattle.mx_effring.specs.Walks.{wanted}
+use Rattle.mx_effring.specs.Walks.{wanted_at}
 use Rattle.mx_line.proofs.StandingLaws.{before_asks, begun_fills, link_calls, walking_asks}
 use Rattle.mx_line.specs.AtWork.{IsGoodWork, IsTaken, StandsAt, call_in, meant, own_call, reference_in}
 use Rattle.mx_line.specs.declared.asking.Called.{Called}
@@ -70,7 +70,7 @@ attempt_fills : (g : Control) (l : Line) (seen : List Judged) (work : LineAtWork
     → StandsAt g l (Attempt seen) work → next g l (Attempt seen) ≡ Fills r → ⊥
 attempt_fills g l seen (at.At Before) r stands e = begun_fills g l r (sym (before_asks g l (Attempt seen) stands) ∙ e)
 attempt_fills g l seen (at.At (Walking walk)) r stands e =
-    wants_fills g l (wanted walk) r (sym (walking_asks g l (Attempt seen) walk stands) ∙ e)
+    wants_fills g l (wanted_at walk) r (sym (walking_asks g l (Attempt seen) walk stands) ∙ e)
 attempt_fills g l seen (at.At (AtLink place)) r stands e =
     calls_fills (next g l (Attempt seen)) place.ring (Link place.segno place.word) r (link_calls g l (Attempt seen) place stands) e
 attempt_fills g l seen (at.At Waiting) r stands e = absurd stands.0

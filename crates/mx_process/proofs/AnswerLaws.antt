@@ -3,7 +3,7 @@ use Rattle.std.proofs.Common.{◌≡◌, ◌⊎◌, inl, inr, ℕ, Bool, false, 
 use Rattle.std.specs.List.{slice_get}
 use Rattle.mx_call.specs.Loading.{loaded}
 use Rattle.mx_effring.specs.Chains as chains
-use Rattle.mx_effring.specs.Walks.{wanted}
+use Rattle.mx_effring.specs.Walks.{wanted, wanted_at}
 use Rattle.mx_effring.specs.declared.walks.Want.{Want}
 use Rattle.mx_effring.specs.declared.walks.Want.TheVariants as want
 use Rattle.mx_line.proofs.ReplyLaws.{memory_answers}
@@ -233,7 +233,7 @@ module _ (g : Control) (l : Line) (course : Course) (ring : ℕ) (request : Requ
   callers Before come calls =
       inl (record { own = request; is = before_calls g l ring request (sym (before_asks g l course come) ∙ calls) })
   callers (Walking walk) come calls =
-      absurd (wants_calls g l (wanted walk) ring request (sym (walking_asks g l course walk come) ∙ calls))
+      absurd (wants_calls g l (wanted_at walk) ring request (sym (walking_asks g l course walk come) ∙ calls))
   callers (AtLink place) come calls = inr (record {
     memory = link_refers g l course place come;
     segno = place.segno;
@@ -248,7 +248,7 @@ module _ (g : Control) (l : Line) (course : Course) (ring : ℕ) (request : Requ
   pub blocks : (progress : Progress) → IsCome g l course progress → next g l course ≡ Calls ring Block → l ≡ line.Ask Block
   blocks Before come calls = before_calls g l ring Block (sym (before_asks g l course come) ∙ calls)
   blocks (Walking walk) come calls =
-      absurd (wants_calls g l (wanted walk) ring Block (sym (walking_asks g l course walk come) ∙ calls))
+      absurd (wants_calls g l (wanted_at walk) ring Block (sym (walking_asks g l course walk come) ∙ calls))
   blocks (AtLink place) come calls =
       absurd (apart (same_request place.ring ring (Link place.segno place.word) Block (sym (link_calls g l course place come) ∙ calls)))
     where
@@ -526,7 +526,7 @@ logout_asks g l course ring request Before come calls out =
     same_own : (a b : Request) → line.Ask a ≡ line.Ask b → a ≡ b
     same_own a b e = cc
 logout_asks g l course ring request (Walking walk) come calls out =
-    absurd (wants_calls g l (wanted walk) ring request (sym (walking_asks g l course walk come) ∙ calls))
+    absurd (wants_calls g l (wanted_at walk) ring request (sym (walking_asks g l course walk come) ∙ calls))
 logout_asks g l course ring request (AtLink place) come calls out =
     absurd (subst IsMemoryLine out (link_refers g l course place come))
 logout_asks g l course ring request Waiting come calls out = absurd (apart (sym (waiting_blocks g l course come) ∙ out))
