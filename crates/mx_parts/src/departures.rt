@@ -199,9 +199,10 @@ fn departure_within(
             work,
             &events[place],
             &descriptors[place],
-        )? {
-            Some(after) => work = after,
-            None => return Ok(Departure::Event { place, asks }),
+        ) {
+            Ok(Some(after)) => work = after,
+            Ok(None) => return Ok(Departure::Event { place, asks }),
+            Err(error) => return Err(error),
         }
     }
     let asks = work.next(line, &process.control);

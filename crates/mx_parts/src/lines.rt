@@ -57,9 +57,10 @@ pub(crate) fn is_right_line(
         &process.control,
         printed.events,
         printed.descriptors,
-    )? {
-        Some(work) => Ok(is_ended(process, setting.is_full(), line, work, &printed.ends)),
-        None => Ok(false),
+    ) {
+        Ok(Some(work)) => Ok(is_ended(process, setting.is_full(), line, work, &printed.ends)),
+        Ok(None) => Ok(false),
+        Err(error) => Err(error),
     }
 }
 
