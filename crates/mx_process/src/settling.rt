@@ -15,7 +15,6 @@ use mx_line::{Process as LineState, Progress};
 use mx_office::Office;
 use mx_transcript::{Event, Event2};
 use std::alloc::AllocError;
-use std::mem;
 use std::sync::Wait;
 
 impl<'a, B: Attending, A: Auditor> Process<'a, B, A> {
@@ -47,16 +46,17 @@ fn begin_anew(state: &mut LineState, miss: &Miss)
         segno: miss.segno,
         by: miss.by,
     }));
-    state.progress = again(mem::replace(&mut state.progress, Progress::Before));
+    stand_anew(&mut state.progress);
 }
 
 // Where a line stands after a miss.
-fn again(progress: Progress) -> Progress
-    ensures { result ≡ again progress }
+fn stand_anew(progress: &mut Progress)
+    ensures { progress.new ≡ again progress.old }
 {
     match progress {
-        Progress::Filling(fill) => Progress::Filling(fill),
-        Progress::Before | Progress::Walking(_) | Progress::AtLink(_) | Progress::Waiting =>
-            Progress::Before,
+        Progress::Filling(_) => {}
+        Progress::Before | Progress::Walking(_) | Progress::AtLink(_) | Progress::Waiting => {
+            *progress = Progress::Before;
+        }
     }
 }
