@@ -1,30 +1,51 @@
-//! Where things stand in the drawing of a run: a column for each journal entry, as wide as what hangs behind it, and a lane for
-//! each process.
+//! Where things stand in the drawing of a run. As in a score, the columns of the entries and of the references behind them go from
+//! left to right up to the greatest width, and further ones into a new row below; each row has a lane for each process.
 
-ghost use Rattle.std.specs.Prelude.{◌≡◌, ◌≤◌, length, IfSome, IsTrue};
-ghost use Rattle.mx_core.specs.declared.elements.Outcome.TheVariants as read;
-ghost use Rattle.mx_picture.specs.Arrows.{IsStoreFor, cell_of};
+ghost use Rattle.std.specs.Prelude.{◌≡◌, ◌++◌, map, IfOk, IfSome, OnOk};
+ghost use Rattle.mx_picture.specs.Arrows.{IsStoreFor};
+ghost use Rattle.mx_picture.specs.Boxes.{lane_of, no_lane};
+
+mod bands;
+mod folds;
+mod line_numbers;
+mod messages;
+mod rows;
+mod stores;
+mod tags;
+mod walk;
 
 use crate::positions::Position;
-use mx_sdw::{Ring, Word};
-use mx_show::{Accesses, Judged, source_of};
-use mx_transcript::Outcome;
+use bands::add_bands;
+pub(crate) use bands::{Band, Life};
+use folds::bare_entries;
+pub(crate) use folds::{fold_words, refused};
+use line_numbers::LineNumbers;
+pub(crate) use messages::Message;
+use messages::messages_of;
+use mx_script::Session;
+use mx_sdw::Ring;
+use mx_show::{Accesses, Judged};
+use mx_state::Journal;
+use mx_transcript::{Outcome, Transcripts};
+use rows::settle;
+pub(crate) use rows::{Lane, Row, TAG_HEIGHT};
 use std::alloc::{AllocError, Global};
-
-/// The most entries that are drawn.
-pub(crate) const MOST_ENTRIES: usize = 60;
-
-/// The most processes that are drawn.
-pub(crate) const MOST_PROCESSES: usize = 6;
-
-/// The most references that are drawn.
-const MOST_REFERENCES: usize = 240;
+use stores::{Stores, store_of};
+pub(crate) use tags::{Tag, tag_width};
+pub(crate) use walk::Column;
+use walk::{Course, Walk};
 
 /// Where the columns begin.
 pub(crate) const LEFT: u32 = 150;
 
+/// Where they end, and with them the lanes, in a drawing of several rows.
+const RIGHT: u32 = 1_180;
+
+/// Where the lanes end at least.
+const LEAST_RIGHT: u32 = 960;
+
 /// The width of an entry's column, before what hangs behind it.
-const ENTRY_WIDTH: u32 = 40;
+pub(crate) const ENTRY_WIDTH: u32 = 40;
 
 /// The width that a reference takes.
 const BOX_STEP: u32 = 142;
@@ -33,206 +54,164 @@ const BOX_STEP: u32 = 142;
 pub(crate) const BOX_WIDTH: u32 = 132;
 
 /// The height of its box.
-pub(crate) const BOX_HEIGHT: u32 = 54;
+pub(crate) const BOX_HEIGHT: u32 = 66;
 
-/// The line of the journal.
-pub(crate) const JOURNAL: u32 = 326;
-
-/// The top of the first lane.
-const LANES: u32 = 366;
-
-/// The height of a lane, and from one lane's top to the next.
-pub(crate) const LANE_HEIGHT: u32 = 170;
-
-const LANE_STEP: u32 = 184;
-
-/// Where boxes begin in a lane.
-const BOXES: u32 = 54;
-
-/// A reference in its place.
+/// A reference in its place: the number of its line, the how many-th of that line it is, the ring of its process before it, its row,
+/// and where its box begins from the left.
 #[derive(Clone, Copy)]
 pub(crate) struct Placed {
     pub(crate) judged: Judged,
-    x: u32,
+    pub(crate) line: u32,
+    pub(crate) nth: u32,
+    pub(crate) current: u8,
+    pub(crate) row: u32,
+    pub(crate) x: u32,
 }
 
-impl Placed {
-    /// The corner of its box.
-    pub(crate) fn corner(&self) -> Position {
-        Position::new(self.x, lane_top(self.judged.process)).down(BOXES)
-    }
-}
-
-/// The columns of the entries from 0, before the first, and the references in their places.
+/// The rows with their lanes, and what stands in them.
 #[derive(Drop)]
 pub(crate) struct Layout {
-    pub(crate) columns: Vec<u32>,
+    pub(crate) processes: u8,
+    pub(crate) right: u32,
+    pub(crate) bottom: u32,
+    pub(crate) rows: Vec<Row>,
+    pub(crate) lanes: Vec<Lane>,
+    pub(crate) columns: Vec<Column>,
+    pub(crate) tags: Vec<Tag>,
+    pub(crate) bands: Vec<Band>,
     pub(crate) placed: Vec<Placed>,
-    pub(crate) width: u32,
-    pub(crate) lanes: u8,
+    pub(crate) messages: Vec<Message>,
+    stores: Stores,
 }
 
 impl Layout {
-    ghost use Rattle.std.specs.Prelude.{◌≤◌, IfOk};
-
-    /// The places of so many entries and processes, and of the references behind them.
+    /// The places of all entries and references of a run.
     pub(crate) fn new(
         alloc: Global,
+        session: &Session,
+        journal: &Journal,
+        transcripts: &Transcripts,
         accesses: &Accesses,
-        entries: usize,
-        processes: usize,
     ) -> Result<Layout, AllocError>
-        ensures { IfOk result (λ layout. layout.lanes ≤ 6) }
+        ensures { IfOk result (λ layout. map (λ p. p.judged) layout.placed.items ≡ accesses.now.judged.items) }
     {
-        let entries = entries.min(MOST_ENTRIES);
-        let lanes = processes.min(MOST_PROCESSES) as u8;
-        let mut columns = Vec::with_capacity(alloc, MOST_ENTRIES + 1)?;
+        let processes = session.principals().items().len() as u8;
+        let entries = journal.items();
+        let bare = bare_entries(alloc, entries, accesses)?;
+        let course = Course {
+            entries,
+            changed: accesses.changed.as_slice(),
+            bare: bare.as_slice(),
+        };
+        let mut walk = Walk::new(alloc, processes)?;
+        let mut lines = LineNumbers::new(alloc, transcripts.items())?;
         let mut placed = Vec::new(alloc);
         let judged = accesses.judged.as_slice();
-        let end = add_columns(judged, entries, lanes, &mut columns, &mut placed)?;
+        place_all(alloc, &course, &mut walk, &mut lines, judged, &mut placed)?;
+        walk.go_to(alloc, &course, u32::MAX)?;
+        walk.finish()?;
+        let stores = Stores::new(alloc, placed.as_slice())?;
+        let messages = messages_of(alloc, entries)?;
+        let right = walk.right();
+        let mut bands = Vec::new(alloc);
+        add_bands(
+            &mut bands,
+            walk.turns.as_slice(),
+            walk.rows.len(),
+            processes,
+            right,
+        )?;
+        let bottom = settle(&mut walk.rows, &mut walk.lanes, processes);
         Ok(Layout {
-            columns,
+            processes,
+            right,
+            bottom,
+            rows: walk.rows,
+            lanes: walk.lanes,
+            columns: walk.columns,
+            tags: walk.tags,
+            bands,
             placed,
-            width: end.saturating_add(200),
-            lanes,
+            messages,
+            stores,
         })
     }
 
-    /// The middle of an entry's column, on the line of the journal.
+    /// The middle of an entry's mark, on the line of the journal of its row; that of the entries that it is folded with.
     pub(crate) fn entry(&self, number: u32) -> Option<Position> {
-        let x = self.columns.get(number as usize)?;
-        Some(Position::new(*x, JOURNAL).right(ENTRY_WIDTH / 2))
+        let behind = self
+            .columns
+            .partition_point(|column| column.first <= number);
+        let column = self.columns.get(behind.checked_sub(1)?)?;
+        Some(self.mark(column))
     }
 
-    /// Where the lanes end on the right.
-    pub(crate) fn right(&self) -> u32 {
-        self.width.saturating_sub(20)
+    /// The middle of a column's mark.
+    pub(crate) fn mark(&self, column: &Column) -> Position {
+        Position::new(column.x, self.journal(column.row)).right(ENTRY_WIDTH / 2)
     }
 
-    /// Where they end below.
-    pub(crate) fn bottom(&self) -> u32 {
-        LANES + LANE_STEP * u32::from(self.lanes)
+    /// The line of the journal of a row.
+    pub(crate) fn journal(&self, row: u32) -> u32 {
+        match self.rows.get(row as usize) {
+            Some(row) => row.journal,
+            None => 0,
+        }
+    }
+
+    /// The lane of a process in a row.
+    pub(crate) fn lane(&self, row: u32, process: u8) -> Lane
+        ensures { result ≡ lane_of self.now.lanes.items self.now.processes row process }
+    {
+        let place = rows::place_of(self.processes, row, process);
+        match self.lanes.get(place) {
+            Some(lane) => *lane,
+            None => rows::NO_LANE,
+        }
+    }
+
+    /// The corner of the box of a reference.
+    pub(crate) fn corner(&self, placed: &Placed) -> Position {
+        let lane = self.lane(placed.row, placed.judged.process);
+        Position::new(placed.x, lane.top).down(lane.boxes_from())
+    }
+
+    /// The reference at this place and the store that it stands for, where it is a read.
+    pub(crate) fn store_of(&self, place: usize) -> Option<(&Placed, &Placed)>
+        ensures { IfSome result (λ pair. IsStoreFor pair.1.now.judged pair.0.now.judged) }
+    {
+        let read = self.placed.get(place)?;
+        let store = store_of(&self.stores, self.placed.as_slice(), place, &read.judged)?;
+        Some((read, store))
     }
 }
 
-// Adds the columns of so many entries and of what comes before the first, places the references behind them, and says where the
-// last one ends.
-fn add_columns(
+// Places references, each in the lane of its process.
+fn place_all(
+    alloc: Global,
+    course: &Course,
+    walk: &mut Walk,
+    lines: &mut LineNumbers,
     judged: &[Judged],
-    entries: usize,
-    lanes: u8,
-    columns: &mut Vec<u32>,
     placed: &mut Vec<Placed>,
-) -> Result<u32, AllocError> {
-    let mut rest = judged;
-    let mut x = LEFT;
-    for point in 0..=entries {
-        columns.push(x)?;
-        let behind = x.saturating_add(ENTRY_WIDTH);
-        let (hung, others) = rest.split_at(hanging(rest, point));
-        let most = place(hung, behind, lanes, placed)?;
-        x = behind.saturating_add(most.saturating_mul(BOX_STEP));
-        rest = others;
-    }
-    Ok(x)
-}
-
-// How many of these references, at the front, hang at this point.
-fn hanging(references: &[Judged], point: usize) -> usize
-    ensures { result ≤ length references.now }
+) -> Result<(), AllocError>
+    ensures { OnOk result (map (λ p. p.judged) placed.new.items ≡ map (λ p. p.judged) placed.old.items ++ judged.now) }
 {
-    for (i, judged) in references.iter().enumerate() {
-        if judged.element.point as usize > point {
-            return i;
-        }
+    for reference in judged {
+        walk.go_to(alloc, course, reference.element.point)?;
+        let current = walk.ring_of(reference.process);
+        let spot = walk.place(reference)?;
+        let number = lines.next(reference.process);
+        placed.extend_from_slice(&[Placed {
+            judged: *reference,
+            line: number.line,
+            nth: number.nth,
+            current,
+            row: spot.row,
+            x: spot.x,
+        }])?;
     }
-    references.len()
-}
-
-// Places references that hang at one point, those of a process side by side, and says how many have the widest lane.
-fn place(
-    hung: &[Judged],
-    behind: u32,
-    lanes: u8,
-    placed: &mut Vec<Placed>,
-) -> Result<u32, AllocError> {
-    let mut counts = [0u32; 16];
-    let mut most = 0;
-    for judged in hung {
-        if judged.process > lanes || placed.len() >= MOST_REFERENCES {
-            continue;
-        }
-        if let Some(count) = counts.get_mut(usize::from(judged.process)) {
-            let x = behind.saturating_add(count.saturating_mul(BOX_STEP));
-            placed.push(Placed { judged: *judged, x })?;
-            *count = count.saturating_add(1);
-            most = most.max(*count);
-        }
-    }
-    Ok(most)
-}
-
-/// The top of the lane of a process, from 1.
-pub(crate) fn lane_top(process: u8) -> u32 {
-    LANES + LANE_STEP * u32::from(process.saturating_sub(1))
-}
-
-/// The store that a reference at this place stands for, where it is a read and the store is drawn: the last one of its writer in
-/// that cell, at that stamp and with that value, and for a process's own store the last before the read.
-pub(crate) fn store_of<'a>(placed: &'a [Placed], place: usize, read: &Judged) -> Option<&'a Placed>
-    ensures { IfSome result (λ store. IsStoreFor store.now.judged read.now) }
-{
-    let source = source_of(read.element.outcome)?;
-    let drawn = if source.process == read.process {
-        placed.get(..place)?
-    } else {
-        placed
-    };
-    for store in drawn.iter().rev() {
-        if is_store_for(&store.judged, read) {
-            return Some(store);
-        }
-    }
-    None
-}
-
-// Whether this is the store that the read names: of its writer, at its stamp, in its cell, with its value.
-fn is_store_for(store: &Judged, read: &Judged) -> bool
-    ensures { IsTrue result → IsStoreFor store.now read.now }
-{
-    match &store.element.outcome {
-        Outcome::Written { value } => {
-            names_store(
-                &read.element.outcome,
-                *value,
-                store.process,
-                store.element.point,
-            ) && cell(store) == cell(read)
-        }
-        _ => false,
-    }
-}
-
-// Whether this is a read that names such a store.
-fn names_store(outcome: &Outcome, stored: Word, process: u8, point: u32) -> bool
-    ensures { IsTrue result → outcome.now ≡ read.Read stored process point }
-{
-    match outcome {
-        Outcome::Read {
-            value,
-            writer,
-            stamp,
-        } => value.value() == stored.value() && *writer == process && *stamp == point,
-        _ => false,
-    }
-}
-
-// The cell of a reference.
-fn cell(judged: &Judged) -> u32
-    ensures { result ≡ cell_of judged.now }
-{
-    let (page, word) = (judged.desc.page(), judged.element.word);
-    u32::from(page) * 64 + u32::from(word)
+    Ok(())
 }
 
 /// The ring that a reference leaves its process in, where it changes it.

@@ -1,32 +1,36 @@
 //! A run as a drawing.
 
-ghost use Rattle.std.specs.Prelude.{◌≡◌, ◌≤◌, IfOk, OnOk, IsErrOf};
-ghost use Rattle.std.specs.String.{string_bytes};
+ghost use Rattle.std.specs.Prelude.{◌≡◌, ◌≤◌, map, OnOk, IsErrOf};
 ghost use Rattle.mx_io.specs.Faults.{Rose};
 ghost use Rattle.mx_transcript.specs.Legal.{IsLegal};
-ghost use Rattle.mx_picture.specs.Drawings.{GainsDrawing, IsFramed};
+ghost use Rattle.mx_picture.specs.Boxes.{DrawsBoxes, GainsBoxes, GainsReferences};
+ghost use Rattle.mx_picture.specs.Drawings.{Draws, GainsDrawing};
 
+mod arrows;
+mod boxes;
+mod changes;
 mod entries;
+mod lanes;
+mod layers;
 mod legends;
-mod marks;
-mod rings;
+mod sentences;
+mod titles;
 
-use crate::layout::Layout;
-use crate::svg::add_head;
-use entries::{add_change_lines, add_entries, add_tags};
-use legends::{add_legend, add_rings, add_title, height};
-use marks::{add_arrows, add_boxes};
+use crate::layout::{Layout, Placed};
+use boxes::add_box;
+use layers::{ABOVE, BEHIND, Drawing, Layer};
 use mx_io::{Sink, write_all};
 use mx_script::Session;
-use mx_show::{Accesses, ShowError, judge_all};
+use mx_show::{ShowError, judge_all, send_when_long};
 use mx_state::Journal;
 use mx_transcript::Transcripts;
-use rings::add_lanes;
-use std::alloc::{AllocError, Global};
+use std::alloc::Global;
 
-/// Draws a legal run of a session as one SVG: the journal as columns, a lane for each process in the colours of its rings, each
-/// reference hung at its point with its outcome, an arrow from each read to the store that it stands for, and each entry that
-/// changed access with whose. At most 60 entries, 6 processes and 240 references are drawn, with a note where there are more.
+/// Draws a legal run of a session as one SVG of at most 1,200 units in width: the journal as columns, in as many rows as they take, and in
+/// each row a lane for each process in the colours of its rings; each reference in a box of its own at its point with its outcome, an
+/// arrow from each read to the store that it stands for and from each message to the entry that took it, and each entry that changed
+/// access with whose. On an error a part was sent: `Fault` where the sink failed, `Memory` where memory was wanting. About 32 KiB of the
+/// text are held at a time, beside the layout.
 pub fn show_picture<K: Sink>(
     alloc: Global,
     session: &Session,
@@ -36,60 +40,102 @@ pub fn show_picture<K: Sink>(
 ) -> Result<(), ShowError>
     requires legal { IsLegal session.now journal.now transcripts.now }
     ensures drawn { OnOk result (GainsDrawing (K.out sink.old) (K.out sink.new)) }
+
+    // One box for each reference, in the lane of its process; each reference has the access that it was judged on.
+    ensures references { OnOk result (GainsReferences (K.out sink.old) (K.out sink.new) session.now journal.now) }
     ensures cause { IsErrOf result ShowError.Fault → Rose (K.faults sink.old) (K.faults sink.new) }
     ensures only { (IsErrOf result ShowError.Fault → ⊥) → K.faults sink.new ≡ K.faults sink.old }
     ensures later { K.faults sink.old ≤ K.faults sink.new }
 {
     let accesses = judge_all(alloc, session, journal, transcripts)?;
-    let marks = draw(alloc, session, journal, &accesses)?;
-    let picture = framed(alloc, &marks)?;
-    write_all(sink, picture.as_bytes())?;
+    let layout = Layout::new(alloc, session, journal, transcripts, &accesses)?;
+    let drawing = Drawing {
+        session,
+        journal,
+        layout: &layout,
+    };
+    draw(alloc, &drawing, sink)
+}
+
+// Draws what was laid out, within its frame.
+fn draw<K: Sink>(alloc: Global, drawing: &Drawing, sink: &mut K) -> Result<(), ShowError>
+    ensures drawn { OnOk result (GainsBoxes (K.out sink.old) (K.out sink.new) drawing.now.layout.now) }
+    ensures cause { IsErrOf result ShowError.Fault → Rose (K.faults sink.old) (K.faults sink.new) }
+    ensures only { (IsErrOf result ShowError.Fault → ⊥) → K.faults sink.new ≡ K.faults sink.old }
+    ensures later { K.faults sink.old ≤ K.faults sink.new }
+{
+    let mut out = Vec::new(alloc);
+    out.extend_from_slice(b"<svg")?;
+    draw_layers(alloc, drawing, &BEHIND, &mut out, sink)?;
+    draw_boxes(
+        alloc,
+        drawing.layout,
+        &drawing.layout.placed,
+        &mut out,
+        sink,
+    )?;
+    draw_layers(alloc, drawing, &ABOVE, &mut out, sink)?;
+    out.extend_from_slice(b"</svg>\n")?;
+    write_all(sink, &out)?;
     Ok(())
 }
 
-// What is drawn, within its frame.
-fn framed(alloc: Global, marks: &str) -> Result<String, AllocError>
-    ensures { IfOk result (λ text. IsFramed (string_bytes text)) }
-{
-    let mut text = String::new(alloc);
-    text.push_str("<svg")?;
-    text.push_str(marks)?;
-    text.push_str("</svg>\n")?;
-    Ok(text)
-}
-
-// The marks of the drawing. They have a fixed size at most, so they are held whole.
-fn draw(
+// Draws the boxes of these references, one behind another.
+fn draw_boxes<K: Sink>(
     alloc: Global,
-    session: &Session,
-    journal: &Journal,
-    accesses: &Accesses,
-) -> Result<String, AllocError> {
-    let processes = session.principals().items().len();
-    let layout = Layout::new(alloc, accesses, journal.items().len(), processes)?;
-    let mut out = String::new(alloc);
-    add_marks(alloc, &mut out, session, journal, accesses, &layout)?;
-    Ok(out)
-}
-
-// Adds the marks, those on which others are drawn first.
-fn add_marks(
-    alloc: Global,
-    out: &mut String,
-    session: &Session,
-    journal: &Journal,
-    accesses: &Accesses,
     layout: &Layout,
-) -> Result<(), AllocError> {
-    let processes = session.principals().items().len();
-    add_head(out, layout.width.max(980), height(layout))?;
-    add_title(alloc, out, processes, journal, accesses, layout)?;
-    add_rings(out)?;
-    add_lanes(alloc, out, session, layout)?;
-    add_change_lines(out, accesses, layout)?;
-    add_entries(alloc, out, journal, layout)?;
-    add_tags(alloc, out, accesses, layout)?;
-    add_boxes(out, layout)?;
-    add_arrows(out, layout)?;
-    add_legend(out, layout)
+    placed: &[Placed],
+    out: &mut Vec<u8>,
+    sink: &mut K,
+) -> Result<(), ShowError>
+    ensures drawn { OnOk result (DrawsBoxes layout.now placed.now (K.out sink.old) (K.out sink.new) out.old.items out.new.items) }
+    ensures cause { IsErrOf result ShowError.Fault → Rose (K.faults sink.old) (K.faults sink.new) }
+    ensures only { (IsErrOf result ShowError.Fault → ⊥) → K.faults sink.new ≡ K.faults sink.old }
+    ensures later { K.faults sink.old ≤ K.faults sink.new }
+{
+    for reference in placed {
+        add_box(alloc, out, layout, reference)?;
+        send_when_long(out, sink)?;
+    }
+    Ok(())
+}
+
+// Draws layers, each upon those before it.
+fn draw_layers<K: Sink>(
+    alloc: Global,
+    drawing: &Drawing,
+    layers: &[Layer],
+    out: &mut Vec<u8>,
+    sink: &mut K,
+) -> Result<(), ShowError>
+    ensures drawn { OnOk result (Draws (K.out sink.old) (K.out sink.new) out.old.items out.new.items) }
+    ensures cause { IsErrOf result ShowError.Fault → Rose (K.faults sink.old) (K.faults sink.new) }
+    ensures only { (IsErrOf result ShowError.Fault → ⊥) → K.faults sink.new ≡ K.faults sink.old }
+    ensures later { K.faults sink.old ≤ K.faults sink.new }
+{
+    for layer in layers {
+        draw_layer(alloc, drawing, *layer, out, sink)?;
+    }
+    Ok(())
+}
+
+// Draws the marks of a layer, one behind another.
+fn draw_layer<K: Sink>(
+    alloc: Global,
+    drawing: &Drawing,
+    layer: Layer,
+    out: &mut Vec<u8>,
+    sink: &mut K,
+) -> Result<(), ShowError>
+    ensures drawn { OnOk result (Draws (K.out sink.old) (K.out sink.new) out.old.items out.new.items) }
+    ensures cause { IsErrOf result ShowError.Fault → Rose (K.faults sink.old) (K.faults sink.new) }
+    ensures only { (IsErrOf result ShowError.Fault → ⊥) → K.faults sink.new ≡ K.faults sink.old }
+    ensures later { K.faults sink.old ≤ K.faults sink.new }
+{
+    for place in 0..drawing.count(layer) {
+        let mark = drawing.mark(alloc, layer, place)?;
+        out.extend_from_slice(mark.as_bytes())?;
+        send_when_long(out, sink)?;
+    }
+    Ok(())
 }

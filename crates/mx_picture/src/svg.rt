@@ -1,9 +1,14 @@
 //! The marks of a drawing, as SVG.
 
+mod colours;
+mod texts;
+
 use crate::positions::Position;
-use mx_show::Part::{self, Decimal, Text};
+pub(crate) use colours::{ink_of, ink_on, ring_colour};
+use mx_show::Part::{Decimal, Text};
 use mx_show::add_parts;
 use std::alloc::AllocError;
+pub(crate) use texts::{add_rising, add_text, add_words};
 
 /// Adds what stands behind `<svg` in a drawing of this size: the arrow's head, and a white ground.
 pub(crate) fn add_head(out: &mut String, width: u32, height: u32) -> Result<(), AllocError> {
@@ -25,8 +30,13 @@ pub(crate) fn add_head(out: &mut String, width: u32, height: u32) -> Result<(), 
 }
 
 const HEAD: &str =
-    "\" font-family=\"monospace\" font-size=\"13\">\n<defs><marker id=\"head\" viewBox=\"0 0 8 8\" refX=\"7\" refY=\"4\" markerWidth=\"8\" \
-    markerHeight=\"8\" orient=\"auto\"><path d=\"M0 0L8 4L0 8z\" fill=\"#00695c\" stroke=\"#ffffff\"/></marker></defs>\n\
+    "\" style=\"max-width:100%;height:auto\" font-family=\"monospace\" font-size=\"13\">\n<defs>\
+    <marker id=\"to-store\" viewBox=\"0 0 8 8\" refX=\"7\" refY=\"4\" markerWidth=\"12\" markerHeight=\"12\" markerUnits=\"userSpaceOnUse\" \
+    orient=\"auto\"><path d=\"M0 0L8 4L0 8z\" fill=\"#00695c\" stroke=\"#ffffff\"/></marker>\
+    <marker id=\"to-message\" viewBox=\"0 0 8 8\" refX=\"7\" refY=\"4\" markerWidth=\"12\" markerHeight=\"12\" markerUnits=\"userSpaceOnUse\" \
+    orient=\"auto\"><path d=\"M0 0L8 4L0 8z\" fill=\"#8e24aa\" stroke=\"#ffffff\"/></marker>\
+    <pattern id=\"hatch\" width=\"8\" height=\"8\" patternUnits=\"userSpaceOnUse\" patternTransform=\"rotate(45)\">\
+    <rect width=\"3\" height=\"8\" fill=\"#ffffff\" fill-opacity=\"0.75\"/></pattern></defs>\n\
     <rect width=\"100%\" height=\"100%\" fill=\"#ffffff\"/>\n";
 
 /// Adds a rectangle.
@@ -90,14 +100,50 @@ pub(crate) struct Way {
     pub(crate) to: Position,
 }
 
+/// What an arrow says, and whether it leads far, from one row to another.
+#[derive(Clone, Copy)]
+pub(crate) enum Arrow {
+    /// The read stands for this store.
+    Store,
+    StoreFar,
+    /// The message is taken here.
+    Message,
+    MessageFar,
+}
+
+impl Arrow {
+    // Its rim.
+    fn rim(self) -> &'static str {
+        match self {
+            Arrow::Store | Arrow::Message => " stroke=\"#ffffff\" stroke-width=\"5\"/>\n",
+            Arrow::StoreFar | Arrow::MessageFar => {
+                " stroke=\"#ffffff\" stroke-width=\"3\" stroke-opacity=\"0.7\"/>\n"
+            }
+        }
+    }
+
+    // Its line.
+    fn stroke(self) -> &'static str {
+        match self {
+            Arrow::Store =>
+                " stroke=\"#00695c\" stroke-width=\"2\" marker-end=\"url(#to-store)\"/>\n",
+            Arrow::StoreFar => {
+                " stroke=\"#00695c\" stroke-width=\"1.3\" marker-end=\"url(#to-store)\"/>\n"
+            }
+            Arrow::Message => {
+                " stroke=\"#8e24aa\" stroke-width=\"2\" marker-end=\"url(#to-message)\"/>\n"
+            }
+            Arrow::MessageFar => {
+                " stroke=\"#8e24aa\" stroke-width=\"1.3\" marker-end=\"url(#to-message)\"/>\n"
+            }
+        }
+    }
+}
+
 /// Adds an arrow, with a white rim.
-pub(crate) fn add_arrow(out: &mut String, way: &Way) -> Result<(), AllocError> {
-    add_way(out, way, " stroke=\"#ffffff\" stroke-width=\"5\"/>\n")?;
-    add_way(
-        out,
-        way,
-        " stroke=\"#00695c\" stroke-width=\"2\" marker-end=\"url(#head)\"/>\n",
-    )
+pub(crate) fn add_arrow(out: &mut String, arrow: Arrow, way: &Way) -> Result<(), AllocError> {
+    add_way(out, way, arrow.rim())?;
+    add_way(out, way, arrow.stroke())
 }
 
 fn add_way(out: &mut String, way: &Way, stroke: &str) -> Result<(), AllocError> {
@@ -182,110 +228,4 @@ pub(crate) fn add_quarter(
             Text("/>\n"),
         ],
     )
-}
-
-/// Adds a text.
-pub(crate) fn add_text(
-    out: &mut String,
-    at: Position,
-    style: &str,
-    text: &[Part],
-) -> Result<(), AllocError> {
-    add_parts(
-        out,
-        &[
-            Text("<text x=\""),
-            Decimal(at.x),
-            Text("\" y=\""),
-            Decimal(at.y),
-            Text("\" "),
-            Text(style),
-            Text(">"),
-        ],
-    )?;
-    add_escaped(out, text)?;
-    out.push_str("</text>\n")
-}
-
-/// Adds a text that rises to the right from a place.
-pub(crate) fn add_rising(
-    out: &mut String,
-    at: Position,
-    style: &str,
-    text: &[Part],
-) -> Result<(), AllocError> {
-    let (x, y) = (Decimal(at.x), Decimal(at.y));
-    add_parts(
-        out,
-        &[
-            Text("<text x=\""),
-            x,
-            Text("\" y=\""),
-            y,
-            Text("\" transform=\"rotate(-52 "),
-            x,
-            Text(" "),
-            y,
-            Text(")\" "),
-            Text(style),
-            Text(">"),
-        ],
-    )?;
-    add_escaped(out, text)?;
-    out.push_str("</text>\n")
-}
-
-// Adds a text of any characters.
-fn add_escaped(out: &mut String, text: &[Part]) -> Result<(), AllocError> {
-    for part in text {
-        match part {
-            Text(words) => add_escaped_words(out, words)?,
-            number => add_parts(out, &[*number])?,
-        }
-    }
-    Ok(())
-}
-
-// Adds words, with the characters that have a meaning in SVG spelled by their names.
-fn add_escaped_words(out: &mut String, words: &str) -> Result<(), AllocError> {
-    for c in words.chars() {
-        match c {
-            '<' => out.push_str("&lt;")?,
-            '>' => out.push_str("&gt;")?,
-            '&' => out.push_str("&amp;")?,
-            other => out.push(other)?,
-        }
-    }
-    Ok(())
-}
-
-/// The colour of a ring: the inner ones are darker.
-pub(crate) fn ring_colour(ring: u8) -> &'static str {
-    match ring {
-        0 => "fill=\"#08306b\"",
-        1 => "fill=\"#08519c\"",
-        2 => "fill=\"#2171b5\"",
-        3 => "fill=\"#4292c6\"",
-        4 => "fill=\"#9ecae1\"",
-        5 => "fill=\"#c6dbef\"",
-        6 => "fill=\"#deebf7\"",
-        _ => "fill=\"#f2f7fc\" stroke=\"#c6dbef\"",
-    }
-}
-
-/// The colour of what is written on a ring's colour.
-pub(crate) fn ink_on(ring: u8) -> &'static str {
-    match ring {
-        0..=3 => "fill=\"#ffffff\"",
-        _ => "fill=\"#08306b\"",
-    }
-}
-
-/// The colour of what is written of something that was denied, refused or lost, where it was.
-pub(crate) fn ink_of(bad: bool) -> &'static str {
-    if bad {
-        "fill=\"#b71c1c\""
-    } else {
-        "fill=\"#000000\""
-    }
 }

@@ -78,6 +78,12 @@ sent_piece a b c before sofar buffer piece added kept first is send =
 pub drop_next : {X : Type 0} (i : ℕ) (xs : List X) (x : X) → i < length xs → x ≡ get_or xs i x → drop i xs ≡ x ∷ drop (i + 1) xs
 drop_next i xs x h e = rw (add-one i, drop-cons xs i x, ← e) refl
 
+-- What stood in the buffer was sent, and then lines were added.
+pub sent_first : (first : ℕ) (lines : List (ℕ × Line)) (steps : List Step) (a b c : Option (List ℕ)) (before buffer rest : List ℕ)
+    → IsSent a b buffer before → PrintsLines first lines steps b c buffer rest → PrintsLines first lines steps a c before rest
+sent_first first lines steps a b c before buffer rest sent prints =
+    record { text = prints.text; shown = prints.shown; is_sent = sent_then a b c before buffer rest prints.text sent prints.is_sent }
+
 -- Lines, one after another.
 pub begun : (first : ℕ) (all : List (ℕ × Line)) (steps : List Step) (a : Option (List ℕ)) (before : List ℕ)
     → IsUpTo first all steps first all steps a a before before

@@ -3,6 +3,9 @@ use Rattle.std.specs.Prelude.{◌≡◌, ℕ, ◌≤◌, ◌<◌, min, true, fal
 use Rattle.mx_sdw.specs.Descriptors.{Descriptor, is_unknown, is_gone, is_equal, is_neither}
 use Rattle.mx_sdw.specs.declared.denials.Denial.{Denial}
 use Rattle.mx_sdw.specs.declared.denials.Denial.TheVariants as denial
+use Rattle.mx_sdw.specs.Judging.{applies}
+use Rattle.mx_sdw.specs.declared.operations.Op.{Op}
+use Rattle.mx_sdw.specs.declared.operations.Op.TheVariants as operation
 use Rattle.mx_show.specs.declared.reasons.Bracket.{Bracket}
 use Rattle.mx_show.specs.declared.reasons.Bracket.TheVariants as bracket
 use Rattle.mx_show.specs.declared.reasons.Reason.{Reason}
@@ -61,3 +64,14 @@ IsRuleOf _ _ = ⊥
 pub record Explains (d : Descriptor) (why : Denial) (ring word current : ℕ) (told : Reason) : Type 0 where
   pub rule : IsRuleOf why told
   pub so : IsSo d ring word current told
+
+-- the ring from which a call is made, which it says itself
+abbrev pub IsFrom : ℕ → Op → Type 0
+IsFrom current (operation.Call from same upward) = from ≡ current
+IsFrom current _ = Unit {0}
+
+-- the denial applies to this access, for an operation from such a ring
+pub record IsDue (d : Descriptor) (why : Denial) (ring word current : ℕ) : Type 0 where
+  pub op : Op
+  pub from : IsFrom current op
+  pub applies : applies why d op ring word ≡ true

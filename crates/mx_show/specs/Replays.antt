@@ -33,6 +33,14 @@ pub record IsSameJournal (old new : Replayed) : Type 0 where
   pub session : new.session ≡ old.session
   pub journal : new.journal ≡ old.journal
 
+-- what a process has under a segment number behind so many entries: the descriptor, and the entry of an access list that gave
+-- it its modes, none where there is none
+abbrev pub descriptor_after : Outline → List journaled.Entry → ℕ → ℕ → ℕ → Descriptor
+descriptor_after x journal at p segno = descriptor (replay (opening_of x) (take at journal)) p segno
+
+abbrev pub entry_after : Outline → List journaled.Entry → ℕ → ℕ → ℕ → Option (PlainAclId × Modes)
+entry_after x journal at p segno = entry_behind (replay (opening_of x) (take at journal)) p segno
+
 -- the descriptor of an element, at its point
 abbrev pub access_of : Outline → List journaled.Entry → ℕ → Element → Descriptor
 access_of x journal p e = descriptor (replay (opening_of x) (take e.point journal)) p e.segno

@@ -158,16 +158,16 @@ impl Own {
 
 /// The hierarchy, the processes from the initializer on, and how many pages are left.
 #[derive(Drop)]
-pub(crate) struct Ledger {
-    pub tree: Tree,
-    pub owns: Vec<Own>,
-    pub version: u8,
-    pub pages: u32,
+pub struct Ledger {
+    pub(crate) tree: Tree,
+    pub(crate) owns: Vec<Own>,
+    pub(crate) version: u8,
+    pub(crate) pages: u32,
 }
 
 impl Ledger {
     /// What stands before the first entry.
-    pub(crate) fn new(alloc: Global, session: &Session) -> Result<Ledger, AllocError> {
+    pub fn new(alloc: Global, session: &Session) -> Result<Ledger, AllocError> {
         let entrants = session.principals().items();
         let mut owns = Vec::new(alloc);
         if let Ok(initializer) = Principal::read(b"Initializer.SysDaemon.z") {
@@ -212,7 +212,7 @@ impl Ledger {
     }
 
     /// What the entry at this place of the journal leaves.
-    pub(crate) fn apply(
+    pub fn apply(
         &mut self,
         alloc: Global,
         journal: &[Entry],

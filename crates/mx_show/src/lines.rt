@@ -1,6 +1,6 @@
 //! A run, line by line in words.
 
-ghost use Rattle.std.specs.Prelude.{◌≡◌, ◌≤◌, ◌<◌, ◌+◌, ◌-◌, ℕ, length, drop, Some, slice_get, OnOk, OnErr, IsErrOf};
+ghost use Rattle.std.specs.Prelude.{◌≡◌, ◌≤◌, ◌<◌, ◌+◌, ◌-◌, ℕ, length, drop, Some, slice_get, vec_len, OnOk, OnErr, IsErrOf};
 ghost use Rattle.mx_io.specs.Faults.{Rose};
 ghost use Rattle.mx_transcript.specs.Legal.{IsLegal};
 ghost use Rattle.mx_transcript.specs.Scripts.{first_line, lines_of};
@@ -15,7 +15,9 @@ use crate::errors::ShowError;
 use crate::judging::{Accesses, judge_all};
 use crate::notes::Notes;
 use crate::telling::Teller;
-use adding::{add_heading, add_left_out, add_opening, add_request_line, add_script_line};
+pub use adding::{
+    add_heading, add_left_out, add_opening, add_request_line, add_script_line, word_set,
+};
 use mx_io::{Sink, WriteFault, write_all};
 use mx_script::{Line, Session};
 use mx_state::Journal;
@@ -28,7 +30,7 @@ const PIECE: usize = 32_768;
 /// Shows a legal run of a session: the setup and each process, line by line in words, with each reference and the access that it
 /// was judged on. Each line stands under its number, as the session spells it, and what is told of it behind it (`Lines`). Of a
 /// process that was logged out the lines up to a denied one are shown and then its last, the `logout`; in place of those between
-/// stands which they are. On an error a part was sent: `Fault` where the sink failed, `Memory` where memory was wanting. About
+/// stands which they are. On an error a part was sent: `Fault` where the sink failed, `Memory` where memory was wanting. At most
 /// 32 KiB are held between two lines, for each reference its access, and for each refusal what stands behind it.
 pub fn show_lines<K: Sink>(
     alloc: Global,
@@ -49,6 +51,7 @@ pub fn show_lines<K: Sink>(
     let parts = transcripts.items();
     let mut out = Vec::new(alloc);
     add_opening(&mut out, entrants.len(), journal.items().len())?;
+    send_when_long(&mut out, sink)?;
     let mut teller = Teller::new(alloc, journal, &accesses, &notes, 0);
     print_setup(alloc, session, &parts[0], &mut teller, &mut out, sink)?;
     let told = Told {
@@ -78,7 +81,9 @@ fn print_setup<K: Sink>(
     out: &mut Vec<u8>,
     sink: &mut K,
 ) -> Result<(), ShowError>
-    requires { HaveNumbers (lines_of session.now 0) transcript.now }
+    requires numbers { HaveNumbers (lines_of session.now 0) transcript.now }
+    requires room { vec_len out.old ≤ 32768 }
+    ensures held { OnOk result (vec_len out.new ≤ 32768) }
     ensures printed { OnOk result (PrintsLines (first_line session.now 0) (lines_of session.now 0) transcript.now
         (K.out sink.old) (K.out sink.new) out.old.items out.new.items) }
     ensures cause { IsErrOf result ShowError.Fault → Rose (K.faults sink.old) (K.faults sink.new) }
@@ -108,6 +113,8 @@ fn print_processes<K: Sink>(
 ) -> Result<(), ShowError>
     requires transcripts { length transcripts.now ≡ 1 + length session.now.principals }
     requires parts { (p : ℕ) → p < length transcripts.now → IsPartOf session.now p (part transcripts.now p) }
+    requires room { vec_len out.old ≤ 32768 }
+    ensures held { OnOk result (vec_len out.new ≤ 32768) }
     ensures printed { OnOk result (PrintsProcesses session.now 0 session.now.principals (drop 1 transcripts.now)
         (K.out sink.old) (K.out sink.new) out.old.items out.new.items) }
     ensures cause { IsErrOf result ShowError.Fault → Rose (K.faults sink.old) (K.faults sink.new) }
@@ -118,6 +125,7 @@ fn print_processes<K: Sink>(
     for (i, entrant) in entrants.iter().enumerate() {
         let process = i as u8 + 1;
         add_heading(out, process, entrant)?;
+        send_when_long(out, sink)?;
         let mut teller = Teller::new(alloc, told.journal, told.accesses, told.notes, process);
         let (first, script) = (first_line(session, process), scripts[i].items());
         let transcript = &transcripts[i + 1];
@@ -137,7 +145,9 @@ fn print_script<K: Sink>(
     out: &mut Vec<u8>,
     sink: &mut K,
 ) -> Result<(), ShowError>
-    requires { HaveLines first script.now transcript.now }
+    requires lines { HaveLines first script.now transcript.now }
+    requires room { vec_len out.old ≤ 32768 }
+    ensures held { OnOk result (vec_len out.new ≤ 32768) }
     ensures printed { OnOk result (PrintsLines first (lines_by first script.now transcript.now) transcript.now
         (K.out sink.old) (K.out sink.new) out.old.items out.new.items) }
     ensures cause { IsErrOf result ShowError.Fault → Rose (K.faults sink.old) (K.faults sink.new) }
@@ -164,9 +174,10 @@ fn line_of(script: &[Line], first: u32, number: u32) -> &Line
     &script[(number - first) as usize]
 }
 
-// Sends what is written where it is long.
-fn send_when_long<K: Sink>(out: &mut Vec<u8>, sink: &mut K) -> Result<(), WriteFault>
+/// Sends what is written where it is long.
+pub fn send_when_long<K: Sink>(out: &mut Vec<u8>, sink: &mut K) -> Result<(), WriteFault>
     ensures sent { OnOk result (IsSent (K.out sink.old) (K.out sink.new) out.new.items out.old.items) }
+    ensures short { OnOk result (vec_len out.new ≤ 32768) }
     ensures cause { OnErr result (Rose (K.faults sink.old) (K.faults sink.new)) }
     ensures only { OnOk result (K.faults sink.new ≡ K.faults sink.old) }
     ensures later { K.faults sink.old ≤ K.faults sink.new }

@@ -10,7 +10,7 @@ use std::alloc::{AllocError, Global};
 
 /// Sentences, each on a line, and where those of each refused entry end, in the order of the entries.
 #[derive(Drop)]
-pub(crate) struct Notes {
+pub struct Notes {
     text: Vec<u8>,
     entries: Vec<u32>,
     ends: Vec<usize>,
@@ -18,11 +18,7 @@ pub(crate) struct Notes {
 
 impl Notes {
     /// Those of all refusals.
-    pub(crate) fn new(
-        alloc: Global,
-        session: &Session,
-        journal: &Journal,
-    ) -> Result<Notes, AllocError> {
+    pub fn new(alloc: Global, session: &Session, journal: &Journal) -> Result<Notes, AllocError> {
         let mut notes = Notes {
             text: Vec::new(alloc),
             entries: Vec::new(alloc),
@@ -59,7 +55,7 @@ impl Notes {
     }
 
     /// The sentences of the entry of this number.
-    pub(crate) fn of(&self, entry: u32) -> &[u8] {
+    pub fn of(&self, entry: u32) -> &[u8] {
         match self.entries.binary_search(&entry) {
             Ok(place) => self.at(place),
             Err(_) => &[],

@@ -47,7 +47,7 @@ pub fn add_parts(out: &mut String, parts: &[Part]) -> Result<(), AllocError> {
 }
 
 /// Adds sentences one behind another.
-pub(crate) fn add_sentences(out: &mut String, sentences: &[&[Part]]) -> Result<(), AllocError> {
+pub fn add_sentences(out: &mut String, sentences: &[&[Part]]) -> Result<(), AllocError> {
     for parts in sentences {
         add_parts(out, parts)?;
     }

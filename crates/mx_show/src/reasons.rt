@@ -1,7 +1,7 @@
 //! Why a reference was denied: the rule, and the numbers that it compares.
 
-ghost use Rattle.std.specs.Prelude.{IfSome};
-ghost use Rattle.mx_show.specs.Reasons.{Explains};
+ghost use Rattle.std.specs.Prelude.{IfSome, IsSome};
+ghost use Rattle.mx_show.specs.Reasons.{Explains, IsDue};
 
 use crate::parts::NOTHING;
 use crate::parts::Part::{self, Decimal, Octal, Text};
@@ -135,9 +135,11 @@ fn against(ring: u8, how: &'static str, bracket: Bracket) -> [Part<'static>; 5] 
 }
 
 /// Why an access denies a reference with this denial, in an effective ring, from a current ring: what the rule of the denial
-/// compares, where that holds. None where the denial comes of no comparison with this access, as `not_pointer`.
+/// compares, where that holds. Each denial that applies to the access has such a reason; none has one that comes of no comparison with
+/// it, as `not_pointer`.
 pub fn explain(desc: &Desc, denial: Denial, ring: Ring, word: u16, current: u8) -> Option<Reason>
-    ensures { IfSome result (λ why. Explains desc.now denial ring word current why) }
+    ensures why { IfSome result (λ why. Explains desc.now denial ring word current why) }
+    ensures each { IsDue desc.now denial ring word current → IsSome result }
 {
     let brackets = desc.brackets();
     let (r1, r2) = (brackets.r1().number(), brackets.r2().number());

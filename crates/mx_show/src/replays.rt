@@ -15,7 +15,8 @@ use std::marker::Model;
 /// How many segment numbers a process has at most.
 const NUMBERS: usize = 256;
 
-/// A descriptor that an entry of the journal changed: whose, and what it was and is.
+/// A descriptor that an entry of the journal changed: whose, what it was and is, and the entry of the access list that decides
+/// its modes from then on: none of a stack, of a linkage section, and where no entry matches.
 #[derive(Clone, Copy)]
 pub struct Changed {
     pub entry: u32,
@@ -23,6 +24,7 @@ pub struct Changed {
     pub segno: u16,
     pub before: Desc,
     pub after: Desc,
+    pub by: Option<(AclId, Modes)>,
 }
 
 /// A reference of a process, with the descriptor that it was judged on: the one that the first `point` entries of the
@@ -35,6 +37,13 @@ pub struct Judged {
     pub desc: Desc,
     pub entry: Option<(AclId, Modes)>,
     pub since: u32,
+}
+
+/// What a segment number gives a process: the descriptor, and the entry of the access list that decided its modes.
+#[derive(Clone, Copy)]
+pub struct Access {
+    pub desc: Desc,
+    pub entry: Option<(AclId, Modes)>,
 }
 
 // A descriptor as it is now, and the entry that made it so.
@@ -67,13 +76,13 @@ impl<'a> Model for Replay<'a> {
 
 impl<'a> Replay<'a> {
     ghost use Rattle.mx_show.specs.Judging.{IsAccess};
-    ghost use Rattle.mx_show.specs.Replays.{Replayed, replayed, IsSameJournal};
+    ghost use Rattle.mx_show.specs.Replays.{Replayed, replayed, IsSameJournal, descriptor_after, entry_after};
     ghost use Rattle.std.specs.Prelude.{◌≡◌, ◌≤◌, ◌<◌, ◌+◌, length, min, IfOk, IsTrue, OnOk};
     ghost use Rattle.mx_transcript.specs.Opened.{opening_of};
     ghost use Rattle.mx_state.specs.History.{IsRight};
 
     /// Before the first entry of a right journal of the session.
-    pub(crate) fn new(
+    pub fn new(
         alloc: Global,
         session: &'a Session,
         journal: &'a [Entry],
@@ -99,8 +108,13 @@ impl<'a> Replay<'a> {
         self.changed
     }
 
+    /// What the entries so far changed, in their order.
+    pub fn changed(&self) -> &[Changed] {
+        &self.changed
+    }
+
     /// Whether there is a process of this number, from 1.
-    pub(crate) fn has_process(&self, process: u8) -> bool
+    pub fn has_process(&self, process: u8) -> bool
         ensures { IsTrue result → (1 ≤ process) × (process ≤ length self.now.session.principals) }
     {
         1 <= process && usize::from(process) <= self.session.principals().items().len()
@@ -130,6 +144,31 @@ impl<'a> Replay<'a> {
             entry,
             since: self.since(process, element.segno),
         })
+    }
+
+    /// What a segment number gives a process now.
+    pub fn access(&self, process: u8, segno: u16) -> Access
+        requires some { 1 ≤ process }
+        requires process { process ≤ length self.now.session.principals }
+        ensures desc { result.desc ≡ descriptor_after self.now.session self.now.journal self.now.at process segno }
+        ensures entry { result.entry ≡ entry_after self.now.session self.now.journal self.now.at process segno }
+    {
+        Access {
+            desc: self.state.descriptor(process, segno),
+            entry: copied(self.state.deciding_entry(process, segno)),
+        }
+    }
+
+    /// One entry more, or none where all were run.
+    pub fn next(&mut self, alloc: Global) -> Result<(), AllocError>
+        ensures same { OnOk result (IsSameJournal self.old self.new) }
+        ensures at { OnOk result (self.new.at ≡ min (self.old.at + 1) (length self.old.journal)) }
+    {
+        if self.at < self.journal.len() {
+            self.step(alloc)
+        } else {
+            Ok(())
+        }
     }
 
     /// Goes to the end of the journal.
@@ -165,7 +204,8 @@ impl<'a> Replay<'a> {
             .apply(alloc, entry.process, entry.ring, &entry.request)?;
         self.at += 1;
         let number = u32::try_from(self.at).unwrap_or(u32::MAX);
-        note(&mut self.held, &mut self.changed, number, &applied.changes)
+        let (held, changed) = (&mut self.held, &mut self.changed);
+        note(held, changed, number, &applied.changes, &self.state)
     }
 
     // The entry that made the descriptor what it is.
@@ -210,12 +250,13 @@ fn held_at_first(alloc: Global, state: &State, count: u8) -> Result<Vec<Held>, A
     Ok(held)
 }
 
-// Notes what an entry changed.
+// Notes what an entry changed, which left this state.
 fn note(
     held: &mut Vec<Held>,
     changed: &mut Vec<Changed>,
     entry: u32,
     changes: &Changes,
+    state: &State,
 ) -> Result<(), AllocError> {
     for change in changes.items() {
         let place = place_of(change.process, change.segno);
@@ -226,6 +267,7 @@ fn note(
                 segno: change.segno,
                 before: now.desc,
                 after: change.desc,
+                by: copied(state.deciding_entry(change.process, change.segno)),
             })?;
             *now = Held {
                 desc: change.desc,

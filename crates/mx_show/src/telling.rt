@@ -22,9 +22,9 @@ use std::alloc::{AllocError, Global};
 /// How long a line becomes by what stands behind a refusal, beside the four spaces before it.
 const WIDTH: usize = 124;
 
-/// Tells of one process after another, what each of its lines came to.
+/// Tells what the lines of one process came to, one after another.
 #[derive(Drop)]
-pub(crate) struct Teller<'a> {
+pub struct Teller<'a> {
     journal: &'a Journal,
     accesses: &'a Accesses,
     notes: &'a Notes,
@@ -38,7 +38,7 @@ pub(crate) struct Teller<'a> {
 
 impl<'a> Teller<'a> {
     /// Before the first line of a process.
-    pub(crate) fn new(
+    pub fn new(
         alloc: Global,
         journal: &'a Journal,
         accesses: &'a Accesses,
@@ -58,6 +58,11 @@ impl<'a> Teller<'a> {
         }
     }
 
+    /// The ring in which the process is.
+    pub fn ring(&self) -> u8 {
+        self.ring
+    }
+
     /// Adds the events of a line and how it ended, each on a line of its own. A line that sets A has its word.
     pub(crate) fn add_step(
         &mut self,
@@ -72,8 +77,20 @@ impl<'a> Teller<'a> {
             self.add_event(alloc, out, event)?;
             last = element_of(event);
         }
-        self.add_result(out, set, &ends, last)?;
-        self.add_gates(out, &ends, last)
+        self.add_end(out, set, &ends, last)
+    }
+
+    /// Adds how a line ended whose last event was this reference, or none, where its events have not said it. A line that sets A has
+    /// its word.
+    pub fn add_end(
+        &mut self,
+        out: &mut String,
+        set: Option<Word>,
+        ends: &Result2,
+        last: Option<&Element>,
+    ) -> Result<(), AllocError> {
+        self.add_result(out, set, ends, last)?;
+        self.add_gates(out, ends, last)
     }
 
     // Adds an event.
@@ -93,8 +110,8 @@ impl<'a> Teller<'a> {
         }
     }
 
-    // The next reference of this process.
-    fn next_judged(&mut self) -> Option<Judged> {
+    /// The next reference of this process.
+    pub fn next_judged(&mut self) -> Option<Judged> {
         let rest = self.accesses.judged.get(self.judged..)?;
         for judged in rest {
             self.judged = self.judged.saturating_add(1);
@@ -195,8 +212,8 @@ impl<'a> Teller<'a> {
     }
 }
 
-// Adds sentences to the line that begins at this place, or, where it would be too long, each to a further line.
-fn add_notes(out: &mut String, start: usize, notes: &[u8]) -> Result<(), AllocError> {
+/// Adds sentences to the line that begins at this place, or, where it would be too long, each to a further line.
+pub fn add_notes(out: &mut String, start: usize, notes: &[u8]) -> Result<(), AllocError> {
     let mut line = start;
     let mut rest = notes;
     while let Some((sentence, after)) = cut(b'\n', rest) {
@@ -218,8 +235,8 @@ fn add_notes(out: &mut String, start: usize, notes: &[u8]) -> Result<(), AllocEr
     Ok(())
 }
 
-// The reference that an event is, if it is one.
-fn element_of(event: &Event2) -> Option<&Element> {
+/// The reference that an event is, if it is one.
+pub fn element_of(event: &Event2) -> Option<&Element> {
     match event {
         Event2::Core(Event::Seen(element)) => Some(element),
         Event2::Core(Event::Missing { .. }) | Event2::Entry(_) => None,
@@ -234,8 +251,8 @@ fn was_denied(last: Option<&Element>) -> bool {
     }
 }
 
-// Adds that a segment number was missing.
-fn add_missing(out: &mut String, segno: u16, by: u32) -> Result<(), AllocError> {
+/// Adds that a segment number was missing.
+pub fn add_missing(out: &mut String, segno: u16, by: u32) -> Result<(), AllocError> {
     let number = Octal(u64::from(segno));
     let (missing, anew) = (
         Text(" is missing: entry "),
@@ -341,8 +358,8 @@ fn since_words(entry: u32) -> [Part<'static>; 3] {
     }
 }
 
-// Adds what came of a reference.
-fn add_outcome(
+/// Adds what came of a reference of a process that is in this ring.
+pub fn add_outcome(
     alloc: Global,
     out: &mut String,
     judged: &Judged,

@@ -1,8 +1,8 @@
 //! The hierarchy as the entries of a journal leave it: what stands where, with whose access lists.
 //!
 //! The plain supervisor has all this and hands none of it out, so it is had once more here, from the requests that were done.
-//! It is used for the words of refusals alone: what is said of who may do what is told only where it comes to the refusal in
-//! the journal.
+//! It is used for words alone: of refusals, where what is said of who may do what is told only where it comes to the refusal in
+//! the journal, and of what a segment number stands for.
 
 use indexmap::IndexMap;
 use mx_acl::{Acl, AclError, AclKind, InitialAcl, Modes};

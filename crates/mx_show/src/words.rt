@@ -4,6 +4,7 @@ use crate::parts::Part::{self, Decimal, Octal, Place, Text};
 use crate::parts::{NOTHING, add_parts, add_printable, add_sentences, ring};
 use crate::refusals::refusal_words;
 use crate::replays::Judged;
+use mx_acl::Modes;
 use mx_name::AclId;
 use mx_request::{Known, Reply};
 use mx_sdw::{Aim, Denial, Desc, DescKind};
@@ -82,7 +83,7 @@ pub fn extent(desc: &Desc) -> [Part<'static>; 12] {
 }
 
 /// How the authorization stands to the class; nothing where it stands so to it already.
-pub(crate) fn standing(aim: Aim, already: Aim) -> &'static str {
+pub fn standing(aim: Aim, already: Aim) -> &'static str {
     if aim == already {
         return "";
     }
@@ -120,7 +121,7 @@ fn add_decided(alloc: Global, out: &mut String, judged: &Judged) -> Result<(), A
             let id = id_text(alloc, id)?;
             add_parts(out, &[Text(word), Text(" by "), Text(&id)])
         }
-        None if is_unmatched(judged) => out.push_str("null: no entry matches"),
+        None if is_unmatched(&judged.desc, &judged.entry) => out.push_str("null: no entry matches"),
         None => out.push_str(word),
     }
 }
@@ -139,7 +140,7 @@ pub(crate) fn add_lack(alloc: Global, out: &mut String, judged: &Judged) -> Resu
 
 // Why a flag is off that no entry of an access list lacks.
 fn lack_words(judged: &Judged) -> &'static str {
-    if is_unmatched(judged) {
+    if is_unmatched(&judged.desc, &judged.entry) {
         ", as no entry matches"
     } else if judged.element.segno < STACKS {
         ", as this is a stack"
@@ -148,14 +149,13 @@ fn lack_words(judged: &Judged) -> &'static str {
     }
 }
 
-// Whether it is a segment of which no entry of the access list matches: a stack and a linkage section have r and w.
-fn is_unmatched(judged: &Judged) -> bool {
-    let desc = &judged.desc;
-    judged.entry.is_none() && desc.kind() == DescKind::Segment && !desc.r() && !desc.w()
+/// Whether it is a segment of which no entry of the access list matches: a stack and a linkage section have r and w.
+pub fn is_unmatched(desc: &Desc, entry: &Option<(AclId, Modes)>) -> bool {
+    entry.is_none() && desc.kind() == DescKind::Segment && !desc.r() && !desc.w()
 }
 
 /// The identifier of an entry, as it is written.
-pub(crate) fn id_text(alloc: Global, id: &AclId) -> Result<String, AllocError> {
+pub fn id_text(alloc: Global, id: &AclId) -> Result<String, AllocError> {
     let mut bytes = Vec::new(alloc);
     id.append_to(&mut bytes)?;
     let mut text = String::new(alloc);
@@ -164,7 +164,7 @@ pub(crate) fn id_text(alloc: Global, id: &AclId) -> Result<String, AllocError> {
 }
 
 /// Adds what an entry was answered.
-pub(crate) fn add_reply(alloc: Global, out: &mut String, entry: &Entry) -> Result<(), AllocError> {
+pub fn add_reply(alloc: Global, out: &mut String, entry: &Entry) -> Result<(), AllocError> {
     match &entry.reply {
         Reply::Done => out.push_str("done"),
         Reply::Refused(refusal) => {

@@ -17,11 +17,7 @@ use mx_transcript::{Event2, Result2};
 use std::alloc::{AllocError, Global};
 
 /// Adds how many processes and journal entries there are, and whose lines come first.
-pub(super) fn add_opening(
-    out: &mut Vec<u8>,
-    processes: usize,
-    entries: usize,
-) -> Result<(), AllocError>
+pub fn add_opening(out: &mut Vec<u8>, processes: usize, entries: usize) -> Result<(), AllocError>
     ensures { OnOk result (out.new.items ≡ out.old.items ++ counts_text processes entries) }
 {
     add_labelled(out, b"processes: ", processes as u64)?;
@@ -30,11 +26,7 @@ pub(super) fn add_opening(
 }
 
 /// Adds whose lines come.
-pub(super) fn add_heading(
-    out: &mut Vec<u8>,
-    process: u8,
-    entrant: &Entrant,
-) -> Result<(), AllocError>
+pub fn add_heading(out: &mut Vec<u8>, process: u8, entrant: &Entrant) -> Result<(), AllocError>
     ensures { OnOk result (out.new.items ≡ out.old.items ++ heading_text process entrant.now) }
 {
     add_labelled(out, b"\nprocess ", u64::from(process))?;
@@ -58,7 +50,7 @@ fn add_authorization(out: &mut Vec<u8>, class: Class) -> Result<(), AllocError>
 }
 
 /// Adds a line of the setup, and what is told of it.
-pub(super) fn add_request_line(
+pub fn add_request_line(
     alloc: Global,
     out: &mut Vec<u8>,
     number: u32,
@@ -76,7 +68,7 @@ pub(super) fn add_request_line(
 }
 
 /// Adds a line of a script, and what is told of it; of a logout also which segment numbers the process was given.
-pub(super) fn add_script_line(
+pub fn add_script_line(
     alloc: Global,
     out: &mut Vec<u8>,
     number: u32,
@@ -97,7 +89,7 @@ pub(super) fn add_script_line(
 }
 
 /// Adds which lines were left out, from this number up to that one, which is not among them; nothing where none were.
-pub(super) fn add_left_out(out: &mut Vec<u8>, from: u64, to: u64) -> Result<(), AllocError>
+pub fn add_left_out(out: &mut Vec<u8>, from: u64, to: u64) -> Result<(), AllocError>
     ensures { OnOk result (out.new.items ≡ out.old.items ++ left_text from (to - from)) }
 {
     match to.saturating_sub(from) {
@@ -141,8 +133,8 @@ fn add_line_head(out: &mut Vec<u8>, number: u32, line: &Line) -> Result<(), Allo
     out.extend_from_slice(b"\n")
 }
 
-// The word of a line that sets A.
-fn word_set(line: &Line) -> Option<Word> {
+/// The word of a line that sets A.
+pub fn word_set(line: &Line) -> Option<Word> {
     match line {
         Line::Set { word } => Some(*word),
         _ => None,

@@ -1,6 +1,6 @@
 use Rattle.std.proofs.Common.{rules, ◌≡◌, ◌<◌, ◌≤◌, ◌+◌, ℕ, length, arith, ◌∙◌}
 use Rattle.std.proofs.lemmas.List.{drop_all}
-use Rattle.mx_show.proofs.LinesLaws.{processes_begun, process_next, processes_done, drop_next}
+use Rattle.mx_show.proofs.LinesLaws.{processes_begun, process_next, sent_first, processes_done, drop_next}
 use Rattle.mx_show.proofs.PartLaws.{own_lines, own_part, own_script}
 use Rattle.mx_show.proofs.lines.print_processes.Goals as goal
 
@@ -14,10 +14,11 @@ pub loop-i-init : goal.loop-i-init
 loop-i-init g c = record {
   through = rw (c.items-entrants.ensures, c.principals.ensures.value) (processes_begun _ _ _ _ _);
   same = search rules;
+  held = search rules;
 }
 
-pub print_script-requires : goal.print_script-requires
-print_script-requires g c =
+pub print_script-requires-clause-lines : goal.print_script-requires-clause-lines
+print_script-requires-clause-lines g c =
     let below : c.loop-i.i < length c.args.session.now.principals
     = rw (← c.principals.ensures.value, ← c.items-entrants.ensures) c.loop-i-test.true in
     let own = own_part c.args.session.now _ _ c.index-transcripts-i.result c.requires.parts
@@ -38,8 +39,10 @@ loop-i-preserved g c =
       through = process_next _ _ _ _ _ _ _ _ _ _ _ _ _ _ _ _ _ _ c.loop-i.invariant.through
           (drop_next _ _ _ c.loop-i-test.true c.index-entrants-i.is) (drop_next _ _ _ part c.index-transcripts-i.is)
           c.in_ok-add_heading.ensures own script
-          (rw (c.first_line-first.ensures, c.items-script.ensures) at c.in_ok-print_script.ensures.printed);
+          (sent_first _ _ _ _ _ _ _ _ _ c.in_ok-send_when_long.ensures.sent
+          (rw (c.first_line-first.ensures, c.items-script.ensures) at c.in_ok-print_script.ensures.printed));
       same = search rules;
+      held = search rules;
     }
 
 pub returns-clause-printed : goal.returns-clause-printed

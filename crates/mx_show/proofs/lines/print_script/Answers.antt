@@ -6,8 +6,9 @@ pub loop-number-init : goal.loop-number-init
 loop-number-init g c = record {
   up = rw (c.from-next.ensures, c.into_iter-number-iterator.ensures.into_iter_gives, c.steps-number-items.ensures)
       (begun _ _ _ _ _);
-  lines = rw (c.into_iter-number-iterator.ensures.into_iter_gives, c.steps-number-items.ensures) c.requires;
+  lines = rw (c.into_iter-number-iterator.ensures.into_iter_gives, c.steps-number-items.ensures) c.requires.lines;
   same = search rules;
+  held = search rules;
 }
 
 pub loop-number-preserved : goal.loop-number-preserved
@@ -20,6 +21,7 @@ loop-number-preserved g c =
           c.in_ok-send_when_long.ensures.sent);
       lines = (script_here _ _ _ _ _ c.loop-number.invariant.lines step).2;
       same = search rules;
+      held = search rules;
     }
 
 pub returns-clause-printed : goal.returns-clause-printed

@@ -1,4 +1,4 @@
-use Rattle.std.proofs.Common.{◌≡◌}
+use Rattle.std.proofs.Common.{◌≤◌, vec_len, ◌≡◌}
 use Rattle.mx_show.specs.Printing.{HaveLines, IsUpTo, lines_by}
 use Rattle.mx_show.proofs.lines.print_script.Given as goal
 
@@ -10,4 +10,5 @@ invariant-loop-number g l = record {
       l.initial.out.items l.out.items;
   lines : HaveLines l.first l.script l.number-iterator;
   same : g.K.Sink.faults l.sink ≡ g.K.Sink.faults l.initial.sink;
+  held : vec_len l.out ≤ 32768;
 }

@@ -6,8 +6,9 @@ use Rattle.mx_show.proofs.lines.print_setup.Goals as goal
 pub loop-request-init : goal.loop-request-init
 loop-request-init g c = record {
   up = rw c.steps-steps.ensures (setup_begun c.args.session.now _ _ _ _ (c.items-setup.ensures ∙ c.setup.ensures));
-  numbers = rw c.steps-steps.ensures (setup_numbered c.args.session.now _ _ (c.items-setup.ensures ∙ c.setup.ensures) c.requires);
+  numbers = rw c.steps-steps.ensures (setup_numbered c.args.session.now _ _ (c.items-setup.ensures ∙ c.setup.ensures) c.requires.numbers);
   same = search rules;
+  held = search rules;
 }
 
 pub loop-request-preserved : goal.loop-request-preserved
@@ -19,6 +20,7 @@ loop-request-preserved g c =
           c.in_ok-add_request_line.ensures c.in_ok-send_when_long.ensures.sent;
       numbers = (setup_here _ _ _ _ _ _ _ _ c.loop-request.invariant.numbers request step).1;
       same = search rules;
+      held = search rules;
     }
 
 pub returns-clause-printed : goal.returns-clause-printed

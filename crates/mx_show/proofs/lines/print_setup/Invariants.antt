@@ -1,4 +1,4 @@
-use Rattle.std.proofs.Common.{◌≡◌, ◌+◌, drop, map}
+use Rattle.std.proofs.Common.{◌≤◌, vec_len, ◌≡◌, ◌+◌, drop, map}
 use Rattle.mx_script.specs.declared.lines.Line.TheVariants.{Ask}
 use Rattle.mx_transcript.specs.Scripts.{first_line, lines_of, numbered}
 use Rattle.mx_show.specs.Printing.{HaveNumbers, IsUpTo}
@@ -12,4 +12,5 @@ invariant-loop-request g l = record {
       (g.K.Sink.out l.initial.sink) (g.K.Sink.out l.sink) l.initial.out.items l.out.items;
   numbers : HaveNumbers (numbered (first_line l.session 0 + l.request-index) (map Ask (drop l.request-index l.setup))) l.steps;
   same : g.K.Sink.faults l.sink ≡ g.K.Sink.faults l.initial.sink;
+  held : vec_len l.out ≤ 32768;
 }

@@ -1,9 +1,9 @@
-use Rattle.mx_show.proofs.LinesLaws.{lines_gained}
+use Rattle.mx_show.proofs.LinesLaws.{lines_gained, sent_first}
 use Rattle.mx_show.proofs.PartLaws.{below_first, first_part, part_of, setup_steps}
 use Rattle.mx_show.proofs.lines.show_lines.Goals as goal
 
-pub print_setup-requires : goal.print_setup-requires
-print_setup-requires g c =
+pub print_setup-requires-clause-numbers : goal.print_setup-requires-clause-numbers
+print_setup-requires-clause-numbers g c =
     setup_steps c.args.session.now c.args.journal.now c.args.transcripts.now c.index-parts-0.result c.requires.legal
     (rw c.items-parts.ensures at c.index-parts-0.is)
 
@@ -18,6 +18,6 @@ returns-clause-shown g c =
     (rw (c.items-entrants.ensures, c.principals.ensures.value, c.items.ensures) at c.in_ok-add_opening.ensures)
     (first_part c.args.transcripts.now c.index-parts-0.result (below_first c.args.transcripts.now _ c.requires.legal.parts)
     (rw c.items-parts.ensures at c.index-parts-0.is))
-    c.in_ok-print_setup.ensures.printed
+    (sent_first _ _ _ _ _ _ _ _ _ c.in_ok-send_when_long.ensures.sent c.in_ok-print_setup.ensures.printed)
     (rw c.items-parts.ensures at c.in_ok-print_processes.ensures.printed)
     (rw c.deref.ensures.value at c.in_ok-write_all.ensures.all)

@@ -1,0 +1,4 @@
+pub mod Stories
+pub mod Ordering
+pub mod Cutting
+pub mod Printing
