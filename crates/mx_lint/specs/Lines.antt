@@ -1,5 +1,6 @@
 -- The lines of a text by their numbers, counted from 1.
-use Rattle.std.specs.Prelude.{ℕ, zero, suc, ◌-◌, List, [], Option, Some, None}
+use Rattle.std.specs.Prelude.{ℕ, zero, suc, ◌-◌, List, [], Option, Some, None, Bool}
+use Rattle.std.specs.Option.{is_none}
 use Rattle.mx_name.specs.Cuts.{cut_at}
 
 -- what follows the first newline; nothing where there is none
@@ -19,6 +20,10 @@ before_newline text (Some p) = p.0
 
 abbrev pub first_line : List ℕ → List ℕ
 first_line text = before_newline text (cut_at 10 text)
+
+-- whether no newline follows
+abbrev pub is_last : List ℕ → Bool
+is_last text = is_none (cut_at 10 text)
 
 -- the text of the line of this number
 abbrev pub line_of : ℕ → List ℕ → List ℕ

@@ -1,11 +1,21 @@
 //! What is wrong with a line, and how it is found.
 
+ghost use Rattle.std.specs.Prelude.{◌≡◌, ◌∷◌, ℕ, List, map, ◌||◌, ◌⊎◌, true, false, IfOk, IfSome, MatchOption};
+ghost use Rattle.std.specs.Option.{option_map};
+ghost use Rattle.mx_lint.specs.Faults.{HasFields, HasItems, IsFault, IsRight, IsSpace};
+ghost use Rattle.mx_lint.specs.Fields.{is_definition_text, is_object_link_text};
+ghost use Rattle.mx_lint.specs.Findings.{AreAllItems, HasRead, IsFaultBehind, IsFaultIn, IsFieldFault, IsItemFault, IsSeenToo};
+ghost use Rattle.mx_lint.specs.Forms.{fields_of, group_of, IsNoWord};
+ghost use Rattle.mx_lint.specs.Objects.{item_field, symbol_of};
+ghost use Rattle.mx_lint.specs.Orders.{has_class, is_out_of_place, is_too_new};
+ghost use Rattle.mx_lint.specs.Pieces.{first_piece, pieces_left, pieces_of};
+
 use crate::causes::{Cause, cause_of};
 use crate::fields::Field;
 use crate::forms::Form;
 use crate::orders::Order;
 use crate::places::Place;
-use crate::reading::{is_definition, is_object_link};
+use crate::reading::{after, is_definition, is_object_link};
 use crate::texts::Shown;
 use mx_aim::Class;
 use mx_name::cut;
@@ -63,7 +73,9 @@ pub(crate) fn fault_of<'a>(
     place: Place,
     line: &'a [u8],
     ends: bool,
-) -> Result<Fault<'a>, AllocError> {
+) -> Result<Fault<'a>, AllocError>
+    ensures { IfOk result (IsFault place version line.now ends) }
+{
     if ends && line.is_empty() && !matches!(place, Place::Ended) {
         return Ok(Fault::TextEnds(place));
     }
@@ -79,55 +91,109 @@ fn fault_in<'a>(
     version: u8,
     place: Place,
     line: &'a [u8],
-) -> Result<Option<Fault<'a>>, AllocError> {
+) -> Result<Option<Fault<'a>>, AllocError>
+    ensures { IfOk result (λ found. MatchOption found (IsRight place version line.now) (IsFaultIn place version line.now)) }
+{
     if let Some(fault) = layout_fault(place, line) {
         return Ok(Some(fault));
     }
-    let (word, fields) = match cut(b' ', line) {
-        Some((word, fields)) => (word, Some(fields)),
-        None => (line, None),
-    };
+    let (word, fields) = first_piece(line);
     let Some(form) = Form::read(word) else {
-        return Ok(Some(match place {
-            Place::Start => Fault::Order(Form::Header, Order::FirstIsHeader),
-            _ => Fault::UnknownWord(word),
-        }));
+        return Ok(Some(unknown_word(place, word)));
     };
-    match place.refuses(form) {
+    match order_fault(version, place, form, fields) {
         Some(order) => Ok(Some(Fault::Order(form, order))),
-        None => match version_fault(version, form, fields) {
-            Some(order) => Ok(Some(Fault::Order(form, order))),
-            None => field_fault(alloc, form, fields),
-        },
+        None => field_fault(alloc, form, fields),
+    }
+}
+
+// What is wrong with a line that begins with a word that no kind has.
+fn unknown_word<'a>(place: Place, word: &'a [u8]) -> Fault<'a>
+    requires { IsNoWord word.now }
+    ensures { (version : ℕ) (line : List ℕ) → word.now ≡ first_piece line → IsFaultIn place version line result }
+{
+    match place {
+        Place::Start => Fault::Order(Form::Header, Order::FirstIsHeader),
+        _ => Fault::UnknownWord(word),
+    }
+}
+
+// Why a line of this kind, with this behind its word, cannot stand here, if so.
+fn order_fault(version: u8, place: Place, form: Form, fields: Option<&[u8]>) -> Option<Order>
+    ensures { let is_wrong = λ (order : Order). is_out_of_place order place (group_of form)
+        || is_too_new order version form (pieces_left (option_map (λ rest. rest.now) fields.entry)) in
+        MatchOption result ((order : Order) → is_wrong order ≡ false) (λ order. is_wrong order ≡ true) }
+{
+    match place.refuses(form.group()) {
+        Some(order) => Some(order),
+        None => version_fault(version, form, fields),
     }
 }
 
 // Why a session of this version cannot have the line, if so.
-fn version_fault(version: u8, form: Form, fields: Option<&[u8]>) -> Option<Order> {
-    if version < form.since() {
-        return Some(match form.since() {
-            2 => Order::FromVersionTwo,
-            _ => Order::FromVersionThree,
-        });
+fn version_fault(version: u8, form: Form, fields: Option<&[u8]>) -> Option<Order>
+    ensures { let is_new = λ (order : Order). is_too_new order version form (pieces_left (option_map (λ rest. rest.now) fields.entry)) in
+        MatchOption result ((order : Order) → is_new order ≡ false) (λ order. is_new order ≡ true) }
+{
+    let since = form.since();
+    if since == 2 && version < 2 {
+        return Some(Order::FromVersionTwo);
     }
-    match (form, fields) {
-        (Form::Process, Some(fields)) if version == 1 && has_class(fields) => {
-            Some(Order::ClassInVersionOne)
-        }
-        _ => None,
+    if since == 3 && version < 3 {
+        return Some(Order::FromVersionThree);
     }
+    if version == 1 && form.group().is_process() && have_class(fields) {
+        return Some(Order::ClassInVersionOne);
+    }
+    None
 }
 
-// Whether a class stands behind the first of the fields.
-fn has_class(fields: &[u8]) -> bool {
-    match cut(b' ', fields) {
-        Some((_, class)) => Class::read(class).is_some(),
+// Whether a principal and a class stand there.
+fn have_class(fields: Option<&[u8]>) -> bool
+    ensures { result ≡ has_class (pieces_left (option_map (λ rest. rest.now) fields.entry)) }
+{
+    match fields {
+        Some(fields) => has_class(fields),
         None => false,
     }
 }
 
+// Whether a principal and a class stand there.
+fn has_class(fields: &[u8]) -> bool
+    ensures { result ≡ has_class (pieces_of fields.now) }
+{
+    let (_, rest) = first_piece(fields);
+    match rest {
+        Some(rest) => is_class_alone(rest),
+        None => false,
+    }
+}
+
+// Whether a class stands there, and no more.
+fn is_class_alone(text: &[u8]) -> bool
+    ensures { (principal : List ℕ) → result ≡ has_class (principal ∷ pieces_of text.now) }
+{
+    match first_piece(text) {
+        (class, None) => Class::read(class).is_some(),
+        (_, Some(_)) => false,
+    }
+}
+
+// What stands before the first space, and what behind it, if there is one.
+fn first_piece(text: &[u8]) -> (&[u8], Option<&[u8]>)
+    ensures first { result.0.now ≡ first_piece text.now }
+    ensures pieces { pieces_of text.now ≡ result.0.now ∷ pieces_left (option_map (λ rest. rest.now) result.1) }
+{
+    match cut(b' ', text) {
+        Some((piece, rest)) => (piece, Some(rest)),
+        None => (text, None),
+    }
+}
+
 // What is wrong with a line as a row of fields.
-fn layout_fault(place: Place, line: &[u8]) -> Option<Fault<'static>> {
+fn layout_fault(place: Place, line: &[u8]) -> Option<Fault<'static>>
+    ensures { (version : ℕ) → IfSome result (IsFaultIn place version line.now) }
+{
     if matches!(place, Place::Ended) {
         return Some(Fault::Order(Form::End, Order::AfterEnd));
     }
@@ -144,18 +210,19 @@ fn layout_fault(place: Place, line: &[u8]) -> Option<Fault<'static>> {
 }
 
 // The first space that cannot stand where it is, or tab.
-fn wide_space(line: &[u8]) -> Option<Space> {
+fn wide_space(line: &[u8]) -> Option<Space>
+    ensures { IfSome result (IsSpace line.now) }
+{
     if line.starts_with(b" ") {
         return Some(Space::First);
     }
     let mut last = 0;
     for (place, byte) in line.iter().enumerate() {
-        let column = place.saturating_add(1);
         if *byte == b'\t' {
-            return Some(Space::Tab(column));
+            return Some(Space::Tab(place + 1));
         }
         if *byte == b' ' && last == b' ' {
-            return Some(Space::Second(column));
+            return Some(Space::Second(place + 1));
         }
         last = *byte;
     }
@@ -171,42 +238,61 @@ fn field_fault<'a>(
     alloc: Global,
     form: Form,
     fields: Option<&'a [u8]>,
-) -> Result<Option<Fault<'a>>, AllocError> {
+) -> Result<Option<Fault<'a>>, AllocError>
+    ensures { let texts = pieces_left (option_map (λ rest. rest.now) fields.entry) in
+        IfOk result (λ found. MatchOption found (HasFields form texts ⊎ HasItems form texts) (IsFieldFault form texts)) }
+{
+    let row = form.fields();
+    let least = form.least();
     let mut rest = fields;
-    for (i, field) in form.fields().iter().enumerate() {
+    for (i, field) in row.iter().enumerate() {
         let Some(text) = rest else {
-            return Ok(if i < form.least() {
-                Some(Fault::Missing(form, *field))
-            } else {
-                None
-            });
+            if i < least {
+                return Ok(Some(Fault::Missing(form, *field)));
+            }
+            return Ok(None);
         };
-        let (text, after) = match cut(b' ', text) {
-            Some((text, after)) => (text, Some(after)),
-            None => (text, None),
-        };
+        let (text, after) = first_piece(text);
         if !field.reads(alloc, text)? {
             return Ok(Some(Fault::Wrong(form, *field, text)));
         }
         rest = after;
     }
     match rest {
-        Some(text) if matches!(form, Form::CreateObject) => object_fault(alloc, text),
-        Some(text) => Ok(Some(Fault::Extra(form, text))),
+        Some(text) => behind_fault(alloc, form, text),
         None => Ok(None),
     }
 }
 
+// What is wrong behind the fields of the row.
+fn behind_fault<'a>(
+    alloc: Global,
+    form: Form,
+    text: &'a [u8],
+) -> Result<Option<Fault<'a>>, AllocError>
+    ensures { (texts : List (List ℕ)) → HasRead (fields_of form) texts (pieces_of text.now)
+        → IfOk result (λ found. MatchOption found (HasFields form texts ⊎ HasItems form texts) (IsFieldFault form texts)) }
+{
+    match form {
+        Form::CreateObject => object_fault(alloc, text),
+        _ => Ok(Some(Fault::Extra(form, text))),
+    }
+}
 // The first field behind GATE that is wrong, or can not stand at its place.
-fn object_fault<'a>(alloc: Global, fields: &'a [u8]) -> Result<Option<Fault<'a>>, AllocError> {
+fn object_fault<'a>(alloc: Global, fields: &'a [u8]) -> Result<Option<Fault<'a>>, AllocError>
+    ensures { IfOk result (λ found. MatchOption found (AreAllItems (pieces_of fields.now)) (IsFaultBehind (pieces_of fields.now))) }
+{
     let mut seen = Seen {
         symbols: Vec::new(alloc),
         links: 0,
     };
-    for field in fields.split(|byte| *byte == b' ') {
+    let mut rest = Some(fields);
+    while let Some(text) = rest {
+        let (field, after) = first_piece(text);
         if let Some(fault) = seen.fault(field)? {
             return Ok(Some(fault));
         }
+        rest = after;
     }
     Ok(None)
 }
@@ -223,24 +309,26 @@ struct Seen<'a> {
 
 impl<'a> Seen<'a> {
     // What is wrong with the next field.
-    fn fault(&mut self, field: &'a [u8]) -> Result<Option<Fault<'a>>, AllocError> {
+    fn fault(&mut self, field: &'a [u8]) -> Result<Option<Fault<'a>>, AllocError>
+        ensures { IfOk result (λ found. MatchOption found
+            (IsSeenToo (map (λ s. s.now) self.old.symbols.items) (map (λ s. s.now) self.new.symbols.items) self.old.links self.new.links field.now)
+            (IsItemFault (map (λ s. s.now) self.old.symbols.items) self.old.links field.now)) }
+    {
         if is_definition(field) {
             self.definition_fault(field)
         } else if is_object_link(field) {
             Ok(self.link_fault(field))
         } else {
-            let wanted = if field.starts_with(b"d:") {
-                Field::Definition
-            } else if field.starts_with(b"l:") {
-                Field::ObjectLink
-            } else {
-                Field::DefinitionOrLink
-            };
-            Ok(Some(Fault::Wrong(Form::CreateObject, wanted, field)))
+            Ok(Some(Fault::Wrong(Form::CreateObject, item_field(field), field)))
         }
     }
 
-    fn definition_fault(&mut self, field: &'a [u8]) -> Result<Option<Fault<'a>>, AllocError> {
+    fn definition_fault(&mut self, field: &'a [u8]) -> Result<Option<Fault<'a>>, AllocError>
+        requires { is_definition_text field.now ≡ true }
+        ensures { IfOk result (λ found. MatchOption found
+            (IsSeenToo (map (λ s. s.now) self.old.symbols.items) (map (λ s. s.now) self.new.symbols.items) self.old.links self.new.links field.now)
+            (IsItemFault (map (λ s. s.now) self.old.symbols.items) self.old.links field.now)) }
+    {
         let symbol = symbol_of(field);
         if self.links > 0 {
             return Ok(Some(Fault::DefinitionBehindLink(field)));
@@ -255,7 +343,13 @@ impl<'a> Seen<'a> {
         Ok(None)
     }
 
-    fn link_fault(&mut self, field: &'a [u8]) -> Option<Fault<'a>> {
+    fn link_fault(&mut self, field: &'a [u8]) -> Option<Fault<'a>>
+        requires link { is_object_link_text field.now ≡ true }
+        requires definition { is_definition_text field.now ≡ false }
+        ensures { MatchOption result
+            (IsSeenToo (map (λ s. s.now) self.old.symbols.items) (map (λ s. s.now) self.new.symbols.items) self.old.links self.new.links field.now)
+            (IsItemFault (map (λ s. s.now) self.old.symbols.items) self.old.links field.now) }
+    {
         if self.links >= MOST {
             return Some(Fault::Extra(Form::CreateObject, field));
         }
@@ -264,8 +358,23 @@ impl<'a> Seen<'a> {
     }
 }
 
+// What a text behind GATE is to be.
+fn item_field(field: &[u8]) -> Field
+    ensures { result ≡ item_field field.now }
+{
+    if after(b"d:", field).is_some() {
+        Field::Definition
+    } else if after(b"l:", field).is_some() {
+        Field::ObjectLink
+    } else {
+        Field::DefinitionOrLink
+    }
+}
+
 // The symbol of a definition.
-fn symbol_of(field: &[u8]) -> &[u8] {
+fn symbol_of(field: &[u8]) -> &[u8]
+    ensures { result.now ≡ symbol_of field.now }
+{
     let said = match cut(b':', field) {
         Some((_, said)) => said,
         None => field,

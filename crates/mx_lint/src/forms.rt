@@ -1,18 +1,50 @@
 //! The kinds of lines of a session text: the word that each begins with, and the fields that follow.
 
+ghost use Rattle.std.specs.Prelude.{◌≡◌, ◌==◌, ◌≤◌, length, MatchOption};
+ghost use Rattle.std.specs.List.{find};
+ghost use Rattle.std.specs.Cmp.Lexicographic.{pointwise};
+ghost use Rattle.mx_lint.specs.Orders.{is_process};
+ghost use Rattle.mx_lint.specs.Forms.{word_of, fields_of, least_of, group_of, since_of, form_named, IsNoWord};
+
 use crate::fields::Field;
 
-/// Whose lines they are.
+/// Whose lines they are: each of the five that hold a session together stands for itself.
 #[derive(Clone, Copy)]
 pub(crate) enum Group {
-    /// The lines that hold a session together.
-    Frame,
+    /// The line of the version.
+    Header,
+    /// The limit of the journal.
+    Limit,
+    /// The line with which a script begins.
+    Process,
+    /// The line with which a script ends.
+    Logout,
+    /// The last line.
+    End,
     /// Path requests: in the setup and in scripts.
     OfPath,
     /// What a process alone can do: in scripts.
     OfProcess,
     /// What the supervisor enters for a process: in no session.
     OfSupervisor,
+}
+
+impl Group {
+    /// Whether it is the line with which a script begins.
+    pub(crate) fn is_process(self) -> bool
+        ensures { result ≡ is_process self }
+    {
+        match self {
+            Group::Process => true,
+            Group::Header
+            | Group::Limit
+            | Group::Logout
+            | Group::End
+            | Group::OfPath
+            | Group::OfProcess
+            | Group::OfSupervisor => false,
+        }
+    }
 }
 
 /// A kind of line.
@@ -101,17 +133,17 @@ const ALL: [Form; 38] = [
 
 impl Form {
     /// The kind whose lines begin with this word.
-    pub(crate) fn read(word: &[u8]) -> Option<Form> {
-        for form in &ALL {
-            if form.word().as_bytes() == word {
-                return Some(*form);
-            }
-        }
-        None
+    pub(crate) fn read(word: &[u8]) -> Option<Form>
+        ensures named { result ≡ form_named word.now }
+        ensures known { MatchOption result (IsNoWord word.now) (λ form. word.now ≡ word_of form) }
+    {
+        with_word(&ALL, word)
     }
 
     /// The first word of its lines.
-    pub(crate) fn word(self) -> &'static str {
+    pub(crate) fn word(self) -> &'static str
+        ensures { result.now ≡ word_of self }
+    {
         match self {
             Form::Header => "multics",
             Form::History => "history",
@@ -156,7 +188,9 @@ impl Form {
 
     /// The fields behind the word, in order; the last of them may be left out where `least` says so. Behind those of an
     /// object come its definitions and links.
-    pub(crate) fn fields(self) -> &'static [Field] {
+    pub(crate) fn fields(self) -> &'static [Field]
+        ensures { result.now ≡ fields_of self }
+    {
         match self {
             Form::Header => &[Field::Version],
             Form::History => &[Field::Limit],
@@ -192,7 +226,10 @@ impl Form {
     }
 
     /// How many of its fields a line must have.
-    pub(crate) fn least(self) -> usize {
+    pub(crate) fn least(self) -> usize
+        ensures least { result ≡ least_of self }
+        ensures within { result ≤ length (fields_of self) }
+    {
         match self {
             Form::Process | Form::Initiate | Form::SetRules => 1,
             _ => self.fields().len(),
@@ -274,9 +311,15 @@ impl Form {
     }
 
     /// Whose lines they are.
-    pub(crate) fn group(self) -> Group {
+    pub(crate) fn group(self) -> Group
+        ensures { result ≡ group_of self }
+    {
         match self {
-            Form::Header | Form::History | Form::Process | Form::Logout | Form::End => Group::Frame,
+            Form::Header => Group::Header,
+            Form::History => Group::Limit,
+            Form::Process => Group::Process,
+            Form::Logout => Group::Logout,
+            Form::End => Group::End,
             Form::CreateDir
             | Form::CreateSeg
             | Form::CreateObject
@@ -313,11 +356,25 @@ impl Form {
     }
 
     /// The version from which on a session may have it.
-    pub(crate) fn since(self) -> u8 {
+    pub(crate) fn since(self) -> u8
+        ensures { result ≡ since_of self }
+    {
         match self {
             Form::SetClass => 2,
             Form::SetIaclSeg | Form::SetIaclDir | Form::DelIaclSeg | Form::DelIaclDir => 3,
             _ => 1,
         }
     }
+}
+
+// The first of these kinds whose lines begin with this word.
+fn with_word(all: &[Form], word: &[u8]) -> Option<Form>
+    ensures { result ≡ find (λ form. pointwise ◌==◌ word.now (word_of form)) all.now }
+{
+    for form in all {
+        if word == form.word().as_bytes() {
+            return Some(*form);
+        }
+    }
+    None
 }

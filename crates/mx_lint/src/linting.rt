@@ -3,7 +3,12 @@
 ghost use Rattle.std.specs.Prelude.{◌≡◌, ◌<◌, ◌++◌, ℕ, List, length, IfOk, OnOk};
 ghost use Rattle.mx_script.specs.FirstBadLine.{IsFirstBad};
 ghost use Rattle.mx_lint.specs.Diagnoses.{IsAbout, IsFinding};
-ghost use Rattle.mx_lint.specs.Lines.{first_line, without_lines};
+ghost use Rattle.mx_lint.specs.Forms.{form_named};
+ghost use Rattle.mx_name.specs.Cuts.{cut_at};
+ghost use Rattle.mx_lint.specs.Lines.{behind_line, first_line, is_last, without_lines};
+ghost use Rattle.mx_lint.specs.Pieces.{first_piece};
+ghost use Rattle.mx_lint.specs.Places.{place_behind};
+ghost use Rattle.mx_lint.specs.Versions.{version_said};
 
 use crate::faults::{Fault, fault_of};
 use crate::forms::Form;
@@ -62,34 +67,50 @@ fn diagnose(alloc: Global, bytes: &[u8], number: u32) -> Result<Finding<'_>, All
 
 // The place behind so many good lines, and what is left of the text there.
 fn approach(bytes: &[u8], lines: u32) -> (Place, &[u8])
-    ensures { result.1.now ≡ without_lines lines bytes.now }
+    ensures place { result.0 ≡ place_behind lines bytes.now }
+    ensures rest { result.1.now ≡ without_lines lines bytes.now }
 {
     let mut place = Place::Start;
     let mut rest = bytes;
     for _line in 0..lines {
-        let (line, after) = match cut(b'\n', rest) {
-            Some(parts) => parts,
-            None => (rest, &rest[rest.len()..]),
-        };
+        let (line, after) = split_line(rest);
         place = place.behind(form_of(line));
         rest = after;
     }
     (place, rest)
 }
 
+// The first line of a text, and what is behind its newline.
+fn split_line(text: &[u8]) -> (&[u8], &[u8])
+    ensures line { result.0.now ≡ first_line text.now }
+    ensures rest { result.1.now ≡ behind_line (cut_at 10 text.now) }
+{
+    match cut(b'\n', text) {
+        Some(parts) => parts,
+        None => (text, &text[text.len()..]),
+    }
+}
+
 // The version that the first line says; 1 where it says none.
-fn version_of(bytes: &[u8]) -> u8 {
+fn version_of(bytes: &[u8]) -> u8
+    ensures { result ≡ version_said bytes.now }
+{
     let (line, _) = first_line(bytes);
-    match line {
-        b"multics 2" => 2,
-        b"multics 3" => 3,
-        b"multics 4" => 4,
-        _ => 1,
+    if line == b"multics 2".as_slice() {
+        2
+    } else if line == b"multics 3".as_slice() {
+        3
+    } else if line == b"multics 4".as_slice() {
+        4
+    } else {
+        1
     }
 }
 
 // The kind of a line, by its first word.
-fn form_of(line: &[u8]) -> Option<Form> {
+fn form_of(line: &[u8]) -> Option<Form>
+    ensures { result ≡ form_named (first_piece line.now) }
+{
     match cut(b' ', line) {
         Some((word, _)) => Form::read(word),
         None => Form::read(line),
@@ -98,7 +119,8 @@ fn form_of(line: &[u8]) -> Option<Form> {
 
 // The first line of a text, and whether the text ends with it.
 fn first_line(text: &[u8]) -> (&[u8], bool)
-    ensures { result.0.now ≡ first_line text.now }
+    ensures line { result.0.now ≡ first_line text.now }
+    ensures ends { result.1 ≡ is_last text.now }
 {
     match cut(b'\n', text) {
         Some((line, _)) => (line, false),

@@ -165,8 +165,8 @@ fn is_base(text: &[u8]) -> bool
     }
 }
 
-// What follows `front` in a text that begins with it.
-fn after<'a>(front: &[u8], text: &'a [u8]) -> Option<&'a [u8]>
+/// What follows `front` in a text that begins with it.
+pub(crate) fn after<'a>(front: &[u8], text: &'a [u8]) -> Option<&'a [u8]>
     ensures { MatchOption result (after front.now text.now ≡ None) (λ rest. after front.now text.now ≡ Some rest.now) }
 {
     text.strip_prefix(front)
