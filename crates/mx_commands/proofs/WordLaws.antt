@@ -3,51 +3,61 @@ use Rattle.std.proofs.Common.{◌≡◌, ℕ, ◌+◌, ◌<◌, Bool, true, fals
 use Rattle.std.specs.List.{list_all}
 use Rattle.std.specs.Prelude.{◌≢◌, ◌&&◌, nat_eq}
 use Rattle.std.specs.Cmp.Lexicographic.{pointwise, told_text}
-use Rattle.mx_commands.specs.Commands.{is_order, IsNothing, IsOneNumber, IsTurns, LineName, two_lines, AreTwo, AreLines, IsCommand}
-use Rattle.mx_commands.specs.Readings.{IsOneNumberOf, IsSeedOf}
+use Rattle.mx_commands.specs.Commands.{is_order, word_of, IsNothing, IsOneNumber, IsTurns, two_lines, AreLines, IsCommand}
+use Rattle.mx_commands.specs.Readings.{IsOneNumberOf, IsSeedOf, IsFormOf}
+use Rattle.mx_commands.specs.declared.words.Form.{Form}
+use Rattle.mx_commands.specs.declared.words.Form.TheVariants.{Lines, Story, Picture, Page}
 
 -- one text is not two
 pub clash : (a b text : List ℕ) → false ≡ pointwise nat_eq a b → text ≡ a → text ≡ b → ⊥
 clash a b text other first second = told_text a b false other (sym first ∙ second)
 
 -- what no command is
-not_command : (name : List ℕ) (rest : List (List ℕ)) → (name ≡ codes "lint" → IsNothing rest → ⊥) → (name ≡ codes "lines" → IsTurns rest → ⊥)
-    → (name ≡ codes "picture" → IsTurns rest → ⊥) → (name ≡ codes "outcomes" → AreLines rest → ⊥) → (name ≡ codes "plain" → IsNothing rest → ⊥)
-    → (name ≡ codes "breach" → IsNothing rest → ⊥)
+not_command : (name : List ℕ) (rest : List (List ℕ)) → (name ≡ codes "lint" → IsNothing rest → ⊥)
+    → ((form : Form) → name ≡ word_of form → IsTurns rest → ⊥) → (name ≡ codes "outcomes" → AreLines rest → ⊥)
+    → (name ≡ codes "plain" → IsNothing rest → ⊥) → (name ≡ codes "breach" → IsNothing rest → ⊥)
     → (name ≡ codes "drill" → (number : ℕ) → IsOneNumber rest number → ⊥) → (name ≡ codes "help" → IsNothing rest → ⊥)
     → IsCommand (name ∷ rest) → ⊥
-not_command name rest lint lines picture outcomes plain breach drill help (inl (inl (inl e))) = lint e.0 e.1
-not_command name rest lint lines picture outcomes plain breach drill help (inl (inl (inr (inl e)))) = lines e.0 e.1
-not_command name rest lint lines picture outcomes plain breach drill help (inl (inl (inr (inr (inl e))))) = picture e.0 e.1
-not_command name rest lint lines picture outcomes plain breach drill help (inl (inl (inr (inr (inr e))))) = outcomes e.0 e.1
-not_command name rest lint lines picture outcomes plain breach drill help (inl (inr (inl e))) = plain e.0 e.1
-not_command name rest lint lines picture outcomes plain breach drill help (inl (inr (inr e))) = breach e.0 e.1
-not_command name rest lint lines picture outcomes plain breach drill help (inr (inl e)) = drill e.1.0 e.0 e.1.1
-not_command name rest lint lines picture outcomes plain breach drill help (inr (inr e)) = help e.0 e.1
+not_command name rest lint run outcomes plain breach drill help (inl (inl (inl e))) = lint e.0 e.1
+not_command name rest lint run outcomes plain breach drill help (inl (inl (inr (inl e)))) = run e.0 e.1.0 e.1.1
+not_command name rest lint run outcomes plain breach drill help (inl (inl (inr (inr e)))) = outcomes e.0 e.1
+not_command name rest lint run outcomes plain breach drill help (inl (inr (inl e))) = plain e.0 e.1
+not_command name rest lint run outcomes plain breach drill help (inl (inr (inr e))) = breach e.0 e.1
+not_command name rest lint run outcomes plain breach drill help (inr (inl e)) = drill e.1.0 e.0 e.1.1
+not_command name rest lint run outcomes plain breach drill help (inr (inr e)) = help e.0 e.1
 
--- `lines` with other words than turns
-pub not_lines : (name : List ℕ) (rest : List (List ℕ)) → name ≡ codes "lines" → (IsTurns rest → ⊥) → IsCommand (name ∷ rest) → ⊥
-not_lines name rest is none = not_command name rest (λ e o. clash _ _ name refl is e) (λ e o. none o) (λ e o. clash _ _ name refl is e) (λ e o. clash _ _ name refl is e)
-    (λ e o. clash _ _ name refl is e) (λ e o. clash _ _ name refl is e) (λ e n o. clash _ _ name refl is e) (λ e o. clash _ _ name refl is e)
+-- the word of a form is that of no other command
+pub form_and : (word : List ℕ) → false ≡ pointwise nat_eq (codes "lines") word → false ≡ pointwise nat_eq (codes "story") word
+    → false ≡ pointwise nat_eq (codes "picture") word → false ≡ pointwise nat_eq (codes "page") word
+    → (name : List ℕ) (form : Form) → name ≡ word_of form → name ≡ word → ⊥
+form_and word lines story picture page name Lines is other = clash _ _ name lines is other
+form_and word lines story picture page name Story is other = clash _ _ name story is other
+form_and word lines story picture page name Picture is other = clash _ _ name picture is other
+form_and word lines story picture page name Page is other = clash _ _ name page is other
 
-pub not_picture : (name : List ℕ) (rest : List (List ℕ)) → name ≡ codes "picture" → (IsTurns rest → ⊥) → IsCommand (name ∷ rest) → ⊥
-not_picture name rest is none = not_command name rest (λ e o. clash _ _ name refl is e) (λ e o. clash _ _ name refl is e) (λ e o. none o) (λ e o. clash _ _ name refl is e)
-    (λ e o. clash _ _ name refl is e) (λ e o. clash _ _ name refl is e) (λ e n o. clash _ _ name refl is e) (λ e o. clash _ _ name refl is e)
+-- the name of a form with other words than turns
+pub not_run : (name : List ℕ) (rest : List (List ℕ)) (form : Form) → name ≡ word_of form → (IsTurns rest → ⊥) → IsCommand (name ∷ rest) → ⊥
+not_run name rest form is none = not_command name rest (λ e o. form_and (codes "lint") refl refl refl refl name form is e) (λ other e o. none o)
+    (λ e o. form_and (codes "outcomes") refl refl refl refl name form is e) (λ e o. form_and (codes "plain") refl refl refl refl name form is e)
+    (λ e o. form_and (codes "breach") refl refl refl refl name form is e) (λ e n o. form_and (codes "drill") refl refl refl refl name form is e)
+    (λ e o. form_and (codes "help") refl refl refl refl name form is e)
 
 -- `outcomes` with words that name no two lines
 pub not_outcomes : (name : List ℕ) (rest : List (List ℕ)) → name ≡ codes "outcomes" → (AreLines rest → ⊥) → IsCommand (name ∷ rest) → ⊥
-not_outcomes name rest is none = not_command name rest (λ e o. clash _ _ name refl is e) (λ e o. clash _ _ name refl is e) (λ e o. clash _ _ name refl is e) (λ e o. none o)
+not_outcomes name rest is none = not_command name rest (λ e o. clash _ _ name refl is e)
+    (λ form e o. form_and (codes "outcomes") refl refl refl refl name form e is) (λ e o. none o)
     (λ e o. clash _ _ name refl is e) (λ e o. clash _ _ name refl is e) (λ e n o. clash _ _ name refl is e) (λ e o. clash _ _ name refl is e)
 
 pub not_drill : (name : List ℕ) (rest : List (List ℕ)) → name ≡ codes "drill" → ((number : ℕ) → IsOneNumber rest number → ⊥)
     → IsCommand (name ∷ rest) → ⊥
-not_drill name rest is none = not_command name rest (λ e o. clash _ _ name refl is e) (λ e o. clash _ _ name refl is e) (λ e o. clash _ _ name refl is e) (λ e o. clash _ _ name refl is e)
+not_drill name rest is none = not_command name rest (λ e o. clash _ _ name refl is e)
+    (λ form e o. form_and (codes "drill") refl refl refl refl name form e is) (λ e o. clash _ _ name refl is e)
     (λ e o. clash _ _ name refl is e) (λ e o. clash _ _ name refl is e) (λ e n o. none n o) (λ e o. clash _ _ name refl is e)
 
 -- other names, with words behind them
-pub not_followed : (name : List ℕ) (rest : List (List ℕ)) → name ≢ codes "lines" → name ≢ codes "picture" → name ≢ codes "outcomes" → name ≢ codes "drill"
+pub not_followed : (name : List ℕ) (rest : List (List ℕ)) → IsFormOf name None → name ≢ codes "outcomes" → name ≢ codes "drill"
     → (rest ≡ [] → ⊥) → IsCommand (name ∷ rest) → ⊥
-not_followed name rest lines picture outcomes drill some = not_command name rest (λ e o. some o) (λ e o. lines e) (λ e o. picture e)
+not_followed name rest form outcomes drill some = not_command name rest (λ e o. some o) (λ f e o. form f e)
     (λ e o. outcomes e) (λ e o. some o) (λ e o. some o) (λ e n o. drill e) (λ e o. some o)
 
 -- a number is no empty list of words
@@ -55,9 +65,9 @@ no_number : (number : ℕ) → IsOneNumber [] number → ⊥
 no_number number is = let two : [] ≡ is.digits ∷ [] = is.words_are in cc
 
 -- other names alone
-pub not_alone : (name : List ℕ) → name ≢ codes "lines" → name ≢ codes "picture" → name ≢ codes "outcomes" → name ≢ codes "lint"
+pub not_alone : (name : List ℕ) → IsFormOf name None → name ≢ codes "outcomes" → name ≢ codes "lint"
     → name ≢ codes "plain" → name ≢ codes "breach" → name ≢ codes "help" → IsCommand (name ∷ []) → ⊥
-not_alone name lines picture outcomes lint plain breach help = not_command name [] (λ e o. lint e) (λ e o. lines e) (λ e o. picture e)
+not_alone name form outcomes lint plain breach help = not_command name [] (λ e o. lint e) (λ f e o. form f e)
     (λ e o. outcomes e) (λ e o. plain e) (λ e o. breach e) (λ e n o. no_number n o) (λ e o. help e)
 
 -- `seed` and a number

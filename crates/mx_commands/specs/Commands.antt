@@ -5,6 +5,8 @@ use Rattle.mx_name.specs.Cuts.{cut_at}
 use Rattle.mx_request.specs.Decimals.{decimal_number}
 use Rattle.mx_request.specs.Steps.{◌>>=◌, when}
 use Rattle.mx_drill.specs.Numbers.{IsNumber}
+use Rattle.mx_commands.specs.declared.words.Form.{Form}
+use Rattle.mx_commands.specs.declared.words.Form.TheVariants.{Lines, Story, Picture, Page}
 
 -- a number is that of a process
 abbrev pub process : ℕ → Option ℕ
@@ -43,11 +45,19 @@ IsTurns words = IsNothing words ⊎ (((number : ℕ) × IsSeed words number) ⊎
 abbrev pub IsLint : List (List ℕ) → Type 0
 IsLint words = IsNamed (codes "lint") IsNothing words
 
-abbrev pub IsLines : List (List ℕ) → Type 0
-IsLines words = IsNamed (codes "lines") IsTurns words
+-- the word that asks for a run in this form
+abbrev pub word_of : Form → List ℕ
+word_of Lines = codes "lines"
+word_of Story = codes "story"
+word_of Picture = codes "picture"
+word_of Page = codes "page"
 
-abbrev pub IsPicture : List (List ℕ) → Type 0
-IsPicture words = IsNamed (codes "picture") IsTurns words
+-- the run of a session is asked for in this form
+abbrev pub IsRunAs : Form → List (List ℕ) → Type 0
+IsRunAs form words = IsNamed (word_of form) IsTurns words
+
+abbrev pub IsRun : List (List ℕ) → Type 0
+IsRun words = (form : Form) × IsRunAs form words
 
 -- a line of a script: its process, and its number in the text of the session
 abbrev pub LineName : Type 0
@@ -107,7 +117,7 @@ IsHelp words = IsNamed (codes "help") IsNothing words
 
 -- what is told of a session: the source is read
 abbrev pub IsShowing : List (List ℕ) → Type 0
-IsShowing words = IsLint words ⊎ (IsLines words ⊎ (IsPicture words ⊎ IsTelling words))
+IsShowing words = IsLint words ⊎ (IsRun words ⊎ IsTelling words)
 
 -- the commands that read the source
 abbrev pub IsReading : List (List ℕ) → Type 0

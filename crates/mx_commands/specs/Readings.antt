@@ -1,11 +1,12 @@
 -- Helpers that private contracts cite: what words are read as.
 use Rattle.std.specs.Prelude.{◌≡◌, ℕ, ◌≤◌, true, List, map, Option, None, Some, codes}
 use Rattle.std.specs.String.{string_bytes}
-use Rattle.mx_commands.specs.Commands.{is_order, IsNothing, IsOneNumber, IsNamed, IsSeed, LineName, AreTwo, AreLines, IsLint, IsPlain, IsBreach, IsDrill, IsHelp, IsCommand}
+use Rattle.mx_commands.specs.Commands.{is_order, word_of, IsNothing, IsOneNumber, IsNamed, IsSeed, LineName, AreTwo, IsLint, IsPlain, IsBreach, IsDrill, IsHelp, IsCommand}
 use Rattle.mx_commands.specs.declared.words.Turns.{Turns}
 use Rattle.mx_commands.specs.declared.words.Turns.TheVariants.{Threads, Chosen, Named}
+use Rattle.mx_commands.specs.declared.words.Form.{Form}
 use Rattle.mx_commands.specs.declared.words.View.{View}
-use Rattle.mx_commands.specs.declared.words.View.TheVariants.{Lint, Lines, Picture, Outcomes}
+use Rattle.mx_commands.specs.declared.words.View.TheVariants.{Lint, Run, Outcomes}
 use Rattle.mx_commands.specs.declared.words.Reading.{Reading}
 use Rattle.mx_commands.specs.declared.words.Reading.TheVariants.{Session, Plain}
 use Rattle.mx_commands.specs.declared.words.Command.{Command}
@@ -31,11 +32,15 @@ abbrev pub AsksLines : Option (LineName × LineName) → List (List ℕ) → Typ
 AsksLines None words = IsNothing words
 AsksLines (Some two) words = AreTwo words two
 
+-- the form that a name asks for, or that it asks for none
+abbrev pub IsFormOf : List ℕ → Option Form → Type 0
+IsFormOf name None = (form : Form) → name ≡ word_of form → ⊥
+IsFormOf name (Some form) = name ≡ word_of form
+
 -- these words ask for such a view
 abbrev pub IsAsked : View → List (List ℕ) → Type 0
 IsAsked Lint words = IsLint words
-IsAsked (Lines turns) words = IsNamed (codes "lines") (TakesTurns turns) words
-IsAsked (Picture turns) words = IsNamed (codes "picture") (TakesTurns turns) words
+IsAsked (Run form turns) words = IsNamed (word_of form) (TakesTurns turns) words
 IsAsked (Outcomes asked) words = IsNamed (codes "outcomes") (AsksLines asked) words
 
 -- these words ask for the source to be read so

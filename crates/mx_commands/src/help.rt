@@ -10,7 +10,9 @@ const REFUSAL: &[u8] = b"bad words\n\
 Usage: show COMMAND < SESSION\n\
 \x20 lint             the first bad line of the text, and what is wrong with it\n\
 \x20 lines [TURNS]    runs the session, and tells each line of the run in words\n\
+\x20 story [TURNS]    runs it, and tells its lines in the order of time\n\
 \x20 picture [TURNS]  runs the session, and draws the run as an SVG\n\
+\x20 page [TURNS]     the run as one HTML file: drawing, lines, access by entry\n\
 \x20 outcomes [TWO]   runs it in every order of its lines: what each line came to\n\
 \x20 plain            the text without the lines that begin with #\n\
 \x20 breach           of a session with a printed run behind it: legal, or why not\n\

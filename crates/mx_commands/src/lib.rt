@@ -14,4 +14,4 @@ mod words;
 pub use help::{refusal, usage};
 pub use orders::{chosen_order, named_order};
 pub use plain::plain_text;
-pub use words::{Command, LineName, Reading, Turns, View};
+pub use words::{Command, Form, LineName, Reading, Turns, View};

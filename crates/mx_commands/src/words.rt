@@ -1,10 +1,10 @@
 //! The words of a command line.
 
-ghost use Rattle.std.specs.Prelude.{◌≡◌, ◌≢◌, ◌≤◌, [], ◌∷◌, map, is_some, MatchOption, IfSome, IfNone, codes};
+ghost use Rattle.std.specs.Prelude.{◌≡◌, ◌≢◌, ◌≤◌, [], ◌∷◌, map, is_some, None, MatchOption, IfSome, IfNone, codes};
 ghost use Rattle.std.specs.List.{list_all};
 ghost use Rattle.std.specs.String.{string_bytes};
-ghost use Rattle.mx_commands.specs.Commands.{process_of, line_of, two_lines, is_order, AreLines, IsTurns};
-ghost use Rattle.mx_commands.specs.Readings.{AsksLines, IsMeant, IsOneNumberOf, IsSeedOf, TakesTurns};
+ghost use Rattle.mx_commands.specs.Commands.{process_of, line_of, two_lines, word_of, is_order, AreLines, IsTurns};
+ghost use Rattle.mx_commands.specs.Readings.{AsksLines, IsFormOf, IsMeant, IsOneNumberOf, IsSeedOf, TakesTurns};
 
 use crate::orders::{process_of, process_spelled};
 use mx_drill::read_number;
@@ -28,15 +28,26 @@ pub enum Turns<'a> {
 /// A line of a script: its process, and its number in the text of the session.
 pub type LineName = (u8, u32);
 
+/// In which form a run is shown.
+#[derive(Clone, Copy)]
+pub enum Form {
+    /// Line by line, one process after another.
+    Lines,
+    /// In time: the lines of all processes in one order in which they can have happened.
+    Story,
+    /// Drawn.
+    Picture,
+    /// As a page for a browser, with the drawing and the lines.
+    Page,
+}
+
 /// What is shown of a session.
 #[derive(Clone, Copy)]
 pub enum View<'a> {
     /// That it is one.
     Lint,
-    /// Its run, line by line.
-    Lines(Turns<'a>),
-    /// Its run, drawn.
-    Picture(Turns<'a>),
+    /// Its run, in this form.
+    Run(Form, Turns<'a>),
     /// What its lines come to in all orders; where two lines are named, which of their outcomes come together.
     Outcomes(Option<(LineName, LineName)>),
 }
@@ -80,15 +91,29 @@ impl<'a> Command<'a> {
     fn named(name: &str, rest: &'a [String]) -> Command<'a>
         ensures { IsMeant (name.now ∷ map string_bytes rest.now) result }
     {
+        if let Some(form) = Form::named(name) {
+            return Command::run(name, form, rest);
+        }
+        Command::of_no_run(name, rest)
+    }
+
+    // What the name of a form and the words after it ask for.
+    fn run(_name: &str, form: Form, rest: &'a [String]) -> Command<'a>
+        requires { _name.now ≡ word_of form }
+        ensures { IsMeant (_name.now ∷ map string_bytes rest.now) result }
+    {
+        match Turns::read(rest) {
+            Some(turns) => Command::Read(Reading::Session(View::Run(form, turns))),
+            None => Command::Other,
+        }
+    }
+
+    // What a name asks for that is none of a form, with the words after it.
+    fn of_no_run(name: &str, rest: &'a [String]) -> Command<'a>
+        requires { IsFormOf name.now None }
+        ensures { IsMeant (name.now ∷ map string_bytes rest.now) result }
+    {
         match name {
-            "lines" => match Turns::read(rest) {
-                Some(turns) => Command::Read(Reading::Session(View::Lines(turns))),
-                None => Command::Other,
-            },
-            "picture" => match Turns::read(rest) {
-                Some(turns) => Command::Read(Reading::Session(View::Picture(turns))),
-                None => Command::Other,
-            },
             "outcomes" => match lines_asked(rest) {
                 Some(asked) => Command::Read(Reading::Session(View::Outcomes(asked))),
                 None => Command::Other,
@@ -109,8 +134,7 @@ impl<'a> Command<'a> {
 
     // What a word asks for that stands alone, and that no other may follow or must.
     fn alone(name: &str) -> Command<'a>
-        requires lines { name.now ≢ codes "lines" }
-        requires picture { name.now ≢ codes "picture" }
+        requires form { IsFormOf name.now None }
         requires outcomes { name.now ≢ codes "outcomes" }
         ensures { IsMeant (name.now ∷ []) result }
     {
@@ -120,6 +144,21 @@ impl<'a> Command<'a> {
             "breach" => Command::Breach,
             "help" => Command::Help,
             _ => Command::Other,
+        }
+    }
+}
+
+impl Form {
+    // The form that this name asks for.
+    fn named(name: &str) -> Option<Form>
+        ensures { IsFormOf name.now result }
+    {
+        match name {
+            "lines" => Some(Form::Lines),
+            "story" => Some(Form::Story),
+            "picture" => Some(Form::Picture),
+            "page" => Some(Form::Page),
+            _ => None,
         }
     }
 }

@@ -2,20 +2,21 @@
 use Rattle.std.proofs.Common.{◌≡◌, ◌⊎◌, ℕ, ◌≤◌, ◌<◌, false, Result, IfOk, List, [], ◌∷◌, length, codes, Option, None, Some, inl, inr, refl, sym, ◌∙◌, subst, arith}
 use Rattle.std.specs.Prelude.{nat_eq}
 use Rattle.std.specs.Cmp.Lexicographic.{pointwise}
-use Rattle.mx_commands.proofs.WordLaws.{clash}
+use Rattle.mx_commands.proofs.WordLaws.{clash, form_and}
 use Rattle.mx_breach.specs.Sources as breach
 use Rattle.mx_drill.specs.Drills.{drill_session}
 use Rattle.mx_script.specs.SessionTexts.{session_text}
 use Rattle.mx_io.specs.Bytes.{TakesAll, TakesTooMany, AppendsPart}
 use Rattle.mx_script.specs.Sessions.{Outline}
-use Rattle.mx_commands.specs.Commands.{IsNothing, IsTurns, IsOneNumber, IsNamed, LineName, AreTwo, AreLines, IsLint, IsLines, IsPicture, IsOutcomes, IsPair, IsTelling, IsPlain, IsBreach, IsDrill, IsHelp, IsShowing, IsReading, IsAnswered, IsCommand}
-use Rattle.mx_explain.specs.Statuses.{Shows, IsDone, GainsFront, GainsFrontOfSource, IsStopped, IsDueStatus}
+use Rattle.mx_commands.specs.Commands.{IsNothing, IsTurns, IsOneNumber, IsNamed, LineName, AreLines, IsLint, word_of, IsRunAs, IsOutcomes, IsPair, IsTelling, IsPlain, IsBreach, IsDrill, IsHelp, IsShowing, IsReading, IsAnswered, IsCommand}
+use Rattle.mx_explain.specs.Statuses.{Shows, IsDone, IsRefused, GainsFront, GainsFrontOfSource, IsStopped, IsDueStatus}
 use Rattle.mx_commands.specs.Readings.{TakesTurns, AsksLines, IsAsked, IsReadSo}
 use Rattle.mx_explain.specs.Views.{ShowsOf, TellsSession, Tells, TellsFront}
 use Rattle.mx_commands.specs.declared.words.Turns.{Turns}
 use Rattle.mx_commands.specs.declared.words.Turns.TheVariants.{Threads, Chosen, Named}
+use Rattle.mx_commands.specs.declared.words.Form.{Form}
 use Rattle.mx_commands.specs.declared.words.View.{View}
-use Rattle.mx_commands.specs.declared.words.View.TheVariants.{Lint, Lines, Picture, Outcomes}
+use Rattle.mx_commands.specs.declared.words.View.TheVariants.{Lint, Run, Outcomes}
 use Rattle.mx_commands.specs.declared.words.Reading.{Reading}
 use Rattle.mx_commands.specs.declared.words.Reading.TheVariants.{Session, Plain}
 
@@ -25,13 +26,9 @@ turns_of Threads words e = inl e
 turns_of (Chosen number) words e = inr (inl (number, e))
 turns_of (Named order) words e = inr (inr e.1)
 
-lines_of : (turns : Turns) (words : List (List ℕ)) → IsNamed (codes "lines") (TakesTurns turns) words → IsLines words
-lines_of turns [] e = absurd e
-lines_of turns (word ∷ words) e = (e.0, turns_of turns words e.1)
-
-picture_of : (turns : Turns) (words : List (List ℕ)) → IsNamed (codes "picture") (TakesTurns turns) words → IsPicture words
-picture_of turns [] e = absurd e
-picture_of turns (word ∷ words) e = (e.0, turns_of turns words e.1)
+run_as : (form : Form) (turns : Turns) (words : List (List ℕ)) → IsNamed (word_of form) (TakesTurns turns) words → IsRunAs form words
+run_as form turns [] e = absurd e
+run_as form turns (word ∷ words) e = (e.0, turns_of turns words e.1)
 
 -- and words that ask for the outcomes of lines
 asked_of : (asked : Option (LineName × LineName)) (words : List (List ℕ)) → AsksLines asked words → AreLines words
@@ -53,9 +50,8 @@ pair_of two (word ∷ words) e = (e.0, e.1)
 
 showing_of : (view : View) (words : List (List ℕ)) → IsAsked view words → IsShowing words
 showing_of Lint words e = inl e
-showing_of (Lines turns) words e = inr (inl (lines_of turns words e))
-showing_of (Picture turns) words e = inr (inr (inl (picture_of turns words e)))
-showing_of (Outcomes asked) words e = inr (inr (inr (telling_of asked words e)))
+showing_of (Run form turns) words e = inr (inl (form, run_as form turns words e))
+showing_of (Outcomes asked) words e = inr (inr (telling_of asked words e))
 
 -- words that ask for the source to be read as a session or as a text
 pub text_of_reading : (reading : Reading) (words : List (List ℕ)) → IsReadSo reading words → IsShowing words ⊎ IsPlain words
@@ -75,17 +71,23 @@ two_names : (P Q : List (List ℕ) → Type 0) (a b : List ℕ) (words : List (L
 two_names P Q a b [] other e f = absurd e
 two_names P Q a b (word ∷ words) other e f = clash a b word other e.0 f.0
 
+-- the word of a form is no other word
+run_or : (P Q : List (List ℕ) → Type 0) (form : Form) (word : List ℕ) (words : List (List ℕ))
+    → false ≡ pointwise nat_eq (codes "lines") word → false ≡ pointwise nat_eq (codes "story") word
+    → false ≡ pointwise nat_eq (codes "picture") word → false ≡ pointwise nat_eq (codes "page") word
+    → IsNamed (word_of form) P words → IsNamed word Q words → ⊥
+run_or P Q form word [] lines story picture page e f = absurd e
+run_or P Q form word (name ∷ words) lines story picture page e f = form_and word lines story picture page name form e.0 f.0
+
 showing_or_plain : (words : List (List ℕ)) → IsShowing words → IsPlain words → ⊥
 showing_or_plain words (inl e) f = two_names IsNothing IsNothing (codes "lint") (codes "plain") words refl e f
-showing_or_plain words (inr (inl e)) f = two_names IsTurns IsNothing (codes "lines") (codes "plain") words refl e f
-showing_or_plain words (inr (inr (inl e))) f = two_names IsTurns IsNothing (codes "picture") (codes "plain") words refl e f
-showing_or_plain words (inr (inr (inr e))) f = two_names AreLines IsNothing (codes "outcomes") (codes "plain") words refl e f
+showing_or_plain words (inr (inl e)) f = run_or IsTurns IsNothing e.0 (codes "plain") words refl refl refl refl e.1 f
+showing_or_plain words (inr (inr e)) f = two_names AreLines IsNothing (codes "outcomes") (codes "plain") words refl e f
 
 showing_or_breach : (words : List (List ℕ)) → IsShowing words → IsBreach words → ⊥
 showing_or_breach words (inl e) f = two_names IsNothing IsNothing (codes "lint") (codes "breach") words refl e f
-showing_or_breach words (inr (inl e)) f = two_names IsTurns IsNothing (codes "lines") (codes "breach") words refl e f
-showing_or_breach words (inr (inr (inl e))) f = two_names IsTurns IsNothing (codes "picture") (codes "breach") words refl e f
-showing_or_breach words (inr (inr (inr e))) f = two_names AreLines IsNothing (codes "outcomes") (codes "breach") words refl e f
+showing_or_breach words (inr (inl e)) f = run_or IsTurns IsNothing e.0 (codes "breach") words refl refl refl refl e.1 f
+showing_or_breach words (inr (inr e)) f = two_names AreLines IsNothing (codes "outcomes") (codes "breach") words refl e f
 
 text_or_breach : (words : List (List ℕ)) → IsShowing words ⊎ IsPlain words → IsBreach words → ⊥
 text_or_breach words (inl e) f = showing_or_breach words e f
@@ -98,10 +100,8 @@ reading_or_drill : (words : List (List ℕ)) (number : ℕ) → IsReading words 
 reading_or_drill words number (inl (inl e)) f =
     two_names IsNothing (λ rest. IsOneNumber rest number) (codes "lint") (codes "drill") words refl e f
 reading_or_drill words number (inl (inr (inl e))) f =
-    two_names IsTurns (λ rest. IsOneNumber rest number) (codes "lines") (codes "drill") words refl e f
-reading_or_drill words number (inl (inr (inr (inl e)))) f =
-    two_names IsTurns (λ rest. IsOneNumber rest number) (codes "picture") (codes "drill") words refl e f
-reading_or_drill words number (inl (inr (inr (inr e)))) f =
+    run_or IsTurns (λ rest. IsOneNumber rest number) e.0 (codes "drill") words refl refl refl refl e.1 f
+reading_or_drill words number (inl (inr (inr e))) f =
     two_names AreLines (λ rest. IsOneNumber rest number) (codes "outcomes") (codes "drill") words refl e f
 reading_or_drill words number (inr (inl e)) f =
     two_names IsNothing (λ rest. IsOneNumber rest number) (codes "plain") (codes "drill") words refl e f
@@ -110,9 +110,8 @@ reading_or_drill words number (inr (inr e)) f =
 
 reading_or_help : (words : List (List ℕ)) → IsReading words → IsHelp words → ⊥
 reading_or_help words (inl (inl e)) f = two_names IsNothing IsNothing (codes "lint") (codes "help") words refl e f
-reading_or_help words (inl (inr (inl e))) f = two_names IsTurns IsNothing (codes "lines") (codes "help") words refl e f
-reading_or_help words (inl (inr (inr (inl e)))) f = two_names IsTurns IsNothing (codes "picture") (codes "help") words refl e f
-reading_or_help words (inl (inr (inr (inr e)))) f = two_names AreLines IsNothing (codes "outcomes") (codes "help") words refl e f
+reading_or_help words (inl (inr (inl e))) f = run_or IsTurns IsNothing e.0 (codes "help") words refl refl refl refl e.1 f
+reading_or_help words (inl (inr (inr e))) f = two_names AreLines IsNothing (codes "outcomes") (codes "help") words refl e f
 reading_or_help words (inr (inl e)) f = two_names IsNothing IsNothing (codes "plain") (codes "help") words refl e f
 reading_or_help words (inr (inr e)) f = two_names IsNothing IsNothing (codes "breach") (codes "help") words refl e f
 
@@ -123,17 +122,13 @@ reading_or_answered words e (inr f) = reading_or_help words e f
 shows_of : (view : View) (words : List (List ℕ)) (x : Outline) (sink sink' : Option (List ℕ)) → IsAsked view words
     → ShowsOf view x sink sink' → Shows words x sink sink'
 shows_of Lint words x sink sink' e shown = inl (e, shown)
-shows_of (Lines turns) words x sink sink' e shown = inr (inl (lines_of turns words e, shown))
-shows_of (Picture turns) words x sink sink' e shown = inr (inr (inl (picture_of turns words e, shown)))
-shows_of (Outcomes None) words x sink sink' e shown = inr (inr (inr (inl (outcomes_of words e, shown))))
-shows_of (Outcomes (Some two)) words x sink sink' e shown = inr (inr (inr (inr (two, (pair_of two words e, shown)))))
+shows_of (Run form turns) words x sink sink' e shown = inr (inl (form, (run_as form turns words e, shown)))
+shows_of (Outcomes None) words x sink sink' e shown = inr (inr (inl (outcomes_of words e, shown)))
+shows_of (Outcomes (Some two)) words x sink sink' e shown = inr (inr (inr (two, (pair_of two words e, shown))))
 
 is_lint : (view : View) (words : List (List ℕ)) → IsAsked view words → IsLint words → view ≡ Lint
 is_lint Lint words e f = refl
-is_lint (Lines turns) words e f =
-    absurd (two_names (TakesTurns turns) IsNothing (codes "lines") (codes "lint") words refl e f)
-is_lint (Picture turns) words e f =
-    absurd (two_names (TakesTurns turns) IsNothing (codes "picture") (codes "lint") words refl e f)
+is_lint (Run form turns) words e f = absurd (run_or (TakesTurns turns) IsNothing form (codes "lint") words refl refl refl refl e f)
 is_lint (Outcomes asked) words e f =
     absurd (two_names (AsksLines asked) IsNothing (codes "outcomes") (codes "lint") words refl e f)
 
@@ -158,6 +153,22 @@ done_at Plain words spelled source source' sink sink' status e taken within told
   read = record { taken = taken; within = within };
   printed = told.1;
 }))
+
+-- the words that ask for a text, where it is bad
+pub refused_at : (reading : Reading) (words : List (List ℕ)) (spelled : List ℕ) (source source' sink sink' : Option (List ℕ)) (status : ℕ)
+    → IsReadSo reading words → TakesAll source source' spelled → length spelled ≤ 4194304 → Tells reading spelled sink sink' status
+    → status ≡ 5 → IsRefused words source source' sink sink'
+refused_at (Session view) words spelled source source' sink sink' status e taken within (inl shown) five =
+    absurd (omega (arith, shown.0, five))
+refused_at (Session view) words spelled source source' sink sink' status e taken within (inr bad) five = inl (
+  showing_of view words e,
+  record {
+    spelled = spelled;
+    read = record { taken = taken; within = within };
+    bad = bad.1;
+  },
+)
+refused_at Plain words spelled source source' sink sink' status e taken within told five = absurd (omega (arith, told.0, five))
 
 -- the status that is due of a text
 due_of_session : (view : View) (words : List (List ℕ)) (bytes : List ℕ) (sink sink' : Option (List ℕ)) (status : ℕ)

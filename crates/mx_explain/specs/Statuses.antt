@@ -3,7 +3,9 @@ use Rattle.std.specs.Prelude.{◌≡◌, ◌⊎◌, ℕ, ◌≤◌, ◌<◌, Lis
 use Rattle.mx_both.specs.BothTexts.{IsSomeBoth}
 use Rattle.mx_breach.specs.Sources as breach
 use Rattle.mx_drill.specs.Drills.{drill_session}
-use Rattle.mx_commands.specs.Commands.{IsLint, IsLines, IsPicture, IsOutcomes, IsPair, LineName, IsPlain, IsBreach, IsDrill, IsHelp, IsShowing, IsAnswered, IsCommand}
+use Rattle.mx_commands.specs.Commands.{IsLint, IsRunAs, IsOutcomes, IsPair, LineName, IsPlain, IsBreach, IsDrill, IsHelp, IsShowing, IsAnswered, IsCommand}
+use Rattle.mx_commands.specs.declared.words.Form.{Form}
+use Rattle.mx_commands.specs.declared.words.Form.TheVariants.{Lines, Story, Picture, Page}
 use Rattle.mx_commands.specs.PlainTexts.{plain_text}
 use Rattle.mx_commands.specs.Usage.{usage, refusal}
 use Rattle.mx_explore.specs.OutcomesTexts.{TellsAll, TellsTwo}
@@ -11,12 +13,14 @@ use Rattle.mx_explore.specs.WholeRuns.{IsWholeRun}
 use Rattle.mx_io.specs.Bytes.{TakesAll, TakesTooMany, Appends, AppendsPart}
 use Rattle.mx_transcript.specs.Transcripts.{Step}
 use Rattle.mx_lint.specs.Diagnoses.{IsAbout}
+use Rattle.mx_page.specs.Pages.{GainsPage}
 use Rattle.mx_picture.specs.Drawings.{GainsDrawing}
 use Rattle.mx_script.specs.FirstBadLine.{IsFirstBad}
 use Rattle.mx_script.specs.Sessions.{Outline}
 use Rattle.mx_script.specs.SessionTexts.{IsText, IsSomeSession, session_text}
 use Rattle.mx_show.specs.Lines.{GainsLines}
 use Rattle.mx_state.specs.declared.journal.Entry as journaled
+use Rattle.mx_story.specs.Printing.{GainsStory}
 
 -- at most so many bytes are read; under `breach`, of a session and a run, as many as `mx_breach` says
 abbrev pub most_bytes : ℕ
@@ -27,19 +31,19 @@ pub record IsRead (source source' : Option (List ℕ)) (spelled : List ℕ) : Ty
   pub taken : TakesAll source source' spelled
   pub within : length spelled ≤ most_bytes
 
--- the sink gained the text of `lines` of a run in which each process did all its lines
-pub record IsToldRun (x : Outline) (sink sink' : Option (List ℕ)) : Type 0 where
-  pub journal : List journaled.Entry
-  pub transcripts : List (List Step)
-  pub run : IsWholeRun x journal transcripts
-  pub told : GainsLines sink sink' x journal transcripts
+-- what the sink gains in each form: the text of `lines`, of all of which the frame is told, the lines in time, a drawing, or a page
+abbrev pub Gains : Form → Option (List ℕ) → Option (List ℕ) → Outline → List journaled.Entry → List (List Step) → Type 0
+Gains Lines sink sink' x journal transcripts = GainsLines sink sink' x journal transcripts
+Gains Story sink sink' x journal transcripts = GainsStory x journal sink sink'
+Gains Picture sink sink' x journal transcripts = GainsDrawing sink sink'
+Gains Page sink sink' x journal transcripts = GainsPage sink sink'
 
--- such a run stands behind what the sink gained
-pub record IsDrawnRun (x : Outline) (sink sink' : Option (List ℕ)) : Type 0 where
+-- the sink gained in this form a run in which each process did all its lines
+pub record IsShownRun (form : Form) (x : Outline) (sink sink' : Option (List ℕ)) : Type 0 where
   pub journal : List journaled.Entry
   pub transcripts : List (List Step)
   pub run : IsWholeRun x journal transcripts
-  pub drawn : GainsDrawing sink sink'
+  pub gained : Gains form sink sink' x journal transcripts
 
 -- the sink gained what the lines come to in all orders, or what two of them come to together
 pub record AreTold (x : Outline) (sink sink' : Option (List ℕ)) : Type 0 where
@@ -57,14 +61,13 @@ ShowsOutcomes words x sink sink' =
     (IsOutcomes words × AreTold x sink sink')
     ⊎ ((two : LineName × LineName) × (IsPair words two × AreTwoTold x two sink sink'))
 
--- what a command shows of a session: that it is one, its run line by line, or drawn, or what its lines come to in all orders
+-- what a command shows of a session: that it is one, its run in the form that is asked for, or what its lines come to in all orders
 abbrev pub Shows : List (List ℕ) → Outline → Option (List ℕ) → Option (List ℕ) → Type 0
 Shows words x sink sink' =
     (IsLint words × Appends sink sink' (codes "good\n"))
-    ⊎ ((IsLines words × IsToldRun x sink sink')
-    ⊎ ((IsPicture words × IsDrawnRun x sink sink') ⊎ ShowsOutcomes words x sink sink'))
+    ⊎ (((form : Form) × (IsRunAs form words × IsShownRun form x sink sink')) ⊎ ShowsOutcomes words x sink sink')
 
--- under `lint`, `lines`, `picture` and `outcomes`: the source held the text of a session, and this was shown of it
+-- under `lint`, `outcomes` and the forms of a run: the source held the text of a session, and this was shown of it
 pub record IsShown (words : List (List ℕ)) (source source' sink sink' : Option (List ℕ)) : Type 0 where
   pub spelled : List ℕ
   pub read : IsRead source source' spelled

@@ -3,14 +3,14 @@ use Rattle.std.specs.Prelude.{◌≡◌, ◌⊎◌, ℕ, List, Option, None, Som
 use Rattle.mx_commands.specs.Commands.{LineName}
 use Rattle.mx_commands.specs.PlainTexts.{plain_text}
 use Rattle.mx_commands.specs.declared.words.View.{View}
-use Rattle.mx_commands.specs.declared.words.View.TheVariants.{Lint, Lines, Picture, Outcomes}
+use Rattle.mx_commands.specs.declared.words.View.TheVariants.{Lint, Run, Outcomes}
 use Rattle.mx_commands.specs.declared.words.Reading.{Reading}
 use Rattle.mx_commands.specs.declared.words.Reading.TheVariants.{Session, Plain}
 use Rattle.mx_explore.specs.OutcomesTexts.{TellsAll, TellsTwo}
 use Rattle.mx_io.specs.Bytes.{Appends, AppendsPart}
 use Rattle.mx_script.specs.Sessions.{Outline}
 use Rattle.mx_script.specs.SessionTexts.{IsText, IsSomeSession}
-use Rattle.mx_explain.specs.Statuses.{IsToldRun, IsDrawnRun, AreTold, AreTwoTold, IsBadText, IsBadTextCut}
+use Rattle.mx_explain.specs.Statuses.{IsShownRun, AreTold, AreTwoTold, IsBadText, IsBadTextCut}
 
 -- what the lines come to, of all or of two
 abbrev pub TellsOutcomes : Option (LineName × LineName) → Outline → List ℕ → Type 0
@@ -24,8 +24,7 @@ GainsOutcomes (Some two) x sink sink' = AreTwoTold x two sink sink'
 -- what is shown of a session
 abbrev pub ShowsOf : View → Outline → Option (List ℕ) → Option (List ℕ) → Type 0
 ShowsOf Lint x sink sink' = Appends sink sink' (codes "good\n")
-ShowsOf (Lines turns) x sink sink' = IsToldRun x sink sink'
-ShowsOf (Picture turns) x sink sink' = IsDrawnRun x sink sink'
+ShowsOf (Run form turns) x sink sink' = IsShownRun form x sink sink'
 ShowsOf (Outcomes asked) x sink sink' = GainsOutcomes asked x sink sink'
 
 pub record ShowsText (view : View) (spelled : List ℕ) (sink sink' : Option (List ℕ)) : Type 0 where

@@ -10,24 +10,27 @@ ghost use Rattle.mx_commands.specs.Commands.{IsReading, IsBreach, IsAnswered, Is
 ghost use Rattle.mx_commands.specs.PlainTexts.{plain_text};
 ghost use Rattle.mx_lint.specs.Diagnoses.{IsBadLine};
 ghost use Rattle.mx_explore.specs.WholeRuns.{IsWholeRun};
-ghost use Rattle.mx_explain.specs.Statuses.{IsDone, IsRefused, IsToldOf, IsCutOffOf, IsBadText, IsBadTextCut, GainsFront, IsStopped, IsDueStatus};
+ghost use Rattle.mx_explain.specs.Statuses.{IsDone, IsShownRun, IsRefused, IsToldOf, IsCutOffOf, IsBadText, IsBadTextCut, GainsFront, IsStopped, IsDueStatus};
 ghost use Rattle.mx_commands.specs.Usage.{usage, refusal};
 ghost use Rattle.mx_explain.specs.Views.{ShowsOf, GainsOutcomes, TellsOutcomes, TellsSession, Tells, CutsOff, TellsFrontOfSession, TellsFront};
 
 use mx_breach::tell_source;
 use mx_commands::{
-    Command, LineName, Reading, Turns, View, chosen_order, named_order, plain_text, refusal, usage,
+    Command, Form, LineName, Reading, Turns, View, chosen_order, named_order, plain_text, refusal,
+    usage,
 };
 use mx_drill::{session_of, session_text};
 use mx_explore::{outcomes_text, pair_text};
 use mx_io::{ReadError, Sink, Source, read_all, write_all};
 use mx_lint::{Diagnosis, Finding, lint};
 use mx_list::Bytes;
+use mx_page::show_page;
 use mx_picture::show_picture;
 use mx_proc::{NoGate, run, run_in_order};
 use mx_script::Session;
 use mx_show::{ShowError, show_lines};
 use mx_state::Journal;
+use mx_story::show_story;
 use mx_transcript::Transcripts;
 use std::alloc::{AllocError, Global};
 use std::sync::Wait;
@@ -54,10 +57,11 @@ const BAD_LINE: u8 = 5;
 /// The status of a text that is too long.
 const TOO_LONG: u8 = 6;
 
-/// Does what the words of the command line ask for, and answers the status with which the program is to end. `lint`, `lines`,
-/// `picture` and `outcomes` read the source to its end as the text of a session: `lint` says that it is one, or explains the first bad line;
-/// `lines` runs the session and shows line by line what it came to; `picture` draws the same run; `outcomes` runs it in all orders of its
-/// lines, on one thread, and tells what each line came to, or of two lines which of their outcomes come together. Behind `lines` and `picture` may stand
+/// Does what the words of the command line ask for, and answers the status with which the program is to end. `lint`, `lines`, `story`,
+/// `picture`, `page` and `outcomes` read the source to its end as the text of a session: `lint` says that it is one, or explains the first bad line;
+/// `lines` runs the session and shows line by line what it came to; `story` tells the same run in time, `picture` draws it, and `page` makes a page
+/// for a browser of it; `outcomes` runs it in all orders of its
+/// lines, on one thread, and tells what each line came to, or of two lines which of their outcomes come together. Behind the four that show a run may stand
 /// 1 to 4,096 process numbers, or `seed N`, which chooses as many: the lines of the processes are then made in that order, on one
 /// thread. Else each process has a thread of its own. `plain` reads the source to its end and prints it without the lines that begin
 /// with `#`; `breach` reads it as the text of a session and, at once behind it, that of a printed run, and says that the run is a legal one of
@@ -66,7 +70,7 @@ const TOO_LONG: u8 = 6;
 ///
 /// | Status | Comes | Written |
 /// |---|---|---|
-/// | 0 | the text is a session's, or a session's and a run's, or is not to be one, or none is read | `good`, the lines, the drawing, the outcomes, `legal` or the breach, or what is printed |
+/// | 0 | the text is a session's, or a session's and a run's, or is not to be one, or none is read | `good`, the run in the form that is asked for, the outcomes, `legal` or the breach, or what is printed |
 /// | 1 | memory ran out | a part of it, or nothing |
 /// | 2 | the words are not accepted; the source is not read | `bad words`, and how to use the program |
 /// | 3 | the source failed | nothing |
@@ -236,15 +240,33 @@ fn show_session<R: Threads + Wait + Sync, K: Sink>(
             write_all(sink, b"good\n")?;
             Ok(())
         }
-        View::Lines(turns) => {
+        View::Run(form, turns) => {
             let (journal, transcripts) = run_alone(turns, rt, alloc, session)?;
-            show_lines(alloc, session, &journal, &transcripts, sink)
-        }
-        View::Picture(turns) => {
-            let (journal, transcripts) = run_alone(turns, rt, alloc, session)?;
-            show_picture(alloc, session, &journal, &transcripts, sink)
+            show_run(form, alloc, session, &journal, &transcripts, sink)
         }
         View::Outcomes(asked) => show_outcomes(asked, rt, alloc, session, sink),
+    }
+}
+
+// Shows a run of a session in this form.
+fn show_run<K: Sink>(
+    form: Form,
+    alloc: Global,
+    session: &Session,
+    journal: &Journal,
+    transcripts: &Transcripts,
+    sink: &mut K,
+) -> Result<(), ShowError>
+    requires run { IsWholeRun session.now journal.now transcripts.now }
+    ensures shown { OnOk result (IsShownRun form session.now (K.out sink.old) (K.out sink.new)) }
+    ensures cause { IsErrOf result ShowError.Fault → Rose (K.faults sink.old) (K.faults sink.new) }
+    ensures only { (IsErrOf result ShowError.Fault → ⊥) → K.faults sink.new ≡ K.faults sink.old }
+{
+    match form {
+        Form::Lines => show_lines(alloc, session, journal, transcripts, sink),
+        Form::Story => show_story(alloc, session, journal, transcripts, sink),
+        Form::Picture => show_picture(alloc, session, journal, transcripts, sink),
+        Form::Page => show_page(alloc, session, journal, transcripts, sink),
     }
 }
 

@@ -1,15 +1,17 @@
 -- The boxes of references, one behind another, and the drawing that has them.
-use Rattle.std.proofs.Common.{◌≡◌, ℕ, List, [], ◌∷◌, ◌++◌, map, Option, codes, refl, ap, sym, ◌∙◌, subst, append_assoc, append-nil}
+use Rattle.std.proofs.Common.{◌≡◌, ℕ, List, [], ◌∷◌, ◌++◌, Option, codes, refl, ap, sym, ◌∙◌, subst, append_assoc, append-nil}
 use Rattle.mx_io.specs.Bytes.{Appends}
 use Rattle.mx_text.proofs.PrintingLaws.{sent_before, sent_then, sent_whole}
 use Rattle.mx_text.specs.Printing.{IsSent}
 use Rattle.mx_script.specs.Sessions.{Outline}
 use Rattle.mx_state.specs.declared.journal.Entry as journaled
+use Rattle.mx_transcript.specs.Transcripts.{Step}
 use Rattle.mx_show.specs.Judging.{AreAccesses}
+use Rattle.mx_show.specs.References.{AreReferences}
 use Rattle.mx_show.specs.declared.replays.Judged.{Judged}
 use Rattle.mx_picture.specs.declared.layout.Layout.{Layout}
 use Rattle.mx_picture.specs.declared.layout.Placed.{Placed}
-use Rattle.mx_picture.specs.Boxes.{AreBoxes, DrawsBoxes, GainsBoxes, GainsReferences, IsBoxBehind, IsUpTo, head_text, labelled, lane_top}
+use Rattle.mx_picture.specs.Boxes.{AreBoxes, DrawsBoxes, GainsBoxes, GainsReferences, IsBoxBehind, IsUpTo, head_text, judged_of, labelled, lane_top}
 use Rattle.mx_picture.specs.Drawings.{Draws, GainsDrawing}
 use Rattle.mx_picture.proofs.PieceLaws.{sent_none, sent_piece}
 
@@ -116,9 +118,12 @@ framed layout a b gained = record {
 }
 
 -- the references of a layout are those that were judged
-pub references : (layout : Layout) (x : Outline) (journal : List journaled.Entry) (judged : List Judged) (a b : Option (List ℕ))
-    → map (λ (p : Placed). p.judged) layout.placed.items ≡ judged → AreAccesses x journal judged → GainsBoxes a b layout
-    → GainsReferences a b x journal
-references layout x journal judged a b same accesses gained =
-    let P : List Judged → Type 0 = λ v. AreAccesses x journal v in
-    record { layout = layout; accesses = subst P (sym same) accesses; gained = gained }
+pub references : (layout : Layout) (x : Outline) (journal : List journaled.Entry) (transcripts : List (List Step)) (judged : List Judged)
+    (a b : Option (List ℕ)) → judged_of layout ≡ judged → AreReferences transcripts judged → AreAccesses x journal judged
+    → GainsBoxes a b layout → GainsReferences a b x journal transcripts
+references layout x journal transcripts judged a b same all accesses gained = record {
+  layout = layout;
+  references = subst (AreReferences transcripts) (sym same) all;
+  accesses = subst (AreAccesses x journal) (sym same) accesses;
+  gained = gained;
+}

@@ -18,7 +18,7 @@ use crate::positions::Position;
 use bands::add_bands;
 pub(crate) use bands::{Band, Life};
 use folds::bare_entries;
-pub(crate) use folds::{fold_words, refused};
+pub(crate) use folds::fold_words;
 use line_numbers::LineNumbers;
 pub(crate) use messages::Message;
 use messages::messages_of;

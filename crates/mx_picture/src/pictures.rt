@@ -41,8 +41,9 @@ pub fn show_picture<K: Sink>(
     requires legal { IsLegal session.now journal.now transcripts.now }
     ensures drawn { OnOk result (GainsDrawing (K.out sink.old) (K.out sink.new)) }
 
-    // One box for each reference, in the lane of its process; each reference has the access that it was judged on.
-    ensures references { OnOk result (GainsReferences (K.out sink.old) (K.out sink.new) session.now journal.now) }
+    // One box for each reference of the run, in the lane of its process; each reference has the access that it was judged on,
+    // and those of a process are in its order.
+    ensures references { OnOk result (GainsReferences (K.out sink.old) (K.out sink.new) session.now journal.now transcripts.now) }
     ensures cause { IsErrOf result ShowError.Fault → Rose (K.faults sink.old) (K.faults sink.new) }
     ensures only { (IsErrOf result ShowError.Fault → ⊥) → K.faults sink.new ≡ K.faults sink.old }
     ensures later { K.faults sink.old ≤ K.faults sink.new }

@@ -1,3 +1,6 @@
 pub mod ReplayLaws
+pub mod SortLaws
+pub mod OrderLaws
+pub mod ReferenceLaws
 pub mod PartLaws
 pub mod LinesLaws

@@ -1,5 +1,6 @@
 pub mod Replays
 pub mod Judging
+pub mod References
 pub mod Reasons
 pub mod Wants
 pub mod Sources

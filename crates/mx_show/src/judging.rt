@@ -1,10 +1,14 @@
 //! All references of a run with the access that each was judged on.
 
-ghost use Rattle.std.specs.Prelude.{IfOk, OnOk};
+ghost use Rattle.std.specs.Prelude.{◌≡◌, ◌+◌, [], ◌∷◌, ◌++◌, length, map, All, IfOk, IsPermutation, OnOk};
+ghost use Rattle.std.specs.Ordering.{nat_cmp};
+ghost use Rattle.std.specs.List.Sorted.{IsNonDecreasingBy, IsStableByKey};
 ghost use Rattle.mx_transcript.specs.Legal.{IsLegal};
 ghost use Rattle.mx_transcript.specs.Opened.{opening_of};
+ghost use Rattle.mx_transcript.specs.Transcripts.{events_of};
 ghost use Rattle.mx_state.specs.History.{IsRight};
 ghost use Rattle.mx_show.specs.Judging.{AreAccesses};
+ghost use Rattle.mx_show.specs.References.{AreReferences, IsOfProcess, own_references, reference_of, references_in};
 ghost use Rattle.mx_show.specs.Replays.{IsSameJournal};
 
 use crate::replays::{Changed, Judged, Replay};
@@ -24,8 +28,9 @@ pub struct Accesses {
     pub changed: Vec<Changed>,
 }
 
-/// The access of each reference of a legal run: the descriptor at its point. The journal is run once, so this takes time
-/// linear in the run, but for the sorting of the references by their points.
+/// The references of a legal run, each once and those of a process in its order, with the access that each was judged on: the
+/// descriptor at its point. The journal is run once, so this takes time linear in the run, but for the sorting of the
+/// references by their points.
 pub fn judge_all(
     alloc: Global,
     session: &Session,
@@ -33,9 +38,10 @@ pub fn judge_all(
     transcripts: &Transcripts,
 ) -> Result<Accesses, AllocError>
     requires { IsLegal session.now journal.now transcripts.now }
-    ensures { IfOk result (λ a. AreAccesses session.now journal.now a.judged.items) }
+    ensures accesses { IfOk result (λ a. AreAccesses session.now journal.now a.judged.items) }
+    ensures references { IfOk result (λ a. AreReferences transcripts.now a.judged.items) }
 {
-    let references = sorted_references(alloc, transcripts)?;
+    let references = sorted_references(alloc, session, transcripts.items())?;
     let mut judged = Vec::with_capacity(alloc, references.len())?;
     let changed = judge_each(alloc, session, journal.items(), &references, &mut judged)?;
     Ok(Accesses { judged, changed })
@@ -50,8 +56,10 @@ fn judge_each(
     judged: &mut Vec<Judged>,
 ) -> Result<Vec<Changed>, AllocError>
     requires right { IsRight (opening_of session.now) journal.now }
+    requires processes { All (IsOfProcess (length session.now.principals)) references.now }
     requires judged { AreAccesses session.now journal.now judged.old.items }
-    ensures { IfOk result (λ changed. AreAccesses session.now journal.now judged.new.items) }
+    ensures accesses { IfOk result (λ changed. AreAccesses session.now journal.now judged.new.items) }
+    ensures references { IfOk result (λ changed. map reference_of judged.new.items ≡ map reference_of judged.old.items ++ references.now) }
 {
     let mut replay = Replay::new(alloc, session, journal)?;
     let added = add_all_judged(alloc, &mut replay, references, judged);
@@ -67,8 +75,10 @@ fn add_all_judged(
     references: &[(u8, Element)],
     judged: &mut Vec<Judged>,
 ) -> Result<(), AllocError>
-    requires { AreAccesses replay.old.session replay.old.journal judged.old.items }
-    ensures { OnOk result (AreAccesses replay.old.session replay.old.journal judged.new.items) }
+    requires processes { All (IsOfProcess (length replay.old.session.principals)) references.now }
+    requires judged { AreAccesses replay.old.session replay.old.journal judged.old.items }
+    ensures accesses { OnOk result (AreAccesses replay.old.session replay.old.journal judged.new.items) }
+    ensures references { OnOk result (map reference_of judged.new.items ≡ map reference_of judged.old.items ++ references.now) }
 {
     for (process, element) in references {
         add_judged(alloc, replay, judged, *process, *element)?;
@@ -84,48 +94,59 @@ fn add_judged(
     process: u8,
     element: Element,
 ) -> Result<(), AllocError>
-    requires { AreAccesses replay.old.session replay.old.journal judged.old.items }
+    requires process { IsOfProcess (length replay.old.session.principals) (process, element) }
+    requires judged { AreAccesses replay.old.session replay.old.journal judged.old.items }
     ensures same { OnOk result (IsSameJournal replay.old replay.new) }
     ensures accesses { OnOk result (AreAccesses replay.old.session replay.old.journal judged.new.items) }
+    ensures reference { OnOk result (map reference_of judged.new.items ≡ map reference_of judged.old.items ++ (process, element) ∷ []) }
 {
-    if !replay.has_process(process) {
-        return Ok(());
-    }
     let access = replay.judged(alloc, process, element)?;
     judged.extend_from_slice(&[access])
 }
 
-// The references of all processes, each with its process, in the order of their points.
+// The references of all processes, each with its process, in the order of their points; those of one point as they were found.
 fn sorted_references(
     alloc: Global,
-    transcripts: &Transcripts,
-) -> Result<Vec<(u8, Element)>, AllocError> {
-    let mut references = Vec::new(alloc);
-    add_all_references(transcripts.items(), &mut references)?;
-    references.sort_by_key(|reference| reference.1.point)?;
-    Ok(references)
+    session: &Session,
+    transcripts: &[Transcript],
+) -> Result<Vec<(u8, Element)>, AllocError>
+    requires { length transcripts.now ≡ 1 + length session.now.principals }
+    ensures all { IfOk result (λ found. IsPermutation (references_in transcripts.now) found.items) }
+    ensures sorted { IfOk result (λ found. IsNonDecreasingBy (λ r. r.1.point) found.items) }
+    ensures stable { IfOk result (λ found. IsStableByKey (λ r. r.1.point) nat_cmp (references_in transcripts.now) found.items) }
+{
+    let mut found = Vec::new(alloc);
+    add_all_references(session, transcripts, &mut found)?;
+    found.sort_by_key(|reference| reference.1.point)?;
+    Ok(found)
 }
 
-// Adds the references of each process, from 0.
+// Adds the references of each process, from 1: the transcript of the setup, which makes none, comes before theirs.
 fn add_all_references(
+    session: &Session,
     transcripts: &[Transcript],
-    references: &mut Vec<(u8, Element)>,
-) -> Result<(), AllocError> {
-    let mut process = 0u8;
-    for transcript in transcripts {
-        add_process_references(process, transcript, references)?;
-        process = process.saturating_add(1);
+    found: &mut Vec<(u8, Element)>,
+) -> Result<(), AllocError>
+    requires { length transcripts.now ≡ 1 + length session.now.principals }
+    ensures { OnOk result (found.new.items ≡ found.old.items ++ references_in transcripts.now) }
+{
+    let entrants = session.principals().items();
+    for i in 0..entrants.len() {
+        add_own_references(i as u8 + 1, &transcripts[i + 1], found)?;
     }
     Ok(())
 }
 
-fn add_process_references(
+// Adds the references of a process.
+fn add_own_references(
     process: u8,
     transcript: &Transcript,
-    references: &mut Vec<(u8, Element)>,
-) -> Result<(), AllocError> {
+    found: &mut Vec<(u8, Element)>,
+) -> Result<(), AllocError>
+    ensures { OnOk result (found.new.items ≡ found.old.items ++ own_references process (events_of transcript.now)) }
+{
     for (_, events, _) in transcript.steps() {
-        add_references(process, events, references)?;
+        add_references(process, events, found)?;
     }
     Ok(())
 }
@@ -133,12 +154,25 @@ fn add_process_references(
 fn add_references(
     process: u8,
     events: &[Event2],
-    references: &mut Vec<(u8, Element)>,
-) -> Result<(), AllocError> {
+    found: &mut Vec<(u8, Element)>,
+) -> Result<(), AllocError>
+    ensures { OnOk result (found.new.items ≡ found.old.items ++ own_references process events.now) }
+{
     for event in events {
-        if let Event2::Core(Event::Seen(element)) = event {
-            references.push((process, *element))?;
-        }
+        add_reference(process, event, found)?;
     }
     Ok(())
+}
+
+fn add_reference(
+    process: u8,
+    event: &Event2,
+    found: &mut Vec<(u8, Element)>,
+) -> Result<(), AllocError>
+    ensures { OnOk result (found.new.items ≡ found.old.items ++ own_references process (event.now ∷ [])) }
+{
+    match event {
+        Event2::Core(Event::Seen(element)) => found.extend_from_slice(&[(process, *element)]),
+        Event2::Core(Event::Missing { .. }) | Event2::Entry(_) => Ok(()),
+    }
 }

@@ -10,26 +10,6 @@ use Rattle.mx_story.specs.declared.courses.Course.{Course}
 use Rattle.mx_story.specs.declared.courses.Moment.{Moment}
 use Rattle.mx_story.proofs.OrderLaws.{never_more}
 
-pub up_more : (moments : List Moment) (now : ℕ) (moment : Moment) → IsUpTo (times moments) now → now ≤ moment.time
-    → IsUpTo (times (moments ++ moment ∷ [])) moment.time
-up_more moments now moment up later = rw (map-append (λ (m : Moment). m.time) moments (moment ∷ [])) (up_to (times moments) up)
-  where
-    up_to : (ts : List ℕ) → IsUpTo ts now → IsUpTo (ts ++ moment.time ∷ []) moment.time
-    up_to ts so_far = record {
-      never = never_more ts moment.time so_far.never (λ i h. let most : get_or ts i 0 ≤ now = so_far.most i h in omega arith);
-      most = λ i h. elim (cases_lt i (length ts)) [
-        | inl below ↦ let most : get_or ts i 0 ≤ now = so_far.most i below in grind (arith, common_steps, later)
-        | inr above ↦ grind (arith, common_steps, h)
-      ];
-    }
-
-pub begun_more : (moments : List Moment) (moment : Moment) → moment.first ≡ 0
-    → lines_begun (moments ++ moment ∷ []) ≡ lines_begun moments ++ moment.line ∷ []
-begun_more moments moment first = grind (arith, common_steps, filter-append)
-
-pub begun_same : (moments : List Moment) (moment : Moment) → 0 < moment.first → lines_begun (moments ++ moment ∷ []) ≡ lines_begun moments
-begun_same moments moment later = grind (arith, common_steps, filter-append)
-
 -- A process more.
 pub rising_more : (all : Times) (ts : List ℕ) → AreRising all → NeverFalls ts → AreRising (all ++ ts ∷ [])
 rising_more all ts rising never = record {

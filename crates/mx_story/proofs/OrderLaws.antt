@@ -34,15 +34,6 @@ places_same p place turns = grind (arith, common_steps, filter-append)
 places_other : (p q place : ℕ) (turns : List Turn) → q ≢ p → places_of q (turns ++ turn_of p place ∷ []) ≡ places_of q turns
 places_other p q place turns other = grind (arith, common_steps, filter-append)
 
-pub so_far_begun : (times : Times) (told : List ℕ) → length told ≡ length times → ((p : ℕ) → get_or told p 0 ≡ 0) → IsSoFar times told []
-so_far_begun times told count none = record {
-  count = count;
-  merged = λ p. rw (none p) refl;
-  within = λ p. rw (none p) (omega arith);
-  never = record { each = λ i h. omega arith };
-  before = λ i q h more. omega arith;
-}
-
 -- It is one of the processes.
 is_one : (times : Times) (told : List ℕ) (p : ℕ) → HasMore times told p → p < length times
 is_one [] told p more = omega (arith, more.more)
@@ -132,66 +123,6 @@ so_far_more times told turns p rising sofar next =
                 let last : i ≡ length turns = grind (arith, common_steps, h, above) in
                 rw (last, time_behind times turns now) (omega (arith, next.first q is.had, is.later))
           ];
-    }
-
-pub so_far_merge : (times : Times) (told : List ℕ) (turns : List Turn) → IsSoFar times told turns → AreAllTold times told → IsMerge times turns
-so_far_merge times told turns sofar all = record {
-  each = λ p. let e : get_or told p 0 ≡ length (get_or times p []) = omega (arith, sofar.within p, all.each p) in rw (← e) (sofar.merged p);
-}
-
-pub so_far_time : (times : Times) (told : List ℕ) (turns : List Turn) → IsSoFar times told turns → IsInTime times turns
-so_far_time times told turns sofar = record { never = sofar.never }
-
--- A time that is not behind those of the soonest, nor behind that of the next process.
-before_best : (times : Times) (told : List ℕ) (n time : ℕ) (best : Option Choice) → IsSoonest times told n best
-    → IfSome best (λ (one : Choice). time ≤ one.time) → (q : ℕ) → q < n → HasMore times told q → time ≤ next_time times told q
-before_best times told n time None soonest most q below more = absurd (soonest q below more)
-before_best times told n time (Some one) soonest most q below more = omega (arith, most, soonest.first q below more)
-
-before_next : (times : Times) (told : List ℕ) (n time : ℕ) (next : Option Choice) → IsNext times told n next
-    → IfSome next (λ (one : Choice). time ≤ one.time) → HasMore times told n → time ≤ next_time times told n
-before_next times told n time None is most more = absurd (is more)
-before_next times told n time (Some one) is most more = omega (arith, most, is.2)
-
--- It is the next moment of its process.
-record IsOwn (times : Times) (told : List ℕ) (choice : Choice) : Type 0 where
-  has : HasMore times told choice.process
-  time : choice.time ≡ next_time times told choice.process
-
-own_best : (times : Times) (told : List ℕ) (n : ℕ) (choice : Choice) → IsSoonest times told n (Some choice) → IsOwn times told choice
-own_best times told n choice soonest = record { has = soonest.has; time = soonest.time }
-
-own_next : (times : Times) (told : List ℕ) (n : ℕ) (choice : Choice) → IsNext times told n (Some choice) → IsOwn times told choice
-own_next times told n choice is = record {
-  has = subst (HasMore times told) (sym is.0) is.1;
-  time = is.2 ∙ ap (next_time times told) (sym is.0);
-}
-
--- A process more.
-pub soonest_more : (times : Times) (told : List ℕ) (n : ℕ) (best next result : Option Choice) → IsSoonest times told n best
-    → IsNext times told n next → IsSooner best next result → IsSoonest times told (suc n) result
-soonest_more times told n best next None soonest is sooner =
-    let none : IsSoonest times told n None = subst (IsSoonest times told n) sooner.0 soonest in
-    let has_none : IsNext times told n None = subst (IsNext times told n) sooner.1 is in
-    λ q h more. elim (cases_lt q n) [
-      | inl below ↦ none q below more
-      | inr above ↦ let e : q ≡ n = omega (arith, above, h) in has_none (subst (HasMore times told) e more)
-    ]
-soonest_more times told n best next (Some choice) soonest is sooner =
-    let own : IsOwn times told choice = elim sooner.0 [
-      | inl e ↦ own_best times told n choice (subst (IsSoonest times told n) e soonest)
-      | inr e ↦ own_next times told n choice (subst (IsNext times told n) e is)
-    ] in
-    record {
-      has = own.has;
-      time = own.time;
-      first = λ q h more. elim (cases_lt q n) [
-        | inl below ↦ before_best times told n choice.time best soonest sooner.1 q below more
-        | inr above ↦
-            let e : q ≡ n = omega (arith, above, h) in
-            subst (λ (k : ℕ). choice.time ≤ next_time times told k) (sym e)
-            (before_next times told n choice.time next is sooner.2 (subst (HasMore times told) e more))
-      ];
     }
 
 pub left_falls : (times : Times) (told : List ℕ) (p : ℕ) → HasMore times told p → p < length told

@@ -86,13 +86,18 @@ fn add_accesses(out: &mut String, before: &Desc, after: &Desc) -> Result<(), All
     }
 }
 
-// Adds which entry of the access list decides the modes, or that none matches, where that is why there are none.
+// Adds which entry of the access list decides the modes, though it gives others where the class allows fewer; or that none matches,
+// where that is why there are none.
 fn add_deciding(alloc: Global, out: &mut String, changed: &Changed) -> Result<(), AllocError> {
     let after = &changed.after;
     match &changed.by {
         Some((id, modes)) => {
             let id = id_text(alloc, id)?;
-            out.push_str(" (by the entry \"")?;
+            out.push_str(if modes.text() == access_word(after) {
+                " (by the entry \""
+            } else {
+                " (though by the entry \""
+            })?;
             out.push_str(&id)?;
             out.push_str(" ")?;
             out.push_str(modes.text())?;

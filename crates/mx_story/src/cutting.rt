@@ -7,45 +7,49 @@ ghost use Rattle.mx_story.specs.Cutting.{IsUpTo, all_begun, lines_begun, numbers
 use crate::courses::{Course, Deed, Moment, Store};
 use mx_script::Session;
 use mx_show::{Judged, source_of};
-use mx_transcript::{Event, Event2, Outcome, Transcript, setup_entries};
+use mx_transcript::{Event, Event2, Outcome, Result2, Transcript, setup_entries};
 use std::alloc::{AllocError, Global};
 
-/// The moments of each process from 0, whose references are among these. Those of a session's processes stand behind its setup.
+/// The moments of each process from 0, whose references are among these, where the journal has so many entries. Those of a session's
+/// processes stand behind its setup.
 pub(crate) fn courses_of(
     alloc: Global,
     session: &Session,
     transcripts: &[Transcript],
     judged: &[Judged],
+    entries: usize,
 ) -> Result<Vec<Course>, AllocError>
     ensures rising { IfOk result (λ courses. AreRising (times_of courses.items)) }
     ensures lines { IfOk result (λ courses. all_begun courses.items ≡ map numbers_of transcripts.now) }
 {
     let behind = time_behind(setup_entries(session));
+    let end = time_behind(u32::try_from(entries).unwrap_or(u32::MAX));
     let mut courses = Vec::new(alloc);
     let mut process = 0u8;
     for transcript in transcripts {
         let start = if process == 0 { 0 } else { behind };
-        let course = course_of(alloc, process, start, transcript, judged)?;
+        let course = course_of(alloc, process, start, transcript, judged, end)?;
         courses.push(course)?;
         process = process.saturating_add(1);
     }
     Ok(courses)
 }
 
-// The moments of a process, none of them before this time.
+// The moments of a process, none of them before this time, where the journal ends at that one.
 fn course_of(
     alloc: Global,
     process: u8,
     start: u64,
     transcript: &Transcript,
     judged: &[Judged],
+    end: u64,
 ) -> Result<Course, AllocError>
     ensures rising { IfOk result (λ course. NeverFalls (times course.moments.items)) }
     ensures lines { IfOk result (λ course. lines_begun course.moments.items ≡ numbers_of transcript.now) }
 {
     let mut cutter = Cutter::new(alloc, process, start, judged);
-    for (number, events, _) in transcript.steps() {
-        cutter.add_line(number, events)?;
+    for (number, events, ends) in transcript.steps() {
+        cutter.add_line(number, events, end_time(&ends, end))?;
     }
     Ok(cutter.finish())
 }
@@ -73,11 +77,19 @@ fn time_of(event: &Event2) -> u64 {
     }
 }
 
-// The time of the first of these events.
-fn first_time(events: &[Event2]) -> u64 {
+// The time of the first of these events; where there is none, the one at which their line ends.
+fn first_time(events: &[Event2], end: u64) -> u64 {
     match events.first() {
         Some(event) => time_of(event),
-        None => 0,
+        None => end,
+    }
+}
+
+// The time at which a line ends by itself: where it found the journal full, the end of the journal, and else none.
+fn end_time(ends: &Result2, end: u64) -> u64 {
+    match ends {
+        Result2::HistoryFull => end,
+        _ => 0,
     }
 }
 
@@ -117,18 +129,21 @@ impl<'a> Cutter<'a> {
         }
     }
 
-    // Adds the moments of a line.
-    fn add_line(&mut self, line: u32, events: &[Event2]) -> Result<(), AllocError>
+    // Adds the moments of a line, which does not end before this time.
+    fn add_line(&mut self, line: u32, events: &[Event2], end: u64) -> Result<(), AllocError>
         ensures { OnOk result (lines_begun self.new.moments.items ≡ lines_begun self.old.moments.items ++ line ∷ []) }
     {
-        self.begin(line, first_time(events))?;
+        self.begin(line, first_time(events, end))?;
         for (first, event) in events.iter().enumerate() {
             if first > 0 {
                 self.go_on(line, first, time_of(event))?;
             }
             self.add_deed(event)?;
         }
-        Ok(())
+        if events.is_empty() {
+            return Ok(());
+        }
+        self.go_on(line, events.len(), end)
     }
 
     // A line begins, at this time or at the one that has come.

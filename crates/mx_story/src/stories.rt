@@ -20,7 +20,7 @@ use std::alloc::{AllocError, Global};
 /// Tells a legal run of a session in time, entry by entry of its journal: the lines of the setup, and then those of all processes in
 /// one order in which they can have happened, with a heading where the process changes. Each line stands as the session spells it,
 /// with what it came to, and behind each entry whose access it changed. A line of which something came before an entry that others
-/// made stands there, and is told to go on behind it. A reference stands behind the entry that its printed point names and before the
+/// made stands there, and is told to go on behind it; one that found the journal full ends behind its last entry. A reference stands behind the entry that its printed point names and before the
 /// next one; one that reads a store of a later point, behind that store's. At one point a read stands behind the store that it
 /// names, as far as the lines of each process leave that open: of those moments that wait for no store to come those that store nothing
 /// come first, and of these that of the first process. Where each waits for one, the first process goes on. On an error a part was
@@ -44,7 +44,13 @@ pub fn show_story<K: Sink>(
     let notes = Notes::new(alloc, session, journal)?;
     let entrants = session.principals().items();
     let parts = transcripts.items();
-    let courses = courses_of(alloc, session, parts, accesses.judged.as_slice())?;
+    let courses = courses_of(
+        alloc,
+        session,
+        parts,
+        accesses.judged.as_slice(),
+        journal.items().len(),
+    )?;
     let turns = in_time(alloc, courses.as_slice())?;
     let mut out = Vec::new(alloc);
     add_opening(&mut out, entrants.len(), journal.items().len())?;

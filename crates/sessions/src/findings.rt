@@ -85,10 +85,12 @@ fn find_in_session<R: Threads + Wait + Sync>(
         findings.push(found("shared", outcome))?;
     }
     let order = text_of(parts, "order").unwrap_or(b"");
-    let shown: [(&str, &str, &[u8]); 4] = [
+    let shown: [(&str, &str, &[u8]); 6] = [
         ("lint", "lint", b""),
         ("lines", "lines", order),
+        ("story", "story", order),
         ("svg", "picture", order),
+        ("html", "page", order),
         ("outcomes", "outcomes", b""),
     ];
     for (kind, word, order) in shown {

@@ -166,8 +166,8 @@ fn part<'a>(row: &'a str, kind: &'a str, text: &'a [u8]) -> Part<'a> {
     Part { row, kind, text }
 }
 
-/// Writes the lines and the picture of a session, as they are shown now, in its stored order where it has one, and gives a line that
-/// says so.
+/// Writes the lines and the picture of a session, as they are shown now, in its stored order where it has one, and the story and the page
+/// where one is stored already, and gives a line that says so.
 pub fn store<R: Threads + Wait + Sync + Files + Alloc<A = Global>>(
     rt: &R,
     name: &str,
@@ -182,9 +182,16 @@ pub fn store<R: Threads + Wait + Sync + Files + Alloc<A = Global>>(
         Some(order) => order.as_slice(),
         None => &[],
     };
-    for (word, kind) in [("lines", "lines"), ("picture", "svg")] {
-        let sink = shown(rt, rt.alloc(), word, order, &session)?;
-        write(rt, name, kind, sink.bytes())?;
+    for (word, kind, always) in [
+        ("lines", "lines", true),
+        ("story", "story", false),
+        ("picture", "svg", true),
+        ("page", "html", false),
+    ] {
+        if always || read(rt, name, kind)?.is_some() {
+            let sink = shown(rt, rt.alloc(), word, order, &session)?;
+            write(rt, name, kind, sink.bytes())?;
+        }
     }
     outcomes.push(Outcome::AsStored)?;
     Ok(format!(in rt.alloc(); "{name}: stored\n")?)

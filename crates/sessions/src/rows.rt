@@ -4,9 +4,9 @@ use std::alloc::{AllocError, Global};
 use std::str;
 
 /// The kinds of stored files.
-pub const KINDS: [&str; 13] = [
+pub const KINDS: [&str; 15] = [
     "session", "drill", "run", "status", "shared", "order", "printed", "check", "lint", "lines",
-    "svg", "outcomes", "about",
+    "story", "svg", "html", "outcomes", "about",
 ];
 
 /// A stored file: the row that it is of, its kind, and its text.

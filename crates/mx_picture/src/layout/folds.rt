@@ -1,15 +1,15 @@
 //! Which entries of the journal nothing hangs on, so that they are folded.
 
 use mx_request::{Reply, Request};
+use mx_show::Accesses;
 use mx_show::Part::{self, Decimal, Text};
-use mx_show::{Accesses, NOTHING};
 use mx_state::Entry;
 use std::alloc::{AllocError, Global};
 
 /// As many entries one behind another as are folded at least, where nothing hangs on them.
 const LEAST_FOLDED: usize = 3;
 
-/// Of each entry whether nothing hangs on it: no reference behind it, no change of access, no message and no wait.
+/// Of each entry whether nothing hangs on it: no reference behind it, no change of access, no refusal, no message and no wait.
 pub(super) fn bare_entries(
     alloc: Global,
     entries: &[Entry],
@@ -17,7 +17,7 @@ pub(super) fn bare_entries(
 ) -> Result<Vec<bool>, AllocError> {
     let mut bare = Vec::with_capacity(alloc, entries.len())?;
     for entry in entries {
-        bare.push(!is_of_messages(entry))?;
+        bare.push(!is_refused(entry) && !is_of_messages(entry))?;
     }
     for judged in &accesses.judged {
         hang(&mut bare, judged.element.point);
@@ -26,6 +26,11 @@ pub(super) fn bare_entries(
         hang(&mut bare, changed.entry);
     }
     Ok(bare)
+}
+
+// Whether it was refused.
+fn is_refused(entry: &Entry) -> bool {
+    matches!(entry.reply, Reply::Refused(_))
 }
 
 // Whether a message was sent or taken, or waited for.
@@ -61,37 +66,12 @@ pub(super) fn folded(bare: &[bool], place: usize) -> usize {
     if count >= LEAST_FOLDED { count } else { 1 }
 }
 
-/// What is written at entries that are folded, so many of which were refused.
-pub(crate) fn fold_words(first: u32, last: u32, refused: u32) -> [Part<'static>; 7] {
-    let (entries, first, to, last) = (
+/// What is written at entries that are folded.
+pub(crate) fn fold_words(first: u32, last: u32) -> [Part<'static>; 4] {
+    [
         Text("entries "),
         Decimal(first),
         Text(" to "),
         Decimal(last),
-    );
-    if refused > 0 {
-        let refused = Decimal(refused);
-        [
-            entries,
-            first,
-            to,
-            last,
-            Text(" ("),
-            refused,
-            Text(" refused)"),
-        ]
-    } else {
-        [entries, first, to, last, NOTHING, NOTHING, NOTHING]
-    }
-}
-
-/// How many of these entries were refused.
-pub(crate) fn refused(entries: &[Entry]) -> u32 {
-    let mut count = 0u32;
-    for entry in entries {
-        if let Reply::Refused(_) = entry.reply {
-            count = count.saturating_add(1);
-        }
-    }
-    count
+    ]
 }

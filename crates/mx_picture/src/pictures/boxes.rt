@@ -170,7 +170,7 @@ fn why(placed: &Placed, denial: Denial) -> [Part<'static>; 4] {
         placed.current,
     ) {
         Some(Reason::Beyond { word, bound }) => compared(word, " >= ", bound),
-        Some(Reason::NotDominated) => words("class not dominated"),
+        Some(Reason::NotDominated) => words("does not dominate"),
         Some(Reason::NotEqual) => words("class not equal"),
         Some(Reason::NoRead) => words("r is off"),
         Some(Reason::NoWrite) => words("w is off"),

@@ -2,7 +2,7 @@
 
 use super::layers::Drawing;
 use crate::labels::{label, whole_label};
-use crate::layout::{Column, LEFT, Layout, fold_words, refused};
+use crate::layout::{Column, LEFT, Layout, fold_words};
 use crate::positions::Position;
 use crate::svg::{
     add_disc, add_line, add_rising, add_text, add_words, ink_of, ink_on, ring_colour,
@@ -88,9 +88,8 @@ fn add_folded(
     add_requests(alloc, out, first, entries)?;
     add_disc(out, at, 14, "fill=\"#ffffff\" stroke=\"#555555\"")?;
     add_text(out, at.down(3), "text-anchor=\"middle\"", &[Text("...")])?;
-    let count = refused(entries);
-    let style = format!(in alloc; "font-size=\"12\" {}", ink_of(count > 0))?;
-    add_rising(out, at.up(20), &style, &fold_words(first, last, count))
+    let style = format!(in alloc; "font-size=\"12\" {}", ink_of(false))?;
+    add_rising(out, at.up(20), &style, &fold_words(first, last))
 }
 
 // Adds the requests of entries, the first of which has this number, as the title of their mark.

@@ -18,7 +18,7 @@ const NOTES: [&str; 5] = [
     "rN beside it: the ring in which it was judged, where that is not the ring of its process.",
     "from P at K: it reads the word that process P stored at point K. Segments, words and values are octal.",
     "10 rw 1,4,4 at an entry: from there on segment 10 has the modes rw and the brackets 1,4,4.",
-    "entries 12 to 240: no reference hangs behind them, and they change no access.",
+    "entries 12 to 240: no reference hangs behind them, they change no access, and none was refused.",
 ];
 
 /// Adds what the colours and marks mean.

@@ -7,4 +7,5 @@ returns-clause-drawn g c = on_ok_weaker c.draw.result (framed _ _ _) c.draw.ensu
 
 pub returns-clause-references : goal.returns-clause-references
 returns-clause-references g c =
-    on_ok_weaker c.draw.result (references _ _ _ _ _ _ c.in_ok-layout.ensures c.in_ok-accesses.ensures) c.draw.ensures.drawn
+    on_ok_weaker c.draw.result (references _ _ _ _ _ _ _ c.in_ok-layout.ensures c.in_ok-accesses.ensures.references
+    c.in_ok-accesses.ensures.accesses) c.draw.ensures.drawn

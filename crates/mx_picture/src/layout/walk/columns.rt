@@ -2,7 +2,7 @@
 
 use super::{Column, Course, HEAD, RIM, Spot, Walk};
 use crate::labels::{label, text_of};
-use crate::layout::folds::{fold_words, folded, refused};
+use crate::layout::folds::{fold_words, folded};
 use crate::layout::tags::{Tag, tag_width};
 use crate::layout::{ENTRY_WIDTH, RIGHT};
 use mx_show::Changed;
@@ -58,7 +58,7 @@ impl Walk {
         let last = first.saturating_add(
             entries.len().saturating_sub(1).min(u32::MAX as usize) as u32,
         );
-        let length = text_of(alloc, &fold_words(first, last, refused(entries)))?.len();
+        let length = text_of(alloc, &fold_words(first, last))?.len();
         self.add_column(first, last, length, false)?;
         let row = self.last_row();
         let (left, right) = (

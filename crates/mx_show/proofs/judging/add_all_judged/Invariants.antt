@@ -1,5 +1,6 @@
-use Rattle.std.proofs.Common.{◌≡◌}
+use Rattle.std.proofs.Common.{◌≡◌, ◌++◌, map, take}
 use Rattle.mx_show.specs.Judging.{AreAccesses}
+use Rattle.mx_show.specs.References.{reference_of}
 use Rattle.mx_show.proofs.judging.add_all_judged.Given as goal
 
 -- the journal is the same, and each reference so far has its access
@@ -8,4 +9,5 @@ invariant-loop-process l = record {
   session : l.replay.session ≡ l.initial.replay.session;
   journal : l.replay.journal ≡ l.initial.replay.journal;
   accesses : AreAccesses l.initial.replay.session l.initial.replay.journal l.judged.items;
+  references : map reference_of l.judged.items ≡ map reference_of l.initial.judged.items ++ take l.process-index l.references;
 }
