@@ -1,6 +1,6 @@
 //! What comes of a command.
 
-ghost use Rattle.std.specs.Prelude.{◌≡◌, ◌⊎◌, ℕ, ◌≤◌, true, [], ◌∷◌, map, length, Some, Ok, IfOk, OnOk, OnErr, IsErrOf, codes};
+ghost use Rattle.std.specs.Prelude.{◌≡◌, ◌⊎◌, ℕ, ◌≤◌, ◌<◌, true, [], ◌∷◌, map, length, Some, Ok, Err, IfOk, OnOk, OnErr, IsErrOf, codes};
 ghost use Rattle.std.specs.List.{list_all};
 ghost use Rattle.std.specs.String.{string_bytes};
 ghost use Rattle.mx_check.specs.Judgements.{IsJudgement, judgement_text};
@@ -9,7 +9,8 @@ ghost use Rattle.mx_io.specs.Bytes.{Appends, AppendsPart};
 ghost use Rattle.mx_io.specs.Faults.{Rose};
 ghost use Rattle.mx_drill.specs.Drills.{drill_session};
 ghost use Rattle.mx_proc.specs.Auditors.{HaveRoomForLines, WereTold};
-ghost use Rattle.mx_script.specs.SessionTexts.{fits, rows_of};
+ghost use Rattle.mx_script.specs.FirstBadLine.{IsFirstBad};
+ghost use Rattle.mx_script.specs.SessionTexts.{IsText, fits, rows_of};
 ghost use Rattle.mx_spelling.specs.Spelling.{IsSpellable};
 ghost use Rattle.mx_transcript.specs.Runs.{IsRunOf};
 ghost use Rattle.mx_run.specs.Commands.{IsDrill, IsAccepted, IsReading};
@@ -132,27 +133,27 @@ impl Verdict {
         ensures only { (IsErrOf result Unreached.Fault → ⊥) → S.faults source.new ≡ S.faults source.old }
     {
         match read_all(alloc, source, MOST_BYTES) {
-            Ok(bytes) => Verdict::of_bytes(rt, alloc, &bytes, gate, auditors),
+            Ok(bytes) => Verdict::of_bytes(rt, alloc, bytes, gate, auditors),
             Err(error) => unread(error),
         }
     }
 
-    // The verdict on bytes within the limit. The only error is `Memory`.
+    // The verdict on bytes within the limit, which are let go of before the run. The only error is `Memory`.
     fn of_bytes<R: Threads + Wait + Sync, G: Gate>(
         rt: &R,
         alloc: Global,
-        bytes: &[u8],
+        bytes: Vec<u8>,
         gate: &G,
         auditors: &mut Vec<Box<dyn Auditor + Send>>,
     ) -> Result<Verdict, Unreached>
-        requires within { length bytes.now ≤ 4194304 }
+        requires within { length bytes.items ≤ 4194304 }
         requires room { HaveRoom 700000 (map account auditors.old.items) }
-        ensures right { IfOk result (IsVerdict (codes "run" ∷ []) (Some bytes.now) (Some [])
+        ensures right { IfOk result (IsVerdict (codes "run" ∷ []) (Some bytes.items) (Some [])
             (map account auditors.old.items) (map account auditors.new.items)) }
         ensures grown { HaveGrown (map account auditors.old.items) (map account auditors.new.items) }
         ensures cause { OnErr result (IsErrOf result Unreached.Memory) }
     {
-        match read_session(alloc, bytes) {
+        match session_of_text(alloc, bytes) {
             Ok(session) => {
                 let (journal, transcripts) = ran(rt, alloc, &session, gate, auditors)?;
                 Ok(Verdict::Ran {
@@ -207,6 +208,19 @@ impl Verdict {
             Verdict::TooLong => write(sink, b"too long\n"),
         }
     }
+}
+
+// The session that has this text, whose memory is given back. It is made small and not only let go of: glibc takes a great piece that is freed
+// as a sign that such pieces do not live long, and would put those of the run into its heap, between holes.
+fn session_of_text(alloc: Global, mut bytes: Vec<u8>) -> Result<Session, SessionError>
+    requires { length bytes.items < 4294967295 }
+    ensures found { IfOk result (λ x. IsText bytes.items x) }
+    ensures bad_line { (n : ℕ) → result ≡ Err (SessionError.BadLine n) → IsFirstBad bytes.items n }
+{
+    let session = read_session(alloc, &bytes);
+    bytes.clear();
+    bytes.shrink_to(64);
+    session
 }
 
 // The judgement on a source.

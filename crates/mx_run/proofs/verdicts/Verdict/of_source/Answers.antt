@@ -24,4 +24,4 @@ returns-in-Err-clause-only g c = λ sound.
 pub returns-in-Ok-clause-right : goal.returns-in-Ok-clause-right
 returns-in-Ok-clause-right g c =
     of_read_ok _ _ _ c.in-Ok.bytes.items _ _ c.of_bytes.result refl c.in-Ok.ensures.all c.in-Ok.ensures.within
-    (rw c.deref.ensures.value at c.of_bytes.ensures.right)
+    c.of_bytes.ensures.right
