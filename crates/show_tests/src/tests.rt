@@ -48,7 +48,9 @@ const ENDED: &str =
 const USAGE: &str = "Usage: show COMMAND < SESSION\n\
     \x20 lint             the first bad line of the text, and what is wrong with it\n\
     \x20 lines [TURNS]    runs the session, and tells each line of the run in words\n\
+    \x20 story [TURNS]    runs it, and tells its lines in the order of time\n\
     \x20 picture [TURNS]  runs the session, and draws the run as an SVG\n\
+    \x20 page [TURNS]     the run as one HTML file: drawing, lines, access by entry\n\
     \x20 outcomes [TWO]   runs it in every order of its lines: what each line came to\n\
     \x20 plain            the text without the lines that begin with #\n\
     \x20 breach           of a session with a printed run behind it: legal, or why not\n\
@@ -187,6 +189,10 @@ const COMMANDS: &[Row] = &[
     ("lines", SMALLEST, true, 4096, 3, &[""]),
     ("lint", SMALLEST, false, 3, 4, &["goo"]),
     ("picture", SMALLEST, false, 4, 4, &["<svg"]),
+    ("story", SMALLEST, false, 9, 4, &["processes"]),
+    ("page", SMALLEST, false, 9, 4, &["<!DOCTYPE"]),
+    ("page", SMALLEST, true, 4096, 3, &[""]),
+    ("story 16", SMALLEST, true, 4096, 2, BAD),
 ];
 
 #[test]
