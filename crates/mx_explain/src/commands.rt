@@ -85,7 +85,7 @@ pub fn show<R: Threads + Wait + Sync, S: Source, K: Sink>(
     sink: &mut K,
 ) -> u8
     // Status 0: what the words ask for was written. Where the source is read, it was read to its end, and its bytes are the text of a
-    // session, of which `good`, or a legal run line by line, or one drawn was shown, or what its lines come to in all orders; or the text was printed without its titles; or they
+    // session, of which `good`, or a legal run in the form that is asked for was shown, or what its lines come to in all orders; or the text was printed without its titles; or they
     // are the texts of a session and a run, and it was told that the run is legal, or its breach.
     ensures done { result ≡ 0 → IsDone (map string_bytes words.now) (S.left source.old) (S.left source.new) (K.out sink.old) (K.out sink.new) }
 
