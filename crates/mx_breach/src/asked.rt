@@ -11,10 +11,11 @@ use crate::reads::{Given, allowed};
 use crate::rules::{named_in, own_entry};
 use mx_line::{Called, Next, Reference};
 use mx_parts::kind_of;
+use mx_reasons::Part::{Decimal, Octal, Place, Text};
+use mx_reasons::{add_parts, explain, ring};
 use mx_request::Request;
 use mx_sdw::{Denial, Desc, Op, Word, judge, new_ring};
-use mx_show::Part::{Decimal, Octal, Place, Text};
-use mx_show::{access_word, add_parts, explain, extent, kind_word, ring};
+use mx_show::{access_word, extent, kind_word};
 use mx_transcript::{Element, Event, Event2, Outcome, entry_at};
 use std::alloc::{AllocError, Global};
 

@@ -13,10 +13,10 @@ ghost use Rattle.mx_state.specs.Plain.{Plain};
 use crate::printed::add_entry;
 use mx_fresh::PlainSupervisor;
 use mx_legal::supervisor_at;
+use mx_reasons::Part::{Decimal, Text};
+use mx_reasons::{add_parts, ring};
 use mx_request::{Reply, RequestClass};
 use mx_script::Session;
-use mx_show::Part::{Decimal, Text};
-use mx_show::{add_parts, ring};
 use mx_state::{Entry, Journal, State};
 use std::alloc::{AllocError, Global};
 

@@ -12,8 +12,8 @@ use crate::runs::Run;
 use crate::wrong_reads::add_read;
 use mx_access::Access;
 use mx_parts::Departure;
-use mx_show::Part::{Decimal, Text};
-use mx_show::add_parts;
+use mx_reasons::Part::{Decimal, Text};
+use mx_reasons::add_parts;
 use mx_transcript::{Event, Event2, Result2, setup_entries};
 use std::alloc::{AllocError, Global};
 

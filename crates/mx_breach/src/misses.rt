@@ -8,8 +8,8 @@ use crate::lines::BadLine;
 use crate::points::{bounds_of, own_deeds};
 use crate::printed::add_event;
 use crate::probes::{access_on, is_change_at};
-use mx_show::Part::{Decimal, Octal, Text};
-use mx_show::add_parts;
+use mx_reasons::Part::{Decimal, Octal, Text};
+use mx_reasons::add_parts;
 use mx_transcript::{Event, Event2, entry_at};
 use std::alloc::{AllocError, Global};
 

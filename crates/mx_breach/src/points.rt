@@ -3,8 +3,8 @@
 use crate::bounds::{Bounds, bounds_at};
 use crate::lines::BadLine;
 use crate::probes::row;
-use mx_show::Part::{Decimal, Text};
-use mx_show::add_parts;
+use mx_reasons::Part::{Decimal, Text};
+use mx_reasons::add_parts;
 use mx_stores::Deed;
 use mx_transcript::setup_entries;
 use std::alloc::AllocError;

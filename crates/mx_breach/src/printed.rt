@@ -1,9 +1,10 @@
 //! Events, results and entries as a run prints them.
 
+use mx_reasons::Part::{Decimal, Octal, Place, Text};
+use mx_reasons::{add_parts, add_printable, ring};
 use mx_request::{Reply, Request};
 use mx_sdw::Ring;
-use mx_show::Part::{Decimal, Octal, Place, Text};
-use mx_show::{add_parts, add_printable, kind_word, ring};
+use mx_show::kind_word;
 use mx_transcript::{Element, Event, Event2, Outcome, Result2};
 use std::alloc::{AllocError, Global};
 

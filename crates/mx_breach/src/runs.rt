@@ -6,8 +6,8 @@ ghost use Rattle.mx_script.specs.SessionTexts.{fits, rows_of};
 ghost use Rattle.mx_spelling.specs.Spelling.{fits_entry};
 
 use crate::rules::named_in;
+use mx_reasons::add_printable;
 use mx_script::Session;
-use mx_show::add_printable;
 use mx_state::Journal;
 use mx_transcript::{Event2, Transcripts, first_line};
 use std::alloc::{AllocError, Global};

@@ -11,7 +11,7 @@ use crate::verdicts::tell_breach;
 use itoa::Buffer;
 use mx_both::{Both, ReadBoth, read_both};
 use mx_io::{ReadError, Sink, Source, read_all, write_all};
-use mx_show::ShowError;
+use mx_lines::ShowError;
 use std::alloc::{AllocError, Global};
 use std::thread::Threads;
 

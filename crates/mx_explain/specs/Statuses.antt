@@ -18,7 +18,7 @@ use Rattle.mx_picture.specs.Drawings.{GainsDrawing}
 use Rattle.mx_script.specs.FirstBadLine.{IsFirstBad}
 use Rattle.mx_script.specs.Sessions.{Outline}
 use Rattle.mx_script.specs.SessionTexts.{IsText, IsSomeSession, session_text}
-use Rattle.mx_show.specs.Lines.{GainsLines}
+use Rattle.mx_lines.specs.Lines.{GainsLines}
 use Rattle.mx_state.specs.declared.journal.Entry as journaled
 use Rattle.mx_story.specs.Printing.{GainsStory}
 

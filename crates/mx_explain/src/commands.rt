@@ -22,13 +22,13 @@ use mx_commands::{
 use mx_drill::{session_of, session_text};
 use mx_explore::{outcomes_text, pair_text};
 use mx_io::{ReadError, Sink, Source, read_all, write_all};
+use mx_lines::{ShowError, show_lines};
 use mx_lint::{Diagnosis, Finding, lint};
 use mx_list::Bytes;
 use mx_page::show_page;
 use mx_picture::show_picture;
 use mx_proc::{NoGate, run, run_in_order};
 use mx_script::Session;
-use mx_show::{ShowError, show_lines};
 use mx_state::Journal;
 use mx_story::show_story;
 use mx_transcript::Transcripts;

@@ -1,10 +1,11 @@
 //! What each entry of a journal changes of the processes' accesses.
 
 use indexmap::IndexMap;
+use mx_judging::{Access, Replay};
 use mx_request::Reply;
 use mx_script::Session;
 use mx_sdw::DescKind;
-use mx_show::{Access, Ledger, Renewal, Replay};
+use mx_show::{Ledger, Renewal};
 use mx_state::{Entry, Journal};
 use std::alloc::{AllocError, Global};
 

@@ -7,10 +7,11 @@ ghost use Rattle.mx_page.specs.Pages.{GainsBottom, GainsTop};
 use crate::escapes::add_escaped;
 use crate::script::{SCRIPT, STYLE};
 use mx_io::{Sink, write_all};
+use mx_lines::ShowError;
+use mx_reasons::Part::{Decimal, Text};
+use mx_reasons::add_parts;
 use mx_request::Entrant;
 use mx_script::Session;
-use mx_show::Part::{Decimal, Text};
-use mx_show::{ShowError, add_parts};
 use mx_state::Journal;
 use std::alloc::{AllocError, Global};
 
@@ -74,7 +75,7 @@ fn add_counts(
     out.extend_from_slice(words.as_bytes())
 }
 
-fn counted(count: usize) -> mx_show::Part<'static> {
+fn counted(count: usize) -> mx_reasons::Part<'static> {
     Decimal(u32::try_from(count).unwrap_or(u32::MAX))
 }
 

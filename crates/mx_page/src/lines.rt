@@ -7,18 +7,20 @@ ghost use Rattle.mx_page.specs.Pages.{Gains};
 
 use crate::escapes::add_escaped;
 use mx_io::{Sink, write_all};
+use mx_judging::{Accesses, judge_all};
+use mx_lines::{
+    ShowError, add_heading, add_left_out, add_request_line, add_script_line, send_when_long,
+};
+use mx_reasons::Part::{Decimal, Text};
+use mx_reasons::add_parts;
 use mx_request::Request;
 use mx_script::{Line, Session};
-use mx_show::Part::{Decimal, Text};
-use mx_show::{
-    Accesses, Notes, ShowError, Teller, add_heading, add_left_out, add_parts, add_request_line,
-    add_script_line, judge_all, send_when_long,
-};
+use mx_show::{Notes, Teller};
 use mx_state::Journal;
 use mx_transcript::{Event, Event2, Result2, Transcript, Transcripts, first_line};
 use std::alloc::{AllocError, Global};
 
-/// Sends the lines of the setup and of each process, as `mx_show` tells them.
+/// Sends the lines of the setup and of each process, as `mx_lines` tells them.
 pub(crate) fn send_lines<K: Sink>(
     alloc: Global,
     session: &Session,

@@ -8,13 +8,13 @@ ghost use Rattle.mx_page.specs.Pages.{Gains};
 use crate::courses::{Course, Turn};
 use crate::escapes::add_quoted;
 use mx_io::{Sink, write_all};
+use mx_judging::Access;
+use mx_lines::{ShowError, send_when_long};
+use mx_reasons::Part::{self, Decimal, Octal, Text};
+use mx_reasons::add_parts;
 use mx_request::Entrant;
 use mx_script::Session;
-use mx_show::Part::{self, Decimal, Octal, Text};
-use mx_show::{
-    Access, ShowError, access_word, add_parts, add_reply, extent, id_text, is_unmatched,
-    send_when_long,
-};
+use mx_show::{access_word, add_reply, extent, id_text, is_unmatched};
 use mx_state::{Entry, Journal};
 use mx_transcript::Transcripts;
 use std::alloc::{AllocError, Global};

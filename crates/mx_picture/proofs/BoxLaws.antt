@@ -6,9 +6,9 @@ use Rattle.mx_text.specs.Printing.{IsSent}
 use Rattle.mx_script.specs.Sessions.{Outline}
 use Rattle.mx_state.specs.declared.journal.Entry as journaled
 use Rattle.mx_transcript.specs.Transcripts.{Step}
-use Rattle.mx_show.specs.Judging.{AreAccesses}
-use Rattle.mx_show.specs.References.{AreReferences}
-use Rattle.mx_show.specs.declared.replays.Judged.{Judged}
+use Rattle.mx_judging.specs.Judging.{AreAccesses}
+use Rattle.mx_judging.specs.References.{AreReferences}
+use Rattle.mx_judging.specs.declared.replays.Judged.{Judged}
 use Rattle.mx_picture.specs.declared.layout.Layout.{Layout}
 use Rattle.mx_picture.specs.declared.layout.Placed.{Placed}
 use Rattle.mx_picture.specs.Boxes.{AreBoxes, DrawsBoxes, GainsBoxes, GainsReferences, IsBoxBehind, IsUpTo, head_text, judged_of, labelled, lane_top}

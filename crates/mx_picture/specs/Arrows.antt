@@ -2,7 +2,7 @@
 use Rattle.std.specs.Prelude.{◌≡◌, ℕ, ◌+◌, ◌*◌}
 use Rattle.mx_core.specs.declared.elements.Outcome.{Outcome}
 use Rattle.mx_core.specs.declared.elements.Outcome.TheVariants as outcome
-use Rattle.mx_show.specs.declared.replays.Judged.{Judged}
+use Rattle.mx_judging.specs.declared.replays.Judged.{Judged}
 
 -- the cell of a reference
 abbrev pub cell_of : Judged → ℕ

@@ -6,12 +6,12 @@ mod values;
 mod wanted;
 
 use crate::ledger::{Ledger, Own};
-use crate::parts::Part::{Decimal, Octal, Text};
-use crate::parts::{add_parts, add_printable};
 use crate::tree::{Caller, Led, Thing};
 use mx_aim::Class;
 use mx_hier::Refusal;
 use mx_name::{Path, Pathname};
+use mx_reasons::Part::{Decimal, Octal, Text};
+use mx_reasons::{add_parts, add_printable};
 use mx_request::Request;
 use mx_state::Entry;
 use numbers::{add_ended, add_processes};

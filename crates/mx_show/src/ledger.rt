@@ -1,12 +1,12 @@
 //! What the entries of a journal leave: the hierarchy, and what each process has of its own.
 
 use crate::tree::{Caller, Led, ROOT, Tree, resolved};
-use crate::wants::{Use, closing};
 use indexmap::IndexMap;
 use mx_aim::Class;
 use mx_kst::Known;
 use mx_name::{EntryName, Path, Principal};
 use mx_object::ObjectMap;
+use mx_reasons::{Use, closing};
 use mx_request::{Reply, Request, last_number};
 use mx_script::Session;
 use mx_search::{Rule, Rules};

@@ -1,10 +1,10 @@
 //! What a segment number stands for, and of which numbers an entry changes that.
 
 use crate::ledger::{Ledger, Lot};
-use crate::parts::Part::{Octal, Text};
-use crate::parts::{add_parts, add_printable};
 use crate::tree::{Led, ROOT};
 use mx_name::Pathname;
+use mx_reasons::Part::{Octal, Text};
+use mx_reasons::{add_parts, add_printable};
 use mx_request::{Reply, Request};
 use mx_state::Entry;
 use std::alloc::{AllocError, Global};

@@ -2,9 +2,9 @@
 
 use crate::ledger::Ledger;
 use crate::tree::{Caller, Led};
-use crate::wants::{Letter, lacking};
 use mx_hier::Refusal;
 use mx_name::{EntryName, Pathname};
+use mx_reasons::{Letter, lacking};
 use mx_request::Request;
 use std::alloc::{AllocError, Global};
 

@@ -1,19 +1,16 @@
 //! What the lines of one process came to, line by line.
 
 use crate::gates::Gates;
-use crate::judging::{Accesses, FIRST_RING};
 use crate::notes::Notes;
 use crate::numbers::Numbers;
-use crate::parts::Part::{self, Decimal, Octal, Place, Text};
-use crate::parts::{NOTHING, add_parts, add_printable, add_sentences, ring};
-use crate::reasons::{Reason, explain};
-use crate::replays::{Changed, Judged};
-use crate::sources::source_of;
 use crate::words::{
     access_word, add_access, add_lack, add_reply, extent, kind_word, standing, walk_words,
 };
+use mx_judging::{Accesses, Changed, FIRST_RING, Judged, source_of};
 use mx_name::cut;
 use mx_ptr::{Pointer, is_link};
+use mx_reasons::Part::{self, Decimal, Octal, Place, Text};
+use mx_reasons::{NOTHING, Reason, add_parts, add_printable, add_sentences, explain, ring};
 use mx_sdw::{Denial, DescKind, Ring, Word};
 use mx_state::Journal;
 use mx_transcript::{Element, Event, Event2, Kind, Outcome, Result2, entry_at};
@@ -64,7 +61,7 @@ impl<'a> Teller<'a> {
     }
 
     /// Adds the events of a line and how it ended, each on a line of its own. A line that sets A has its word.
-    pub(crate) fn add_step(
+    pub fn add_step(
         &mut self,
         alloc: Global,
         out: &mut String,
@@ -146,7 +143,7 @@ impl<'a> Teller<'a> {
     }
 
     /// Adds which segment numbers the process was given, and what each stands for.
-    pub(crate) fn add_numbers(&self, out: &mut String) -> Result<(), AllocError> {
+    pub fn add_numbers(&self, out: &mut String) -> Result<(), AllocError> {
         self.numbers.add_table(out)
     }
 

@@ -2,7 +2,7 @@
 use Rattle.std.proofs.Common.{◌≡◌, ℕ, List, [], ◌++◌, Option, None, Some, refl, ap, sym, ◌∙◌, subst, append_assoc, append-nil}
 use Rattle.mx_io.specs.Bytes.{Appends}
 use Rattle.mx_script.specs.Sessions.{Outline}
-use Rattle.mx_show.specs.Lines.{opening_text}
+use Rattle.mx_lines.specs.Lines.{opening_text}
 use Rattle.mx_state.specs.declared.journal.Entry as journaled
 use Rattle.mx_text.proofs.PrintingLaws.{sent_then, sent_whole}
 use Rattle.mx_text.specs.Printing.{IsSent}

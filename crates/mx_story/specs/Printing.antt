@@ -2,7 +2,7 @@
 use Rattle.std.specs.Prelude.{◌≡◌, ◌++◌, ℕ, List, Option}
 use Rattle.mx_io.specs.Bytes.{Appends}
 use Rattle.mx_script.specs.Sessions.{Outline}
-use Rattle.mx_show.specs.Lines.{opening_text}
+use Rattle.mx_lines.specs.Lines.{opening_text}
 use Rattle.mx_state.specs.declared.journal.Entry as journaled
 use Rattle.mx_text.specs.Printing.{IsSent}
 

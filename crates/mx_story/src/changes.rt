@@ -1,8 +1,10 @@
 //! What an entry of the journal changed, for whom.
 
+use mx_judging::Changed;
+use mx_reasons::Part::{Decimal, Octal, Text};
+use mx_reasons::{add_parts, add_sentences};
 use mx_sdw::{Aim, Desc, DescKind};
-use mx_show::Part::{Decimal, Octal, Text};
-use mx_show::{Changed, access_word, add_parts, add_sentences, extent, id_text, standing};
+use mx_show::{access_word, extent, id_text, standing};
 use std::alloc::{AllocError, Global};
 
 /// Adds whose access to which segment number changed, from what to what, and the access list entry that decides it now.

@@ -1,11 +1,10 @@
 //! What is told of the events that all processes share: the entries of the journal, one after another.
 
 use crate::changes::add_changed;
-use mx_show::Part::{Decimal, Octal, Place, Text};
-use mx_show::{
-    Accesses, Changed, Judged, Notes, add_missing, add_notes, add_outcome, add_parts, add_reply,
-    kind_word, ring,
-};
+use mx_judging::{Accesses, Changed, Judged};
+use mx_reasons::Part::{Decimal, Octal, Place, Text};
+use mx_reasons::{add_parts, ring};
+use mx_show::{Notes, add_missing, add_notes, add_outcome, add_reply, kind_word};
 use mx_state::Journal;
 use mx_transcript::{Outcome, entry_at};
 use std::alloc::{AllocError, Global};

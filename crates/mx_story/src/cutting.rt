@@ -5,8 +5,8 @@ ghost use Rattle.mx_story.specs.Stories.{AreRising, NeverFalls, times_of};
 ghost use Rattle.mx_story.specs.Cutting.{IsUpTo, all_begun, lines_begun, numbers_of, times};
 
 use crate::courses::{Course, Deed, Moment, Store};
+use mx_judging::{Judged, source_of};
 use mx_script::Session;
-use mx_show::{Judged, source_of};
 use mx_transcript::{Event, Event2, Outcome, Result2, Transcript, setup_entries};
 use std::alloc::{AllocError, Global};
 

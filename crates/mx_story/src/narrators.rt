@@ -4,10 +4,11 @@ use crate::chronicles::Chronicle;
 use crate::columns::{add_below, add_number, add_told};
 use crate::courses::Moment;
 use itoa::Buffer;
+use mx_lines::{add_heading, add_left_out, word_set};
 use mx_request::Request;
 use mx_script::{Line, Session};
 use mx_sdw::Word;
-use mx_show::{Teller, add_heading, add_left_out, element_of, word_set};
+use mx_show::{Teller, element_of};
 use mx_transcript::{Event, Event2, Result2, Steps, Transcript, first_line};
 use std::alloc::{AllocError, Global};
 

@@ -5,8 +5,8 @@ mod cut;
 
 use mx_explain::show;
 use mx_io::{MemorySink, MemorySource};
+use mx_reasons::{Reason, explain};
 use mx_sdw::{Aim, Brackets, Denial, Desc, Ring};
-use mx_show::{Reason, explain};
 use std::alloc::{AllocError, Global};
 use std::sync::Wait;
 use std::test::Fail;

@@ -2,7 +2,7 @@
 
 use super::LEFT;
 use super::walk::Turn;
-use mx_show::FIRST_RING;
+use mx_judging::FIRST_RING;
 use std::alloc::AllocError;
 
 /// What a process does.

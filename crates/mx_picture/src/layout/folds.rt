@@ -1,8 +1,8 @@
 //! Which entries of the journal nothing hangs on, so that they are folded.
 
+use mx_judging::Accesses;
+use mx_reasons::Part::{self, Decimal, Text};
 use mx_request::{Reply, Request};
-use mx_show::Accesses;
-use mx_show::Part::{self, Decimal, Text};
 use mx_state::Entry;
 use std::alloc::{AllocError, Global};
 

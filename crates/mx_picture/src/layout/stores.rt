@@ -5,8 +5,8 @@ ghost use Rattle.mx_core.specs.declared.elements.Outcome.TheVariants as read;
 ghost use Rattle.mx_picture.specs.Arrows.{IsStoreFor, cell_of};
 
 use super::Placed;
+use mx_judging::{Judged, source_of};
 use mx_sdw::Word;
-use mx_show::{Judged, source_of};
 use mx_transcript::Outcome;
 use std::alloc::{AllocError, Global};
 

@@ -2,7 +2,7 @@
 
 use super::walk::Spot;
 use crate::labels::{change_words, text_of};
-use mx_show::Changed;
+use mx_judging::Changed;
 use std::alloc::{AllocError, Global};
 
 /// The width of a character in a change of access, and what stands around all of them.

@@ -7,7 +7,7 @@ use super::bands::Life;
 use super::rows::{Lane, NO_LANE, Row, place_of};
 use super::tags::{Ends, Tag};
 use super::{BOX_STEP, LEAST_RIGHT, LEFT, RIGHT};
-use mx_show::{Changed, FIRST_RING, Judged};
+use mx_judging::{Changed, FIRST_RING, Judged};
 use mx_state::Entry;
 use std::alloc::{AllocError, Global};
 

@@ -11,9 +11,11 @@ use crate::layout::{BOX_HEIGHT, BOX_WIDTH, Layout, Placed};
 use crate::positions::Position;
 use crate::svg::{add_rect, add_text, ink_of};
 use itoa::Buffer;
+use mx_judging::source_of;
+use mx_reasons::Part::{self, Decimal, Octal, Place, Text};
+use mx_reasons::{NOTHING, Reason, explain, ring};
 use mx_sdw::Denial;
-use mx_show::Part::{self, Decimal, Octal, Place, Text};
-use mx_show::{NOTHING, Reason, explain, kind_word, ring, source_of};
+use mx_show::kind_word;
 use mx_transcript::Outcome;
 use std::alloc::{AllocError, Global};
 

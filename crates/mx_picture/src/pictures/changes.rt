@@ -4,9 +4,9 @@ use crate::labels::{change_words, text_of};
 use crate::layout::{Layout, TAG_HEIGHT, Tag, tag_width};
 use crate::positions::Position;
 use crate::svg::{add_line, add_rect, add_text};
+use mx_judging::Changed;
+use mx_reasons::Part::Text;
 use mx_sdw::{Desc, DescKind};
-use mx_show::Changed;
-use mx_show::Part::Text;
 use std::alloc::{AllocError, Global};
 
 /// The line of an entry that took access away.

@@ -7,9 +7,9 @@ use crate::positions::Position;
 use crate::svg::{
     add_disc, add_line, add_rising, add_text, add_words, ink_of, ink_on, ring_colour,
 };
+use mx_reasons::Part::{Decimal, Text};
+use mx_reasons::add_parts;
 use mx_request::Reply;
-use mx_show::Part::{Decimal, Text};
-use mx_show::add_parts;
 use mx_state::Entry;
 use mx_transcript::entry_at;
 use std::alloc::{AllocError, Global};

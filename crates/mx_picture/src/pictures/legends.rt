@@ -6,8 +6,8 @@ use super::lanes::{ABSENT, WAITING};
 use crate::layout::Layout;
 use crate::positions::Position;
 use crate::svg::{Arrow, Way, add_arrow, add_line, add_rect, add_text, ring_colour};
-use mx_show::FIRST_RING;
-use mx_show::Part::Text;
+use mx_judging::FIRST_RING;
+use mx_reasons::Part::Text;
 use std::alloc::AllocError;
 
 /// The height of what stands below the lanes.

@@ -1,10 +1,10 @@
 //! Pathnames and names: which has no path, which is taken, and how many a directory has.
 
 use super::{Told, add_whole_path, first_path};
-use crate::parts::Part::{Decimal, Octal, Text};
-use crate::parts::{add_parts, add_printable, ring};
 use crate::tree::{Led, NoPath, resolved};
 use mx_name::{EntryName, Pathname};
+use mx_reasons::Part::{Decimal, Octal, Text};
+use mx_reasons::{add_parts, add_printable, ring};
 use mx_request::Request;
 use std::alloc::{AllocError, Global};
 

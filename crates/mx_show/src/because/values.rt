@@ -1,11 +1,11 @@
 //! The values of a request: brackets, modes, identifiers, lengths and classes.
 
 use super::{Told, add_classes};
-use crate::parts::Part::{Decimal, Octal, Text};
-use crate::parts::{add_parts, add_printable};
 use crate::words::id_text;
 use mx_acl::AclKind;
 use mx_name::AclId;
+use mx_reasons::Part::{Decimal, Octal, Text};
+use mx_reasons::{add_parts, add_printable};
 use mx_request::Request;
 use mx_sdw::Ring;
 use std::alloc::{AllocError, Global};

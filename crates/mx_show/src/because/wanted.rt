@@ -1,14 +1,12 @@
 //! Which access was wanted at a directory or a segment, what was given, and what of that is not left.
 
 use super::{Told, add_classes, first_path};
-use crate::parts::Part::Text;
-use crate::parts::{add_parts, add_printable, ring};
-use crate::reasons::Bracket;
 use crate::stops::{About, Stop, find_stop, is_left};
-use crate::wants::{Closed, Letter, Use, closing, lacking};
 use crate::words::id_text;
 use mx_acl::{Acl, Modes};
 use mx_hier::Refusal;
+use mx_reasons::Part::Text;
+use mx_reasons::{Bracket, Closed, Letter, Use, add_parts, add_printable, closing, lacking, ring};
 use mx_request::Request;
 use mx_sdw::Aim;
 use std::alloc::{AllocError, Global};

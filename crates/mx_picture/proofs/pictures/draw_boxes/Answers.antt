@@ -1,6 +1,6 @@
 use Rattle.std.proofs.Common.{rules}
 use Rattle.std.proofs.lemmas.List.{drop_all}
-use Rattle.mx_show.proofs.LinesLaws.{drop_next}
+use Rattle.mx_judging.proofs.ReferenceLaws.{drop_next}
 use Rattle.mx_picture.proofs.BoxLaws.{boxes_begun, box_next, boxes_done}
 use Rattle.mx_picture.proofs.pictures.draw_boxes.Goals as goal
 

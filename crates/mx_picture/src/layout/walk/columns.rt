@@ -5,7 +5,7 @@ use crate::labels::{label, text_of};
 use crate::layout::folds::{fold_words, folded};
 use crate::layout::tags::{Tag, tag_width};
 use crate::layout::{ENTRY_WIDTH, RIGHT};
-use mx_show::Changed;
+use mx_judging::Changed;
 use mx_state::Entry;
 use std::alloc::{AllocError, Global};
 

@@ -3,8 +3,8 @@
 use super::{Spot, Turn, Walk};
 use crate::layout::bands::Life;
 use crate::layout::{BOX_WIDTH, ENTRY_WIDTH, entered};
+use mx_judging::{FIRST_RING, Judged};
 use mx_request::{Reply, Request};
-use mx_show::{FIRST_RING, Judged};
 use mx_state::Entry;
 use std::alloc::AllocError;
 

@@ -1,5 +1,5 @@
 use Rattle.std.proofs.lemmas.List.{drop_all}
-use Rattle.mx_show.proofs.LinesLaws.{drop_next}
+use Rattle.mx_judging.proofs.ReferenceLaws.{drop_next}
 use Rattle.mx_story.specs.Cutting.{numbers_of}
 use Rattle.mx_story.proofs.CuttingLaws.{rising_next, begun_next, begun_done}
 use Rattle.mx_story.proofs.cutting.courses_of.Goals as goal

@@ -1,0 +1,4 @@
+pub mod ReplayLaws
+pub mod SortLaws
+pub mod OrderLaws
+pub mod ReferenceLaws

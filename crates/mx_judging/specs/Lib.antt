@@ -1,0 +1,4 @@
+pub mod Replays
+pub mod Judging
+pub mod References
+pub mod Sources

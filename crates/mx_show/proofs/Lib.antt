@@ -1,6 +1,0 @@
-pub mod ReplayLaws
-pub mod SortLaws
-pub mod OrderLaws
-pub mod ReferenceLaws
-pub mod PartLaws
-pub mod LinesLaws
