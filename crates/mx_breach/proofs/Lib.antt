@@ -1,4 +1,2 @@
 mod BesideLaws
 mod CauseLaws
-mod RuleLaws
-mod SourceLaws

@@ -1,4 +1,1 @@
-pub mod Verdicts
 pub mod Causes
-pub mod Rules
-pub mod Sources

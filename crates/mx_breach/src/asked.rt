@@ -8,7 +8,7 @@ use crate::points::floor_at;
 use crate::printed::{add_element, add_end, add_request};
 use crate::probes::{access_on, deed_at, desc_at};
 use crate::reads::{Given, allowed};
-use crate::rules::{named_in, own_entry};
+use mx_broken::{named_in, own_entry};
 use mx_line::{Called, Next, Reference};
 use mx_parts::kind_of;
 use mx_reasons::Part::{Decimal, Octal, Place, Text};

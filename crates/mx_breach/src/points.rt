@@ -1,8 +1,8 @@
 //! Why a reference has a point that it could not, and which it could.
 
-use crate::bounds::{Bounds, bounds_at};
 use crate::lines::BadLine;
 use crate::probes::row;
+use mx_broken::{Bounds, bounds_at};
 use mx_reasons::Part::{Decimal, Text};
 use mx_reasons::add_parts;
 use mx_stores::Deed;

@@ -3,7 +3,7 @@ use Rattle.std.proofs.Common.{◌≡◌, ◌⊎◌, ℕ, ◌≤◌, ◌<◌, fal
 use Rattle.std.specs.Prelude.{nat_eq}
 use Rattle.std.specs.Cmp.Lexicographic.{pointwise}
 use Rattle.mx_commands.proofs.WordLaws.{clash, form_and}
-use Rattle.mx_breach.specs.Sources as breach
+use Rattle.mx_verdicts.specs.Sources as breach
 use Rattle.mx_drill.specs.Drills.{drill_session}
 use Rattle.mx_script.specs.SessionTexts.{session_text}
 use Rattle.mx_io.specs.Bytes.{TakesAll, TakesTooMany, AppendsPart}

@@ -1,7 +1,7 @@
 -- What the statuses of the top call mean. A source's bytes and a sink's are spoken of where they are told.
 use Rattle.std.specs.Prelude.{◌≡◌, ◌⊎◌, ℕ, ◌≤◌, ◌<◌, List, length, Option, codes}
 use Rattle.mx_both.specs.BothTexts.{IsSomeBoth}
-use Rattle.mx_breach.specs.Sources as breach
+use Rattle.mx_verdicts.specs.Sources as breach
 use Rattle.mx_drill.specs.Drills.{drill_session}
 use Rattle.mx_commands.specs.Commands.{IsLint, IsRunAs, IsOutcomes, IsPair, LineName, IsPlain, IsBreach, IsDrill, IsHelp, IsShowing, IsAnswered, IsCommand}
 use Rattle.mx_commands.specs.declared.words.Form.{Form}
@@ -22,7 +22,7 @@ use Rattle.mx_lines.specs.Lines.{GainsLines}
 use Rattle.mx_state.specs.declared.journal.Entry as journaled
 use Rattle.mx_story.specs.Printing.{GainsStory}
 
--- at most so many bytes are read; under `breach`, of a session and a run, as many as `mx_breach` says
+-- at most so many bytes are read; under `breach`, of a session and a run, as many as `mx_verdicts` says
 abbrev pub most_bytes : ℕ
 most_bytes = 4194304
 
@@ -31,12 +31,12 @@ pub record IsRead (source source' : Option (List ℕ)) (spelled : List ℕ) : Ty
   pub taken : TakesAll source source' spelled
   pub within : length spelled ≤ most_bytes
 
--- what the sink gains in each form: the text of `lines`, of all of which the frame is told, the lines in time, a drawing, or a page
+-- what the sink gains in each form: the text of `lines`, the lines in time, of which the frame is told, the drawing, or a page with it
 abbrev pub Gains : Form → Option (List ℕ) → Option (List ℕ) → Outline → List journaled.Entry → List (List Step) → Type 0
 Gains Lines sink sink' x journal transcripts = GainsLines sink sink' x journal transcripts
 Gains Story sink sink' x journal transcripts = GainsStory x journal sink sink'
-Gains Picture sink sink' x journal transcripts = GainsDrawing sink sink'
-Gains Page sink sink' x journal transcripts = GainsPage sink sink'
+Gains Picture sink sink' x journal transcripts = GainsDrawing sink sink' x journal transcripts
+Gains Page sink sink' x journal transcripts = GainsPage sink sink' x journal transcripts
 
 -- the sink gained in this form a run in which each process did all its lines
 pub record IsShownRun (form : Form) (x : Outline) (sink sink' : Option (List ℕ)) : Type 0 where

@@ -14,7 +14,6 @@ ghost use Rattle.mx_explain.specs.Statuses.{IsDone, IsShownRun, IsRefused, IsTol
 ghost use Rattle.mx_commands.specs.Usage.{usage, refusal};
 ghost use Rattle.mx_explain.specs.Views.{ShowsOf, GainsOutcomes, TellsOutcomes, TellsSession, Tells, CutsOff, TellsFrontOfSession, TellsFront};
 
-use mx_breach::tell_source;
 use mx_commands::{
     Command, Form, LineName, Reading, Turns, View, chosen_order, named_order, plain_text, refusal,
     usage,
@@ -32,6 +31,7 @@ use mx_script::Session;
 use mx_state::Journal;
 use mx_story::show_story;
 use mx_transcript::Transcripts;
+use mx_verdicts::tell_source;
 use std::alloc::{AllocError, Global};
 use std::sync::Wait;
 use std::thread::Threads;

@@ -2,7 +2,7 @@
 //!
 //! [`show`] has `mx_commands` read the words. It reads the source, has `mx_lint` read the text and explain it where it is no session, runs
 //! the session with `mx_proc`, and has `mx_lines` tell or `mx_picture` draw the run; or it has `mx_explore` run it in all orders of its lines and tell
-//! what they come to; or it has `mx_breach` judge a printed run; or it prints a text without its titles, the session of a
+//! what they come to; or it has `mx_verdicts` judge a printed run; or it prints a text without its titles, the session of a
 //! drill, or how to use the program. Status 0 means that what the words ask for was written, status 5 that the source held no session
 //! and that the first bad line was named (`Statuses`).
 #![tactic(auto)]

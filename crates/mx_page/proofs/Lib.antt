@@ -1,2 +1,1 @@
-mod EscapeLaws
 mod PageLaws

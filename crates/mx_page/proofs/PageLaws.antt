@@ -2,6 +2,9 @@
 use Rattle.std.proofs.Common.{◌≡◌, ℕ, List, [], ◌++◌, codes, Option, Some, None, refl, sym, ◌∙◌, ap, append_assoc, append-nil}
 use Rattle.mx_io.specs.Bytes.{Appends}
 use Rattle.mx_picture.specs.Drawings.{GainsDrawing}
+use Rattle.mx_script.specs.Sessions.{Outline}
+use Rattle.mx_state.specs.declared.journal.Entry as journaled
+use Rattle.mx_transcript.specs.Transcripts.{Step}
 use Rattle.mx_text.specs.Printing.{IsSent}
 use Rattle.mx_text.proofs.PrintingLaws.{appends_more}
 use Rattle.mx_page.specs.Pages.{Gains, GainsBottom, GainsPage, GainsTop}
@@ -39,9 +42,10 @@ bottom_sent a b c first second = record {
 }
 
 -- the parts make a page
-pub page_sent : (a b c d e f : Option (List ℕ)) → GainsTop a b → GainsDrawing b c → Gains c d → Gains d e → GainsBottom e f
-    → GainsPage a f
-page_sent a b c d e f top drawing lines run bottom =
+pub page_sent : (x : Outline) (journal : List journaled.Entry) (transcripts : List (List Step)) (a b c d e f : Option (List ℕ))
+    → GainsTop a b → GainsDrawing b c x journal transcripts → Gains c d → Gains d e → GainsBottom e f
+    → GainsPage a f x journal transcripts
+page_sent x journal transcripts a b c d e f top drawing lines run bottom =
     let begun = codes "<!DOCTYPE html>" ++ top.above in
     let texts = lines.text ++ (run.text ++ bottom.below) in
     let end = codes "</html>\n" in
@@ -58,7 +62,7 @@ page_sent a b c d e f top drawing lines run bottom =
         above = top.above;
         drawing = drawing.drawing;
         below = texts;
-        framed = drawing.framed;
+        is_drawing = drawing.is_drawing;
         frame = ap (λ xs. begun ++ (drawing.drawing ++ xs)) (sym together)
             ∙ sym (append_assoc begun drawing.drawing (texts ++ end))
             ∙ sym (append_assoc (begun ++ drawing.drawing) texts end);

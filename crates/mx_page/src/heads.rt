@@ -4,8 +4,8 @@ ghost use Rattle.std.specs.Prelude.{◌≡◌, ◌≤◌, ◌++◌, IsErrOf, OnO
 ghost use Rattle.mx_io.specs.Faults.{Rose};
 ghost use Rattle.mx_page.specs.Pages.{GainsBottom, GainsTop};
 
-use crate::escapes::add_escaped;
 use crate::script::{SCRIPT, STYLE};
+use mx_escapes::add_escaped;
 use mx_io::{Sink, write_all};
 use mx_lines::ShowError;
 use mx_reasons::Part::{Decimal, Text};

@@ -5,7 +5,7 @@ ghost use Rattle.mx_io.specs.Faults.{Rose};
 ghost use Rattle.mx_transcript.specs.Legal.{IsLegal};
 ghost use Rattle.mx_page.specs.Pages.{Gains};
 
-use crate::escapes::add_escaped;
+use mx_escapes::add_escaped;
 use mx_io::{Sink, write_all};
 use mx_judging::{Accesses, judge_all};
 use mx_lines::{

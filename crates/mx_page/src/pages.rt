@@ -28,7 +28,7 @@ pub fn show_page<K: Sink>(
     sink: &mut K,
 ) -> Result<(), ShowError>
     requires legal { IsLegal session.now journal.now transcripts.now }
-    ensures shown { OnOk result (GainsPage (K.out sink.old) (K.out sink.new)) }
+    ensures shown { OnOk result (GainsPage (K.out sink.old) (K.out sink.new) session.now journal.now transcripts.now) }
     ensures cause { IsErrOf result ShowError.Fault → Rose (K.faults sink.old) (K.faults sink.new) }
     ensures only { (IsErrOf result ShowError.Fault → ⊥) → K.faults sink.new ≡ K.faults sink.old }
     ensures later { K.faults sink.old ≤ K.faults sink.new }

@@ -6,7 +6,7 @@ ghost use Rattle.mx_transcript.specs.Legal.{IsLegal};
 ghost use Rattle.mx_page.specs.Pages.{Gains};
 
 use crate::courses::{Course, Turn};
-use crate::escapes::add_quoted;
+use mx_escapes::add_quoted;
 use mx_io::{Sink, write_all};
 use mx_judging::Access;
 use mx_lines::{ShowError, send_when_long};

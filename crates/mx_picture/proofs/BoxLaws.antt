@@ -11,7 +11,7 @@ use Rattle.mx_judging.specs.References.{AreReferences}
 use Rattle.mx_judging.specs.declared.replays.Judged.{Judged}
 use Rattle.mx_picture.specs.declared.layout.Layout.{Layout}
 use Rattle.mx_picture.specs.declared.layout.Placed.{Placed}
-use Rattle.mx_picture.specs.Boxes.{AreBoxes, DrawsBoxes, GainsBoxes, GainsReferences, IsBoxBehind, IsUpTo, head_text, judged_of, labelled, lane_top}
+use Rattle.mx_picture.specs.Boxes.{AreBoxes, DrawsBoxes, GainsBoxes, IsBoxBehind, IsUpTo, head_text, judged_of, labelled, lane_top}
 use Rattle.mx_picture.specs.Drawings.{Draws, GainsDrawing}
 use Rattle.mx_picture.proofs.PieceLaws.{sent_none, sent_piece}
 
@@ -106,24 +106,17 @@ boxes_gained layout a b c d e none opened rest boxed drawn closed empty begin be
       gained = sent_whole a d e (text ++ end) closed all last;
     }
 
--- such a drawing has the frame of an SVG
-pub framed : (layout : Layout) (a b : Option (List ℕ)) → GainsBoxes a b layout → GainsDrawing a b
-framed layout a b gained = record {
+-- the references of a layout are those that were judged
+pub drawing_gained : (layout : Layout) (x : Outline) (journal : List journaled.Entry) (transcripts : List (List Step)) (judged : List Judged)
+    (a b : Option (List ℕ)) → judged_of layout ≡ judged → AreReferences transcripts judged → AreAccesses x journal judged
+    → GainsBoxes a b layout → GainsDrawing a b x journal transcripts
+drawing_gained layout x journal transcripts judged a b same all accesses gained = record {
   drawing = gained.drawing;
-  framed = record {
-    marks = gained.has.behind ++ (gained.has.boxes ++ gained.has.above);
-    frame = gained.has.frame;
+  is_drawing = record {
+    layout = layout;
+    has = gained.has;
+    references = subst (AreReferences transcripts) (sym same) all;
+    accesses = subst (AreAccesses x journal) (sym same) accesses;
   };
   gained = gained.gained;
-}
-
--- the references of a layout are those that were judged
-pub references : (layout : Layout) (x : Outline) (journal : List journaled.Entry) (transcripts : List (List Step)) (judged : List Judged)
-    (a b : Option (List ℕ)) → judged_of layout ≡ judged → AreReferences transcripts judged → AreAccesses x journal judged
-    → GainsBoxes a b layout → GainsReferences a b x journal transcripts
-references layout x journal transcripts judged a b same all accesses gained = record {
-  layout = layout;
-  references = subst (AreReferences transcripts) (sym same) all;
-  accesses = subst (AreAccesses x journal) (sym same) accesses;
-  gained = gained;
 }

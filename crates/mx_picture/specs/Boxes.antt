@@ -3,11 +3,6 @@ use Rattle.std.specs.Prelude.{◌≡◌, ℕ, ◌+◌, ◌*◌, ◌-◌, false, 
 use Rattle.std.specs.Fmt.{decimal}
 use Rattle.mx_io.specs.Bytes.{Appends}
 use Rattle.mx_text.specs.Printing.{IsSent}
-use Rattle.mx_script.specs.Sessions.{Outline}
-use Rattle.mx_state.specs.declared.journal.Entry as journaled
-use Rattle.mx_transcript.specs.Transcripts.{Step}
-use Rattle.mx_judging.specs.Judging.{AreAccesses}
-use Rattle.mx_judging.specs.References.{AreReferences}
 use Rattle.mx_judging.specs.declared.replays.Judged.{Judged}
 use Rattle.mx_picture.specs.declared.layout.Layout.{Layout}
 use Rattle.mx_picture.specs.declared.layout.Placed.{Placed}
@@ -81,12 +76,3 @@ pub record GainsBoxes (before after : Option (List ℕ)) (layout : Layout) : Typ
 -- the references that were placed, in their order
 abbrev pub judged_of : Layout → List Judged
 judged_of layout = map (λ (p : Placed). p.judged) layout.placed.items
-
--- the sink gained a drawing with a box for each of the references that were placed: these are the references of the run, each
--- once and those of a process in its order, and each has the access that it was judged on
-pub record GainsReferences (before after : Option (List ℕ)) (x : Outline) (journal : List journaled.Entry)
-    (transcripts : List (List Step)) : Type 0 where
-  pub layout : Layout
-  pub references : AreReferences transcripts (judged_of layout)
-  pub accesses : AreAccesses x journal (judged_of layout)
-  pub gained : GainsBoxes before after layout

@@ -3,7 +3,7 @@
 ghost use Rattle.std.specs.Prelude.{◌≡◌, ◌≤◌, map, OnOk, IsErrOf};
 ghost use Rattle.mx_io.specs.Faults.{Rose};
 ghost use Rattle.mx_transcript.specs.Legal.{IsLegal};
-ghost use Rattle.mx_picture.specs.Boxes.{DrawsBoxes, GainsBoxes, GainsReferences};
+ghost use Rattle.mx_picture.specs.Boxes.{DrawsBoxes, GainsBoxes};
 ghost use Rattle.mx_picture.specs.Drawings.{Draws, GainsDrawing};
 
 mod arrows;
@@ -40,11 +40,9 @@ pub fn show_picture<K: Sink>(
     sink: &mut K,
 ) -> Result<(), ShowError>
     requires legal { IsLegal session.now journal.now transcripts.now }
-    ensures drawn { OnOk result (GainsDrawing (K.out sink.old) (K.out sink.new)) }
-
     // One box for each reference of the run, in the lane of its process; each reference has the access that it was judged on,
     // and those of a process are in its order.
-    ensures references { OnOk result (GainsReferences (K.out sink.old) (K.out sink.new) session.now journal.now transcripts.now) }
+    ensures drawn { OnOk result (GainsDrawing (K.out sink.old) (K.out sink.new) session.now journal.now transcripts.now) }
     ensures cause { IsErrOf result ShowError.Fault → Rose (K.faults sink.old) (K.faults sink.new) }
     ensures only { (IsErrOf result ShowError.Fault → ⊥) → K.faults sink.new ≡ K.faults sink.old }
     ensures later { K.faults sink.old ≤ K.faults sink.new }

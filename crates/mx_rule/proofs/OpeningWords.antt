@@ -1,5 +1,5 @@
 -- The words of the opening show the opening world.
-use Rattle.std.proofs.Common.{◌≡◌, ◌≢◌, ℕ, suc, ◌+◌, ◌*◌, ◌-◌, ◌<◌, ◌≤◌, List, [], ◌∷◌, length, set, refl, ap, sym, ◌∙◌, subst, Some, arith}
+use Rattle.std.proofs.Common.{◌≡◌, ◌≢◌, ℕ, zero, suc, ◌+◌, ◌*◌, ◌-◌, ◌<◌, ◌≤◌, List, [], ◌∷◌, ◌++◌, length, replicate, set, refl, ap, sym, ◌∙◌, subst, Some, arith}
 use Rattle.std.specs.Prelude.{nat_lt}
 use Rattle.std.specs.List.{slice_get}
 use Rattle.std.proofs.lemmas.Bool.{lt-ltb, le-ltb}
@@ -70,6 +70,26 @@ blank_content y start (CellAt c) part = go y.processes (y.numbers * y.processes)
   where
     go : (P B start c : ℕ) → blank_by P B start (2 + 2 * P + B + c) ≡ 0
     go P B start c = cell_is P B start (2 + 2 * P + B + c) (omega arith)
+
+-- words up to the first cell, and then a zero for each cell
+zeros_added : (xs : List ℕ) (f : ℕ → ℕ) (more : ℕ) → Lists xs f → ((i : ℕ) → length xs ≤ i → f i ≡ 0)
+    → Lists (xs ++ replicate more 0) f
+zeros_added [] f zero has zeros n under = absurd (omega (arith, under))
+zeros_added [] f (suc more) has zeros zero under = ap Some (sym (zeros 0 (omega arith)))
+zeros_added [] f (suc more) has zeros (suc n) under =
+    zeros_added [] (λ i. f (suc i)) more (λ i l. absurd (omega (arith, l))) (λ i l. zeros (suc i) (omega arith)) n
+    (omega (arith, under))
+zeros_added (x ∷ xs) f more has zeros zero under = has 0 (omega arith)
+zeros_added (x ∷ xs) f more has zeros (suc n) under =
+    zeros_added xs (λ i. f (suc i)) more (λ i l. has (suc i) (omega (arith, l))) (λ i l. zeros (suc i) (omega (arith, l))) n
+    (omega (arith, under))
+
+pub cells_blank : (y : Layout) (start : ℕ) (words : List ℕ) (more : ℕ) → length words ≡ number_in y (CellAt 0)
+    → Lists words (blank_number y start) → Lists (words ++ replicate more 0) (blank_number y start)
+cells_blank y start words more many has = zeros_added words (blank_number y start) more has zeros
+  where
+    zeros : (i : ℕ) → length words ≤ i → blank_number y start i ≡ 0
+    zeros i low = cell_is y.processes (y.numbers * y.processes) start i (omega (arith, low, many))
 
 pub blanks_show : (y : Layout) (start : ℕ) (words : List ℕ) → length words ≡ words_in y
     → Lists words (blank_number y start)

@@ -46,16 +46,17 @@ fn blank(layout: &Layout, start: u32, word: usize) -> u64
     0
 }
 
-/// All words where no number of a process is known.
+/// All words where no number of a process is known; the cells, which are most of them, are zero.
 fn blanks(alloc: Global, layout: &Layout, start: u32) -> Result<Vec<u64>, AllocError>
     ensures { IfOk result (λ words. (vec_len words ≡ words_in layout.now)
         × Lists words.items (blank_number layout.now start)) }
 {
     let count = layout.words();
     let mut words = Vec::with_capacity(alloc, count)?;
-    for word in 0..count {
+    for word in 0..layout.cell(0) {
         words.push(blank(layout, start, word))?;
     }
+    words.resize(count, 0)?;
     Ok(words)
 }
 

@@ -1,3 +1,1 @@
-pub mod OrderLaws
-pub mod CuttingLaws
 pub mod PrintingLaws

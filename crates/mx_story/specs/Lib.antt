@@ -1,4 +1,1 @@
-pub mod Stories
-pub mod Ordering
-pub mod Cutting
 pub mod Printing

@@ -2,9 +2,9 @@
 
 use crate::chronicles::Chronicle;
 use crate::columns::{add_below, add_number, add_told};
-use crate::courses::Moment;
 use itoa::Buffer;
 use mx_lines::{add_heading, add_left_out, word_set};
+use mx_moments::Moment;
 use mx_request::Request;
 use mx_script::{Line, Session};
 use mx_sdw::Word;

@@ -6,13 +6,11 @@ ghost use Rattle.mx_transcript.specs.Legal.{IsLegal};
 ghost use Rattle.mx_story.specs.Printing.{GainsStory, PrintsSome};
 
 use crate::chronicles::Chronicle;
-use crate::courses::Course;
-use crate::cutting::courses_of;
 use crate::narrators::Narrator;
-use crate::order::{Turn, in_time};
 use mx_io::{Sink, write_all};
 use mx_judging::{Accesses, judge_all};
 use mx_lines::{ShowError, add_opening, send_when_long};
+use mx_moments::{Course, Turn, courses_of, in_time};
 use mx_script::Session;
 use mx_show::{Notes, Teller};
 use mx_state::Journal;
