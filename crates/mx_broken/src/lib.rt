@@ -10,6 +10,7 @@ mod runs;
 
 pub use bounds::{Bounds, bounds_at, last_miss};
 pub use rules::{
-    Broken, Rule, bad_line, broken_at, events_before, line_before, named_before, named_in, own_entry,
+    Broken, Rule, bad_line, broken_at, events_before, line_before, named_before, named_in,
+    own_entry,
 };
 pub use runs::Run;
