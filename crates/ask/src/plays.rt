@@ -164,16 +164,11 @@ impl Answer {
     }
 }
 
-// Whether a copy of the request is written as it was read.
+// Whether the request is written as it was read.
 fn is_written_again(alloc: Global, request: &Request, text: &[u8]) -> Result<bool, AllocError> {
     let mut line = Vec::new(alloc);
-    write_copy(request, &mut line)?;
+    request.append_to(&mut line)?;
     Ok(line.as_slice() == text)
-}
-
-fn write_copy(request: &Request, line: &mut Vec<u8>) -> Result<(), AllocError> {
-    let copy = request.copy()?;
-    copy.append_to(line)
 }
 
 // Whose descriptors changed: a process and a segment number each, in octal, or `none`.

@@ -60,7 +60,7 @@ fn step<S: PlainSupervisor>(
     ensures { OnOk result (IsAt session.now entries.now (at + 1) (S.state supervisor.new) uses.new) }
 {
     let entry = &entries[at as usize];
-    let answered = supervisor.apply(alloc, entry.process, entry.ring, &entry.request)?;
+    let answered = supervisor.apply(alloc, entry.process, entry.ring, entry.request())?;
     note(uses, &answered.given, at + 1);
     Ok(())
 }

@@ -106,7 +106,7 @@ pub(crate) fn add_next_entry(
                 Text(": "),
             ],
         )?;
-        add_request(alloc, out, &entry.request)?;
+        add_request(alloc, out, entry.request())?;
     }
     out.push_str("\n")
 }

@@ -244,7 +244,7 @@ fn add_unnamed(alloc: Global, out: &mut String, run: &Run<'_>, p: usize) -> Resu
         ],
     )?;
     if let Some(entry) = entry_at(run.journal, number) {
-        add_request(alloc, out, &entry.request)?;
+        add_request(alloc, out, entry.request())?;
     }
     out.push_str(
         "\n  the journal's order: the lines of a process name each of its entries, and none names this one\n",

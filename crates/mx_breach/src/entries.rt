@@ -63,7 +63,7 @@ pub fn entry_cause(session: &Session, place: usize, entry: &Entry) -> EntryCause
 fn is_of_path(entry: &Entry) -> bool
     ensures { IsTrue result ↔ (class_of entry.now.request ≡ OfPath) }
 {
-    match entry.request.class() {
+    match entry.request().class() {
         RequestClass::OfPath => true,
         RequestClass::OfProcess | RequestClass::OfSupervisor => false,
     }
@@ -102,7 +102,7 @@ pub(crate) fn add_bad_entry(
         number,
         entry.process,
         entry.ring,
-        &entry.request,
+        entry.request(),
         &entry.reply,
     )?;
     out.push_str("\n")?;
@@ -185,7 +185,7 @@ fn add_right(
                 number,
                 entry.process,
                 entry.ring,
-                &entry.request,
+                entry.request(),
                 &reply,
             )?;
             out.push_str("\n")
@@ -210,6 +210,6 @@ fn right_reply(
         return Ok(None);
     }
     let mut supervisor = supervisor_at::<State>(alloc, session, journal, place)?;
-    let answered = supervisor.apply(alloc, entry.process, entry.ring, &entry.request)?;
+    let answered = supervisor.apply(alloc, entry.process, entry.ring, entry.request())?;
     Ok(Some(answered.reply))
 }

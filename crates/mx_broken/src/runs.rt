@@ -36,8 +36,8 @@ impl<'a> Run<'a> {
         };
         let mut bytes = Vec::new(alloc);
         if p == 0 {
-            if let Some(request) = self.session.setup().items().get(place) {
-                request.append_to(&mut bytes)?;
+            if let Some(shared) = self.session.setup().items().get(place) {
+                shared.request().append_to(&mut bytes)?;
             }
         } else if let Some(script) = self.session.scripts().items().get(p - 1) {
             if let Some(line) = script.items().get(place) {

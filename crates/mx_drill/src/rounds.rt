@@ -8,8 +8,8 @@ ghost use Rattle.mx_request.specs.declared.requests.Request.TheVariants.{SetAcl}
 
 use crate::names::{driller_id, segment_path};
 use mx_acl::Modes;
-use mx_request::Request;
-use mx_script::{Base, BoxedRequest, Line, Operand, Script};
+use mx_request::{Request, SharedRequest};
+use mx_script::{Base, Line, Operand, Script};
 use mx_sdw::Word;
 use std::alloc::{AllocError, Global};
 
@@ -37,8 +37,8 @@ pub(crate) fn script(alloc: Global, number: u32, p: u8) -> Result<Script, AllocE
 fn asked(alloc: Global, request: Request) -> Result<Line, AllocError>
     ensures { IfOk result (λ line. line ≡ Line.Ask request) }
 {
-    let boxed = BoxedRequest::new(alloc, request)?;
-    Ok(Line::Ask(boxed))
+    let shared = SharedRequest::new(alloc, request)?;
+    Ok(Line::Ask(shared))
 }
 
 fn initiation(alloc: Global, s: u8) -> Result<Line, AllocError>

@@ -6,7 +6,7 @@ ghost use Rattle.mx_drill.specs.Drills.{drill_process, one_to_four, segment_setu
 use crate::names::{driller, drillers_id, everyone_id, root, segment_path};
 use crate::rounds::script;
 use mx_acl::Modes;
-use mx_request::{Request, Requests};
+use mx_request::{Request, Requests, SharedRequest};
 use mx_script::{Principals, Scripts, Session};
 use mx_sdw::Ring;
 use std::alloc::{AllocError, Global};
@@ -32,11 +32,12 @@ fn setup(alloc: Global) -> Result<Requests, AllocError>
     ensures { IfOk result (λ setup. setup ≡ drill_setup) }
 {
     let mut setup = Requests::new(alloc);
-    setup.push(Request::SetAcl {
+    let access = Request::SetAcl {
         path: root(alloc)?,
         id: drillers_id(),
         modes: Modes::Sma,
-    })?;
+    };
+    setup.push(SharedRequest::new(alloc, access)?)?;
     for s in 1..5 {
         add_segment(alloc, &mut setup, s)?;
     }
@@ -52,16 +53,18 @@ fn add_segment(alloc: Global, setup: &mut Requests, s: u8) -> Result<(), AllocEr
     let Some(ring) = Ring::new(4) else {
         unreachable!()
     };
-    setup.push(Request::CreateSeg {
+    let segment = Request::CreateSeg {
         path: segment_path(alloc, s)?,
         words: WORDS,
         brackets: [ring, ring, ring],
-    })?;
-    setup.push(Request::SetAcl {
+    };
+    let access = Request::SetAcl {
         path: segment_path(alloc, s)?,
         id: everyone_id(),
         modes: Modes::Rw,
-    })
+    };
+    setup.push(SharedRequest::new(alloc, segment)?)?;
+    setup.push(SharedRequest::new(alloc, access)?)
 }
 
 fn principals(alloc: Global) -> Result<Principals, AllocError>

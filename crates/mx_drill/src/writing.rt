@@ -3,12 +3,13 @@
 ghost use Rattle.std.specs.Prelude.{◌≡◌, ◌++◌, ◌∷◌, [], map, length, IfOk, OnOk};
 ghost use Rattle.mx_script.specs.SessionTexts.{asked, class_part, history_rows, process_rows, session_text};
 ghost use Rattle.mx_drill.specs.Writing.{rows_text};
+ghost use Rattle.mx_request.specs.RequestTexts.{request_text};
 ghost use Rattle.mx_script.specs.declared.rows.Row.TheVariants.{Header as HeaderRow, Line as LineRow, Process as ProcessRow};
 
 use itoa::Buffer;
 use mx_aim::Class;
 use mx_list::Bytes;
-use mx_request::{Entrant, Request};
+use mx_request::{Entrant, SharedRequest};
 use mx_script::{Line, Script, Session};
 use mx_sdw::write_octal;
 use std::alloc::{AllocError, Global};
@@ -51,13 +52,20 @@ fn add_history(out: &mut Vec<u8>, history: Option<u32>) -> Result<(), AllocError
     Ok(())
 }
 
-fn add_setup(out: &mut Vec<u8>, setup: &[Request]) -> Result<(), AllocError>
+fn add_setup(out: &mut Vec<u8>, setup: &[SharedRequest]) -> Result<(), AllocError>
     ensures { OnOk result (out.new.items ≡ out.old.items ++ rows_text (map asked setup.now)) }
 {
     for request in setup {
-        request.append_to(out)?;
+        add_request(out, request)?;
         out.extend_from_slice(b"\n")?;
     }
+    Ok(())
+}
+
+fn add_request(out: &mut Vec<u8>, request: &SharedRequest) -> Result<(), AllocError>
+    ensures { OnOk result (out.new.items ≡ out.old.items ++ request_text request.now) }
+{
+    request.request().append_to(out)?;
     Ok(())
 }
 

@@ -48,7 +48,7 @@ pub(crate) fn create(
             brackets,
             map,
         } => {
-            let given = hierarchy.create_object(alloc, who, path, *words, *brackets, map)?;
+            let given = hierarchy.create_object(alloc, who, path, *words, *brackets, map.map())?;
             Ok(Runs::given(given))
         }
         Request::CreateLink { path, target } => {

@@ -201,7 +201,7 @@ impl<'a> Replay<'a> {
         let entry = &self.journal[self.at];
         let applied = self
             .state
-            .apply(alloc, entry.process, entry.ring, &entry.request)?;
+            .apply(alloc, entry.process, entry.ring, entry.request())?;
         self.at += 1;
         let number = u32::try_from(self.at).unwrap_or(u32::MAX);
         let (held, changed) = (&mut self.held, &mut self.changed);

@@ -89,7 +89,7 @@ fn is_good_entry<S: PlainSupervisor>(
     if !is_in_place(session, place, entry) || !may_ask(session.principals().items().len(), entry) {
         return Ok(false);
     }
-    let answered = supervisor.apply(alloc, entry.process, entry.ring, &entry.request)?;
+    let answered = supervisor.apply(alloc, entry.process, entry.ring, entry.request())?;
     is_same_reply(alloc, &answered.reply, &entry.reply)
 }
 
@@ -107,7 +107,7 @@ fn is_in_place(session: &Session, place: usize, entry: &Entry) -> bool
 fn may_ask(processes: usize, entry: &Entry) -> bool
     ensures { IsTrue result ↔ ((entry.now.process ≤ processes) × (entry.now.process ≡ 0 → class_of entry.now.request ≡ OfPath)) }
 {
-    let is_of_path = match entry.request.class() {
+    let is_of_path = match entry.request().class() {
         RequestClass::OfPath => true,
         RequestClass::OfProcess | RequestClass::OfSupervisor => false,
     };

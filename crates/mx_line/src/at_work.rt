@@ -588,7 +588,7 @@ fn asked(line: &Line, control: &Control, reply: &Reply) -> LineAtWork
     ensures good { IsGoodWork control.now result }
 {
     match line {
-        Line::Ask(boxed) => replied(control, boxed.request(), reply),
+        Line::Ask(shared) => replied(control, shared.request(), reply),
         Line::Set { .. }
         | Line::Epp { .. }
         | Line::Lda { .. }

@@ -36,7 +36,8 @@ impl<'a, B: Sitting> Office<'a, B> {
     {
         let p = pass.process();
         let mut locked = self.lock.lock(rt);
-        let entry = match locked.serve(rt, alloc, pass, self.shared(), ring, &Request::Block) {
+        let request = self.block_request();
+        let entry = match locked.block(rt, alloc, pass, self.shared(), ring, request) {
             Ok(served) if served.answer.is_waiting() => served.number,
             Ok(served) => {
                 self.let_go(locked, &Request::Block);
@@ -49,7 +50,7 @@ impl<'a, B: Sitting> Office<'a, B> {
         self.bells
             .ring(Woken::by(&Request::Block, locked.is_full()));
         let mut locked = self.sleep(rt, locked, p);
-        match locked.resume(rt, alloc, pass, self.shared(), ring) {
+        match locked.resume(rt, alloc, pass, self.shared(), ring, self.resume_request()) {
             Ok(resume) => {
                 self.let_go(locked, &Request::Resume);
                 Ok(Blocked::Resumed { entry, resume })

@@ -9,7 +9,7 @@ ghost use Rattle.mx_office.specs.Serving.{HasEntered, HasMetLimit, HasSettled, I
 ghost use Rattle.mx_office.specs.declared.answers.Answer.TheVariants.{Waiting};
 ghost use Rattle.mx_office.specs.declared.answers.EnterError.TheVariants.{HistoryFull, Memory};
 ghost use Rattle.mx_office.specs.declared.answers.Served.{Served as ServedValue};
-ghost use Rattle.mx_request.specs.declared.requests.Request.TheVariants.{Resume};
+ghost use Rattle.mx_request.specs.declared.requests.Request.TheVariants.{Block, Resume};
 ghost use Rattle.mx_script.specs.Sessions.{limit_of};
 
 use crate::answers::{EnterError, Served};
@@ -17,7 +17,7 @@ use crate::finishing::finish;
 use crate::naming::Sitting;
 use crate::serving::{serve, settle_for};
 use mx_desc::{Pass, Passes, Super};
-use mx_request::Request;
+use mx_request::SharedRequest;
 use mx_rule::{Board, Words};
 use mx_sdw::Ring;
 use mx_state::{Entry, Journal};
@@ -76,7 +76,7 @@ impl<'a, B: Sitting> Locked<'a, B> {
         pass: &mut Pass<Entry, B>,
         shared: &Board<Entry>,
         ring: Ring,
-        request: &Request,
+        request: &SharedRequest,
     ) -> Result<Served, EnterError>
         requires fits { shared.now.table_id ≡ B.table }
         requires layout { shared.now.key.layout ≡ B.layout }
@@ -113,6 +113,28 @@ impl<'a, B: Sitting> Locked<'a, B> {
         )
     }
 
+    /// The `block` of a process, in one hold of the lock.
+    pub(crate) fn block<R: Wait>(
+        &mut self,
+        rt: &R,
+        alloc: Global,
+        pass: &mut Pass<Entry, B>,
+        shared: &Board<Entry>,
+        ring: Ring,
+        request: &SharedRequest,
+    ) -> Result<Served, EnterError>
+        requires request { request.now ≡ Block }
+        requires fits { shared.now.table_id ≡ B.table }
+        requires layout { shared.now.key.layout ≡ B.layout }
+        ensures entered { (served : ServedValue) → result ≡ Ok served
+            → HasEntered B.session B.setup ring Block served pass.old pass.new }
+        ensures full { (length : ℕ) → result ≡ Err (HistoryFull length)
+            → HasMetLimit B.session length pass.old pass.new }
+        ensures memory { result ≡ Err Memory → pass.new ≡ pass.old }
+    {
+        self.serve(rt, alloc, pass, shared, ring, request)
+    }
+
     /// The `resume` of a process that waited, in one hold of the lock. Condition: nothing keeps it asleep any more. Its
     /// answer is then not `waiting`.
     pub(crate) fn resume<R: Wait>(
@@ -122,7 +144,9 @@ impl<'a, B: Sitting> Locked<'a, B> {
         pass: &mut Pass<Entry, B>,
         shared: &Board<Entry>,
         ring: Ring,
+        request: &SharedRequest,
     ) -> Result<Served, EnterError>
+        requires request { request.now ≡ Resume }
         requires fits { shared.now.table_id ≡ B.table }
         requires layout { shared.now.key.layout ≡ B.layout }
         requires awake { IsStuck B.session self.old pass.old.view.process → ⊥ }
@@ -133,7 +157,7 @@ impl<'a, B: Sitting> Locked<'a, B> {
             → HasMetLimit B.session length pass.old pass.new }
         ensures memory { result ≡ Err Memory → pass.new ≡ pass.old }
     {
-        self.serve(rt, alloc, pass, shared, ring, &Request::Resume)
+        self.serve(rt, alloc, pass, shared, ring, request)
     }
 
     /// Whether a process that waits has to sleep: the run goes on, the journal has room, and `resume` would be answered

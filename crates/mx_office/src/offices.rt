@@ -6,13 +6,14 @@ ghost use Rattle.mx_office.specs.Ends.{HasFinished};
 ghost use Rattle.mx_office.specs.Serving.{HasEntered, HasMetLimit, HasSettled};
 ghost use Rattle.mx_office.specs.declared.answers.EnterError.TheVariants.{HistoryFull, Memory};
 ghost use Rattle.mx_office.specs.declared.answers.Served.{Served as ServedValue};
+ghost use Rattle.mx_request.specs.declared.requests.Request.TheVariants.{Block, Resume};
 
 use crate::answers::{EnterError, Served};
 use crate::locked::Locked;
 use crate::naming::Sitting;
 use crate::waking::{Bells, Woken};
 use mx_desc::{Pass, Passes};
-use mx_request::Request;
+use mx_request::{Request, SharedRequest};
 use mx_rule::{Board, Words};
 use mx_sdw::Ring;
 use mx_state::{Entry, Journal};
@@ -28,23 +29,36 @@ pub struct Office<'a, B: Sitting> {
     pub(crate) lock: Mutex<Locked<'a, B>>,
     pub(crate) bells: Bells,
     pub(crate) words: Words<Entry>,
+    /// The `block` and the `resume` of all processes, which so take no room in the journal.
+    block: SharedRequest,
+    resume: SharedRequest,
+    ghost blocks: { block ≡ Block },
+    ghost resumes: { resume ≡ Resume },
     ghost here: { words.shared.table_id ≡ B.table },
     ghost laid: { words.shared.key.layout ≡ B.layout },
     ghost bare: { words.shared.table_id.slots ≡ 0 },
 }
 
 impl<'a, B: Sitting> Office<'a, B> {
-    /// The office of a run. Takes no memory. Conditions: the words are those of the run.
-    pub fn new(locked: Locked<'a, B>, words: Words<Entry>) -> Office<'a, B>
+    /// The office of a run. Conditions: the words are those of the run. The only error is want of memory.
+    pub fn new(
+        alloc: Global,
+        locked: Locked<'a, B>,
+        words: Words<Entry>,
+    ) -> Result<Office<'a, B>, AllocError>
         requires fits { words.shared.table_id ≡ B.table }
         requires layout { words.shared.key.layout ≡ B.layout }
         requires slots { words.shared.table_id.slots ≡ 0 }
     {
-        Office {
+        let block = SharedRequest::new(alloc, Request::Block)?;
+        let resume = SharedRequest::new(alloc, Request::Resume)?;
+        Ok(Office {
             lock: Mutex::new(locked),
             bells: Bells::new(),
             words,
-        }
+            block,
+            resume,
+        })
     }
 
     /// The shared words, which all use without a lock.
@@ -53,6 +67,20 @@ impl<'a, B: Sitting> Office<'a, B> {
         ensures layout { result.now.key.layout ≡ B.layout }
     {
         &self.words.shared
+    }
+
+    /// The `block` that all processes hold together.
+    pub fn block_request(&self) -> &SharedRequest
+        ensures { result.now ≡ Block }
+    {
+        &self.block
+    }
+
+    /// The `resume` that all processes hold together.
+    pub(crate) fn resume_request(&self) -> &SharedRequest
+        ensures { result.now ≡ Resume }
+    {
+        &self.resume
     }
 
     /// A request of a process, in one hold of the lock; then those are woken whose wait it ended. Waits for the lock, and
@@ -64,7 +92,7 @@ impl<'a, B: Sitting> Office<'a, B> {
         alloc: Global,
         pass: &mut Pass<Entry, B>,
         ring: Ring,
-        request: &Request,
+        request: &SharedRequest,
     ) -> Result<Served, EnterError>
         ensures entered { (served : ServedValue) → result ≡ Ok served
             → HasEntered B.session B.setup ring request.now served pass.old pass.new }
@@ -74,7 +102,7 @@ impl<'a, B: Sitting> Office<'a, B> {
     {
         let mut locked = self.lock.lock(rt);
         let served = locked.serve(rt, alloc, pass, self.shared(), ring, request)?;
-        self.let_go(locked, request);
+        self.let_go(locked, request.request());
         Ok(served)
     }
 
@@ -112,6 +140,8 @@ impl<'a, B: Sitting> Office<'a, B> {
             lock,
             bells: _,
             words,
+            block: _,
+            resume: _,
         } = self;
         lock.into_inner().finish(words, share, passes)
     }

@@ -20,7 +20,7 @@ use crate::settling::settle_fault;
 use mx_core::{Run, Runs};
 use mx_desc::{Pass, Super};
 use mx_list::Sequence;
-use mx_request::Request;
+use mx_request::SharedRequest;
 use mx_rule::Board;
 use mx_sdw::Ring;
 use mx_state::Entry;
@@ -42,7 +42,7 @@ fn apply(
     supervisor: &mut Supervisor,
     p: u8,
     ring: Ring,
-    request: &Request,
+    request: &SharedRequest,
 ) -> Result<Applied, AllocError>
     requires some { 1 ≤ p }
     requires process { p ≤ length supervisor.old.session.principals }
@@ -126,7 +126,7 @@ fn enter_below<R: Wait, B: Sitting>(
     pass: &mut Pass<Entry, B>,
     shared: &Board<Entry>,
     ring: Ring,
-    request: &Request,
+    request: &SharedRequest,
 ) -> Result<Served, AllocError>
     requires fits { shared.now.table_id ≡ B.table }
     requires layout { shared.now.key.layout ≡ B.layout }
@@ -179,7 +179,7 @@ pub(crate) fn serve<R: Wait, B: Sitting>(
     pass: &mut Pass<Entry, B>,
     shared: &Board<Entry>,
     ring: Ring,
-    request: &Request,
+    request: &SharedRequest,
 ) -> Result<Served, EnterError>
     requires fits { shared.now.table_id ≡ B.table }
     requires layout { shared.now.key.layout ≡ B.layout }

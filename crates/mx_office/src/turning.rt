@@ -20,7 +20,7 @@ use crate::locked::Locked;
 use crate::naming::Sitting;
 use crate::offices::Office;
 use mx_desc::Pass;
-use mx_request::Request;
+use mx_request::{Request, SharedRequest};
 use mx_rule::Board;
 use mx_sdw::Ring;
 use mx_state::Entry;
@@ -48,7 +48,14 @@ impl<'a, B: Sitting> Office<'a, B> {
         ensures memory { result ≡ Err Memory → pass.new ≡ pass.old }
     {
         let mut locked = self.lock.lock(rt);
-        let resumed = locked.try_resume(rt, alloc, pass, self.shared(), ring)?;
+        let resumed = locked.try_resume(
+            rt,
+            alloc,
+            pass,
+            self.shared(),
+            ring,
+            self.resume_request(),
+        )?;
         if resumed.is_some() {
             self.let_go(locked, &Request::Resume);
         }
@@ -93,7 +100,9 @@ impl<'a, B: Sitting> Locked<'a, B> {
         pass: &mut Pass<Entry, B>,
         shared: &Board<Entry>,
         ring: Ring,
+        request: &SharedRequest,
     ) -> Result<Option<Served>, EnterError>
+        requires request { request.now ≡ Resume }
         requires fits { shared.now.table_id ≡ B.table }
         requires layout { shared.now.key.layout ≡ B.layout }
         ensures entered { (served : ServedValue) → result ≡ Ok (Some served)
@@ -110,7 +119,7 @@ impl<'a, B: Sitting> Locked<'a, B> {
         if self.is_stuck(pass.process()) {
             return Ok(None);
         }
-        let served = self.resume(rt, alloc, pass, shared, ring)?;
+        let served = self.resume(rt, alloc, pass, shared, ring, request)?;
         Ok(Some(served))
     }
 

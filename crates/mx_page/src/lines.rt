@@ -13,7 +13,7 @@ use mx_lines::{
 };
 use mx_reasons::Part::{Decimal, Text};
 use mx_reasons::add_parts;
-use mx_request::Request;
+use mx_request::SharedRequest;
 use mx_script::{Line, Session};
 use mx_show::{Notes, Teller};
 use mx_state::Journal;
@@ -91,7 +91,7 @@ struct Script<'a> {
 
 #[derive(Clone, Copy)]
 enum Lines<'a> {
-    Setup(&'a [Request]),
+    Setup(&'a [SharedRequest]),
     Process(&'a [Line]),
 }
 

@@ -34,9 +34,26 @@ pub(crate) fn send_table<K: Sink>(
     ensures later { K.faults sink.old ≤ K.faults sink.new }
 {
     let mut course = Course::new(alloc, session, journal)?;
+    send_course(alloc, session, journal.items(), &mut course, sink)?;
+    Ok(())
+}
+
+// The same along a course that is at its beginning.
+fn send_course<K: Sink>(
+    alloc: Global,
+    session: &Session,
+    journal: &[Entry],
+    course: &mut Course,
+    sink: &mut K,
+) -> Result<(), ShowError>
+    ensures sent { OnOk result (Gains (K.out sink.old) (K.out sink.new)) }
+    ensures cause { IsErrOf result ShowError.Fault → Rose (K.faults sink.old) (K.faults sink.new) }
+    ensures only { (IsErrOf result ShowError.Fault → ⊥) → K.faults sink.new ≡ K.faults sink.old }
+    ensures later { K.faults sink.old ≤ K.faults sink.new }
+{
     let mut out = Vec::new(alloc);
-    add_start(alloc, &mut out, session, &mut course)?;
-    send_entries(alloc, journal.items(), &mut course, &mut out, sink)?;
+    add_start(alloc, &mut out, session, course)?;
+    send_entries(alloc, journal, course, &mut out, sink)?;
     out.extend_from_slice(b"\n]}\n</script>\n")?;
     write_all(sink, &out)?;
     Ok(())
@@ -113,7 +130,7 @@ fn add_entry(
 // Adds what was asked for and what was answered.
 fn add_asked(alloc: Global, out: &mut Vec<u8>, entry: &Entry) -> Result<(), AllocError> {
     let mut request = Vec::new(alloc);
-    entry.request.append_to(&mut request)?;
+    entry.request().append_to(&mut request)?;
     out.extend_from_slice(b",\"request\":")?;
     add_quoted(out, &request)?;
     let mut reply = String::new(alloc);

@@ -31,7 +31,7 @@ pub(crate) fn is_asked_call(
             if *ring != entry.ring {
                 return Ok(false);
             }
-            is_called(alloc, line, *ring, called, &entry.request)
+            is_called(alloc, line, *ring, called, entry.request())
         }
         Next::Asks(_) => Ok(false),
         Next::Fills(_) => Ok(false),
@@ -66,7 +66,7 @@ fn is_own(alloc: Global, line: &Line, ring: Ring, request: &Request) -> Result<b
     ensures { IfOk result (λ same. IsTrue same ↔ (own_call line.now ring ≡ Calls ring request.now)) }
 {
     match line {
-        Line::Ask(boxed) => is_same_request(alloc, boxed.request(), request),
+        Line::Ask(shared) => is_same_request(alloc, shared.request(), request),
         Line::Set { .. } => Ok(false),
         Line::Epp { .. } => Ok(false),
         Line::Lda { .. } => Ok(false),

@@ -8,29 +8,21 @@ ghost use Rattle.mx_transcript.specs.Openings.{opening_control};
 ghost use Rattle.mx_upcall.specs.Soundness.{IsPackableControl};
 
 use mx_call::{Regs, stack_base};
-use mx_request::{Request, most_gates};
-use mx_script::{BoxedRequest, Line, Script, Session};
+use mx_request::{SharedRequest, most_gates};
+use mx_script::{Line, Script, Session};
 use mx_sdw::{Ring, Word};
 use mx_upcall::Control;
 use std::alloc::{AllocError, Global};
 
 /// The requests of a setup, as lines. The only error is want of memory.
-pub(crate) fn setup_lines(alloc: Global, requests: &[Request]) -> Result<Script, AllocError>
+pub(crate) fn setup_lines(alloc: Global, requests: &[SharedRequest]) -> Result<Script, AllocError>
     ensures { IfOk result (λ lines. lines ≡ map Ask requests.now) }
 {
     let mut lines = Script::new(alloc);
     for request in requests {
-        lines.push(asked(alloc, request)?)?;
+        lines.push(Line::Ask(request.share()?))?;
     }
     Ok(lines)
-}
-
-// A request as a line.
-fn asked(alloc: Global, request: &Request) -> Result<Line, AllocError>
-    ensures { IfOk result (λ line. line ≡ Ask request.now) }
-{
-    let boxed = BoxedRequest::new(alloc, request.copy()?)?;
-    Ok(Line::Ask(boxed))
 }
 
 /// The registers and gates with which process `p` starts; the initializer's are in ring 0.

@@ -14,7 +14,7 @@ const MOST_LABEL: usize = 40;
 
 /// The request of an entry, cut where it is long, and what it was answered where that says more than `ok`.
 pub(crate) fn label(alloc: Global, entry: &Entry) -> Result<String, AllocError> {
-    let request = request_text(alloc, &entry.request)?;
+    let request = request_text(alloc, entry.request())?;
     let answer = text_of(alloc, &answer(&entry.reply))?;
     let mut label = cut(alloc, &request, MOST_LABEL.saturating_sub(answer.len()))?;
     label.push_str(&answer)?;
@@ -23,7 +23,7 @@ pub(crate) fn label(alloc: Global, entry: &Entry) -> Result<String, AllocError> 
 
 /// The whole request of an entry, and what it was answered.
 pub(crate) fn whole_label(alloc: Global, entry: &Entry) -> Result<String, AllocError> {
-    let mut label = request_text(alloc, &entry.request)?;
+    let mut label = request_text(alloc, entry.request())?;
     add_parts(&mut label, &answer(&entry.reply))?;
     Ok(label)
 }

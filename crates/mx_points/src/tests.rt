@@ -7,7 +7,7 @@ use crate::naming::{Naming, first_misnamed};
 use crate::points::first_bad_point;
 use crate::setup::first_bad_setup;
 use mx_list::Sequence;
-use mx_request::{Reply, Request};
+use mx_request::{Reply, Request, SharedRequest};
 use mx_sdw::Ring;
 use mx_state::{Entry, Journal};
 use mx_stores::{CellUse, Deed, Form};
@@ -52,7 +52,7 @@ fn journal(alloc: Global) -> Result<Journal, AllocError> {
         journal.push(Entry {
             process,
             ring: Ring::new(4).ok_or(AllocError)?,
-            request: Request::Resume,
+            request: SharedRequest::new(alloc, Request::Resume)?,
             reply: Reply::Nobody,
         })?;
     }

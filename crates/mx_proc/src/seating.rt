@@ -73,6 +73,7 @@ pub(crate) fn seat<'a, B: Attending, A: Auditor>(
         share,
         part,
     } = open::<B>(alloc, prepared, blank)?;
+    let office = Office::new(alloc, locked, words)?;
     let mut row = row_of(alloc, session, passes)?;
     let transcripts = Vec::with_capacity(alloc, row.len() + 1)?;
     let passes = Vec::with_capacity(alloc, row.len())?;
@@ -81,7 +82,7 @@ pub(crate) fn seat<'a, B: Attending, A: Auditor>(
     let lent = mem::replace(auditors, back);
     attend(&mut row, lent, &mut beyond);
     Ok(Seated {
-        office: Office::new(locked, words),
+        office,
         row,
         ends: Ends {
             share,

@@ -24,7 +24,7 @@ use mx_desc::Pass;
 use mx_hier::Refusal;
 use mx_line::{LineAtWork, Process as LineState, Progress};
 use mx_office::{Answer, BlockError, Blocked, EnterError, Office, Sitting};
-use mx_request::{Known, Reply, Request};
+use mx_request::{Known, Reply, SharedRequest};
 use mx_script::Line;
 use mx_sdw::Ring;
 use mx_state::Entry;
@@ -53,7 +53,7 @@ impl<'a, B: Attending, A: Auditor> Process<'a, B, A> {
         alloc: Global,
         office: &Office<'_, B>,
         ring: Ring,
-        request: &Request,
+        request: &SharedRequest,
     ) -> Result<Answered, AllocError>
         requires calls { IsCalling B.session self.old ring request.now }
         requires settled { self.old.missing ≡ None }
@@ -73,7 +73,7 @@ impl<'a, B: Attending, A: Auditor> Process<'a, B, A> {
         alloc: Global,
         office: &Office<'_, B>,
         ring: Ring,
-        request: &Request,
+        request: &SharedRequest,
     ) -> Result<Answered, AllocError>
         requires calls { IsCalling B.session self.old ring request.now }
         requires settled { self.old.missing ≡ None }
@@ -179,7 +179,7 @@ fn enter<R: Wait, B: Sitting>(
     alloc: Global,
     office: &Office<'_, B>,
     ring: Ring,
-    request: &Request,
+    request: &SharedRequest,
 ) -> Result<Answered, AllocError>
     requires room { 1 ≤ state.old.recording.spare }
     requires end { IsTrue state.old.recording.line_room }

@@ -19,7 +19,7 @@ use crate::processes::Process;
 use mx_audit::Auditor;
 use mx_line::Progress;
 use mx_office::Office;
-use mx_request::Request;
+use mx_request::{Request, SharedRequest};
 use mx_script::Line;
 use mx_sdw::Ring;
 use std::alloc::{AllocError, Global};
@@ -110,7 +110,7 @@ impl<'a, B: Attending, A: Auditor> Process<'a, B, A> {
         alloc: Global,
         office: &Office<'_, B>,
         line: &Line,
-        request: &Request,
+        request: &SharedRequest,
     ) -> Result<Leg, AllocError>
         requires at { (number : ℕ) × IsAtLine B.session self.old number line.now }
         requires line { line.now ≡ Ask request.now }
@@ -176,7 +176,7 @@ impl<'a, B: Attending, A: Auditor> Process<'a, B, A> {
         ensures awake { result ≡ Ok Waits → ⊥ }
         ensures err { OnErr result (HasGoneOn self.old self.new) }
     {
-        let request = Request::Link { segno, word };
+        let request = SharedRequest::new(alloc, Request::Link { segno, word })?;
         self.make_call(rt, alloc, office, line, ring, &request)
     }
 
@@ -188,7 +188,7 @@ impl<'a, B: Attending, A: Auditor> Process<'a, B, A> {
         office: &Office<'_, B>,
         line: &Line,
         ring: Ring,
-        request: &Request,
+        request: &SharedRequest,
     ) -> Result<Leg, AllocError>
         requires at { (number : ℕ) × IsAtLine B.session self.old number line.now }
         requires awake { line.now ≡ Ask Block → ⊥ }
@@ -219,11 +219,11 @@ impl<'a, B: Attending, A: Auditor> Process<'a, B, A> {
 }
 
 // The request that a line is, if it is one.
-fn request_of(line: &Line) -> Option<&Request>
+fn request_of(line: &Line) -> Option<&SharedRequest>
     ensures { MatchOption result (IsNoRequest line.now) (λ request. line.now ≡ Ask request.now) }
 {
     match line {
-        Line::Ask(boxed) => Some(boxed.request()),
+        Line::Ask(request) => Some(request),
         Line::Set { .. } => None,
         Line::Epp { .. } => None,
         Line::Lda { .. } => None,
@@ -236,8 +236,8 @@ fn request_of(line: &Line) -> Option<&Request>
 }
 
 // Whether a request is `block`.
-fn is_block(request: &Request) -> bool
+fn is_block(request: &SharedRequest) -> bool
     ensures { IsTrue result ↔ (request.now ≡ Block) }
 {
-    matches!(request, Request::Block)
+    matches!(request.request(), Request::Block)
 }

@@ -17,7 +17,6 @@ use crate::processes::Process;
 use mx_audit::Auditor;
 use mx_line::Progress;
 use mx_office::Office;
-use mx_request::Request;
 use std::alloc::{AllocError, Global};
 use std::sync::Wait;
 
@@ -110,7 +109,7 @@ impl<'a, B: Attending, A: Auditor> Process<'a, B, A> {
         ensures err { OnErr result (HasGoneOn self.old self.new) }
     {
         let ring = self.state.control.registers.ring;
-        match self.call(rt, alloc, office, ring, &Request::Block)? {
+        match self.call(rt, alloc, office, ring, office.block_request())? {
             Answered::More => Ok(None),
             Answered::Done => Ok(Some(Turned::Done)),
         }

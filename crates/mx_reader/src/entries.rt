@@ -11,7 +11,7 @@ use crate::cutting::after;
 use crate::fields::{read_entry_number, read_process, read_ring_number};
 use crate::replies::read_any;
 use mx_name::cut;
-use mx_request::Request;
+use mx_request::{Request, SharedRequest};
 use mx_sdw::Ring;
 use mx_state::Entry;
 use std::alloc::{AllocError, Global};
@@ -50,7 +50,7 @@ pub(crate) fn read_fields(
     Ok(Some(Entry {
         process,
         ring,
-        request,
+        request: SharedRequest::new(alloc, request)?,
         reply,
     }))
 }

@@ -7,12 +7,13 @@
 #![tactic(auto)]
 
 mod classes;
-mod copies;
 mod entrants;
 mod laws;
+mod maps;
 mod reading;
 mod replies;
 mod requests;
+mod shared;
 mod versions;
 mod writing;
 
@@ -21,8 +22,10 @@ pub use entrants::Entrant;
 pub use laws::{
     each_reply_has_its_own_text, each_request_has_its_own_line, the_first_word_tells_who_asks,
 };
+pub use maps::BoxedMap;
 pub use mx_kst::Known;
 pub use reading::{read_decimal, read_word_number};
 pub use replies::Reply;
-pub use requests::{Request, Requests};
+pub use requests::Request;
+pub use shared::{Requests, SharedRequest};
 pub use versions::{has_classes, last_number, most_gates};

@@ -11,6 +11,7 @@ mod objects;
 mod rules;
 mod words;
 
+use crate::maps::BoxedMap;
 use crate::requests::Request;
 pub use decimals::read_decimal;
 use fields::{cut_brackets, read_brackets, read_id, read_name, read_path, read_ring};
@@ -158,6 +159,7 @@ fn read_create_object(alloc: Global, fields: &[u8]) -> Result<Option<Request>, A
     let Some(path) = read_path(alloc, path)? else {
         return Ok(None);
     };
+    let map = BoxedMap::new(alloc, map)?;
     let brackets = rings.0;
     Ok(Some(Request::CreateObject {
         path,

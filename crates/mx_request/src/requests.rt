@@ -1,17 +1,15 @@
 //! What a process can ask of the supervisor.
 
-ghost use Rattle.std.specs.Prelude.{◌≡◌, ◌++◌, true, Ok, Some, None, IfOk, OnOk, OnErr};
+ghost use Rattle.std.specs.Prelude.{◌≡◌, ◌++◌, true, Ok, Some, None, OnOk, OnErr};
 ghost use Rattle.mx_request.specs.declared.requests.Request.{Request as RequestValue};
 ghost use Rattle.mx_request.specs.RequestTexts.{request_text, fits_request};
 
-use crate::copies;
+use crate::maps::BoxedMap;
 use crate::reading::read_line;
 use crate::writing::push_request;
 use mx_acl::{AclKind, Modes};
 use mx_aim::Class;
-use mx_list::Sequence;
 use mx_name::{AclId, EntryName, Pathname};
-use mx_object::ObjectMap;
 use mx_sdw::{Ring, Word};
 use mx_search::Rules;
 use std::alloc::{AllocError, Global};
@@ -37,7 +35,7 @@ pub enum Request {
         path: Pathname,
         words: u32,
         brackets: [Ring; 3],
-        map: ObjectMap,
+        map: BoxedMap,
     },
     /// `create_link PATH TARGET`: make a link.
     CreateLink {
@@ -216,9 +214,6 @@ impl Drop for Request {
     }
 }
 
-/// Requests in order, as of a session's setup.
-pub type Requests = Sequence<Request>;
-
 impl Request {
     /// The request whose line this is, without its newline; `None` exactly where no request has this line. WORDS is
     /// decimal with at most five digits, GATE with at most four, a ring one digit, a class one digit and octal up to
@@ -247,58 +242,6 @@ impl Request {
                 out.truncate(length);
                 Err(error)
             }
-        }
-    }
-
-    /// Another such request, which takes memory for its pathnames, its search rules and its map alone.
-    pub fn copy(&self) -> Result<Request, AllocError>
-        ensures { IfOk result (λ request. request ≡ self.now) }
-    {
-        match self {
-            Request::CreateDir { path, d1, d2 } => copies::create_dir(path, *d1, *d2),
-            Request::CreateSeg {
-                path,
-                words,
-                brackets,
-            } => copies::create_seg(path, *words, brackets),
-            Request::CreateObject {
-                path,
-                words,
-                brackets,
-                map,
-            } => copies::create_object(path, *words, brackets, map),
-            Request::CreateLink { path, target } => copies::create_link(path, target),
-            Request::Rename { path, name } => copies::rename(path, name),
-            Request::Delete { path } => copies::delete(path),
-            Request::SetAcl { path, id, modes } => copies::set_acl(path, id, modes),
-            Request::DelAcl { path, id } => copies::del_acl(path, id),
-            Request::SetIacl {
-                path,
-                kind,
-                id,
-                modes,
-            } => copies::set_iacl(path, *kind, id, modes),
-            Request::DelIacl { path, kind, id } => copies::del_iacl(path, *kind, id),
-            Request::SetBrackets { path, brackets } => copies::set_brackets(path, brackets),
-            Request::SetDirBrackets { path, d1, d2 } => copies::set_dir_brackets(path, *d1, *d2),
-            Request::SetClass { path, class } => copies::set_class(path, *class),
-            Request::Status { path } => copies::status(path),
-            Request::List { path } => copies::list(path),
-            Request::ChangeWdir { path } => copies::change_wdir(path),
-            Request::SetRules { rules } => copies::set_rules(rules),
-            Request::Initiate { path, name } => copies::initiate(path, *name),
-            Request::Terminate { segno } => Ok(Request::Terminate { segno: *segno }),
-            Request::Wakeup { to, word } => Ok(Request::Wakeup {
-                to: *to,
-                word: *word,
-            }),
-            Request::Block => Ok(Request::Block),
-            Request::Link { segno, word } => Ok(Request::Link {
-                segno: *segno,
-                word: *word,
-            }),
-            Request::Resume => Ok(Request::Resume),
-            Request::Logout => Ok(Request::Logout),
         }
     }
 }

@@ -19,7 +19,7 @@ mod sessions;
 mod writing;
 
 pub use laws::{a_line_takes_six_bytes, each_text_is_of_one_session};
-pub use lines::{Base, BoxedRequest, Line, Operand, Script, Scripts};
+pub use lines::{Base, Line, Operand, Script, Scripts};
 pub use principals::Principals;
 pub use reading::{SessionError, read_session};
 pub use rows::Row;

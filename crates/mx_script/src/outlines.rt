@@ -9,7 +9,7 @@ use crate::lines::{Base, Line, Operand, Script};
 use mx_aim::Class;
 use mx_name::EntryName;
 use mx_object::ObjectMap;
-use mx_request::{Entrant, Request, RequestClass, has_classes};
+use mx_request::{Entrant, Request, RequestClass, SharedRequest, has_classes};
 
 /// The greatest version of a session.
 const GREATEST_VERSION: u8 = 4;
@@ -22,13 +22,13 @@ pub(crate) fn is_version(version: u8) -> bool
 }
 
 /// Whether a setup may ask all this in a session of the version.
-pub(crate) fn is_setup(version: u8, setup: &[Request]) -> bool
+pub(crate) fn is_setup(version: u8, setup: &[SharedRequest]) -> bool
     ensures { result ≡ list_all (is_setup_request version) setup.now }
 {
     setup.iter().all(
-        |request: &Request| -> bool
-            ensures { result ≡ is_setup_request version request.now }
-        { is_setup_request(version, request) },
+        |shared: &SharedRequest| -> bool
+            ensures { result ≡ is_setup_request version shared.now }
+        { is_setup_request(version, shared.request()) },
     )
 }
 
@@ -69,7 +69,7 @@ fn is_short(request: &Request) -> bool
 {
     match request {
         Request::CreateSeg { words, .. } => *words <= 99_999,
-        Request::CreateObject { words, map, .. } => *words <= 99_999 && is_short_object(map),
+        Request::CreateObject { words, map, .. } => *words <= 99_999 && is_short_object(map.map()),
         Request::Terminate { segno } => *segno <= 0o7777,
         Request::Wakeup { to, .. } => 1 <= *to && *to <= 99,
         Request::CreateDir { .. }
@@ -205,8 +205,8 @@ fn is_script_line(version: u8, line: &Line) -> bool
     ensures { result ≡ is_script_line version line.now }
 {
     match line {
-        Line::Ask(boxed) => {
-            let request = boxed.request();
+        Line::Ask(shared) => {
+            let request = shared.request();
             is_for_script(request.class())
                 && request.since_version() <= version
                 && is_short(request)
@@ -227,8 +227,8 @@ pub(crate) fn may_stand(version: u8, line: &Line) -> bool
     ensures { result ≡ may_stand version line.now }
 {
     match line {
-        Line::Ask(boxed) => {
-            let request = boxed.request();
+        Line::Ask(shared) => {
+            let request = shared.request();
             is_for_script(request.class()) && request.since_version() <= version
         }
         Line::Set { .. } => true,

@@ -48,24 +48,24 @@ pub(crate) fn add_because(
         | Refusal::NotADir
         | Refusal::LinkLoop
         | Refusal::IncorrectAccess
-        | Refusal::NotASeg => told.add_stopped(alloc, out, &entry.request, refusal),
-        Refusal::BadPath => told.add_bad_path(alloc, out, &entry.request),
-        Refusal::NameDup => told.add_taken(alloc, out, &entry.request),
-        Refusal::DirNotEmpty | Refusal::DirFull => told.add_entries(alloc, out, &entry.request),
-        Refusal::BadLength => add_length(out, &entry.request),
-        Refusal::BadBrackets => told.add_brackets(alloc, out, &entry.request),
-        Refusal::InvalidMode => told.add_mode(alloc, out, &entry.request),
-        Refusal::AclFull | Refusal::NoAclEntry => told.add_listed(alloc, out, &entry.request),
-        Refusal::NoPages => told.add_pages(out, &entry.request),
+        | Refusal::NotASeg => told.add_stopped(alloc, out, entry.request(), refusal),
+        Refusal::BadPath => told.add_bad_path(alloc, out, entry.request()),
+        Refusal::NameDup => told.add_taken(alloc, out, entry.request()),
+        Refusal::DirNotEmpty | Refusal::DirFull => told.add_entries(alloc, out, entry.request()),
+        Refusal::BadLength => add_length(out, entry.request()),
+        Refusal::BadBrackets => told.add_brackets(alloc, out, entry.request()),
+        Refusal::InvalidMode => told.add_mode(alloc, out, entry.request()),
+        Refusal::AclFull | Refusal::NoAclEntry => told.add_listed(alloc, out, entry.request()),
+        Refusal::NoPages => told.add_pages(out, entry.request()),
         Refusal::KstFull => told.add_numbers(alloc, out, entry),
-        Refusal::UnknownSegno | Refusal::NotLinkage => told.add_number(alloc, out, &entry.request),
+        Refusal::UnknownSegno | Refusal::NotLinkage => told.add_number(alloc, out, entry.request()),
         Refusal::SegmentNotFound | Refusal::NotObject | Refusal::NoDefinition => {
             told.add_link(alloc, out, entry, refusal)
         }
         Refusal::NoProcess => add_processes(out, ledger),
-        Refusal::Ended => add_ended(out, ledger, &entry.request),
+        Refusal::Ended => add_ended(out, ledger, entry.request()),
         Refusal::MailFull => Ok(()),
-        Refusal::BadClass => told.add_class(alloc, out, &entry.request),
+        Refusal::BadClass => told.add_class(alloc, out, entry.request()),
     }
 }
 

@@ -241,13 +241,13 @@ impl Ledger {
 
     fn apply_done(&mut self, alloc: Global, place: usize, entry: &Entry) -> Result<(), AllocError> {
         self.count_pages(alloc, entry)?;
-        match &entry.request {
+        match entry.request() {
             Request::ChangeWdir { .. }
             | Request::SetRules { .. }
             | Request::Terminate { .. }
             | Request::Logout => {
                 if let Some(own) = self.owns.get_mut(usize::from(entry.process)) {
-                    if own.apply(alloc, place, &entry.request)? {
+                    if own.apply(alloc, place, entry.request())? {
                         self.pages = self.pages.saturating_add(1);
                     }
                 }
@@ -270,7 +270,7 @@ impl Ledger {
 
     // Takes the pages of a new segment, and gives those of a deleted one back.
     fn count_pages(&mut self, alloc: Global, entry: &Entry) -> Result<(), AllocError> {
-        match &entry.request {
+        match entry.request() {
             Request::CreateSeg { words, .. } | Request::CreateObject { words, .. } => {
                 self.pages = self.pages.saturating_sub(pages_for(*words));
             }
@@ -320,7 +320,7 @@ impl Ledger {
 
     // The reference name that a request gives.
     fn name_for(&self, journal: &[Entry], entry: &Entry) -> Option<EntryName> {
-        match &entry.request {
+        match entry.request() {
             Request::Initiate { name, .. } => *name,
             Request::Link { segno, word } => {
                 let own = self.own(entry.process)?;
@@ -341,7 +341,7 @@ impl Ledger {
         let Some(own) = self.own(entry.process) else {
             return Ok(None);
         };
-        match &entry.request {
+        match entry.request() {
             Request::Initiate { path, .. } => {
                 match self.tree.led(alloc, &own.directory, path, true)? {
                     Some(Led::To(at)) => Ok(Some(at)),
@@ -383,8 +383,8 @@ impl Ledger {
     /// The map of an object segment, as the request has it that made it.
     pub(crate) fn map_of<'j>(&self, journal: &'j [Entry], at: u32) -> Option<&'j ObjectMap> {
         let made = self.tree.segment(at)?.made;
-        match &journal.get(made)?.request {
-            Request::CreateObject { map, .. } => Some(map),
+        match journal.get(made)?.request() {
+            Request::CreateObject { map, .. } => Some(map.map()),
             _ => None,
         }
     }
@@ -469,7 +469,7 @@ impl Ledger {
 pub(crate) fn rules_of(alloc: Global, journal: &[Entry], own: &Own) -> Result<Rules, AllocError> {
     if let Some(place) = own.rules {
         if let Some(entry) = journal.get(place) {
-            if let Request::SetRules { rules } = &entry.request {
+            if let Request::SetRules { rules } = entry.request() {
                 return rules.copy();
             }
         }

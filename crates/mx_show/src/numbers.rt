@@ -43,7 +43,7 @@ impl<'a> Numbers<'a> {
 
     /// Notes what an entry of the process gave or took away, by its number in the journal.
     pub(crate) fn note(&mut self, number: u32, entry: &'a Entry) -> Result<(), AllocError> {
-        match (&entry.request, &entry.reply) {
+        match (entry.request(), &entry.reply) {
             (Request::Initiate { path, .. }, Reply::Segno(known)) => {
                 self.give(number, Stands::At(path.bytes()), *known)
             }

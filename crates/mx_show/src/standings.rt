@@ -29,7 +29,7 @@ impl Ledger {
         if !matches!(entry.reply, Reply::Done) {
             return Ok(None);
         }
-        match &entry.request {
+        match entry.request() {
             Request::SetAcl { path, .. } | Request::DelAcl { path, .. } => {
                 let found = self.found(alloc, entry.process, path, true)?;
                 Ok(found.map(Renewal::List))

@@ -168,7 +168,7 @@ pub fn add_reply(alloc: Global, out: &mut String, entry: &Entry) -> Result<(), A
     match &entry.reply {
         Reply::Done => out.push_str("done"),
         Reply::Refused(refusal) => {
-            let why = refusal_words(*refusal, &entry.request);
+            let why = refusal_words(*refusal, entry.request());
             let name = Text(refusal.text());
             add_parts(out, &[Text("refused "), name, Text(": "), Text(why)])
         }

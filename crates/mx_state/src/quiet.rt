@@ -150,7 +150,7 @@ fn create(
             brackets,
             map,
         } => {
-            let given = hier.create_object(alloc, who, path, *words, *brackets, map)?;
+            let given = hier.create_object(alloc, who, path, *words, *brackets, map.map())?;
             Ok(Some(given))
         }
         Request::CreateLink { path, target } => {

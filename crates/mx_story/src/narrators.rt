@@ -5,7 +5,7 @@ use crate::columns::{add_below, add_number, add_told};
 use itoa::Buffer;
 use mx_lines::{add_heading, add_left_out, word_set};
 use mx_moments::Moment;
-use mx_request::Request;
+use mx_request::SharedRequest;
 use mx_script::{Line, Session};
 use mx_sdw::Word;
 use mx_show::{Teller, element_of};
@@ -15,7 +15,7 @@ use std::alloc::{AllocError, Global};
 // The lines of a process: those of the setup are requests.
 #[derive(Clone, Copy)]
 enum Spelled<'a> {
-    Setup(&'a [Request]),
+    Setup(&'a [SharedRequest]),
     Script(&'a [Line]),
 }
 
@@ -130,7 +130,7 @@ impl<'a> Narrator<'a> {
         }
         match self.lines {
             Spelled::Setup(requests) => match requests.get(self.place()) {
-                Some(request) => request.append_to(out),
+                Some(shared) => shared.request().append_to(out),
                 None => Ok(()),
             },
             Spelled::Script(lines) => match lines.get(self.place()) {

@@ -9,7 +9,7 @@ ghost use Rattle.mx_state.specs.Plain.{answer};
 ghost use Rattle.mx_state.specs.Requests.{plain};
 ghost use Rattle.mx_state.specs.Told.{IsLinkedWithin};
 
-use mx_request::Request;
+use mx_request::SharedRequest;
 use mx_sdw::Ring;
 use mx_state::{Applied, Changes, Entry, PageRun, State};
 use std::alloc::{AllocError, Global};
@@ -33,7 +33,7 @@ pub(crate) fn answered(
     state: &mut State,
     p: u8,
     ring: Ring,
-    request: &Request,
+    request: &SharedRequest,
 ) -> Result<Made, AllocError>
     requires { MayAsk state.old p request.now }
     ensures entry { IfOk result (λ came. came.entry ≡ record { process = p; ring = ring; request = request.now; reply = came.entry.reply }) }
@@ -46,8 +46,8 @@ pub(crate) fn answered(
     ensures processes { length state.new.processes ≡ length state.old.processes }
     ensures err { OnErr result (state.new ≡ state.old) }
 {
-    let copy = request.copy()?;
-    let applied = state.apply(alloc, p, ring, request)?;
+    let shared = request.share()?;
+    let applied = state.apply(alloc, p, ring, request.request())?;
     let Applied {
         reply,
         changes,
@@ -57,7 +57,7 @@ pub(crate) fn answered(
     let entry = Entry {
         process: p,
         ring,
-        request: copy,
+        request: shared,
         reply,
     };
     Ok(Made {

@@ -9,7 +9,7 @@ ghost use Rattle.mx_state.specs.History.{MayAsk};
 ghost use Rattle.mx_sup.specs.Setups.{HasSetUp, IsEntered, setup_step, setup_part};
 
 use crate::answering::answered;
-use mx_request::Request;
+use mx_request::SharedRequest;
 use mx_script::Session;
 use mx_sdw::Ring;
 use mx_state::{Entry, State};
@@ -38,7 +38,7 @@ pub(crate) fn enter_setup(
 // Enters one request of the initializer, for which there is room.
 fn enter(
     alloc: Global,
-    request: &Request,
+    request: &SharedRequest,
     state: &mut State,
     journal: &mut Vec<Entry>,
 ) -> Result<(), AllocError>

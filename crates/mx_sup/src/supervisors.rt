@@ -15,7 +15,7 @@ ghost use Rattle.mx_sup.specs.declared.supervisors.EnterError.TheVariants.{Memor
 use crate::answering::answered;
 use crate::setups::{enter_setup, entry_in, setup_part};
 use mx_list::Sequence;
-use mx_request::{Reply, Request};
+use mx_request::{Reply, SharedRequest};
 use mx_script::Session;
 use mx_sdw::{Desc, Ring};
 use mx_state::{Changes, Entry, Journal, PageRun, State};
@@ -105,7 +105,7 @@ impl<'a> Supervisor<'a> {
         alloc: Global,
         p: u8,
         ring: Ring,
-        request: &Request,
+        request: &SharedRequest,
     ) -> Result<Entered, EnterError>
         requires some { 1 ≤ p }
         requires process { p ≤ length self.old.session.principals }

@@ -9,7 +9,7 @@ ghost use Rattle.mx_lines.specs.Printing.{IsToldBehind, IsLineBehind};
 use itoa::Buffer;
 use mx_aim::Class;
 use mx_name::cut;
-use mx_request::{Entrant, Request};
+use mx_request::{Entrant, Request, SharedRequest};
 use mx_script::Line;
 use mx_sdw::{Word, write_octal};
 use mx_show::Teller;
@@ -54,14 +54,14 @@ pub fn add_request_line(
     alloc: Global,
     out: &mut Vec<u8>,
     number: u32,
-    request: &Request,
+    request: &SharedRequest,
     teller: &mut Teller,
     events: &[Event2],
     ends: Result2,
 ) -> Result<(), AllocError>
     ensures { OnOk result (IsLineBehind number (Ask request.now) out.old.items out.new.items) }
 {
-    add_request_head(out, number, request)?;
+    add_request_head(out, number, request.request())?;
     let mut told = String::new(alloc);
     teller.add_step(alloc, &mut told, None, events, ends)?;
     add_told(out, told.as_bytes())

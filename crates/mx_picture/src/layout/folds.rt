@@ -37,7 +37,7 @@ fn is_refused(entry: &Entry) -> bool {
 fn is_of_messages(entry: &Entry) -> bool {
     match entry.reply {
         Reply::Sent | Reply::Message { .. } | Reply::Waiting => true,
-        _ => matches!(entry.request, Request::Resume),
+        _ => matches!(entry.request(), Request::Resume),
     }
 }
 

@@ -24,7 +24,7 @@ pub(super) fn messages_of(alloc: Global, entries: &[Entry]) -> Result<Vec<Messag
     let mut number = 0u32;
     for entry in entries {
         number = number.saturating_add(1);
-        match (&entry.request, &entry.reply) {
+        match (entry.request(), &entry.reply) {
             (Request::Wakeup { to, .. }, Reply::Sent) => {
                 sent.push(Half {
                     receiver: *to,

@@ -40,7 +40,7 @@ pub(crate) fn push_request(out: &mut Vec<u8>, request: &Request) -> Result<(), A
             words,
             brackets,
             map,
-        } => push_object(out, b"create_object", path, *words, brackets, map),
+        } => push_object(out, b"create_object", path, *words, brackets, map.map()),
         Request::CreateLink { path, target } => push_link(out, b"create_link", path, target),
         Request::Rename { path, name } => push_name(out, b"rename", path, name),
         Request::Delete { path } => push_path(out, b"delete", path),

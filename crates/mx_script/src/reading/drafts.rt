@@ -204,7 +204,7 @@ fn add_request(version: u8, setup: &mut Requests, line: Line) -> Result<bool, Al
     match line {
         Line::Ask(request) => {
             if may_prepare(version, request.request()) {
-                setup.push(request.into_request())?;
+                setup.push(request)?;
                 Ok(true)
             } else {
                 Ok(false)

@@ -4,12 +4,12 @@ ghost use Rattle.std.specs.Prelude.{◌≡◌, IfOk, IfSome, Some};
 ghost use Rattle.mx_script.specs.Reading.{IsRow, set_at, epp_at, lda_at, sta_at, spri_at, call_at, return_at, accumulator_at, memory_at, header_row, history_row, plain_at, process_at};
 ghost use Rattle.mx_script.specs.declared.rows.Row.{Row};
 
-use crate::lines::{BoxedRequest, Line};
+use crate::lines::Line;
 use crate::outlines::{is_history, is_version};
 use crate::reading::cutting::after;
 use crate::reading::fields::{read_entrant, read_operand, read_register_operand, read_word};
 use crate::rows::Row;
-use mx_request::{Request, read_decimal};
+use mx_request::{Request, SharedRequest, read_decimal};
 use std::alloc::{AllocError, Global};
 
 /// The row that a line spells, `None` where it spells none.
@@ -51,8 +51,8 @@ fn read_other(alloc: Global, line: &[u8]) -> Result<Option<Row>, AllocError>
     }
     match Request::read(alloc, line)? {
         Some(request) => {
-            let boxed = BoxedRequest::new(alloc, request)?;
-            Ok(Some(Row::Line(Line::Ask(boxed))))
+            let shared = SharedRequest::new(alloc, request)?;
+            Ok(Some(Row::Line(Line::Ask(shared))))
         }
         None => Ok(None),
     }

@@ -102,7 +102,7 @@ impl<'t> Told<'t> {
         entry: &Entry,
         refusal: Refusal,
     ) -> Result<(), AllocError> {
-        let Request::Link { segno, word } = &entry.request else {
+        let Request::Link { segno, word } = entry.request() else {
             return Ok(());
         };
         let Some((name, symbol)) = self.ledger.link_at(self.journal, self.own, *segno, *word) else {

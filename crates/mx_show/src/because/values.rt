@@ -213,6 +213,7 @@ pub(super) fn add_length(out: &mut String, request: &Request) -> Result<(), Allo
     match request {
         Request::CreateSeg { words, .. } => add_words(out, *words),
         Request::CreateObject { words, map, .. } => {
+            let map = map.map();
             if *words == 0 || *words > 1024 {
                 return add_words(out, *words);
             }

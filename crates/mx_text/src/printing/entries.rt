@@ -15,7 +15,7 @@ pub(super) fn add_entry(out: &mut Vec<u8>, number: u64, entry: &Entry) -> Result
     add_field(out, number)?;
     add_field(out, u64::from(entry.process))?;
     add_field(out, u64::from(entry.ring.number()))?;
-    entry.request.append_to(out)?;
+    entry.request().append_to(out)?;
     out.extend_from_slice(b" = ")?;
     entry.reply.append_to(out)?;
     out.extend_from_slice(b"\n")

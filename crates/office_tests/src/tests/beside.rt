@@ -16,7 +16,7 @@ use mx_closing::{Prepared, prepare};
 use mx_desc::{Pass, Passes, Referred};
 use mx_office::{EnterError, Office, Opening, Sitting, open};
 use mx_process::{Attending, Process};
-use mx_request::Request;
+use mx_request::{Request, SharedRequest};
 use mx_rule::Board;
 use mx_script::{Session, read_session};
 use mx_sdw::{Op, Ring, Word};
@@ -136,7 +136,7 @@ fn enter<R: Wait, B: Sitting>(
     office: &Office<'_, B>,
     pass: &mut Pass<Entry, B>,
     ring: Ring,
-    request: &Request,
+    request: &SharedRequest,
 ) -> Result<u32, EnterError>
     ensures { HasKept pass.old pass.new }
 {
@@ -155,7 +155,10 @@ impl<B: Sitting> Outsider<B> {
         line: &[u8],
     ) -> Result<u32, EnterError> {
         match Request::read(alloc, line)? {
-            Some(request) => enter(rt, alloc, office, &mut self.pass, ring, &request),
+            Some(request) => {
+                let shared = SharedRequest::new(alloc, request)?;
+                enter(rt, alloc, office, &mut self.pass, ring, &shared)
+            }
             None => Ok(0),
         }
     }
@@ -403,7 +406,7 @@ fn run<R: Threads + Wait + Sync, B: Attending + Send + Sync>(
     } = open::<B>(alloc, prepared, blank)?;
     let ring = Ring::new(4).ok_or(AllocError)?;
     let players = seated(alloc, session, passes)?;
-    let office = Office::new(locked, words);
+    let office = Office::new(alloc, locked, words)?;
     play(rt, alloc, &office, players, ring)
 }
 

@@ -10,7 +10,7 @@ use mx_closing::{Prepared, prepare};
 use mx_desc::Pass;
 use mx_list::Sequence;
 use mx_office::{EnterError, Office, Opening, Sitting, open};
-use mx_request::Request;
+use mx_request::{Request, SharedRequest};
 use mx_script::{Session, read_session};
 use mx_sdw::Ring;
 use mx_state::Entry;
@@ -36,7 +36,7 @@ fn ask<R: Wait, B: Sitting>(
     office: &Office<'_, B>,
     passes: &mut Vec<Pass<Entry, B>>,
     place: usize,
-    request: &Request,
+    request: &SharedRequest,
 ) -> Result<u32, EnterError>
     ensures { (processes : ℕ) → AreOfAll processes passes.old.items → AreOfAll processes passes.new.items }
 {
@@ -75,11 +75,12 @@ fn run<R: Wait, B: Sitting>(
         share,
         part: _part,
     } = open::<B>(alloc, prepared, blank)?;
-    let office = Office::new(locked, words);
+    let office = Office::new(alloc, locked, words)?;
     let mut passes = passes.into_items();
-    ask(rt, alloc, &office, &mut passes, 1, &Request::Logout)?;
-    ask(rt, alloc, &office, &mut passes, 0, &Request::Block)?;
-    ask(rt, alloc, &office, &mut passes, 0, &Request::Logout)?;
+    let logout = SharedRequest::new(alloc, Request::Logout)?;
+    ask(rt, alloc, &office, &mut passes, 1, &logout)?;
+    ask(rt, alloc, &office, &mut passes, 0, office.block_request())?;
+    ask(rt, alloc, &office, &mut passes, 0, &logout)?;
     let journal = office.finish(share, Sequence::of(passes));
     Ok(journal.items().len())
 }

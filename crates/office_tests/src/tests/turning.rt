@@ -8,7 +8,7 @@ ghost use Rattle.mx_closing.specs.Preparing.{IsPrepared};
 use mx_closing::{Prepared, prepare};
 use mx_desc::Pass;
 use mx_office::{EnterError, Office, Opening, Sitting, open};
-use mx_request::Request;
+use mx_request::{Request, SharedRequest};
 use mx_script::{Session, read_session};
 use mx_sdw::Ring;
 use mx_state::Entry;
@@ -91,7 +91,8 @@ fn asks<R: Wait, B: Sitting>(
 ) -> Result<bool, EnterError> {
     match Request::read(alloc, line)? {
         Some(request) => {
-            let served = office.enter(rt, alloc, pass, ring, &request)?;
+            let shared = SharedRequest::new(alloc, request)?;
+            let served = office.enter(rt, alloc, pass, ring, &shared)?;
             Ok(served.answer.is_waiting())
         }
         None => Ok(false),
@@ -148,7 +149,7 @@ fn play<R: Wait, B: Sitting>(
         part: _part,
     } = open::<B>(alloc, prepared, blank)?;
     let ring = Ring::new(4).ok_or(AllocError)?;
-    let office = Office::new(locked, words);
+    let office = Office::new(alloc, locked, words)?;
     let mut passes = passes.into_items();
     let second = passes.pop().ok_or(AllocError)?;
     let first = passes.pop().ok_or(AllocError)?;

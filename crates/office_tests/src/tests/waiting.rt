@@ -8,7 +8,7 @@ ghost use Rattle.mx_closing.specs.Preparing.{IsPrepared};
 use mx_closing::{Prepared, prepare};
 use mx_desc::Pass;
 use mx_office::{Blocked, Office, Opening, Sitting, open};
-use mx_request::Request;
+use mx_request::{Request, SharedRequest};
 use mx_script::{Session, read_session};
 use mx_sdw::Ring;
 use mx_state::Entry;
@@ -123,7 +123,10 @@ fn asks<R: Wait, B: Sitting>(
     line: &[u8],
 ) -> bool {
     match Request::read(alloc, line) {
-        Ok(Some(request)) => office.enter(rt, alloc, pass, ring, &request).is_ok(),
+        Ok(Some(request)) => match SharedRequest::new(alloc, request) {
+            Ok(shared) => office.enter(rt, alloc, pass, ring, &shared).is_ok(),
+            Err(_) => false,
+        },
         _ => false,
     }
 }
@@ -192,7 +195,7 @@ fn play<R: Threads + Wait + Sync, B: Sitting + Send + Sync>(
         part: _part,
     } = open::<B>(alloc, prepared, blank)?;
     let ring = Ring::new(4).ok_or(AllocError)?;
-    let office = Office::new(locked, words);
+    let office = Office::new(alloc, locked, words)?;
     let mut passes = passes.into_items();
     let second = passes.pop().ok_or(AllocError)?;
     let first = passes.pop().ok_or(AllocError)?;

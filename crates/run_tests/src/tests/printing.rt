@@ -3,7 +3,7 @@
 use mx_io::MemorySink;
 use mx_list::Sequence;
 use mx_ptr::Pointer;
-use mx_request::{Reply, Request};
+use mx_request::{Reply, Request, SharedRequest};
 use mx_sdw::{Denial, Ring};
 use mx_state::{Entry, Journal};
 use mx_text::print;
@@ -22,7 +22,7 @@ fn entry(alloc: Global, maker: (u8, u8), line: &[u8], reply: Reply) -> Result<En
     Ok(Entry {
         process: maker.0,
         ring: ring(maker.1)?,
-        request,
+        request: SharedRequest::new(alloc, request)?,
         reply,
     })
 }

@@ -13,7 +13,7 @@ pub returns-in_ok-given-in-CreateObject-clause-runs : goal.returns-in_ok-given-i
 returns-in_ok-given-in-CreateObject-clause-runs c =
     let it = c.in-CreateObject in
     rw c.given-in-CreateObject.ensures
-    (create_object_next c.args.hierarchy.now c.create_object.new.self (caller c.args.who.now) it.path it.words it.brackets it.map
+    (create_object_next c.args.hierarchy.now c.create_object.new.self (caller c.args.who.now) it.path it.words it.brackets c.map.result.now
     c.in_ok-given-in-CreateObject.given c.in_ok-given-in-CreateObject.ensures.answer c.in_ok-given-in-CreateObject.ensures.run)
 
 pub returns-in_ok-create_link-in-CreateLink-clause-runs : goal.returns-in_ok-create_link-in-CreateLink-clause-runs

@@ -14,7 +14,7 @@ same_request a b e = cc
 pub returns-in-Ask-clause-stands : goal.returns-in-Ask-clause-stands
 returns-in-Ask-clause-stands c = λ request entry own is said.
     let same : c.request.result.now ≡ request
-    = c.request.ensures ∙ same_request c.in-Ask.boxed request (sym c.in-Ask.is ∙ own) in
+    = c.request.ensures ∙ same_request c.in-Ask.shared request (sym c.in-Ask.is ∙ own) in
     let unlinked : IsUnlinked c.request.result.now
     = subst IsUnlinked (sym same) (sayable_unlinked request (subst IsSayable own c.requires.line)) in
     subst (λ (l : Line). StandsAt c.args.control.now l (Answer entry []) c.replied.result) (sym own)

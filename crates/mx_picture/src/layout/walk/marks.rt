@@ -17,7 +17,7 @@ impl Walk {
         };
         self.mark(entry.process, spot, spot)?;
         let (process, ring) = (entry.process, self.ring_of(entry.process));
-        match (&entry.request, &entry.reply) {
+        match (entry.request(), &entry.reply) {
             (_, Reply::Waiting) => self.turn(process, spot, ring, Life::Waiting),
             (Request::Resume, _) => self.turn(process, spot, ring, Life::Running),
             _ => Ok(()),

@@ -11,7 +11,7 @@ returns-in_ok-given-in-CreateSeg-clause-run c =
 pub returns-in_ok-given-in-CreateObject-clause-run : goal.returns-in_ok-given-in-CreateObject-clause-run
 returns-in_ok-given-in-CreateObject-clause-run c =
     let it = c.in-CreateObject in
-    create_object_next c.args.hier.now c.create_object.new.self (caller c.args.who.now) it.path it.words it.brackets it.map
+    create_object_next c.args.hier.now c.create_object.new.self (caller c.args.who.now) it.path it.words it.brackets c.map.result.now
     c.in_ok-given-in-CreateObject.given c.in_ok-given-in-CreateObject.ensures.answer c.in_ok-given-in-CreateObject.ensures.run
 
 pub returns-in_ok-create_link-in-CreateLink-clause-run : goal.returns-in_ok-create_link-in-CreateLink-clause-run

@@ -14,8 +14,9 @@ apply-requires c =
     let found : slice_get c.self.inside.journal.now c.self.inside.at
     ≡ Some (slice_index_or c.self.inside.journal.now c.self.inside.at c.index-self-self.result)
     = subst (λ (e : journaled.Entry). slice_get c.self.inside.journal.now c.self.inside.at ≡ Some e) c.index-self-self.is read in
-    next_may_ask (replayed c.self.inside.session.now c.self.inside.journal.now c.self.inside.at) c.self.inside.state _
-    c.self.invariant found
+    rw c.request.ensures
+    (next_may_ask (replayed c.self.inside.session.now c.self.inside.journal.now c.self.inside.at) c.self.inside.state _
+    c.self.invariant found)
 
 pub invariant_of-self-2 : goal.invariant_of-self-2
 invariant_of-self-2 c =
@@ -26,4 +27,4 @@ invariant_of-self-2 c =
     ≡ Some (slice_index_or c.self.inside.journal.now c.self.inside.at c.index-self-self.result)
     = subst (λ (e : journaled.Entry). slice_get c.self.inside.journal.now c.self.inside.at ≡ Some e) c.index-self-self.is read in
     replay_step (replayed c.self.inside.session.now c.self.inside.journal.now c.self.inside.at) c.self.inside.state
-    c.apply.new.self _ _ c.self.invariant below found c.in_ok-applied.ensures.answer c.in_ok-applied.ensures.processes
+    c.apply.new.self _ _ c.self.invariant below found (rw c.request.ensures at c.in_ok-applied.ensures.answer) c.in_ok-applied.ensures.processes

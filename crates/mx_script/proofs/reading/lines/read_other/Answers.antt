@@ -20,11 +20,11 @@ pub returns-in-Some-read_process-clause-only : goal.returns-in-Some-read_process
 returns-in-Some-read_process-clause-only c =
     λ r is. ap Some (process_alone c.args.line.now c.in-Some-read_process.row r (sym c.read_process.ensures ∙ c.in-Some-read_process.is) is)
 
-pub returns-in_ok-boxed-in-Some-2-clause-only : goal.returns-in_ok-boxed-in-Some-2-clause-only
-returns-in_ok-boxed-in-Some-2-clause-only c =
+pub returns-in_ok-shared-in-Some-2-clause-only : goal.returns-in_ok-shared-in-Some-2-clause-only
+returns-in_ok-shared-in-Some-2-clause-only c =
     λ r is.
     let request = c.in_ok-request.ensures.found c.in-Some-2.request (ap Ok c.in-Some-2.is) in
-    ap (λ (asked : Request). Some (row.Line (Ask asked))) c.in_ok-boxed-in-Some-2.ensures
+    ap (λ (asked : Request). Some (row.Line (Ask asked))) c.in_ok-shared-in-Some-2.ensures
     ∙ ap Some (request_row_alone c.args.line.now c.in-Some-2.request r (sym c.in_default.ensures)
     (sym c.in_default-read_process.ensures) request.0 request.1 is)
 
