@@ -1,2 +1,1 @@
 mod BesideLaws
-mod CauseLaws

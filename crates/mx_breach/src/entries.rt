@@ -1,73 +1,21 @@
-//! Which rule an entry fails, and what is told of it.
+//! What is told of a bad entry.
 
-ghost use Rattle.std.specs.Prelude.{◌≡◌, ◌↔◌, true, length, IsTrue};
+ghost use Rattle.std.specs.Prelude.{◌≡◌, true};
 ghost use Rattle.std.specs.List.{list_all};
-ghost use Rattle.mx_breach.specs.Causes.{Fails};
-ghost use Rattle.mx_legal.specs.Entries.{IsFirstBad, IsGoodEntry};
-ghost use Rattle.mx_request.specs.Classes.{class_of};
-ghost use Rattle.mx_request.specs.declared.classes.RequestClass.TheVariants.{OfPath};
+ghost use Rattle.mx_legal.specs.Entries.{IsFirstBad};
 ghost use Rattle.mx_script.specs.SessionTexts.{fits, rows_of};
 ghost use Rattle.mx_spelling.specs.Spelling.{fits_entry};
-ghost use Rattle.mx_state.specs.Plain.{Plain};
 
 use crate::printed::add_entry;
+use mx_broken::{EntryCause, entry_cause, is_of_path};
 use mx_fresh::PlainSupervisor;
 use mx_legal::supervisor_at;
 use mx_reasons::Part::{Decimal, Text};
 use mx_reasons::{add_parts, ring};
-use mx_request::{Reply, RequestClass};
+use mx_request::Reply;
 use mx_script::Session;
 use mx_state::{Entry, Journal, State};
 use std::alloc::{AllocError, Global};
-
-/// Which rule on the entries of a journal an entry fails.
-#[derive(Clone, Copy, Debug, PartialEq, Eq)]
-pub enum EntryCause {
-    /// It is past the session's limit.
-    PastLimit,
-    /// Its process is none of the session's.
-    NoProcess,
-    /// It stands among the setup's entries, and is not the initializer's.
-    InSetup,
-    /// It is the initializer's, and was made in another ring than 0.
-    OtherRing,
-    /// It is the initializer's, and no request on a path.
-    NoPath,
-    /// It has another reply than the plain supervisor's.
-    OtherReply,
-}
-
-/// The rule that a bad entry fails at its place, counted from 0: of those that it fails the first.
-pub fn entry_cause(session: &Session, place: usize, entry: &Entry) -> EntryCause
-    ensures { (state : Plain) → length state.processes ≡ length session.now.principals
-        → (IsGoodEntry session.now state place entry.now → ⊥) → Fails session.now state place entry.now result }
-{
-    let processes = session.principals().items().len();
-    let is_initializers = entry.process == 0;
-    if place >= session.limit() as usize {
-        EntryCause::PastLimit
-    } else if usize::from(entry.process) > processes {
-        EntryCause::NoProcess
-    } else if !is_initializers && place < session.setup().items().len() {
-        EntryCause::InSetup
-    } else if is_initializers && entry.ring.number() != 0 {
-        EntryCause::OtherRing
-    } else if is_initializers && !is_of_path(entry) {
-        EntryCause::NoPath
-    } else {
-        EntryCause::OtherReply
-    }
-}
-
-// Whether an entry is a request on a path.
-fn is_of_path(entry: &Entry) -> bool
-    ensures { IsTrue result ↔ (class_of entry.now.request ≡ OfPath) }
-{
-    match entry.request().class() {
-        RequestClass::OfPath => true,
-        RequestClass::OfProcess | RequestClass::OfSupervisor => false,
-    }
-}
 
 /// Adds why the first bad entry is bad, and what could stand there.
 pub(crate) fn add_bad_entry(

@@ -1,1 +1,2 @@
 mod RuleLaws
+mod CauseLaws

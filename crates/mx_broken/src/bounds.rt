@@ -3,6 +3,7 @@
 ghost use Rattle.std.specs.Prelude.{◌≡◌, ◌≤◌, drop, length, take};
 ghost use Rattle.mx_points.specs.Seen.{first_entry, greatest, missed, seen};
 
+use mx_points::{first_entry, seen};
 use mx_stores::{Deed, Form};
 
 /// What the point of a deed, or the entry of a miss, is compared with.
@@ -46,18 +47,6 @@ pub fn last_miss(deeds: &[Deed], place: usize, segno: u16) -> u32
     last
 }
 
-// The greatest number of an entry that a process has seen by a deed.
-fn seen(deed: &Deed) -> u32
-    ensures { result ≡ seen deed.now }
-{
-    match deed.form() {
-        Form::Enters { number } => *number,
-        Form::Stores { point, .. } | Form::Refers { point } => *point,
-        Form::Loads { stamp, point, .. } => (*stamp).max(*point),
-        Form::Misses { by, .. } => *by,
-    }
-}
-
 // The entry by which a deed missed a segment number, 0 where it did not.
 fn missed(deed: &Deed, segno: u16) -> u32
     ensures { result ≡ missed segno deed.now }
@@ -66,16 +55,4 @@ fn missed(deed: &Deed, segno: u16) -> u32
         Form::Enters { .. } | Form::Stores { .. } | Form::Loads { .. } | Form::Refers { .. } => 0,
         Form::Misses { segno: own, by } => if *own == segno { *by } else { 0 },
     }
-}
-
-// The number of the first entry among the deeds.
-fn first_entry(deeds: &[Deed]) -> Option<u32>
-    ensures { result ≡ first_entry deeds.now }
-{
-    for deed in deeds {
-        if let Some(number) = deed.entry() {
-            return Some(number);
-        }
-    }
-    None
 }

@@ -13,8 +13,6 @@ mod finishing;
 mod laws;
 mod opening;
 mod preparing;
-#[cfg(test)]
-mod tests;
 
 pub use finishing::finish;
 pub use laws::closing_law;

@@ -1,11 +1,13 @@
 -- A line whose operand is not indirect makes its own reference first, at its target.
-use Rattle.std.proofs.Common.{◌≡◌, ℕ, max, Bool, true, false, List, [], ◌∷◌, ◌++◌, Option, Some, None, IfSome, IsSome, refl, sym, ◌∙◌, ap}
+use Rattle.std.proofs.Common.{◌≡◌, ℕ, max, Bool, true, false, List, [], ◌∷◌, ◌++◌, Option, Some, None, IfSome, IsSome, inl, inr, refl, sym, ◌∙◌, ap, subst}
 use Rattle.std.specs.Option.{option_map}
 use Rattle.std.specs.Prelude.{MatchOption}
 use Rattle.std.proofs.Math.Nat.{max-zero}
 use Rattle.mx_call.specs.Registers.{Registers, raised_to}
+use Rattle.mx_core.specs.Judging.{kind_of}
 use Rattle.mx_core.specs.declared.elements.Element.{Element}
 use Rattle.mx_core.specs.declared.elements.Event.TheVariants.{Seen}
+use Rattle.mx_core.specs.declared.elements.Kind.TheVariants.{Ind}
 use Rattle.mx_core.specs.declared.elements.Outcome.TheVariants.{Entered}
 use Rattle.mx_effring.specs.Chains as chains
 use Rattle.mx_effring.specs.Chains.{read_on}
@@ -27,9 +29,10 @@ use Rattle.mx_transcript.specs.declared.transcripts.Event2.TheVariants.{Core}
 use Rattle.mx_transcript.specs.declared.transcripts.Result2.{Result2}
 use Rattle.mx_upcall.specs.Control.{Control}
 use Rattle.mx_upcall.specs.declared.controls.Change.{Change}
-use Rattle.mx_line.proofs.TakenLaws.{Leads, begun_taken, begun_met, walking_taken}
+use Rattle.mx_line.proofs.TakenLaws.{Leads, begun_taken, begun_met, same_asked, unwalked_met, walking_taken}
 use Rattle.mx_line.specs.AtWork.{EndsAt, HasSeen, IsKnown, IsMet, IsSaid, IsTaken, IsTakenTo, beside, ending, left, moved_on, moving}
-use Rattle.mx_line.proofs.StandingLaws.{walk_asks}
+use Rattle.mx_line.proofs.StandingLaws.{before_asks, begun_fills, walk_asks}
+use Rattle.mx_line.specs.Looks.{looks}
 use Rattle.mx_line.specs.Operands.{first_want, want_at}
 use Rattle.mx_line.specs.declared.at_work.LineAtWork.{LineAtWork}
 use Rattle.mx_line.specs.declared.at_work.LineAtWork.TheVariants as at
@@ -130,6 +133,49 @@ pub walk_ends_in : (g : Control) (l : Line) (walk : Reached) (target : PointerPa
     → IfSome found (λ ends. IsTakenTo g l e (at.At (Walking walk)) (left g (Some ends)))
 walk_ends_in g l walk target e None done at_end = tt
 walk_ends_in g l walk target e (Some ends) done at_end = walk_ends_taken g l walk target e ends done at_end
+
+-- the walk of a line asks at its beginning for its target
+record IsDirect (g : Registers) (l : Line) : Type 0 where
+  pub target : PointerParts
+  pub is : first_want g l ≡ Some (want.Done target)
+
+-- a line that asked for what is no indirect word is at its target
+met_direct : (g : Control) (l : Line) (e : Element) (d : Descriptor) → (e.kind ≡ Ind → ⊥) → IsMet g l (at.At Before) e d
+    → IsDirect g.registers l
+met_direct g l e d other m = by_walk (walk_of g.registers l) refl
+  where
+    by_want : (walk : chains.Operand) → walk_of g.registers l ≡ Some walk → (w : Want) → wanted walk ≡ w → IsDirect g.registers l
+    by_want walk is (want.Word segno word ring) at = absurd (other
+        (m.right.kind ∙ ap (λ (r : Reference). kind_of r.op)
+        (sym (same_asked (looks (record { segno = segno; word = word; ring = ring })) m.asked
+        (sym (ap (wants g l) at) ∙ begun_met g l (reached walk) e d (ap (option_map reached) is) m)))))
+    by_want walk is (want.Done target) at = record { target = target; is = ap (option_map wanted) is ∙ ap Some at }
+
+    by_walk : (walk : Option chains.Operand) → walk_of g.registers l ≡ walk → IsDirect g.registers l
+    by_walk None is = absurd (unwalked_met g l e d (ap (option_map reached) is) m)
+    by_walk (Some walk) is = by_want walk is (wanted walk) refl
+
+-- a line that ends so at its target ends so by an element that is no indirect word
+ends_met : (g : Control) (l : Line) (e : Element) (ends : Result2) → (e.kind ≡ Ind → ⊥) → EndsAt l e.outcome ends
+    → IsTakenTo g l e (at.At Before) (left g (Some ends))
+ends_met g l e ends other at_end = λ d setting on course later come is. elim is [
+  | inl r ↦
+      let direct = met_direct g l e d other (record {
+        course = course;
+        stands = come;
+        asked = r.asked;
+        asks = r.next;
+        right = subst (λ (f : Descriptor). IsJudged r.asked f e) on r.right;
+      }) in
+      ends_taken g l direct.target e ends direct.is at_end d setting on course later come (inl r)
+  | inr f ↦ absurd (begun_fills g l f.asked (sym (before_asks g l course come) ∙ f.next))
+]
+
+-- so it is with the end that is found
+pub ends_found : (g : Control) (l : Line) (e : Element) (found : Option Result2) → (e.kind ≡ Ind → ⊥) → IfSome found (EndsAt l e.outcome)
+    → IfSome found (λ ends. IsTakenTo g l e (at.At Before) (left g (Some ends)))
+ends_found g l e None other at_end = tt
+ends_found g l e (Some ends) other at_end = ends_met g l e ends other at_end
 
 -- what a granted call or return makes of the registers and gates, as its line ends so by its first reference
 pub move_taken : (g : Control) (l : Line) (target : PointerParts) (e : Element) (d : Descriptor) (ring : ℕ) (after : Change)

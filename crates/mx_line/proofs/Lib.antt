@@ -4,6 +4,7 @@ pub mod OperandLaws
 pub mod StandingLaws
 pub mod ReplyLaws
 pub mod TakenLaws
+pub mod StepLaws
 pub mod DirectLaws
 pub mod ScriptLaws
 pub mod ProcessLaws

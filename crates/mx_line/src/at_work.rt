@@ -1,8 +1,9 @@
 //! The line at work: where a process stands within its line, and what an event that answers makes of it.
 
-ghost use Rattle.std.specs.Prelude.{◌≡◌, ◌-◌, ◌≤◌, ℕ, true, false, List, [], ◌∷◌, ◌++◌, Some, IfSome, IsSome, MatchOption};
+ghost use Rattle.std.specs.Prelude.{◌≡◌, ◌-◌, ◌<◌, ◌≤◌, ℕ, true, false, List, [], ◌∷◌, ◌++◌, Some, IfSome, IsFalse, IsSome, MatchOption};
 ghost use Rattle.mx_core.specs.declared.elements.Element.{Element as PlainElement};
 ghost use Rattle.mx_core.specs.declared.elements.Event.TheVariants.{Seen, Missing};
+ghost use Rattle.mx_core.specs.declared.elements.Kind.TheVariants.{Ind};
 ghost use Rattle.mx_core.specs.declared.elements.Outcome.TheVariants.{Read as WasRead, Written as WasWritten, Entered as HasEntered};
 ghost use Rattle.mx_effring.specs.Walks.{wanted_at};
 ghost use Rattle.mx_effring.specs.declared.walks.Want.TheVariants.{Word as WantsWord};
@@ -30,20 +31,21 @@ ghost use Rattle.mx_upcall.specs.Soundness.{IsPackableControl};
 ghost use Rattle.mx_line.specs.AtWork.{EndsAt, EndsByReply, IsTakenTo, ending, left, left_in, HasSeen, IsCome, IsFree, IsGoodNext, IsGoodWork, IsKnown, IsMet, IsMover, IsNearer, IsOver, IsPlain, IsReader, IsSaid, IsStorable, IsTaken, IsUnlinked, IsWithin, IsWriter, OneCourseLaw, StandsAt, after_writing, begun, beside, end_of, ended, filling_or, meant, moved_on, moving, standing};
 ghost use Rattle.mx_line.specs.Fills.{IsNoRequest, IsShort, after_fill, counted, first_fill, steps_to_fill};
 ghost use Rattle.mx_line.specs.Looks.{looks};
+ghost use Rattle.mx_line.specs.Processes.{Takes};
 ghost use Rattle.mx_line.specs.Operands.{HasComeTo, IsGoodProgress, IsGoodWalk, IsMemoryLine, IsSayable, IsTarget};
 ghost use Rattle.mx_line.specs.declared.at_work.LineAtWork.TheVariants.{At, Ended, Nowhere};
 ghost use Rattle.mx_line.specs.declared.operands.Progress.TheVariants.{Before, Waiting, Walking};
 
 use crate::asking::{Called, End, Next, begins, first_target, walk_of, wants};
 use crate::fills::{Behind, Fill, Filled, Snap, first_fill};
-use crate::operands::{Onward, Place, Progress, feed};
+use crate::operands::{Onward, Place, Progress, fed, feed};
 use mx_call::Regs;
 use mx_effring::{Walk, Want};
 use mx_ptr::Pointer;
 use mx_request::{Reply, Request};
 use mx_script::Line;
 use mx_sdw::{Desc, Word};
-use mx_transcript::{Element, Outcome, Result2};
+use mx_transcript::{Element, Kind, Outcome, Result2};
 use mx_upcall::{Change, Control};
 
 /// Where a process stands within its line.
@@ -291,6 +293,49 @@ fn word_read(
     }
 }
 
+/// Where a walk goes on by the indirect word that it asked for and that was read; none where its line ends by it or has a link
+/// snapped, and by every other element.
+#[inline(always)]
+pub(crate) fn walked_step(
+    line: &Line,
+    control: &Control,
+    walk: &Walk,
+    element: &Element,
+    desc: &Desc,
+) -> Option<Walk>
+    requires good { IsGoodWalk control.now.registers walk.now }
+    ensures leads { IfSome result (λ next. (seen : List Judged) → HasComeTo control.now line.now seen walk.now
+        → HasComeTo control.now line.now (seen ++ beside element.now desc.now ∷ []) next) }
+    ensures good { IfSome result (IsGoodWalk control.now.registers) }
+    ensures closer { IfSome result (λ next. 9 - next.count < 9 - walk.now.count) }
+{
+    match walk.want() {
+        Want::Word { .. } => match element.outcome {
+            Outcome::Read { value, .. } => fed(line, control, *walk, value, desc.brackets().r1()),
+            Outcome::Written { .. } | Outcome::Entered { .. } | Outcome::Denied(_) => None,
+        },
+        Want::Done(_) => None,
+    }
+}
+
+/// The same where the line begins.
+#[inline(always)]
+pub(crate) fn first_step(
+    line: &Line,
+    control: &Control,
+    element: &Element,
+    desc: &Desc,
+) -> Option<Walk>
+    requires line { IsSayable line.now }
+    requires packable { IsPackableControl control.now }
+    ensures { IfSome result (λ next. Takes control.now line.now Before element.now desc.now (At (Walking next))) }
+{
+    match walk_of(line, &control.registers) {
+        Some(walk) => walked_step(line, control, &walk, element, desc),
+        None => None,
+    }
+}
+
 fn standing(onward: Onward) -> LineAtWork
     ensures is { result ≡ standing onward }
     ensures known { IsKnown result }
@@ -330,18 +375,29 @@ fn did(
     }
 }
 
-/// How a line whose operand is not indirect ends by its reference, where that does not move the process; none where its
-/// operand is indirect, and for a call or a return that was granted.
+/// How a line ends by its first reference, where that is to its target and does not move the process; none where it is to an
+/// indirect word, and for a call or a return that was granted.
 #[inline(always)]
 pub(crate) fn first_end(line: &Line, control: &Control, element: &Element) -> Option<Result2>
-    requires line { IsSayable line.now }
     requires packable { IsPackableControl control.now }
     ensures taken { IfSome result (λ ends. IsTakenTo control.now line.now element.now (At Before) (left control.now (Some ends))) }
     ensures good { IfSome result (λ ends. IsGoodWork control.now (left control.now (Some ends))) }
 {
-    match first_target(line, &control.registers) {
-        Some(_) => end_at(line, element),
-        None => None,
+    if is_word(element) {
+        None
+    } else {
+        end_at(line, element)
+    }
+}
+
+// Whether an element is an indirect word.
+#[inline(always)]
+fn is_word(element: &Element) -> bool
+    ensures no { IsFalse result → element.now.kind ≡ Ind → ⊥ }
+{
+    match element.kind {
+        Kind::Ind => true,
+        Kind::Read | Kind::Write | Kind::Fetch | Kind::Call | Kind::Return => false,
     }
 }
 

@@ -8,12 +8,16 @@ ghost use Rattle.mx_upcall.specs.Control.{with_registers};
 ghost use Rattle.mx_upcall.specs.Soundness.{IsPackableControl};
 ghost use Rattle.mx_line.specs.AtWork.{left_in};
 ghost use Rattle.mx_line.specs.Operands.{IsGoodProgress, IsSayable};
-ghost use Rattle.mx_line.specs.Processes.{HasPlainEnd, HasPlainMove, HasPlainReply, IsAsking, IsReferring};
-ghost use Rattle.mx_line.specs.declared.operands.Progress.TheVariants.{Before};
+ghost use Rattle.mx_line.specs.Processes.{HasPlainEnd, HasPlainMove, HasPlainReply, IsAsking, IsReferring, Takes};
+ghost use Rattle.mx_line.specs.declared.at_work.LineAtWork.TheVariants.{At};
+ghost use Rattle.mx_line.specs.declared.operands.Progress.TheVariants.{Before, Walking};
 
 use crate::asking::{Next, Reference, first_reference, next_reference};
-use crate::at_work::{first_end, first_move, leave, next_at, request_end, walked_end};
+use crate::at_work::{
+    first_end, first_move, first_step, leave, next_at, request_end, walked_end, walked_step,
+};
 use crate::operands::Progress;
+use mx_effring::Walk;
 use mx_request::Reply;
 use mx_script::Line;
 use mx_sdw::Desc;
@@ -120,6 +124,22 @@ impl Process {
             Progress::Before => first_move(line, &self.control, element, desc),
             Progress::Walking(_) | Progress::AtLink(_) | Progress::Waiting | Progress::Filling(_) =>
                 None,
+        }
+    }
+
+    /// Where the walk of its line goes on by the indirect word that it asked for and read on this descriptor; none where the line ends
+    /// by it or has a link snapped, and by every other element.
+    #[inline(always)]
+    pub fn plain_step(&self, line: &Line, element: &Element, desc: &Desc) -> Option<Walk>
+        requires packable { IsPackableControl self.now.control }
+        requires progress { IsGoodProgress self.now.control.registers self.now.progress }
+        requires line { IsSayable line.now }
+        ensures { IfSome result (λ next. Takes self.now.control line.now self.now.progress element.now desc.now (At (Walking next))) }
+    {
+        match &self.progress {
+            Progress::Before => first_step(line, &self.control, element, desc),
+            Progress::Walking(walk) => walked_step(line, &self.control, walk, element, desc),
+            Progress::AtLink(_) | Progress::Waiting | Progress::Filling(_) => None,
         }
     }
 

@@ -16,7 +16,9 @@ use crate::answers::{EnterError, Served};
 use crate::finishing::finish;
 use crate::naming::Sitting;
 use crate::serving::{serve, settle_for};
+use mx_core::Runs;
 use mx_desc::{Pass, Passes, Super};
+use mx_list::Sequence;
 use mx_request::SharedRequest;
 use mx_rule::{Board, Words};
 use mx_sdw::Ring;
@@ -35,6 +37,8 @@ pub struct Locked<'a, B: Sitting> {
     chief: Super<Entry, B>,
     book: Book<B>,
     stopped: bool,
+    // Room for the run of pages that an entry gives out, so that it is taken once.
+    given: Runs,
 }
 
 impl<'a, B: Sitting> Model for Locked<'a, B> {
@@ -55,7 +59,12 @@ impl<'a, B: Sitting> Model for Locked<'a, B> {
 
 impl<'a, B: Sitting> Locked<'a, B> {
     /// A run that is not to end, of these. It takes no memory. Condition: they say the same of the journal.
-    pub fn new(supervisor: Supervisor<'a>, chief: Super<Entry, B>, book: Book<B>) -> Locked<'a, B>
+    pub fn new(
+        alloc: Global,
+        supervisor: Supervisor<'a>,
+        chief: Super<Entry, B>,
+        book: Book<B>,
+    ) -> Locked<'a, B>
         requires { IsLocked B.session B.setup B.layout supervisor chief book.total }
         ensures { result ≡ record { supervised = supervisor.entry; chief = chief; total = book.total; stopped = false } }
     {
@@ -64,6 +73,7 @@ impl<'a, B: Sitting> Locked<'a, B> {
             chief,
             book,
             stopped: false,
+            given: Sequence::new(alloc),
         }
     }
 
@@ -108,6 +118,7 @@ impl<'a, B: Sitting> Locked<'a, B> {
             &mut self.book,
             pass,
             shared,
+            &mut self.given,
             ring,
             request,
         )
@@ -223,6 +234,7 @@ impl<'a, B: Sitting> Locked<'a, B> {
             chief,
             book,
             stopped: _,
+            given: _given,
         } = self;
         finish(supervisor, chief, book, words, share, passes)
     }

@@ -29,7 +29,7 @@ pub struct Office<'a, B: Sitting> {
     pub(crate) lock: Mutex<Locked<'a, B>>,
     pub(crate) bells: Bells,
     pub(crate) words: Words<Entry>,
-    /// The `block` and the `resume` of all processes, which so take no room in the journal.
+    /// The `block` and the `resume` of all processes: their entries in the journal hold these two.
     block: SharedRequest,
     resume: SharedRequest,
     ghost blocks: { block ≡ Block },

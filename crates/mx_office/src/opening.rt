@@ -73,7 +73,7 @@ pub fn open<'a, B: Sitting>(
     let share = whole.empty();
     let (chief, passes) = seats(alloc, &words.shared, seat, &base, whole)?;
     Ok(Opening {
-        locked: Locked::new(supervisor, chief, book),
+        locked: Locked::new(alloc, supervisor, chief, book),
         words,
         passes,
         share,

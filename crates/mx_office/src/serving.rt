@@ -26,6 +26,7 @@ use mx_sdw::Ring;
 use mx_state::Entry;
 use mx_sup::{Entered, Supervisor};
 use std::alloc::{AllocError, Global};
+use std::mem;
 use std::sync::Wait;
 use std::sync::ledger::Book;
 
@@ -36,13 +37,15 @@ struct Applied {
     given: Runs,
 }
 
-/// Makes a process's call, below the limit. All memory is taken before the journal changes.
+/// Makes a process's call, below the limit. All memory is taken before the journal changes; `room` has some already, from the
+/// second call on.
 fn apply(
     alloc: Global,
     supervisor: &mut Supervisor,
     p: u8,
     ring: Ring,
     request: &SharedRequest,
+    mut room: Vec<Run>,
 ) -> Result<Applied, AllocError>
     requires some { 1 ≤ p }
     requires process { p ≤ length supervisor.old.session.principals }
@@ -52,18 +55,19 @@ fn apply(
     ensures given { IfOk result (λ made. made.given ≡ runs_of made.came.given) }
     ensures err { OnErr result (supervisor.new ≡ supervisor.old) }
 {
-    let mut given = Vec::with_capacity(alloc, 1)?;
+    room.clear();
+    room.reserve(1)?;
     match supervisor.enter(alloc, p, ring, request) {
         Ok(came) => {
             if let Some(run) = came.given {
-                given.push_reserved(Run {
+                room.push_reserved(Run {
                     page: run.first,
                     pages: run.count,
                 });
             }
             Ok(Applied {
                 came,
-                given: Sequence::of(given),
+                given: Sequence::of(room),
             })
         }
         Err(_error) => Err(AllocError),
@@ -116,7 +120,7 @@ pub(crate) fn settle_for<B: Sitting>(
     tell(chief, pass, shared);
 }
 
-/// An entry below the limit.
+/// An entry below the limit; `given` keeps the room for the run of pages that it gives out.
 fn enter_below<R: Wait, B: Sitting>(
     rt: &R,
     alloc: Global,
@@ -125,6 +129,7 @@ fn enter_below<R: Wait, B: Sitting>(
     book: &mut Book<B>,
     pass: &mut Pass<Entry, B>,
     shared: &Board<Entry>,
+    given: &mut Runs,
     ring: Ring,
     request: &SharedRequest,
 ) -> Result<Served, AllocError>
@@ -146,7 +151,8 @@ fn enter_below<R: Wait, B: Sitting>(
     let (_length, _layout) = (chief.length(), chief.layout());
     let _before = supervisor.length();
     chief.report(shared, pass);
-    let made = apply(alloc, supervisor, process, ring, request)?;
+    let room = mem::replace(given, Sequence::new(alloc)).into_items();
+    let made = apply(alloc, supervisor, process, ring, request, room)?;
     let _after = supervisor.length();
     supervisor.free_pages_are_bare();
     let entry = supervisor.entry(made.came.number);
@@ -161,10 +167,16 @@ fn enter_below<R: Wait, B: Sitting>(
         entry,
     );
     pass.book(book);
-    Ok(Served {
+    let served = Served {
         number: made.came.number,
         answer: Answer::of(&entry.reply),
-    })
+    };
+    let Applied {
+        came: _came,
+        given: used,
+    } = made;
+    *given = used;
+    Ok(served)
 }
 
 /// A request of a process, in this order: the limit, the process's report, the plain supervisor's answer, the entry at the
@@ -178,6 +190,7 @@ pub(crate) fn serve<R: Wait, B: Sitting>(
     book: &mut Book<B>,
     pass: &mut Pass<Entry, B>,
     shared: &Board<Entry>,
+    given: &mut Runs,
     ring: Ring,
     request: &SharedRequest,
 ) -> Result<Served, EnterError>
@@ -205,7 +218,7 @@ pub(crate) fn serve<R: Wait, B: Sitting>(
         return Err(EnterError::HistoryFull { length });
     }
     match enter_below(
-        rt, alloc, supervisor, chief, book, pass, shared, ring, request,
+        rt, alloc, supervisor, chief, book, pass, shared, given, ring, request,
     ) {
         Ok(served) => Ok(served),
         Err(_error) => Err(EnterError::Memory),

@@ -18,8 +18,8 @@ pub(crate) fn point_of(deed: &Deed) -> Option<u32>
     }
 }
 
-/// The greatest number of an entry that a process has seen by a deed.
-pub(crate) fn seen(deed: &Deed) -> u32
+/// The greatest number of an entry that a process has seen by a deed. Takes no memory.
+pub fn seen(deed: &Deed) -> u32
     ensures { result ≡ seen deed.now }
 {
     match deed.form() {
@@ -30,8 +30,8 @@ pub(crate) fn seen(deed: &Deed) -> u32
     }
 }
 
-/// The number of the first entry among the deeds.
-pub(crate) fn first_entry(deeds: &[Deed]) -> Option<u32>
+/// The number of the first entry among the deeds. Takes no memory.
+pub fn first_entry(deeds: &[Deed]) -> Option<u32>
     ensures { result ≡ first_entry deeds.now }
 {
     for deed in deeds {

@@ -17,9 +17,8 @@ mod misses;
 mod naming;
 mod points;
 mod setup;
-#[cfg(test)]
-mod tests;
 
+pub use deeds::{first_entry, seen};
 pub use full::first_after_full;
 pub use laws::fewer_law;
 pub use lines::{Line, line_of_event, lines_of};

@@ -222,6 +222,29 @@ fn move_on(state: &mut LineState, line: &Line, element: &Element, desc: &Desc) -
             state.end_moved(Event2::Core(Event::Seen(*element)), &after);
             Turn::Ended
         }
+        None => walk_on(state, line, element, desc),
+    }
+}
+
+// The same for a reference by which the process does not move either: where its walk goes on by an indirect word, it goes on there.
+fn walk_on(state: &mut LineState, line: &Line, element: &Element, desc: &Desc) -> Turn
+    requires room { 1 ≤ state.old.recording.spare }
+    requires end { IsTrue state.old.recording.line_room }
+    requires number { number_in state.old < 2 ^ 32 }
+    requires line { IsSayable line.now }
+    requires packable { IsPackableControl state.old.control }
+    requires good { IsGoodProgress state.old.control.registers state.old.progress }
+    requires desc { IsAdmissible desc.now }
+    requires met { IsMet state.old.control line.now (At state.old.progress) element.now desc.now }
+    ensures taken { HasTaken state.old line.now element.now desc.now state.new result }
+    ensures room { state.old.recording.spare ≤ state.new.recording.spare + 1 }
+{
+    match state.plain_step(line, element, desc) {
+        Some(walk) => {
+            state.recording.keep(Event2::Core(Event::Seen(*element)));
+            state.progress = Progress::Walking(walk);
+            Turn::More
+        }
         None => take_by(state, line, element, desc),
     }
 }

@@ -9,8 +9,7 @@ use std::marker::Model;
 use std::sync::Arc;
 
 /// A request on the heap that several hold together, as the line of a script and the entries of the journal that it made: it
-/// stays until the last of them lets go of it. So a request is kept once, and neither a line nor an entry takes more room than
-/// its place.
+/// stays until the last of them lets go of it. So a request is kept once: a line and an entry have a pointer to it.
 #[derive(Drop)]
 pub struct SharedRequest {
     request: Arc<Request>,

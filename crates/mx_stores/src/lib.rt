@@ -27,8 +27,6 @@ mod reader;
 mod rows;
 mod sightings;
 mod stores;
-#[cfg(test)]
-mod tests;
 
 pub use deciding::{Breach, Stores, are_reads_right, first_breach};
 pub use deeds::{CellUse, Deed, Form, Read};

@@ -1,5 +1,5 @@
 -- A change of one pair goes on a step at a time.
-use Rattle.std.proofs.Common.{◌≡◌, ◌≢◌, inl, inr, ℕ, zero, suc, ◌+◌, ◌<◌, ◌≤◌, IsTrue, Bool, List, [], ◌∷◌, refl, ap, sym, ◌∙◌, subst, slice_get, Some, true, arith}
+use Rattle.std.proofs.Common.{◌≡◌, ◌≢◌, inl, inr, ℕ, zero, suc, ◌+◌, ◌<◌, ◌≤◌, IsTrue, List, [], ◌∷◌, refl, ap, sym, ◌∙◌, subst, slice_get, Some, true, arith}
 use Rattle.std.proofs.lemmas.Bool.{cases_eq}
 use Rattle.mx_sdw.specs.Admissible.{IsAdmissible}
 use Rattle.mx_sdw.specs.Descriptors.{Descriptor}
@@ -12,13 +12,11 @@ use Rattle.mx_core.proofs.Puts.{put_here, put_else}
 use Rattle.mx_rule.specs.Acknowledging.{MayConnect, connecting_view, MayAcknowledge, acknowledged_view, looked_view, MayAnswer, answered_view}
 use Rattle.mx_rule.specs.Appending.{MayAppend, appended_view}
 use Rattle.mx_rule.specs.Dealing.{opening_view, dealing_view}
-use Rattle.mx_rule.specs.Notes.{noting_view, reported_view}
+use Rattle.mx_rule.specs.Notes.{noting_view}
 use Rattle.mx_rule.specs.Shown.{Office, office_of}
 use Rattle.mx_rule.specs.Striking.{Changes, MayStrike, struck_view, MaySettle, settled_view}
 use Rattle.mx_rule.specs.declared.views.SuperView.{SuperView}
-use Rattle.mx_rule.specs.declared.views.ReportView.{ReportView}
 use Rattle.mx_desc.specs.Supers.{IsWaiting}
-use Rattle.rule_tests.specs.Turning.{AreTurned}
 use Rattle.rule_tests.specs.Changing.{HasPair, IsAtRest, IsChanging, IsStruck, IsConnected, HasLeft, IsUnsettled, present}
 
 pub first_is : (c a : Change) (i : ℕ) → slice_get (c ∷ []) i ≡ Some a → (i ≡ 0) × (c ≡ a)
@@ -216,13 +214,6 @@ module _ {E : Type 0} (v : SuperView E) where
     pair = record { low = u.pair.low; high = u.pair.high; number = u.pair.number };
     rest = record { low = u.rest.low; rest = u.rest.rest; ready = u.rest.ready };
     fault = u.fault;
-  }
-
-  pub told_turned : (u : ReportView) (writable : Bool) → AreTurned x writable
-      → AreTurned (office_of (reported_view u (noting_view v))) writable
-  told_turned u writable t = record {
-    rest = record { low = t.rest.low; rest = t.rest.rest; ready = t.rest.ready };
-    each = t.each;
   }
 
   pub dealt : IsAtRest x → IsAtRest (office_of (dealing_view v))

@@ -1,6 +1,4 @@
 pub mod ChangeLaws
-pub mod ReferLaws
-pub mod TurnLaws
 pub mod CamLaws
 pub mod PassLaws
 pub mod ReuseLaws

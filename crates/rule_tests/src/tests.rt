@@ -1,33 +1,26 @@
 //! What the rows share: tables of two processes after three entries, a supervisor that changes one pair, and processes
 //! that refer.
 
-ghost use Rattle.std.specs.Prelude.{◌≡◌, ◌+◌, ◌≤◌, [], ◌∷◌, IfOk, true};
-ghost use Rattle.mx_core.specs.declared.words.Stage.TheVariants.{Outside};
+ghost use Rattle.std.specs.Prelude.{◌≡◌, ◌≤◌, [], ◌∷◌, IfOk};
 ghost use Rattle.mx_rule.specs.Openings.{MayOpen};
-ghost use Rattle.mx_rule.specs.Seats.{pass_of, super_of};
 ghost use Rattle.mx_rule.specs.Shown.{base_of};
-ghost use Rattle.rule_tests.specs.Changing.{IsAtRest, present, seen};
 ghost use Rattle.mx_sdw.specs.Admissible.{IsAdmissible};
 
 mod cams;
-mod changing;
 mod greatest;
-mod memories;
 mod pages;
 mod passing;
 mod racing;
 mod referring;
 mod reusing;
-mod revocation;
 mod revoking;
 mod supervising;
-mod turning;
 mod watching;
 mod working;
 
 use mx_core::{Change, Changes};
 use mx_list::Sequence;
-use mx_rule::{Board, Key, Layout, PassSeat, SuperSeat};
+use mx_rule::{Key, Layout};
 use mx_sdw::{Brackets, Desc, Op, Ring, Word};
 use referring::Reference;
 use std::alloc::{AllocError, Global};
@@ -95,28 +88,6 @@ fn opened(alloc: Global, own: Desc, common: Desc) -> Result<Key, AllocError>
         start: 3,
         base,
     })
-}
-
-// The seat of the next process.
-fn deal(shared: &Board<u32>, chief: &mut SuperSeat<u32>) -> PassSeat<u32>
-    requires place { chief.old.seat.table_id ≡ shared.now.table_id }
-    requires layout { shared.now.key.layout ≡ chief.old.layout }
-    requires more { (super_of chief.old.seat.me.0).next ≤ chief.old.layout.processes }
-    requires rest { IsAtRest (seen chief.old.seat.me.0) }
-    ensures rest { IsAtRest (seen chief.new.seat.me.0) }
-    ensures present { present (seen chief.new.seat.me.0) ≡ present (seen chief.old.seat.me.0) }
-    ensures start { (super_of chief.new.seat.me.0).length ≡ (super_of chief.old.seat.me.0).length }
-    ensures processes { (super_of chief.new.seat.me.0).processes ≡ (super_of chief.old.seat.me.0).processes }
-    ensures numbers { (super_of chief.new.seat.me.0).numbers ≡ (super_of chief.old.seat.me.0).numbers }
-    ensures next { (super_of chief.new.seat.me.0).next ≡ (super_of chief.old.seat.me.0).next + 1 }
-    ensures outside { (pass_of result.seat.me.0).stage ≡ Outside }
-    ensures memory { (pass_of result.seat.me.0).memory ≡ [] }
-    ensures pass_place { result.seat.table_id ≡ chief.old.seat.table_id }
-    ensures pass_layout { result.layout ≡ chief.old.layout }
-    ensures place { chief.new.seat.table_id ≡ chief.old.seat.table_id }
-    ensures layout { chief.new.layout ≡ chief.old.layout }
-{
-    chief.deal(shared)
 }
 
 fn reference(segno: u16, op: Op, ring: Ring, value: Word) -> Reference

@@ -1,12 +1,10 @@
 //! Rows worked by hand.
 
-use crate::full::first_after_full;
-use crate::lines::{line_of_event, lines_of};
-use crate::misses::first_bad_miss;
-use crate::naming::{Naming, first_misnamed};
-use crate::points::first_bad_point;
-use crate::setup::first_bad_setup;
 use mx_list::Sequence;
+use mx_points::{
+    Naming, first_after_full, first_bad_miss, first_bad_point, first_bad_setup, first_misnamed,
+    line_of_event, lines_of,
+};
 use mx_request::{Reply, Request, SharedRequest};
 use mx_sdw::Ring;
 use mx_state::{Entry, Journal};

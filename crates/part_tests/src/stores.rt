@@ -1,8 +1,7 @@
 //! Worked runs of one cell, and a long run.
 
-use crate::deciding::{Breach, are_reads_right, first_breach};
-use crate::deeds::{CellUse, Deed, Form};
 use mx_list::Sequence;
+use mx_stores::{Breach, CellUse, Deed, Form, are_reads_right, first_breach};
 use std::alloc::{AllocError, Global};
 use std::test::Fail;
 

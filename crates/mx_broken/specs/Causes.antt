@@ -1,7 +1,7 @@
 -- Which rule on the entries of a journal an entry fails, at its place, counted from 0, and after this state.
 use Rattle.std.specs.Prelude.{◌≡◌, ℕ, ◌<◌, ◌≤◌, length}
-use Rattle.mx_breach.specs.declared.entries.EntryCause.{EntryCause}
-use Rattle.mx_breach.specs.declared.entries.EntryCause.TheVariants as cause
+use Rattle.mx_broken.specs.declared.causes.EntryCause.{EntryCause}
+use Rattle.mx_broken.specs.declared.causes.EntryCause.TheVariants as cause
 use Rattle.mx_request.specs.Classes.{class_of}
 use Rattle.mx_request.specs.declared.classes.RequestClass.TheVariants.{OfPath}
 use Rattle.mx_script.specs.Sessions.{Outline, limit_of}
