@@ -1,5 +1,3 @@
 mod beside;
 mod inside;
-mod running;
-mod turning;
 mod waiting;

@@ -1,4 +1,3 @@
 pub mod ChangeLaws
 pub mod CamLaws
 pub mod PassLaws
-pub mod ReuseLaws

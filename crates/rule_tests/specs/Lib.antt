@@ -1,3 +1,2 @@
 pub mod Changing
 pub mod Passing
-pub mod Reusing

@@ -1,5 +1,5 @@
-//! Worked rows of the words that processes share: what was worked out by hand, run by the calls of their seats, on one
-//! thread and on several.
+//! Worked rows of the words that processes share: what was worked out by hand, run by the calls of the supervisor, of passes and of
+//! a cam.
 //!
 //! The crate has tests alone. They stand apart from `mx_rule`, so that its proofs are not made twice.
 #![tactic(auto)]

@@ -8,15 +8,10 @@ ghost use Rattle.mx_sdw.specs.Admissible.{IsAdmissible};
 
 mod cams;
 mod greatest;
-mod pages;
 mod passing;
-mod racing;
 mod referring;
-mod reusing;
 mod revoking;
 mod supervising;
-mod watching;
-mod working;
 
 use mx_core::{Change, Changes};
 use mx_list::Sequence;

@@ -129,27 +129,6 @@ pub(super) fn settle<B: Naming>(
     chief.settle(shared, process, segno);
 }
 
-// What was entered is struck, told, answered and settled.
-pub(super) fn finish<R: Wait, B: Naming>(
-    rt: &R,
-    shared: &Board<u32>,
-    chief: &mut Super<u32, B>,
-    process: u8,
-    segno: u16,
-)
-    requires place { shared.now.table_id ≡ B.table }
-    requires layout { shared.now.key.layout ≡ B.layout }
-    requires pair { IsPair B.layout process segno }
-    requires changing { IsChanging (office_of chief.old) process segno }
-    ensures rest { IsAtRest (office_of chief.new) }
-    ensures present { present (office_of chief.new) ≡ present (office_of chief.old) }
-{
-    strike(shared, chief, process, segno);
-    tell(rt, shared, chief, process, segno);
-    answer(shared, chief, process, segno);
-    settle(shared, chief, process, segno);
-}
-
 // A process is told of what is answered and settled.
 pub(super) fn note<B: Naming>(
     shared: &Board<u32>,
