@@ -1,4 +1,4 @@
-//! What fifteen threads can gain over one at all: the references of the sessions `memory`, `references` and `apart` (docs/measure) at
+//! What fifteen threads gain over one in a bare program: the references of the sessions `memory`, `references` and `apart` (docs/measure) at
 //! atomic words, in plain Rust, with nothing judged and nothing proved. Between two references a thread does private work, as much
 //! as it is told; it reads its script, 40 bytes a line, and writes down each line, 40 bytes, in memory that it takes in pieces. Every
 //! `Ordering` is `SeqCst`, as in the table of the repository.
