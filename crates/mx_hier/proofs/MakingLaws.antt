@@ -1,6 +1,7 @@
 -- A refusal of every request that makes an entry is that of each.
-use Rattle.std.proofs.Common.{◌≡◌, ◌==◌, ◌≤◌, ◌<◌, leb, ◌||◌, ltb, ℕ, is_none, not, Option, None, refl, arith, Bool, true, false, cond, List, [], ◌∷◌, ◌++◌, Some, Result, Ok, Err, ap, sym, subst, ◌∙◌}
+use Rattle.std.proofs.Common.{◌≡◌, ◌==◌, ◌≤◌, ◌<◌, ◌-◌, length, slice_get, length-append, leb, ◌||◌, ltb, ℕ, is_none, not, Option, None, refl, arith, Bool, true, false, cond, List, [], ◌∷◌, ◌++◌, Some, Result, Ok, Err, ap, sym, subst, ◌∙◌}
 use Rattle.std.proofs.lemmas.Bool.{or_parts}
+use Rattle.std.proofs.Math.Seq.{take-append_seam}
 use Rattle.std.specs.List.{list_any}
 use Rattle.std.specs.Map.{lookup}
 use Rattle.std.specs.Option.{option_map}
@@ -16,7 +17,7 @@ use Rattle.mx_hier.specs.declared.refusals.HierError.{HierError}
 use Rattle.mx_hier.specs.declared.refusals.HierError.TheVariants.{Refused, Memory}
 use Rattle.mx_sdw.specs.Rings.{Bracketing}
 use Rattle.mx_hier.specs.declared.refusals.Refusal.{Refusal}
-use Rattle.mx_hier.specs.declared.refusals.Refusal.TheVariants.{NotADir, IncorrectAccess, BadLength, BadBrackets, NoPages}
+use Rattle.mx_hier.specs.declared.refusals.Refusal.TheVariants.{NotADir, IncorrectAccess, NameDup, BadLength, BadBrackets, NoPages}
 use Rattle.mx_pages.specs.Runs.{pages_for, run_given}
 use Rattle.mx_hier.specs.Branches.{Hierarchy, directory_at, holding}
 use Rattle.mx_hier.specs.Brackets.{settable}
@@ -24,8 +25,24 @@ use Rattle.mx_hier.specs.Callers.{Subject, has_append, on}
 use Rattle.mx_hier.specs.Objects.{gate_of, defined_in}
 use Rattle.mx_hier.specs.MakeSegment.{Wanted, reaches_beyond, is_bad_length, make_segment_refusals, make_segment_at, new_segment, segment_added, segment_on_pages}
 use Rattle.mx_hier.specs.CreateDirectory.{create_dir_refusals, new_directory, create_dir_at}
-use Rattle.mx_hier.specs.Making.{entry_refusals, making_refusals, made, added, created_at, first_acl}
+use Rattle.mx_hier.specs.Making.{place, entry_refusals, making_refusals, made, added, created_at, first_acl}
+use Rattle.mx_hier.specs.Walks.{reached}
 use Rattle.mx_hier.specs.Rules.{first_of, say, onward, required, unless, Answers, Tells, TellsFirst}
+
+last_at : (parent : List (List ℕ)) (name : List ℕ) → slice_get (parent ++ name ∷ []) (length parent) ≡ Some name
+last_at [] name = refl
+last_at (first ∷ parent) name = last_at parent name
+
+-- a path that ends with a name is that of a place in what its other names lead to
+pub place_of : (h : Hierarchy) (who : Subject) (path parent : List (List ℕ)) (name : List ℕ) → path ≡ parent ++ name ∷ []
+    → place h who path ≡ onward (reached h who true parent) (λ dir. Ok (record { dir = dir; name = name }))
+place_of h who path parent name are =
+    let before : length (parent ++ name ∷ []) - 1 ≡ length parent = omega (arith, length-append parent (name ∷ [])) in
+    rw (are, before, last_at parent name, take-append_seam parent (name ∷ [])) refl
+
+-- the path of no names is that of no place
+pub no_place : (h : Hierarchy) (who : Subject) (path : List (List ℕ)) → path ≡ [] → place h who path ≡ Err NameDup
+no_place h who path none = rw none refl
 
 pub first_again : (rules own : List (Bool × Refusal)) (why : Refusal) → first_of rules ≡ Some why → first_of (rules ++ own) ≡ Some why
 first_again [] own why is = absurd (cc)

@@ -1,5 +1,5 @@
 -- Where names lead from a link and from a refusal, and where walks end.
-use Rattle.std.proofs.Common.{◌≡◌, ◌≤◌, ◌-◌, ℕ, zero, suc, length, get_or, Bool, true, false, List, [], ◌∷◌, ◌++◌, fold, Option, Some, None, Result, Ok, Err, is_ok, refl, sym, ap, ◌∙◌, arith}
+use Rattle.std.proofs.Common.{◌≡◌, ◌≤◌, ◌-◌, ℕ, zero, suc, Bool, true, false, List, [], ◌∷◌, ◌++◌, fold, Option, Some, None, Result, Ok, Err, is_ok, refl, sym, ap, ◌∙◌, arith}
 use Rattle.std.proofs.lemmas.List.{append-nil, append_assoc}
 use Rattle.mx_hier.specs.declared.branches.Directory.{Directory}
 use Rattle.mx_hier.specs.declared.refusals.Refusal.{Refusal}
@@ -50,21 +50,17 @@ module _ (h : Hierarchy) (follow : Bool) (at : ℕ) (name : List ℕ) (names : L
       → along h follow at (name ∷ names) ≡ Refused NoEntry (Some directory)
   from_no_entry directory is at_dir none = from_directory directory None is at_dir none ∙ refused h follow NoEntry (Some directory) names
 
--- the same where the names that are left are not none
-module _ (h : Hierarchy) (follow : Bool) (at : ℕ) where
-  pub stops_at_link : (names target : List (List ℕ)) → 1 ≤ length names → target_at h at ≡ Some target → along h follow at names ≡ Linked (holding h at) (target ++ names)
-  stops_at_link [] target some is = absurd (omega (arith, some))
-  stops_at_link (name ∷ names) target some is = from_link h follow at name names target is
+-- the same where the names that are left begin with that one
+module _ (h : Hierarchy) (follow : Bool) (at : ℕ) (names : List (List ℕ)) (name : List ℕ) (after : List (List ℕ)) (are : names ≡ name ∷ after) where
+  pub stops_at_link : (target : List (List ℕ)) → target_at h at ≡ Some target → along h follow at names ≡ Linked (holding h at) (target ++ names)
+  stops_at_link target is = rw are (from_link h follow at name after target is)
 
-  pub stops_outside : (names : List (List ℕ)) → 1 ≤ length names → target_at h at ≡ None → directory_at h at ≡ None → along h follow at names ≡ Refused NotADir (holding h at)
-  stops_outside [] some is none = absurd (omega (arith, some))
-  stops_outside (name ∷ names) some is none = from_no_directory h follow at name names is none
+  pub stops_outside : target_at h at ≡ None → directory_at h at ≡ None → along h follow at names ≡ Refused NotADir (holding h at)
+  stops_outside is none = rw are (from_no_directory h follow at name after is none)
 
-  pub stops_unfound : (names : List (List ℕ)) (name : List ℕ) (directory : Directory) → 1 ≤ length names → name ≡ get_or names 0 name → target_at h at ≡ None
-      → directory_at h at ≡ Some directory → uid_in h.branches at name ≡ None → along h follow at names ≡ Refused NoEntry (Some directory)
-  stops_unfound [] name directory some first is at_dir none = absurd (omega (arith, some))
-  stops_unfound (other ∷ names) name directory some first is at_dir none =
-      from_no_entry h follow at other names directory is at_dir (ap (uid_in h.branches at) (sym first) ∙ none)
+  pub stops_unfound : (directory : Directory) → target_at h at ≡ None → directory_at h at ≡ Some directory → uid_in h.branches at name ≡ None
+      → along h follow at names ≡ Refused NoEntry (Some directory)
+  stops_unfound directory is at_dir none = rw are (from_no_entry h follow at name after directory is at_dir none)
 
 -- a walk that ends at a refusal is told so
 pub walk_refused : (left : ℕ) (h : Hierarchy) (who : Subject) (follow : Bool) (from : ℕ) (names : List (List ℕ)) (why : Refusal) (dir : Option Directory)

@@ -7,5 +7,5 @@ use Rattle.mx_hier.specs.Walks.{Stop, Reached, Linked, Refused}
 
 abbrev pub stop : Along → Stop
 stop (AlongReached uid) = Reached uid
-stop (AlongLinked dir target rest) = Linked (option_map (λ directory. directory.now) dir) (target.now ++ rest.now)
+stop (AlongLinked dir target rest) = Linked (option_map (λ directory. directory.now) dir) (target.now ++ rest)
 stop (AlongRefused why dir) = Refused why (option_map (λ directory. directory.now) dir)

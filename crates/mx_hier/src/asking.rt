@@ -25,7 +25,7 @@ use crate::refusals::{HierError, Refusal};
 use crate::walks::resolved;
 use mx_acl::Modes;
 use mx_aim::Class;
-use mx_name::{AclId, EntryName, Path, Pathname, Principal};
+use mx_name::{AclId, EntryName, Path, Pathname, Principal, Route};
 use mx_object::ObjectMap;
 use mx_sdw::{Brackets, Desc, Ring};
 use std::alloc::{AllocError, Global};
@@ -123,15 +123,15 @@ impl Hier {
         ensures told { TellsFirst (resolved (caller who.now) path.now) result }
     {
         let path = resolved(alloc, who, path)?;
-        match self.reach_directory(alloc, who, path.names()) {
+        match self.reach_directory(alloc, who, Route::of(path.names())) {
             Ok(()) => Ok(path),
             Err(error) => Err(error),
         }
     }
 
     /// Whether some mode is left to the caller on the directory that a path from the root leads to.
-    fn reach_directory(&self, alloc: Global, who: &Who, path: &[EntryName]) -> Result<(), HierError>
-        ensures { Tells (directory_reached self.now (subject who.now) path.now) result }
+    fn reach_directory(&self, alloc: Global, who: &Who, path: Route) -> Result<(), HierError>
+        ensures { Tells (directory_reached self.now (subject who.now) path.entry) result }
     {
         let uid = self.reached(alloc, who, true, path)?;
         match self.directory_refusal(who, uid) {

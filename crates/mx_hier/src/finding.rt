@@ -9,8 +9,7 @@ ghost use Rattle.mx_hier.specs.Who.{subject};
 use crate::callers::Who;
 use crate::hier::Hier;
 use crate::refusals::HierError;
-use crate::walks::joined;
-use mx_name::{EntryName, Path};
+use mx_name::{EntryName, Path, Route};
 use std::alloc::{AllocError, Global};
 
 impl Hier {
@@ -27,7 +26,7 @@ impl Hier {
         ensures value { IfOk result (λ uid. uid ≡ find_in self.now (subject who.now) dir name.now) }
         ensures below { IfOk result (λ uid. IfSome uid (λ uid. uid < self.now.next)) }
     {
-        match self.walk(alloc, 10, who, true, dir, &[*name])? {
+        match self.walk(alloc, 10, who, true, dir, Route::of(&[*name]))? {
             Ok(uid) => Ok(self.accessible(who, uid)),
             Err(_) => Ok(None),
         }
@@ -45,18 +44,12 @@ impl Hier {
         ensures value { IfOk result (λ uid. uid ≡ find_at self.now (subject who.now) dir.now name.now) }
         ensures below { IfOk result (λ uid. IfSome uid (λ uid. uid < self.now.next)) }
     {
-        let path = joined(alloc, dir.names(), &[*name])?;
-        self.find_along(alloc, path.as_slice(), who)
+        self.find_along(alloc, Route::of_entry(dir, name), who)
     }
 
     /// The same at a path from the root.
-    fn find_along(
-        &self,
-        alloc: Global,
-        path: &[EntryName],
-        who: &Who,
-    ) -> Result<Option<u32>, AllocError>
-        ensures value { IfOk result (λ uid. uid ≡ find_along self.now (subject who.now) path.now) }
+    fn find_along(&self, alloc: Global, path: Route, who: &Who) -> Result<Option<u32>, AllocError>
+        ensures value { IfOk result (λ uid. uid ≡ find_along self.now (subject who.now) path.entry) }
         ensures below { IfOk result (λ uid. IfSome uid (λ uid. uid < self.now.next)) }
     {
         match self.reached(alloc, who, true, path) {

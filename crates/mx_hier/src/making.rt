@@ -21,7 +21,7 @@ ghost use Rattle.mx_hier.specs.MakeSegment.{IsRunFor, is_bad_length, reaches_bey
 ghost use Rattle.mx_hier.specs.CreateLink.{create_link_at, create_link};
 ghost use Rattle.mx_hier.specs.Listed.{listed_added};
 ghost use Rattle.mx_hier.specs.Objects.{object_of, with_object};
-ghost use Rattle.mx_hier.specs.Making.{last_name, parent_path, place, entry_refusals, making_refusals, added, created_at, first_acl};
+ghost use Rattle.mx_hier.specs.Making.{place, entry_refusals, making_refusals, added, created_at, first_acl};
 ghost use Rattle.mx_hier.specs.Rules.{first_of, onward, Answers, Tells, TellsFirst};
 ghost use Rattle.mx_hier.specs.Walks.{resolved};
 ghost use Rattle.mx_hier.specs.Who.{subject, caller};
@@ -34,10 +34,10 @@ use crate::initial::InitialAcls;
 use crate::objects::{add_object, copy_with_room};
 use crate::refusals::{HierError, Refusal};
 use crate::tables::Tables;
-use crate::walks::resolved;
+use crate::walks::{resolved, route};
 use indexmap::IndexMap;
 use mx_acl::{Acl, AclKind, Modes};
-use mx_name::{AclId, EntryName, Pathname};
+use mx_name::{AclId, EntryName, Pathname, Route};
 use mx_object::ObjectMap;
 use mx_pages::{PageRun, pages_for};
 use mx_sdw::{Brackets, Ring};
@@ -270,9 +270,9 @@ impl Hier {
         ensures answer { Answers (create_link self.old (caller who.now) path.now target.now) self.old result self.new }
         ensures told { TellsFirst (resolved (caller who.now) path.now) result }
     {
-        match resolved(alloc, who, path) {
-            Ok(path) => self.link_along(alloc, who, path.names(), target),
-            Err(error) => Err(error),
+        match route(who, path) {
+            Ok(route) => self.link_along(alloc, who, &route, target),
+            Err(why) => Err(HierError::Refused(why)),
         }
     }
 
@@ -281,7 +281,7 @@ impl Hier {
         &mut self,
         alloc: Global,
         who: &Who,
-        path: &[EntryName],
+        path: &Route,
         target: &Pathname,
     ) -> Result<(), HierError>
         ensures { Answers (onward (resolved (caller who.now) target.now) (λ target.
@@ -320,19 +320,20 @@ impl Hier {
             place self.now (subject who.now) path)) result }
         ensures told { TellsFirst (resolved (caller who.now) pathname.now) result }
     {
-        let path = resolved(alloc, who, pathname)?;
-        self.place(alloc, who, path.names())
+        let route = route(who, pathname)?;
+        self.place(alloc, who, &route)
     }
 
     /// The directory and the name of a path.
-    fn place(&self, alloc: Global, who: &Who, path: &[EntryName]) -> Result<Place, HierError>
+    #[tactic(auto, using(crate::proofs::MakingLaws::place_of, crate::proofs::MakingLaws::no_place))]
+    fn place(&self, alloc: Global, who: &Who, path: &Route) -> Result<Place, HierError>
         ensures { Tells (place self.now (subject who.now) path.now) result }
     {
-        let Some(name) = last_name(path) else {
+        let Some((parent, name)) = path.split_last() else {
             return Err(HierError::Refused(Refusal::NameDup));
         };
-        let dir = self.reached(alloc, who, true, parent_path(path))?;
-        Ok(Place { dir, name: *name })
+        let dir = self.reached(alloc, who, true, parent)?;
+        Ok(Place { dir, name })
     }
 
     /// The refusal of every making, whatever is to be made.
@@ -432,24 +433,6 @@ fn add_with_map(
     add(tables, alloc, at, node)?;
     add_object(objects, uid, object);
     Ok(())
-}
-
-/// The last of a path's names; the root's path has none.
-fn last_name(path: &[EntryName]) -> Option<&EntryName>
-    ensures { option_map (λ name. name.now) result ≡ last_name path.now }
-{
-    if path.is_empty() {
-        None
-    } else {
-        path.get(path.len() - 1)
-    }
-}
-
-/// The names before the last.
-fn parent_path(path: &[EntryName]) -> &[EntryName]
-    ensures { result.now ≡ parent_path path.now }
-{
-    &path[..path.len().saturating_sub(1)]
 }
 
 /// Whether two brackets are out of order, or the first is below the caller's ring.

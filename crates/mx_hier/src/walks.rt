@@ -10,18 +10,18 @@ use crate::branches::Directory;
 use crate::callers::Who;
 use crate::hier::Hier;
 use crate::refusals::{HierError, Refusal};
-use mx_name::{EntryName, Path, PathError, Pathname};
+use mx_name::{EntryName, Path, PathError, Pathname, Route};
 use std::alloc::{AllocError, Global};
 
 /// Where names have led: to an entry's uid; to a link, met in a directory, with the names after it; or to a refusal
 /// that is to be said at a directory.
-#[derive(Clone, Copy)]
+#[derive(Drop)]
 pub(crate) enum Along<'a> {
     Reached(u32),
     Linked {
         dir: Option<&'a Directory>,
         target: &'a [EntryName],
-        rest: &'a [EntryName],
+        rest: Route<'a>,
     },
     Refused(Refusal, Option<&'a Directory>),
 }
@@ -40,8 +40,8 @@ impl Hier {
         ensures answer { Tells (entry self.now (caller who.now) pathname.now follow) result }
         ensures told { TellsFirst (resolved (caller who.now) pathname.now) result }
     {
-        let path = resolved(alloc, who, pathname)?;
-        self.reached(alloc, who, follow, path.names())
+        let route = route(who, pathname)?;
+        self.reached(alloc, who, follow, route)
     }
 
     /// What a path from the root leads to: ten links may be followed.
@@ -50,9 +50,9 @@ impl Hier {
         alloc: Global,
         who: &Who,
         follow: bool,
-        path: &[EntryName],
+        path: Route,
     ) -> Result<u32, HierError>
-        ensures { Tells (reached self.now (subject who.now) follow path.now) result }
+        ensures { Tells (reached self.now (subject who.now) follow path.entry) result }
     {
         let uid = self.walk(alloc, 10, who, follow, 0, path)??;
         Ok(uid)
@@ -67,9 +67,9 @@ impl Hier {
         who: &Who,
         follow: bool,
         from: u32,
-        names: &[EntryName],
+        names: Route,
     ) -> Result<Result<u32, Refusal>, AllocError>
-        ensures { IfOk result (λ uid. uid ≡ told (subject who.now) (walk left self.now follow from names.now)) }
+        ensures { IfOk result (λ uid. uid ≡ told (subject who.now) (walk left self.now follow from names.entry)) }
     {
         match self.along(follow, from, names) {
             Along::Reached(uid) => Ok(Ok(uid)),
@@ -79,18 +79,18 @@ impl Hier {
                     return Ok(Err(who.told(Refusal::LinkLoop, dir)));
                 }
                 let path = joined(alloc, target, rest)?;
-                self.walk(alloc, left - 1, who, follow, 0, path.as_slice())
+                self.walk(alloc, left - 1, who, follow, 0, Route::of(path.as_slice()))
             }
         }
     }
 
     /// The names one after the other, from a directory to the first link that is to be followed.
-    fn along<'a>(&'a self, follow: bool, from: u32, names: &'a [EntryName]) -> Along<'a>
-        ensures { stop result ≡ along self.now follow from names.now }
+    fn along<'a>(&'a self, follow: bool, from: u32, names: Route<'a>) -> Along<'a>
+        ensures { stop result ≡ along self.now follow from names.entry }
     {
         let mut at = from;
         let mut rest = names;
-        while let [name, after @ ..] = rest {
+        while let Some((name, after)) = rest.first() {
             if let Some(target) = self.target_at(at) {
                 return Along::Linked {
                     dir: self.holding(at),
@@ -101,7 +101,7 @@ impl Hier {
             let Some(directory) = self.directory_at(at) else {
                 return Along::Refused(Refusal::NotADir, self.holding(at));
             };
-            let Some(uid) = self.tables.uid_in(at, name) else {
+            let Some(uid) = self.tables.uid_in(at, &name) else {
                 return Along::Refused(Refusal::NoEntry, Some(directory));
             };
             at = uid;
@@ -111,8 +111,8 @@ impl Hier {
     }
 
     /// What is reached after the last name: a link there is followed only if it is asked for.
-    fn ended<'a>(&'a self, follow: bool, at: u32, rest: &'a [EntryName]) -> Along<'a>
-        requires { rest.now ≡ [] }
+    fn ended<'a>(&'a self, follow: bool, at: u32, rest: Route<'a>) -> Along<'a>
+        requires { rest ≡ [] }
         ensures { stop result ≡ ended self.now follow (Reached at) }
     {
         match self.target_at(at) {
@@ -126,7 +126,17 @@ impl Hier {
     }
 }
 
-/// The path of a pathname, from the caller's working directory. `BadPath` where it has none.
+/// The path of a pathname in place, from the caller's working directory. `BadPath` where it has none.
+pub(crate) fn route<'a>(who: &Who<'a>, pathname: &'a Pathname) -> Result<Route<'a>, Refusal>
+    ensures { result ≡ resolved (caller who.now) pathname.now }
+{
+    match Route::resolve(who.base, pathname) {
+        Ok(route) => Ok(route),
+        Err(_) => Err(Refusal::BadPath),
+    }
+}
+
+/// The same path, where it is kept.
 pub(crate) fn resolved(alloc: Global, who: &Who, pathname: &Pathname) -> Result<Path, HierError>
     ensures answer { Tells (resolved (caller who.now) pathname.now) result }
     ensures told { TellsFirst (resolved (caller who.now) pathname.now) result }
@@ -140,14 +150,10 @@ pub(crate) fn resolved(alloc: Global, who: &Who, pathname: &Pathname) -> Result<
 }
 
 /// The names of a link's target, and then those that are left.
-pub(crate) fn joined(
-    alloc: Global,
-    target: &[EntryName],
-    rest: &[EntryName],
-) -> Result<Vec<EntryName>, AllocError>
-    ensures { IfOk result (λ path. path.items ≡ target.now ++ rest.now) }
+fn joined(alloc: Global, target: &[EntryName], rest: Route) -> Result<Vec<EntryName>, AllocError>
+    ensures { IfOk result (λ path. path.items ≡ target.now ++ rest.entry) }
 {
     let mut path = target.to_vec(alloc)?;
-    path.extend_from_slice(rest)?;
+    rest.append_to(&mut path)?;
     Ok(path)
 }

@@ -1,14 +1,15 @@
 -- Laws of cuts: what a cut takes apart is its text, and a front without the byte is cut off again.
-use Rattle.std.proofs.Common.{ℕ, zero, suc, ◌≡◌, ◌==◌, ◌<◌, Bool, true, false, cond, not, List, [], ◌∷◌, ◌++◌, take, drop, length, Option, None, Some, refl, ap, subst, arith, ◌+◌, ◌-◌}
+use Rattle.std.proofs.Common.{ℕ, zero, suc, ◌≡◌, ◌==◌, ◌<◌, Bool, true, false, cond, not, List, [], ◌∷◌, ◌++◌, take, drop, length, Option, None, Some, refl, ap, ◌∙◌, subst, arith, ◌+◌, ◌-◌}
 use Rattle.std.specs.List.{slice_split, onto_first}
 use Rattle.std.specs.Option.{option_map}
 use Rattle.std.proofs.lemmas.List.{take_rest}
 use Rattle.std.proofs.lemmas.Bool.{eqb-true, eq-eqb}
-use Rattle.memchr.specs.Find.{Nowhere, Passes, IsFirstByte, is_byte}
+use Rattle.memchr.specs.Find.{Nowhere, Passes, IsFirstByte, IsLastByte, is_byte}
 use Rattle.mx_name.specs.Names.{is_free}
 use Rattle.mx_name.specs.Cuts.{behind, cut_at}
-use Rattle.mx_name.specs.Parts.{parts_by}
+use Rattle.mx_name.specs.Parts.{parts_by, parts_to}
 use Rattle.mx_name.specs.OrderLaws.{both_left, both_right}
+use Rattle.mx_name.proofs.Splitting.{some_part}
 
 some_is : {A : Type 0} (a b : A) → Some a ≡ Some b → a ≡ b
 some_is a b e = cc
@@ -99,3 +100,39 @@ cut_found byte text None absent = cut_none byte text absent
 cut_found byte text (Some k) is =
     let next : k + 1 ≡ suc k = omega arith in
     rw (take_rest text (k + 1), next) (cut_first byte k text is.0.high is.0.before is.1)
+
+-- a text without the byte is its one part
+one_part : (byte : ℕ) (text : List ℕ) → Nowhere (Passes (is_byte byte) text) 0 (length text) → slice_split (λ c. c == byte) text ≡ text ∷ []
+one_part byte text absent = parts_cut byte text ∙ ap (parts_by byte text) (cut_none byte text absent)
+
+-- a byte before the first part of some leaves the last one as it is
+onto_front : (c : ℕ) (front : List ℕ) (fronts : List (List ℕ)) (parts : List (List ℕ)) (last : List ℕ) → parts ≡ front ∷ fronts
+    → onto_first c (parts ++ last ∷ []) ≡ onto_first c parts ++ last ∷ []
+onto_front c front fronts parts last e = rw e refl
+
+-- the parts before the last such byte, and what stands after it
+last_on : (byte c : ℕ) (front rest last : List ℕ) (test : Bool) → slice_split (λ c. c == byte) rest ≡ slice_split (λ c. c == byte) front ++ last ∷ []
+    → cond test ([] ∷ slice_split (λ c. c == byte) rest) (onto_first c (slice_split (λ c. c == byte) rest))
+    ≡ cond test ([] ∷ slice_split (λ c. c == byte) front) (onto_first c (slice_split (λ c. c == byte) front)) ++ last ∷ []
+last_on byte c front rest last true e = ap (λ (parts : List (List ℕ)). [] ∷ parts) e
+last_on byte c front rest last false e =
+    let some = some_part (λ c. c == byte) front in
+    ap (onto_first c) e ∙ onto_front c some.0 some.1.0 (slice_split (λ c. c == byte) front) last some.1.1
+
+pub cut_last : (byte k : ℕ) (text : List ℕ) → k < length text → Nowhere (Passes (is_byte byte) text) (suc k) (length text)
+    → Passes (is_byte byte) text k → slice_split (λ c. c == byte) text ≡ slice_split (λ c. c == byte) (take k text) ++ drop (suc k) text ∷ []
+cut_last byte k [] within absent is = absurd (omega arith)
+cut_last byte zero (c ∷ cs) within absent is =
+    rw is (ap (λ (parts : List (List ℕ)). [] ∷ parts) (one_part byte cs (λ j low high. absent (suc j) (omega arith) (omega arith))))
+cut_last byte (suc k) (c ∷ cs) within absent is =
+    last_on byte c (take k cs) cs (drop (suc k) cs) (c == byte)
+    (cut_last byte k cs (omega arith) (λ j low high. absent (suc j) (omega arith) (omega arith)) is)
+
+-- so the last place where the byte is parts the text
+pub last_found : (byte : ℕ) (text : List ℕ) (place : Option ℕ) → IsLastByte (is_byte byte) text place
+    → slice_split (λ c. c == byte) text
+    ≡ parts_to byte text (option_map (λ k. (take k text, take (length text - (k + 1)) (drop (k + 1) text))) place)
+last_found byte text None absent = one_part byte text absent
+last_found byte text (Some k) is =
+    let next : k + 1 ≡ suc k = omega arith in
+    rw (take_rest text (k + 1), next) (cut_last byte k text is.0.high (rw (← next) is.0.after) is.1)

@@ -49,6 +49,18 @@ fit_append : (xs ys : List (List ℕ)) → first_fault xs ≡ None → first_fau
 fit_append [] ys e f = f
 fit_append (x ∷ xs) ys e f = or_none (name_fault x) (first_fault (xs ++ ys)) (or_left (name_fault x) (first_fault xs) e) (fit_append xs ys (or_right (name_fault x) (first_fault xs) e) f)
 
+-- both parts of faultless names are so
+pub fit_front : (xs ys : List (List ℕ)) → first_fault (xs ++ ys) ≡ None → first_fault xs ≡ None
+fit_front [] ys e = refl
+fit_front (x ∷ xs) ys e = or_none (name_fault x) (first_fault xs) (or_left (name_fault x) (first_fault (xs ++ ys)) e) (fit_front xs ys (or_right (name_fault x) (first_fault (xs ++ ys)) e))
+
+pub fit_rest : (xs ys : List (List ℕ)) → first_fault (xs ++ ys) ≡ None → first_fault ys ≡ None
+fit_rest [] ys e = e
+fit_rest (x ∷ xs) ys e = fit_rest xs ys (or_right (name_fault x) (first_fault (xs ++ ys)) e)
+
+pub fit_last : (xs : List (List ℕ)) (y : List ℕ) → first_fault (xs ++ y ∷ []) ≡ None → name_fault y ≡ None
+fit_last xs y e = or_left (name_fault y) None (fit_rest xs (y ∷ []) e)
+
 fit_take : (n : ℕ) (xs : List (List ℕ)) → first_fault xs ≡ None → first_fault (take n xs) ≡ None
 fit_take zero xs e = refl
 fit_take (suc n) [] e = refl

@@ -239,8 +239,12 @@ pathname_is_free byte pathname f e =
     all_free is_pathname_byte byte pathname f
     (marked_bytes pathname (named_bytes pathname (after_marks pathname) (not (eqb (length pathname) 0)) (pathname_names pathname e)))
 
+-- a name is its one part
+pub name_alone : (name : List ℕ) → name_fault name ≡ None → slice_split (λ c. c == 62) name ≡ name ∷ []
+name_alone name e = split_alone 62 name (name_is_free 62 name refl e)
+
 split_names : (name : List ℕ) (names : List (List ℕ)) → first_fault (name ∷ names) ≡ None → slice_split (λ c. eqb c 62) (name ++ names_text names) ≡ name ∷ names
-split_names name [] e = rw append-nil (split_alone 62 name (name_is_free 62 name refl (or_left (name_fault name) None e)))
+split_names name [] e = rw append-nil (name_alone name (or_left (name_fault name) None e))
 split_names name (next ∷ names) e =
     split_front 62 name (next ++ names_text names) (name_is_free 62 name refl (or_left (name_fault name) (first_fault (next ∷ names)) e))
     ∙ ap (λ (rest : List (List ℕ)). name ∷ rest) (split_names next names (or_right (name_fault name) (first_fault (next ∷ names)) e))

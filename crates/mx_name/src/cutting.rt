@@ -3,9 +3,9 @@ ghost use Rattle.std.specs.Prelude.{◌≡◌, ◌==◌, ◌<◌, length, IfSome
 ghost use Rattle.std.specs.List.{slice_split};
 ghost use Rattle.std.specs.Option.{option_map};
 ghost use Rattle.mx_name.specs.Cuts.{cut_at};
-ghost use Rattle.mx_name.specs.Parts.{parts_by};
+ghost use Rattle.mx_name.specs.Parts.{parts_by, parts_to};
 
-use memchr::memchr;
+use memchr::{memchr, memrchr};
 
 /// What stands before the first `mark` of a text, and what after it; none where it has no `mark`. Takes no memory.
 pub fn cut(mark: u8, text: &[u8]) -> Option<(&[u8], &[u8])>
@@ -40,4 +40,15 @@ fn near_cut(mark: u8, text: &[u8]) -> Option<(&[u8], &[u8])>
         }
     }
     None
+}
+
+/// What stands before the last `mark` of a text, and what after it, said of all parts of the text between marks.
+pub(crate) fn last_part(mark: u8, text: &[u8]) -> Option<(&[u8], &[u8])>
+    ensures { slice_split (λ c. c == mark) text.now
+        ≡ parts_to mark text.now (option_map (λ p. (p.0.now, p.1.now)) result) }
+{
+    match memrchr(mark, text) {
+        Some(at) => Some((&text[..at], &text[at + 1..])),
+        None => None,
+    }
 }

@@ -4,7 +4,8 @@
 //! the first fault of the text in a fixed order. The definitions of reading and of spelling are functions on lists of
 //! bytes, inverse to one another, so that a grammar above can cite them. Resolving, matching and ranks are pinned by
 //! definitions too. Names, principals and identifiers are held in the value itself, and are copied as numbers are; a
-//! pathname and a path take one piece of memory each. Stands on the list type alone.
+//! pathname and a path take one piece of memory each; a route is a path in place, and takes none. Stands on the list
+//! type alone.
 #![tactic(auto)]
 
 mod cutting;
@@ -13,6 +14,7 @@ mod names;
 mod pathnames;
 mod paths;
 mod principals;
+mod routes;
 mod spelling;
 mod texts;
 
@@ -22,3 +24,4 @@ pub use names::{EntryName, NameError};
 pub use pathnames::Pathname;
 pub use paths::{Path, PathError};
 pub use principals::Principal;
+pub use routes::Route;

@@ -1,14 +1,13 @@
 //! Paths, and resolving pathnames.
 ghost use Rattle.std.specs.Prelude.{◌≡◌, ◌==◌, ◌+◌, ◌^◌, ◌≤◌, ◌++◌, ℕ, List, [], ◌∷◌, None, IfOk, OnOk, OnErr, length, nat_lt};
-ghost use Rattle.std.specs.List.{slice_split};
-ghost use Rattle.mx_name.specs.Pathnames.{climbs, after_marks, names_of, first_fault, pathname_fault};
+ghost use Rattle.mx_name.specs.Pathnames.{climbs, names_of, pathname_fault};
 ghost use Rattle.mx_name.specs.Paths.{IsPath, path_text, names_text, kept, resolved, resolve_fault, resolution};
 ghost use Rattle.mx_name.specs.Answers.{Answers};
 ghost use Rattle.mx_name.specs.declared.paths.PathError.TheVariants.{Memory};
 
-use crate::cutting::first_part;
 use crate::names::EntryName;
 use crate::pathnames::{Pathname, climbs, is_absolute, named};
+use crate::routes::Route;
 use mx_list::Sequence;
 use std::alloc::{AllocError, Global};
 use std::marker::Model;
@@ -81,11 +80,8 @@ impl Path {
     pub fn resolve(alloc: Global, base: &Path, name: &Pathname) -> Result<Path, PathError>
         ensures { Answers PathError.Memory (resolution base.now name.now) result }
     {
-        let (base, text) = (base.names(), name.bytes());
-        if let Some(fault) = resolve_fault(base, text) {
-            return Err(fault);
-        }
-        let names = resolved(alloc, base, text)?;
+        let route = Route::resolve(base, name)?;
+        let names = Sequence::of(route.to_vec(alloc)?);
         Ok(Path { names })
     }
 
@@ -116,7 +112,8 @@ impl Path {
     }
 }
 
-fn resolve_fault(base: &[EntryName], text: &[u8]) -> Option<PathError>
+/// The first fault of a pathname from a base, if it has one.
+pub(crate) fn resolve_fault(base: &[EntryName], text: &[u8]) -> Option<PathError>
     requires { IsPath base.now }
     ensures { result ≡ resolve_fault base.now text.now }
 {
@@ -140,7 +137,7 @@ fn is_too_long(base: &[EntryName], text: &[u8]) -> bool
 }
 
 /// What is left of the base.
-fn kept<'a>(base: &'a [EntryName], text: &[u8]) -> &'a [EntryName]
+pub(crate) fn kept<'a>(base: &'a [EntryName], text: &[u8]) -> &'a [EntryName]
     requires { climbs text.now ≤ length base.now }
     ensures { result.now ≡ kept base.now text.now }
 {
@@ -174,39 +171,6 @@ fn added_length(text: &[u8]) -> usize
         Some(names) => 1 + names.len(),
         None => 0,
     }
-}
-
-/// The names, in one piece of memory: there is room for names of three bytes, and more names than that make it grow.
-fn resolved(
-    alloc: Global,
-    base: &[EntryName],
-    text: &[u8],
-) -> Result<Sequence<EntryName>, AllocError>
-    requires below { climbs text.now ≤ length base.now }
-    requires names { first_fault (names_of text.now) ≡ None }
-    ensures { IfOk result (λ names. names ≡ resolved base.now text.now) }
-{
-    let kept = kept(base, text);
-    let mut names = Vec::with_capacity(alloc, kept.len() + text.len() / 4 + 1)?;
-    names.extend_from_slice(kept)?;
-    if let Some(added) = named(text) {
-        add_names(&mut names, added)?;
-    }
-    Ok(Sequence::of(names))
-}
-
-/// Appends the names of a text that has no bad name.
-fn add_names(names: &mut Vec<EntryName>, text: &[u8]) -> Result<(), AllocError>
-    requires { first_fault (slice_split (λ c. c == 62) text.now) ≡ None }
-    ensures { OnOk result (names.new.items ≡ names.old.items ++ slice_split (λ c. c == 62) text.now) }
-{
-    let mut left = text;
-    while let Some((name, rest)) = first_part(b'>', left) {
-        names.push(EntryName::of(name))?;
-        left = rest;
-    }
-    names.push(EntryName::of(left))?;
-    Ok(())
 }
 
 fn append_path(out: &mut Vec<u8>, names: &[EntryName]) -> Result<(), AllocError>

@@ -1,3 +1,4 @@
+use Rattle.std.proofs.Common.{refl, sym}
 use Rattle.mx_hier.specs.CreateLink.{create_link_at}
 use Rattle.mx_hier.specs.Making.{place}
 use Rattle.mx_hier.specs.Rules.{onward}
@@ -10,6 +11,6 @@ pub returns-in-Ok-clause-answer : goal.returns-in-Ok-clause-answer
 returns-in-Ok-clause-answer c =
     let h = c.args.self.now in
     let who = c.args.who.now in
-    resolved_then (resolved (caller who) c.args.path.now) c.in-Ok.path c.names.result.now
+    resolved_then (resolved (caller who) c.args.path.now) c.in-Ok.route c.in-Ok.route
     (λ path. onward (resolved (caller who) c.args.target.now) (λ target. onward (place h (subject who) path) (λ at. create_link_at h (subject who) at target)))
-    h c.link_along.result c.link_along.new.self c.in-Ok.ensures.answer c.names.ensures.value c.link_along.ensures
+    h c.link_along.result c.link_along.new.self (sym c.in-Ok.ensures) refl c.link_along.ensures

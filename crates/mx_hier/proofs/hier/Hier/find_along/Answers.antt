@@ -7,9 +7,9 @@ use Rattle.mx_hier.proofs.hier.Hier.find_along.Goals as goal
 pub returns-in-Ok-clause-value : goal.returns-in-Ok-clause-value
 returns-in-Ok-clause-value c =
     c.accessible.ensures.value
-    ∙ found c.args.self.now (subject c.args.who.now) (walk 10 c.args.self.now true 0 c.args.path.now) c.in-Ok.uid (sym c.in-Ok.ensures)
+    ∙ found c.args.self.now (subject c.args.who.now) (walk 10 c.args.self.now true 0 c.args.path) c.in-Ok.uid (sym c.in-Ok.ensures)
 
 pub returns-in-Err-Refused-clause-value : goal.returns-in-Err-Refused-clause-value
 returns-in-Err-Refused-clause-value c =
-    not_found c.args.self.now (subject c.args.who.now) (walk 10 c.args.self.now true 0 c.args.path.now) c.in-Err-Refused.field-0-0
+    not_found c.args.self.now (subject c.args.who.now) (walk 10 c.args.self.now true 0 c.args.path) c.in-Err-Refused.field-0-0
     (sym (rw c.in-Err-Refused.field-0-is at c.in-Err-Refused.ensures))

@@ -1,7 +1,7 @@
 use Rattle.std.proofs.Common.{◌≡◌, ◌==◌, ◌++◌, length, None}
 use Rattle.std.specs.List.{slice_split}
 use Rattle.mx_name.specs.Pathnames.{first_fault}
-use Rattle.mx_name.proofs.paths.add_names.Given as goal
+use Rattle.mx_name.proofs.routes.add_names.Given as goal
 
 -- the names that are left have no fault, and follow those so far
 abbrev pub invariant-loop-name : goal.invariant-loop-name
