@@ -247,3 +247,14 @@ module _ (k : KnownSegments) (uid ring : ℕ) (name : Option (List ℕ)) (sectio
       let r : Initiated = record { known = known; after = after } in
       let given = granted r e in
       subst (λ (x : Initiated). IsSound x.after) given.2 (initiated_sound k uid ring name section sound given.1 (λ _. fits))
+
+  -- what is known after a segment that neither test refuses, of lots and names that are those
+  pub initiate_is : (known : Known) (lots : List Lot) (names : List RingNames) → refusal k uid ring name (is_some section) ≡ None
+      → known ≡ known_as k.lots uid section → lots ≡ lots_with k.lots (known_as k.lots uid section) uid section
+      → names ≡ with_name k.names ring name (known_as k.lots uid section).segno
+      → initiate k uid ring name section ≡ Ok (record { known = known; after = record k { lots = lots; names = names } })
+  initiate_is known lots names granted p q r =
+      subst (λ (x : Known). initiate k uid ring name section ≡ Ok (record { known = x; after = record k { lots = lots; names = names } })) (sym p)
+      (subst (λ (xs : List Lot). initiate k uid ring name section ≡ Ok (record { known = left.known; after = record k { lots = xs; names = names } })) (sym q)
+      (subst (λ (xs : List RingNames). initiate k uid ring name section ≡ Ok (record { known = left.known; after = record k { lots = left.after.lots; names = xs } })) (sym r)
+      (ap (λ (o : Option KstError). unless o left) granted)))

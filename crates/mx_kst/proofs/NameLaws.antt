@@ -16,7 +16,7 @@ use Rattle.mx_kst.specs.Initiating.{with_name}
 use Rattle.mx_kst.specs.Terminating.{names_without, other_than}
 use Rattle.mx_kst.proofs.LotLaws.{mapped_at}
 
-same_name_laws : IsEquivalence same_name
+pub same_name_laws : IsEquivalence same_name
 same_name_laws = lists_equiv nat_eq_equiv
 
 pub ring_without : (names : List RingNames) (segno ring : ℕ) → names_in (map (names_without segno) names) ring ≡ names_without segno (names_in names ring)

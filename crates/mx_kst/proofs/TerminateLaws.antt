@@ -93,6 +93,14 @@ sound_after k segno lots names sound branch p q =
     subst (λ (xs : List Lot). IsSound (record k { lots = xs; names = names })) (sym p)
     (subst (λ (xs : List RingNames). IsSound (record k { lots = lots_without segno k.lots; names = xs })) (sym q) (terminated_sound k segno sound branch))
 
+-- what a segment's number leaves, of lots and names that are those
+pub terminate_is : (k : KnownSegments) (segno : ℕ) (lots : List Lot) (names : List RingNames) → is_branch (lot_of k.lots segno) ≡ true
+    → lots ≡ lots_without segno k.lots → names ≡ map (names_without segno) k.names → terminate k segno ≡ Some (record k { lots = lots; names = names })
+terminate_is k segno lots names branch p q =
+    subst (λ (xs : List Lot). terminate k segno ≡ Some (record k { lots = xs; names = names })) (sym p)
+    (subst (λ (xs : List RingNames). terminate k segno ≡ Some (record k { lots = lots_without segno k.lots; names = xs })) (sym q)
+    (ap (λ (b : Bool). cond b (Some (record k { lots = lots_without segno k.lots; names = map (names_without segno) k.names })) None) branch))
+
 module _ (k after : KnownSegments) (segno : ℕ) (sound : IsSound k) where
   abbrev left : KnownSegments
   left = record k { lots = lots_without segno k.lots; names = map (names_without segno) k.names }

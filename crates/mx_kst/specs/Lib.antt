@@ -5,3 +5,4 @@ pub mod KnownSegments
 pub mod Initiating
 pub mod Terminating
 pub mod Index
+pub mod Stored

@@ -3,8 +3,9 @@
 //! A contract sees the last number that the process has, the list of the lots of the numbers given so far, and for each
 //! ring the list of its names with their numbers. `initiate` and `terminate` are one definition each over these,
 //! refusals in their order; what stays true of every table, and what the two calls leave, is said once more in words of
-//! the numbers and names alone. Numbers are given in order and never used again. Stands on entry names, on rings and
-//! brackets, and on an ordered map.
+//! the numbers and names alone. Numbers are given in order and never used again, so `terminate` leaves the names where
+//! they are stored: those of a number that is free again stand no more. Stands on entry names, on rings and brackets,
+//! and on an ordered map.
 #![tactic(auto)]
 
 mod laws;

@@ -1,7 +1,7 @@
 //! What a segment number stands for.
 ghost use Rattle.std.specs.Prelude.{◌≡◌, ◌+◌, ◌≤◌, ◌<◌, true, length, is_some, IfOk, IfSome};
 ghost use Rattle.std.specs.Vec.{vec_len, vec_capacity};
-ghost use Rattle.mx_kst.specs.Lots.{stacks, lot_of, is_section_of};
+ghost use Rattle.mx_kst.specs.Lots.{stacks, lot_of, is_branch, is_section_of};
 ghost use Rattle.mx_kst.specs.Sections.{IsWithinPage};
 ghost use Rattle.mx_kst.specs.Initiating.{numbers_needed, lots_with};
 ghost use Rattle.mx_kst.specs.Terminating.{lot_without, lots_without};
@@ -87,6 +87,13 @@ pub(crate) fn lot_of(lots: &[Lot], segno: u16) -> Lot
         Some(lot) => *lot,
         None => Lot::Free,
     }
+}
+
+/// Whether a number is that of a segment.
+pub(crate) fn is_branch(lots: &[Lot], segno: u16) -> bool
+    ensures { result ≡ is_branch (lot_of lots.now segno) }
+{
+    matches!(lots.get(usize::from(segno)), Some(Lot::Branch { .. }))
 }
 
 /// Adds the lots of a segment that gets its number now, and of its linkage section. Takes no memory.

@@ -1,28 +1,41 @@
 //! Reference names, ring by ring.
-ghost use Rattle.std.specs.Prelude.{◌≡◌, ◌<◌, List, ℕ, [], ◌∷◌, ◌++◌, length, map, not, ◌==◌, None, IfOk, OnOk, OnErr};
-ghost use Rattle.std.specs.Map.{lookup};
+ghost use Rattle.std.specs.Prelude.{◌≡◌, ◌<◌, List, ℕ, [], ◌∷◌, ◌++◌, length, map, true, None, IfOk, OnOk, OnErr};
+ghost use Rattle.std.specs.List.{All, IsDistinct};
+ghost use Rattle.std.specs.Map.{keys_of, lookup};
 ghost use Rattle.std.specs.Option.{option_copied};
 ghost use Rattle.mx_name.specs.Names.{same_name};
+ghost use Rattle.mx_kst.specs.declared.lots.Lot.{Lot};
+ghost use Rattle.mx_kst.specs.Lots.{lot_of, is_branch};
 ghost use Rattle.mx_kst.specs.Names.{RingNames, no_names, names_in, named};
+ghost use Rattle.mx_kst.specs.Stored.{standing, AreGiven, Holds, HoldAll};
 ghost use Rattle.mx_kst.specs.Initiating.{with_name};
-ghost use Rattle.mx_kst.specs.Terminating.{names_without};
 
+use crate::lots::{self, Lot};
 use indexmap::IndexMap;
 use mx_name::EntryName;
 use mx_sdw::Ring;
 use std::alloc::{AllocError, Global};
 use std::marker::Model;
 
-/// The reference names of one ring, each with the number that it stands for.
+/// The least number of names of a ring at which those that stand no more are taken out.
+const LEAST_MARK: usize = 64;
+
+/// The names that are stored for a ring, each with the number that it got. One whose number's segment is gone stands no
+/// more, and never again, as no number is given twice; it stays stored until it is added anew or the mark is reached.
 #[derive(Debug, Drop)]
 pub(crate) struct Names {
     numbers: IndexMap<EntryName, u16>,
+    /// The number of names at which those that stand no more are taken out: twice as many as were left the last time, so
+    /// that as many names are added between one time and the next.
+    mark: usize,
 }
 
 impl Model for Names {
     ghost Value = { RingNames };
 
     ghost view = { λ a. a.numbers.entries };
+
+    ghost invariant = { λ a. IsDistinct same_name (keys_of a.numbers.entries) };
 }
 
 impl Names {
@@ -31,34 +44,55 @@ impl Names {
     {
         Names {
             numbers: IndexMap::new(alloc),
+            mark: LEAST_MARK,
         }
     }
 
-    fn get(&self, name: &EntryName) -> Option<u16>
-        ensures { result ≡ lookup (same_name name.now) self.now }
+    /// The number that a name stands for.
+    fn get(&self, lots: &[Lot], name: &EntryName) -> Option<u16>
+        ensures { result ≡ lookup (same_name name.now) (standing lots.now self.now) }
     {
-        self.numbers.get(name).copied()
+        let segno = self.numbers.get(name).copied()?;
+        lots::is_branch(lots, segno).then_some(segno)
     }
 
-    /// Adds a name that does not stand there. Want of memory changes nothing.
-    fn add(&mut self, name: &EntryName, segno: u16) -> Result<(), AllocError>
-        requires { lookup (same_name name.now) self.old ≡ None }
-        ensures ok { OnOk result (self.new ≡ self.old ++ (name.now, segno) ∷ []) }
-        ensures err { OnErr result (self.new ≡ self.old) }
+    /// Adds a name that does not stand there. Want of memory leaves the names that stand.
+    fn add(&mut self, lots: &[Lot], name: &EntryName, segno: u16) -> Result<(), AllocError>
+        requires absent { lookup (same_name name.now) (standing lots.now self.old) ≡ None }
+        requires given { AreGiven lots.now self.old }
+        ensures ok { OnOk result ((more : List Lot) → is_branch (lot_of (lots.now ++ more) segno) ≡ true
+            → Holds (lots.now ++ more) self.new (standing lots.now self.old ++ (name.now, segno) ∷ [])) }
+        ensures err { OnErr result (Holds lots.now self.new (standing lots.now self.old)) }
     {
+        self.make_way(lots, name);
         self.numbers.insert(*name, segno)?;
         Ok(())
     }
 
-    /// Takes away the names of a number.
-    fn forget(&mut self, segno: u16)
-        ensures { self.new ≡ names_without segno self.old }
+    /// Takes out a name that stands no more; at the mark all that stand no more.
+    fn make_way(&mut self, lots: &[Lot], name: &EntryName)
+        requires absent { lookup (same_name name.now) (standing lots.now self.old) ≡ None }
+        requires given { AreGiven lots.now self.old }
+        ensures holds { Holds lots.now self.new (standing lots.now self.old) }
+        ensures absent { lookup (same_name name.now) self.new ≡ None }
+    {
+        if self.numbers.len() < self.mark {
+            self.numbers.shift_remove(name);
+        } else {
+            self.clear(lots);
+        }
+    }
+
+    /// Takes out the names that stand no more.
+    fn clear(&mut self, lots: &[Lot])
+        ensures { self.new ≡ standing lots.now self.old }
     {
         self.numbers.retain(
             |_name: &EntryName, number: &mut u16| -> bool
-                ensures { (result ≡ not (number.old == segno)) × (number.new ≡ number.old) }
-            { *number != segno },
+                ensures { (result ≡ is_branch (lot_of lots.entry.now number.old)) × (number.new ≡ number.old) }
+            { lots::is_branch(lots, *number) },
         );
+        self.mark = LEAST_MARK.max(2 * self.numbers.len());
     }
 }
 
@@ -74,41 +108,36 @@ pub(crate) fn no_names(alloc: Global) -> Result<Vec<Names>, AllocError>
 }
 
 /// The number that a name stands for in a ring.
-pub(crate) fn named(names: &[Names], ring: Ring, name: &EntryName) -> Option<u16>
-    ensures { result ≡ named names.now ring name.now }
+pub(crate) fn named(names: &[Names], lots: &[Lot], ring: Ring, name: &EntryName) -> Option<u16>
+    ensures { result ≡ named (map (standing lots.now) names.now) ring name.now }
 {
     match names.get(usize::from(ring.number())) {
-        Some(names) => names.get(name),
+        Some(names) => names.get(lots, name),
         None => None,
     }
 }
 
-/// Adds a name for a number, if one is given and it does not stand in the ring yet. Want of memory changes nothing.
+/// Adds a name for a number, if one is given and it does not stand in the ring yet; the number may be one that is given
+/// next. Want of memory leaves the names that stand.
 pub(crate) fn add_name(
     names: &mut [Names],
+    lots: &[Lot],
     ring: Ring,
     name: Option<&EntryName>,
     segno: u16,
 ) -> Result<(), AllocError>
-    requires { ring < length names.old }
-    ensures ok { OnOk result (names.new ≡ with_name names.old ring (option_copied name.entry) segno) }
-    ensures err { OnErr result (names.new ≡ names.old) }
+    requires ring { ring < length names.old }
+    requires given { All (AreGiven lots.now) names.old }
+    ensures ok { OnOk result ((more : List Lot) → is_branch (lot_of (lots.now ++ more) segno) ≡ true
+        → HoldAll (lots.now ++ more) names.new (with_name (map (standing lots.now) names.old) ring (option_copied name.entry) segno)) }
+    ensures err { OnErr result (HoldAll lots.now names.new (map (standing lots.now) names.old)) }
 {
     let Some(name) = name else {
         return Ok(());
     };
-    if named(names, ring, name).is_some() {
+    if named(names, lots, ring, name).is_some() {
         return Ok(());
     }
-    names[usize::from(ring.number())].add(name, segno)?;
+    names[usize::from(ring.number())].add(lots, name, segno)?;
     Ok(())
-}
-
-/// Takes away the names of a number in all rings.
-pub(crate) fn forget(names: &mut [Names], segno: u16)
-    ensures { names.new ≡ map (names_without segno) names.old }
-{
-    for names in names.iter_mut() {
-        names.forget(segno);
-    }
 }

@@ -65,26 +65,28 @@ pub struct Kst {
     last: u16,
     /// By number, those given so far; with room for all.
     lots: Vec<Lot>,
-    /// By ring.
+    /// By ring; `terminate` leaves them, and a name stands while its number is that of a segment.
     names: Vec<Names>,
     /// By uid, those of the segments that are known; with room for all that are left.
     numbers: IndexMap<u32, u16>,
 }
 
 impl Model for Kst {
-    ghost use Rattle.std.specs.Prelude.{◌==◌, ◌<◌, ◌≤◌};
+    ghost use Rattle.std.specs.Prelude.{◌==◌, ◌<◌, ◌≤◌, map};
+    ghost use Rattle.std.specs.List.{All};
     ghost use Rattle.std.specs.Vec.{vec_capacity};
     ghost use Rattle.indexmap.specs.IndexMap.{get, spare};
     ghost use Rattle.mx_kst.specs.Index.{Indexes};
     ghost use Rattle.mx_kst.specs.Lots.{numbers_left};
     ghost use Rattle.mx_kst.specs.KnownSegments.{KnownSegments, IsSound};
+    ghost use Rattle.mx_kst.specs.Stored.{standing, AreGiven};
 
     ghost Value = { KnownSegments };
 
-    ghost view = { λ a. record { last = a.last; lots = a.lots.items; names = a.names.items } };
+    ghost view = { λ a. record { last = a.last; lots = a.lots.items; names = map (standing a.lots.items) a.names.items } };
 
-    ghost invariant = { λ a. IsSound (record { last = a.last; lots = a.lots.items; names = a.names.items })
-        × (a.last < vec_capacity a.lots)
+    ghost invariant = { λ a. IsSound (record { last = a.last; lots = a.lots.items; names = map (standing a.lots.items) a.names.items })
+        × All (AreGiven a.lots.items) a.names.items × (a.last < vec_capacity a.lots)
         × Indexes (get ◌==◌ a.numbers) a.lots.items × (numbers_left a.last a.lots.items ≤ spare a.numbers) };
 }
 
@@ -151,7 +153,7 @@ impl Kst {
             return Err(refusal);
         }
         let known = self.known_as(uid, &section);
-        names::add_name(&mut self.names, ring, name, known.segno)?;
+        names::add_name(&mut self.names, &self.lots, ring, name, known.segno)?;
         lots::add_lots(&mut self.lots, &known, uid, section);
         numbers::add_number(&mut self.numbers, &known, uid);
         Ok(known)
@@ -168,7 +170,6 @@ impl Kst {
             return Err(UnknownSegno);
         };
         lots::free(&mut self.lots, segno);
-        names::forget(&mut self.names, segno);
         numbers::take_number(&mut self.numbers, uid);
         Ok(())
     }
@@ -179,7 +180,7 @@ impl Kst {
         ensures known { IfSome result (λ segno. is_branch (lot_of self.now.lots segno) ≡ true) }
         ensures sound { IsSound self.now }
     {
-        names::named(&self.names, ring, name)
+        names::named(&self.names, &self.lots, ring, name)
     }
 
     /// The number of a segment, found by one look-up. Takes no memory.
