@@ -77,6 +77,6 @@ fn push_name(text: &mut Vec<u8>, name: &EntryName) -> Result<(), AllocError>
     ensures free { OnOk result (is_free 32 name.now ≡ true) }
 {
     text.push(b' ')?;
-    text.extend_from_slice(name.bytes())?;
+    name.append_to(text)?;
     Ok(())
 }

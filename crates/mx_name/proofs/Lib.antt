@@ -1,3 +1,4 @@
+pub mod Appending
 pub mod CutLaws
 pub mod FirstFaults
 pub mod IdLaws

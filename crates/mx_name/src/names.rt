@@ -1,5 +1,5 @@
 //! Entry names, and the faults of texts that are none.
-ghost use Rattle.std.specs.Prelude.{◌≡◌, ℕ, Bool, Some, None, length};
+ghost use Rattle.std.specs.Prelude.{◌≡◌, ◌++◌, ℕ, Bool, Some, None, OnOk, OnErr, length};
 ghost use Rattle.std.specs.List.{list_all};
 ghost use Rattle.mx_name.specs.Names.{is_name_byte, fault_of, name_fault, name_reading};
 ghost use Rattle.mx_name.specs.declared.names.NameError.TheVariants.{Memory};
@@ -75,6 +75,16 @@ impl EntryName {
         EntryName {
             text: Text::of(text),
         }
+    }
+
+    /// Appends the bytes of the name; want of memory leaves the output as it was.
+    #[inline(always)]
+    pub fn append_to(&self, out: &mut Vec<u8>) -> Result<(), AllocError>
+        ensures ok { OnOk result (out.new.items ≡ out.old.items ++ self.now) }
+        ensures err { OnErr result (out.new.items ≡ out.old.items) }
+        ensures name { name_fault self.now ≡ None }
+    {
+        self.text.append_to(out)
     }
 
     /// The bytes of the name.

@@ -1,10 +1,11 @@
 //! Short texts, held in the value itself.
-ghost use Rattle.std.specs.Prelude.{◌≡◌, ◌≤◌, ◌<◌, ◌==◌, [], ◌∷◌, Some, refl, length};
+ghost use Rattle.std.specs.Prelude.{◌≡◌, ◌≤◌, ◌<◌, ◌==◌, [], ◌∷◌, ◌++◌, Some, OnOk, OnErr, refl, length};
 ghost use Rattle.std.proofs.Common.{ap};
 ghost use Rattle.std.specs.Ordering.{nat_cmp};
 ghost use Rattle.std.specs.Cmp.{partial_equiv_from_equiv};
 ghost use Rattle.std.specs.Cmp.Lexicographic.{pointwise, slice_cmp, nat_list_eq_equiv, nat_list_cmp_total, texts_ties, texts_po, bytes_decides};
 
+use std::alloc::AllocError;
 use std::cmp::Ordering;
 use std::hash::{Hash, Hasher};
 use std::marker::Model;
@@ -53,6 +54,23 @@ impl<const MOST: usize> Text<MOST> {
         ensures within { length self.now ≤ MOST }
     {
         &self.bytes[..usize::from(self.size)]
+    }
+
+    /// Appends the bytes of the text; want of memory leaves the output as it was. Where there is room for them all MOST places are copied,
+    /// whose number is known beforehand, and those behind the text are taken off again.
+    #[inline(always)]
+    #[tactic(auto, using(crate::proofs::Appending::front_appended))]
+    pub fn append_to(&self, out: &mut Vec<u8>) -> Result<(), AllocError>
+        ensures ok { OnOk result (out.new.items ≡ out.old.items ++ self.now) }
+        ensures err { OnErr result (out.new.items ≡ out.old.items) }
+    {
+        if out.capacity() - out.len() < MOST {
+            return out.extend_from_slice(self.bytes());
+        }
+        let length = out.len() + usize::from(self.size);
+        out.extend_from_slice(&self.bytes)?;
+        out.truncate(length);
+        Ok(())
     }
 }
 
