@@ -6,3 +6,4 @@ pub mod DraftLaws
 pub mod ReadingLaws
 pub mod TextLaws
 pub mod LengthLaws
+pub mod FirstLetters

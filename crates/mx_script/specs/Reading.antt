@@ -1,5 +1,5 @@
 -- Helpers that only private contracts cite: what each line is read as.
-use Rattle.std.specs.Prelude.{◌≡◌, ℕ, ◌==◌, true, List, Option, None, Some, codes, if◌then◌else◌}
+use Rattle.std.specs.Prelude.{◌≡◌, ℕ, ◌==◌, true, List, [], ◌∷◌, Option, None, Some, codes, if◌then◌else◌}
 use Rattle.std.specs.Cmp.Lexicographic.{pointwise}
 use Rattle.mx_request.specs.Decimals.{decimal_number}
 use Rattle.mx_request.specs.Steps.{◌>>=◌, when}
@@ -49,8 +49,16 @@ memory_at text =
     (read_or (after (codes "call ") text) call_at
     (read_or (after (codes "return ") text) return_at None))))))
 
+abbrev pub of_line : Option Line → Option Row
+of_line line = line >>= λ line. Some (row.Line line)
+
 abbrev pub memory_row : List ℕ → Option Row
-memory_row text = memory_at text >>= λ line. Some (row.Line line)
+memory_row text = of_line (memory_at text)
+
+-- a text's first byte
+abbrev pub head : List ℕ → Option ℕ
+head [] = None
+head (c ∷ cs) = Some c
 
 -- a load or a store of the accumulator: most lines of a session are such
 abbrev pub load_row : List ℕ → Option Row

@@ -1,7 +1,10 @@
 //! What a line of a session text says by itself.
 
-ghost use Rattle.std.specs.Prelude.{◌≡◌, IfOk, IfSome, Some};
-ghost use Rattle.mx_script.specs.Reading.{IsRow, set_at, epp_at, lda_at, sta_at, spri_at, call_at, return_at, accumulator_at, memory_at, header_row, history_row, plain_at, process_at};
+ghost use Rattle.std.specs.Prelude.{◌≡◌, ◌==◌, IfOk, IfSome, Some, None, codes, if◌then◌else◌};
+ghost use Rattle.std.specs.Cmp.Lexicographic.{pointwise};
+ghost use Rattle.mx_script.specs.Fronts.{after, read_or};
+ghost use Rattle.mx_script.specs.Reading.{IsRow, set_at, epp_at, lda_at, sta_at, spri_at, call_at, return_at, accumulator_at, head, header_row, history_row, of_line, plain_at, process_at};
+ghost use Rattle.mx_script.specs.declared.lines.Line.TheVariants.{Fetch};
 ghost use Rattle.mx_script.specs.declared.rows.Row.{Row};
 
 use crate::lines::Line;
@@ -66,21 +69,40 @@ fn read_process(line: &[u8]) -> Option<Row>
     Some(Row::Process(entrant))
 }
 
-/// A line that holds no text: the end, the version, the limit or a memory line.
-#[tactic(auto, unfolding(crate::specs::Reading::plain_at))]
+/// A line that holds no text: the end, the version, the limit or a memory line. Its first letter tells which it may be, so that the line
+/// of a request is not held against each of them.
 fn read_plain(line: &[u8]) -> Option<Row>
     ensures { result ≡ plain_at line.now }
 {
-    if line == b"end".as_slice() {
-        Some(Row::End)
-    } else if line == b"fetch".as_slice() {
-        Some(Row::Line(Line::Fetch))
-    } else if let Some(version) = after(b"multics ", line) {
-        read_header(version)
-    } else if let Some(limit) = after(b"history ", line) {
-        read_history(limit)
+    let [first, ..] = line else {
+        return None;
+    };
+    read_by(*first, line)
+}
+
+// The same of a line that begins with this letter.
+fn read_by(first: u8, line: &[u8]) -> Option<Row>
+    requires { head line.now ≡ Some first }
+    ensures { result ≡ plain_at line.now }
+{
+    if first == b'c' {
+        read_call_line(line)
+    } else if first == b'e' {
+        read_end_or_pointer(line)
+    } else if first == b'f' {
+        read_fetch(line)
+    } else if first == b'h' {
+        read_limit(line)
+    } else if first == b'l' {
+        read_load(line)
+    } else if first == b'm' {
+        read_version(line)
+    } else if first == b'r' {
+        read_return_line(line)
+    } else if first == b's' {
+        read_set_or_store(line)
     } else {
-        Some(Row::Line(read_memory(line)?))
+        None
     }
 }
 
@@ -107,26 +129,78 @@ fn read_history(text: &[u8]) -> Option<Row>
     }
 }
 
-#[tactic(auto, unfolding(crate::specs::Reading::memory_at))]
-fn read_memory(line: &[u8]) -> Option<Line>
-    ensures { result ≡ memory_at line.now }
+fn read_call_line(line: &[u8]) -> Option<Row>
+    ensures { result ≡ of_line (read_or (after (codes "call ") line.now) call_at None) }
+{
+    let line = read_call(after(b"call ", line)?)?;
+    Some(Row::Line(line))
+}
+
+fn read_end_or_pointer(line: &[u8]) -> Option<Row>
+    ensures { result ≡ if pointwise ◌==◌ line.now (codes "end") then Some Row.End
+        else of_line (read_or (after (codes "epp ") line.now) epp_at None) }
+{
+    if line == b"end".as_slice() {
+        return Some(Row::End);
+    }
+    let line = read_epp(after(b"epp ", line)?)?;
+    Some(Row::Line(line))
+}
+
+fn read_fetch(line: &[u8]) -> Option<Row>
+    ensures { result ≡ if pointwise ◌==◌ line.now (codes "fetch") then Some (Row.Line Fetch) else None }
+{
+    if line == b"fetch".as_slice() {
+        Some(Row::Line(Line::Fetch))
+    } else {
+        None
+    }
+}
+
+fn read_limit(line: &[u8]) -> Option<Row>
+    ensures { result ≡ read_or (after (codes "history ") line.now) history_row None }
+{
+    read_history(after(b"history ", line)?)
+}
+
+fn read_load(line: &[u8]) -> Option<Row>
+    ensures { result ≡ of_line (read_or (after (codes "lda ") line.now) lda_at None) }
+{
+    let line = read_lda(after(b"lda ", line)?)?;
+    Some(Row::Line(line))
+}
+
+fn read_version(line: &[u8]) -> Option<Row>
+    ensures { result ≡ read_or (after (codes "multics ") line.now) header_row None }
+{
+    read_header(after(b"multics ", line)?)
+}
+
+fn read_return_line(line: &[u8]) -> Option<Row>
+    ensures { result ≡ of_line (read_or (after (codes "return ") line.now) return_at None) }
+{
+    let line = read_return(after(b"return ", line)?)?;
+    Some(Row::Line(line))
+}
+
+fn read_set_or_store(line: &[u8]) -> Option<Row>
+    ensures { result ≡ of_line (read_or (after (codes "set ") line.now) set_at
+        (read_or (after (codes "sta ") line.now) sta_at (read_or (after (codes "spri ") line.now) spri_at None))) }
+{
+    let line = read_setting(line)?;
+    Some(Row::Line(line))
+}
+
+fn read_setting(line: &[u8]) -> Option<Line>
+    ensures { result ≡ read_or (after (codes "set ") line.now) set_at
+        (read_or (after (codes "sta ") line.now) sta_at (read_or (after (codes "spri ") line.now) spri_at None)) }
 {
     if let Some(fields) = after(b"set ", line) {
         read_set(fields)
-    } else if let Some(fields) = after(b"epp ", line) {
-        read_epp(fields)
-    } else if let Some(fields) = after(b"lda ", line) {
-        read_lda(fields)
     } else if let Some(fields) = after(b"sta ", line) {
         read_sta(fields)
-    } else if let Some(fields) = after(b"spri ", line) {
-        read_spri(fields)
-    } else if let Some(fields) = after(b"call ", line) {
-        read_call(fields)
-    } else if let Some(fields) = after(b"return ", line) {
-        read_return(fields)
     } else {
-        None
+        read_spri(after(b"spri ", line)?)
     }
 }
 
