@@ -37,7 +37,8 @@ const SINK_FAULT: u8 = 4;
 /// line of it that ends denied, in the step that ends it. Its verdict is heeded: behind a denial that it answers with `Logout` the process
 /// runs no further line of its script but the last, its `logout`; and else all of them. Processes beyond the auditors have none and run all
 /// lines, and auditors beyond the processes are not called. Each needs room for 700,000 denials. At the return the vector holds the same
-/// auditors in the same order. The call may wait; what it promises holds when it returns.
+/// auditors in the same order. The call may wait; what it promises holds when it returns. What a run took of memory is left to the system:
+/// the program ends with the call.
 ///
 /// | Status | Comes | Written | Auditors were told of |
 /// |---|---|---|---|
@@ -105,7 +106,7 @@ pub fn multics<R: Threads + Wait + Sync, S: Source, K: Sink, G: Gate>(
     a_judgement_has_the_due_status();
     match Verdict::reach(rt, alloc, words, source, gate, auditors) {
         Ok(verdict) => match verdict.tell(alloc, sink) {
-            Ok(()) => verdict.status(),
+            Ok(()) => verdict.into_status(),
             Err(TextError::Fault) => SINK_FAULT,
             Err(TextError::Memory) => OUT_OF_MEMORY,
         },

@@ -29,6 +29,7 @@ use mx_state::Journal;
 use mx_text::{TextError, print};
 use mx_transcript::Transcripts;
 use std::alloc::{AllocError, Global};
+use std::mem::ManuallyDrop;
 use std::sync::Wait;
 use std::thread::Threads;
 
@@ -138,7 +139,8 @@ impl Verdict {
         }
     }
 
-    // The verdict on bytes within the limit, which are let go of before the run. The only error is `Memory`.
+    // The verdict on bytes within the limit, which are let go of before the run; the session is left to the system (`into_status`). The
+    // only error is `Memory`.
     fn of_bytes<R: Threads + Wait + Sync, G: Gate>(
         rt: &R,
         alloc: Global,
@@ -156,6 +158,7 @@ impl Verdict {
         match session_of_text(alloc, bytes) {
             Ok(session) => {
                 let (journal, transcripts) = ran(rt, alloc, &session, gate, auditors)?;
+                let _left = ManuallyDrop::new(session);
                 Ok(Verdict::Ran {
                     journal,
                     transcripts,
@@ -176,6 +179,16 @@ impl Verdict {
             Verdict::BadLine(_) => 5,
             Verdict::TooLong => 6,
         }
+    }
+
+    /// The same, of a program that ends with it: what the verdict holds is left to the system, which takes back all that a program had
+    /// at once as it ends, and not given back piece by piece.
+    pub(crate) fn into_status(self) -> u8
+        ensures { result ≡ verdict_status self }
+    {
+        let status = self.status();
+        let _left = ManuallyDrop::new(self);
+        status
     }
 
     /// Writes the text of this verdict. On an error the front of it was written. Only the text of a run, or of a drill, takes memory: whatever

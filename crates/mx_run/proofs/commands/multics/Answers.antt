@@ -8,7 +8,7 @@ use Rattle.mx_run.proofs.commands.multics.Goals as goal
 pub returns-in-Ok-tell-clause-due : goal.returns-in-Ok-tell-clause-due
 returns-in-Ok-tell-clause-due g c = λ spelled told.
     let words : List (List ℕ) = map string_bytes c.args.words.now in
-    inr (subst (λ (n : ℕ). IsDueStatus words spelled n) (sym c.status.ensures)
+    inr (subst (λ (n : ℕ). IsDueStatus words spelled n) (sym c.into_status.ensures)
     (due_of c.a_judgement_has_the_due_status.ensures words spelled (g.S.Source.left c.args.source.now) (g.S.Source.left c.reach.new.source) _ _ c.in-Ok.verdict c.in-Ok.ensures.grown told
     c.in-Ok.ensures.right))
 
@@ -17,7 +17,7 @@ returns-in-Ok-tell-clause-done g c = λ zero.
     let words : List (List ℕ) = map string_bytes c.args.words.now in
     done_of words (g.S.Source.left c.args.source.now) (g.S.Source.left c.reach.new.source) (g.K.Sink.out c.args.sink.now)
     (g.K.Sink.out c.tell.new.sink) _ _ c.in-Ok.verdict c.in-Ok.ensures.grown c.in-Ok.ensures.right c.in-Ok-tell.ensures.all
-    (sym c.status.ensures ∙ zero)
+    (sym c.into_status.ensures ∙ zero)
 
 pub returns-in-Ok-clause-out_of_memory : goal.returns-in-Ok-clause-out_of_memory
 returns-in-Ok-clause-out_of_memory g c = λ one.
