@@ -1,24 +1,23 @@
 //! The line at work: where a process stands within its line, and what an event that answers makes of it.
 
-ghost use Rattle.std.specs.Prelude.{◌≡◌, ◌-◌, ◌<◌, ◌≤◌, ℕ, true, false, List, [], ◌∷◌, ◌++◌, Some, IfSome, IsFalse, IsSome, MatchOption};
+ghost use Rattle.std.specs.Prelude.{◌≡◌, ◌-◌, ◌<◌, ℕ, true, false, List, [], ◌∷◌, ◌++◌, Some, IfSome, IsFalse, IsSome, MatchOption};
 ghost use Rattle.mx_core.specs.declared.elements.Element.{Element as PlainElement};
 ghost use Rattle.mx_core.specs.declared.elements.Event.TheVariants.{Seen, Missing};
 ghost use Rattle.mx_core.specs.declared.elements.Kind.TheVariants.{Ind};
 ghost use Rattle.mx_core.specs.declared.elements.Outcome.TheVariants.{Read as WasRead, Written as WasWritten, Entered as HasEntered};
 ghost use Rattle.mx_effring.specs.Walks.{wanted_at};
 ghost use Rattle.mx_effring.specs.declared.walks.Want.TheVariants.{Word as WantsWord};
-ghost use Rattle.mx_ptr.specs.Pointers.{PointerParts, pointer_word};
+ghost use Rattle.mx_ptr.specs.Pointers.{PointerParts};
 ghost use Rattle.mx_request.specs.declared.requests.Request.{Request as PlainRequest};
-ghost use Rattle.mx_request.specs.declared.requests.Request.TheVariants.{Block, Link};
+ghost use Rattle.mx_request.specs.declared.requests.Request.TheVariants.{Link};
 ghost use Rattle.mx_script.specs.declared.lines.Line.{Line as PlainLine};
-ghost use Rattle.mx_script.specs.declared.lines.Line.TheVariants as lines;
 ghost use Rattle.mx_sdw.specs.Admissible.{IsAdmissible};
 ghost use Rattle.mx_sdw.specs.Descriptors.{Descriptor};
 ghost use Rattle.mx_state.specs.Told.{IsLinkedWithin};
 ghost use Rattle.mx_state.specs.declared.journal.Entry.{Entry as PlainEntry};
 ghost use Rattle.mx_transcript.specs.Asking.{next};
 ghost use Rattle.mx_transcript.specs.Attempts.{wants};
-ghost use Rattle.mx_transcript.specs.Courses.{Answer, Attempt, Course, Judged};
+ghost use Rattle.mx_transcript.specs.Courses.{Attempt, Course, Judged};
 ghost use Rattle.mx_transcript.specs.Elements.{IsJudged};
 ghost use Rattle.mx_transcript.specs.Lines.{IsEnd};
 ghost use Rattle.mx_transcript.specs.Next.{Asks, Calls, Nowhere as AsksNothing, Reference};
@@ -28,21 +27,22 @@ ghost use Rattle.mx_transcript.specs.declared.transcripts.Event2.TheVariants.{Co
 ghost use Rattle.mx_upcall.specs.Changes.{changed};
 ghost use Rattle.mx_upcall.specs.Control.{Control as Parts};
 ghost use Rattle.mx_upcall.specs.Soundness.{IsPackableControl};
-ghost use Rattle.mx_line.specs.AtWork.{EndsAt, EndsByReply, IsTakenTo, ending, left, left_in, HasSeen, IsCome, IsFree, IsGoodNext, IsGoodWork, IsKnown, IsMet, IsMover, IsNearer, IsOver, IsPlain, IsReader, IsSaid, IsStorable, IsTaken, IsUnlinked, IsWithin, IsWriter, OneCourseLaw, StandsAt, after_writing, begun, beside, end_of, ended, filling_or, meant, moved_on, moving, standing};
-ghost use Rattle.mx_line.specs.Fills.{IsNoRequest, IsShort, after_fill, counted, first_fill, steps_to_fill};
+ghost use Rattle.mx_line.specs.AtWork.{EndsAt, IsTakenTo, ending, left, left_in, HasSeen, IsCome, IsFree, IsGoodNext, IsGoodWork, IsKnown, IsMet, IsMover, IsNearer, IsOver, IsPlain, IsReader, IsSaid, IsStorable, IsTaken, IsWithin, IsWriter, OneCourseLaw, StandsAt, after_writing, beside, end_of, ended, meant, moved_on, moving, standing};
+ghost use Rattle.mx_line.specs.Fills.{IsNoRequest, IsShort, after_fill, counted, steps_to_fill};
 ghost use Rattle.mx_line.specs.Looks.{looks};
 ghost use Rattle.mx_line.specs.Processes.{Takes};
-ghost use Rattle.mx_line.specs.Operands.{HasComeTo, IsGoodProgress, IsGoodWalk, IsMemoryLine, IsSayable, IsTarget};
+ghost use Rattle.mx_line.specs.Operands.{HasComeTo, IsGoodProgress, IsGoodWalk, IsSayable, IsTarget};
 ghost use Rattle.mx_line.specs.declared.at_work.LineAtWork.TheVariants.{At, Ended, Nowhere};
 ghost use Rattle.mx_line.specs.declared.operands.Progress.TheVariants.{Before, Waiting, Walking};
 
 use crate::asking::{Called, End, Next, begins, first_target, walk_of, wants};
-use crate::fills::{Behind, Fill, Filled, Snap, first_fill};
+use crate::fills::{Fill, Filled};
 use crate::operands::{Onward, Place, Progress, fed, feed};
+use crate::replies::answered_at;
 use mx_call::Regs;
 use mx_effring::{Walk, Want};
 use mx_ptr::Pointer;
-use mx_request::{Reply, Request};
+use mx_request::Reply;
 use mx_script::Line;
 use mx_sdw::{Desc, Word};
 use mx_transcript::{Element, Kind, Outcome, Result2};
@@ -616,202 +616,8 @@ fn stored(fill: &Fill, control: &Control, element: &Element, desc: &Desc) -> Lin
     }
 }
 
-// A call was entered for a line that goes on from here.
-#[inline(never)]
-fn answered_at(progress: Progress, line: &Line, control: &Control, reply: &Reply) -> LineAtWork
-    requires line { IsSayable line.now }
-    requires packable { IsPackableControl control.now }
-    requires linked { IsLinkedWithin reply.now }
-    ensures taken { (setting : Setting) (number : ℕ) (entry : PlainEntry) → entry_at setting.journal number ≡ Some entry
-        → entry.reply ≡ reply.now → IsTaken control.now line.now setting (EntryOf number) (At progress) result }
-    ensures good { IsGoodWork control.now result }
-{
-    match progress {
-        Progress::Before => asked(line, control, reply),
-        Progress::AtLink(place) => linked(control, place, reply),
-        Progress::Waiting => replied(control, &Request::Resume, reply),
-        Progress::Walking(_) => LineAtWork::Nowhere,
-        Progress::Filling(_) => LineAtWork::Nowhere,
-    }
-}
-
-// A line that is a request called for it.
-fn asked(line: &Line, control: &Control, reply: &Reply) -> LineAtWork
-    requires line { IsSayable line.now }
-    requires packable { IsPackableControl control.now }
-    ensures stands { (request : PlainRequest) (entry : PlainEntry) → line.now ≡ lines.Ask request → entry.request ≡ request
-        → entry.reply ≡ reply.now → StandsAt control.now line.now (Answer entry []) result }
-    ensures good { IsGoodWork control.now result }
-{
-    match line {
-        Line::Ask(shared) => replied(control, shared.request(), reply),
-        Line::Set { .. }
-        | Line::Epp { .. }
-        | Line::Lda { .. }
-        | Line::Sta { .. }
-        | Line::Spri { .. }
-        | Line::Fetch
-        | Line::Call { .. }
-        | Line::Return { .. } => LineAtWork::Nowhere,
-    }
-}
-
-// The reply to a request that a line made, or to the `resume` after it.
-fn replied(control: &Control, request: &Request, reply: &Reply) -> LineAtWork
-    requires packable { IsPackableControl control.now }
-    ensures stands { (own : PlainRequest) (entry : PlainEntry) → IsUnlinked request.now → (request.now ≡ Block → own ≡ Block)
-        → entry.request ≡ request.now → entry.reply ≡ reply.now
-        → StandsAt control.now (lines.Ask own) (Answer entry []) result }
-    ensures good { IsGoodWork control.now result }
-{
-    match reply {
-        Reply::Waiting => waits(request),
-        Reply::Linked { linkage, .. } => fills(*linkage, Behind::Nowhere, LineAtWork::Nowhere),
-        Reply::Segno(known) => { fills(known.linkage, Behind::Done, ended(Result2::Done, control)) }
-        Reply::Refused(_)
-        | Reply::Done
-        | Reply::Status(_)
-        | Reply::Names(_)
-        | Reply::Sent
-        | Reply::Message { .. }
-        | Reply::Nobody => ended(Result2::of(reply), control),
-    }
-}
-
-/// How a line that is a request, and has made no call yet, ends by this reply to it, where that is all: no write is due first, and
-/// its process is not told to wait. None for every other line.
-#[inline(always)]
-pub(crate) fn request_end(line: &Line, control: &Control, reply: &Reply) -> Option<Result2>
-    requires line { IsSayable line.now }
-    requires packable { IsPackableControl control.now }
-    ensures taken { IfSome result (λ ends. (setting : Setting) (number : ℕ) (entry : PlainEntry)
-        → entry_at setting.journal number ≡ Some entry → entry.reply ≡ reply.now
-        → IsTaken control.now line.now setting (EntryOf number) (At Before) (left control.now (Some ends))) }
-    ensures good { IfSome result (λ ends. IsGoodWork control.now (left control.now (Some ends))) }
-{
-    match line {
-        Line::Ask(_) => reply_end(control, reply),
-        Line::Set { .. }
-        | Line::Epp { .. }
-        | Line::Lda { .. }
-        | Line::Sta { .. }
-        | Line::Spri { .. }
-        | Line::Fetch
-        | Line::Call { .. }
-        | Line::Return { .. } => None,
-    }
-}
-
-// How a line that is a request ends by this reply to it, where that is all.
-#[inline(always)]
-fn reply_end(control: &Control, reply: &Reply) -> Option<Result2>
-    requires packable { IsPackableControl control.now }
-    ensures ends { IfSome result (EndsByReply control.now reply.now) }
-    ensures good { IfSome result (λ ends. IsGoodWork control.now (left control.now (Some ends))) }
-{
-    match reply {
-        Reply::Refused(_) => Some(Result2::Refused),
-        Reply::Segno(known) => match known.linkage {
-            None => Some(Result2::Done),
-            Some(_) => None,
-        },
-        Reply::Done
-        | Reply::Status(_)
-        | Reply::Names(_)
-        | Reply::Sent
-        | Reply::Message { .. }
-        | Reply::Nobody => Some(Result2::Done),
-        Reply::Linked { .. } | Reply::Waiting => None,
-    }
-}
-
-// Only who blocks is told to wait.
-fn waits(request: &Request) -> LineAtWork
-    ensures yes { request.now ≡ Block → result ≡ At Waiting }
-    ensures no { (request.now ≡ Block → ⊥) → result ≡ Nowhere }
-{
-    if matches!(request, Request::Block) {
-        LineAtWork::At(Progress::Waiting)
-    } else {
-        LineAtWork::Nowhere
-    }
-}
-
-// The reply to the call by which a line has a link snapped.
-fn linked(control: &Control, place: Place, reply: &Reply) -> LineAtWork
-    requires packable { IsPackableControl control.now }
-    requires linked { IsLinkedWithin reply.now }
-    ensures stands { (l : PlainLine) (entry : PlainEntry) → IsMemoryLine l → entry.ring ≡ place.ring
-        → entry.request ≡ Link place.segno place.word → entry.reply ≡ reply.now
-        → StandsAt control.now l (Answer entry []) result }
-    ensures good { IsGoodWork control.now result }
-{
-    match reply {
-        Reply::Linked {
-            segno,
-            word,
-            linkage,
-            ..
-        } => {
-            let snap = snap(place, *segno, *word);
-            fills(*linkage, Behind::Pointer(snap), LineAtWork::Nowhere)
-        }
-        Reply::Segno(known) => fills(known.linkage, Behind::Nowhere, LineAtWork::Nowhere),
-        Reply::Refused(_) => ended(Result2::Refused, control),
-        Reply::Done
-        | Reply::Status(_)
-        | Reply::Names(_)
-        | Reply::Sent
-        | Reply::Message { .. }
-        | Reply::Nobody
-        | Reply::Waiting => LineAtWork::Nowhere,
-    }
-}
-
-// The pointer that is to be stored in the word of a link that leads there.
-fn snap(place: Place, segno: u16, word: u16) -> Snap
-    requires segno { segno ≤ 4095 }
-    requires word { word ≤ 16383 }
-    ensures { result ≡ record {
-      segno = place.segno;
-      word = place.word;
-      value = pointer_word (record { ring = place.ring; segno = segno; word = word; further = false });
-    } }
-{
-    let target = Pointer {
-        ring: place.ring,
-        segno,
-        word,
-        further: false,
-    };
-    Snap {
-        segno: place.segno,
-        word: place.word,
-        value: target.pack(),
-    }
-}
-
-// The writes that a reply asks for come first.
-fn fills(section: Option<u16>, behind: Behind, after: LineAtWork) -> LineAtWork
-    ensures { result ≡ filling_or after (first_fill (begun section) behind) }
-{
-    match first_fill(begun(section), behind) {
-        Some(fill) => LineAtWork::At(Progress::Filling(fill)),
-        None => after,
-    }
-}
-
-// A section of which no word was stored yet.
-fn begun(section: Option<u16>) -> Option<(u16, u16)>
-    ensures { result ≡ begun section }
-{
-    match section {
-        Some(section) => Some((section, 1)),
-        None => None,
-    }
-}
-
-fn ended(ends: Result2, control: &Control) -> LineAtWork
+/// The line is over by this end.
+pub(crate) fn ended(ends: Result2, control: &Control) -> LineAtWork
     ensures { result ≡ ended ends control.now }
 {
     LineAtWork::Ended(end(ends, control))

@@ -13,6 +13,7 @@ mod at_work;
 mod fills;
 mod operands;
 mod processes;
+mod replies;
 
 pub use asking::{Called, End, Next, Reference};
 pub use at_work::{LineAtWork, one_course_law};

@@ -13,10 +13,9 @@ ghost use Rattle.mx_line.specs.declared.at_work.LineAtWork.TheVariants.{At};
 ghost use Rattle.mx_line.specs.declared.operands.Progress.TheVariants.{Before, Walking};
 
 use crate::asking::{Next, Reference, first_reference, next_reference};
-use crate::at_work::{
-    first_end, first_move, first_step, leave, next_at, request_end, walked_end, walked_step,
-};
+use crate::at_work::{first_end, first_move, first_step, leave, next_at, walked_end, walked_step};
 use crate::operands::Progress;
+use crate::replies::request_end;
 use mx_effring::Walk;
 use mx_request::Reply;
 use mx_script::Line;

@@ -1,6 +1,6 @@
 //! One order in which the moments of all processes can have happened.
 
-ghost use Rattle.std.specs.Prelude.{◌≡◌, ◌≤◌, ◌<◌, ℕ, length, get_or, slice_index, IfOk, IsTrue, IsFalse, MatchOption, OnOk};
+ghost use Rattle.std.specs.Prelude.{◌≡◌, ◌≤◌, ◌<◌, length, IfOk, IsTrue, IsFalse, MatchOption};
 ghost use Rattle.mx_moments.specs.Stories.{AreRising, IsInTime, IsMerge, times_of};
 ghost use Rattle.mx_moments.specs.Ordering.{AreAllTold, IsEarliest, IsNext, IsSooner};
 

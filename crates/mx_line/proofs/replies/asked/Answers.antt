@@ -6,7 +6,7 @@ use Rattle.mx_transcript.specs.Courses.{Answer}
 use Rattle.mx_line.proofs.TakenLaws.{sayable_unlinked}
 use Rattle.mx_line.specs.AtWork.{IsUnlinked, StandsAt}
 use Rattle.mx_line.specs.Operands.{IsSayable}
-use Rattle.mx_line.proofs.at_work.asked.Goals as goal
+use Rattle.mx_line.proofs.replies.asked.Goals as goal
 
 same_request : (a b : Request) → Ask a ≡ Ask b → a ≡ b
 same_request a b e = cc

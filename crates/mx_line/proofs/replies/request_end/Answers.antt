@@ -1,5 +1,5 @@
 use Rattle.mx_line.proofs.TakenLaws.{request_ends}
-use Rattle.mx_line.proofs.at_work.request_end.Goals as goal
+use Rattle.mx_line.proofs.replies.request_end.Goals as goal
 
 pub returns-in-Ask-clause-taken : goal.returns-in-Ask-clause-taken
 returns-in-Ask-clause-taken c =

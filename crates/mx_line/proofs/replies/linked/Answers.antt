@@ -6,7 +6,7 @@ use Rattle.mx_line.specs.Fills.{first_fill}
 use Rattle.mx_line.specs.declared.at_work.LineAtWork.TheVariants.{Nowhere}
 use Rattle.mx_line.specs.declared.fills.Behind.TheVariants.{Pointer}
 use Rattle.mx_line.specs.declared.fills.Snap.{Snap}
-use Rattle.mx_line.proofs.at_work.linked.Goals as goal
+use Rattle.mx_line.proofs.replies.linked.Goals as goal
 
 pub returns-in-Linked-clause-stands : goal.returns-in-Linked-clause-stands
 returns-in-Linked-clause-stands c = λ l entry memory ring is said.

@@ -4,7 +4,7 @@ use Rattle.mx_line.proofs.TakenLaws.{asked_taken, linked_taken, resumed_taken, w
 use Rattle.mx_line.specs.AtWork.{IsTaken}
 use Rattle.mx_line.specs.declared.at_work.LineAtWork.TheVariants.{At, Nowhere}
 use Rattle.mx_line.specs.declared.operands.Progress.{Progress}
-use Rattle.mx_line.proofs.at_work.answered_at.Goals as goal
+use Rattle.mx_line.proofs.replies.answered_at.Goals as goal
 
 pub returns-in-Before-clause-taken : goal.returns-in-Before-clause-taken
 returns-in-Before-clause-taken c = λ setting number entry there said.
