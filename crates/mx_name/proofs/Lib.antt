@@ -2,6 +2,7 @@ pub mod Appending
 pub mod CutLaws
 pub mod FirstFaults
 pub mod IdLaws
+pub mod Passing
 pub mod PathLaws
 pub mod Splitting
 pub mod TextLaws

@@ -20,7 +20,7 @@ use Rattle.mx_name.specs.Stars.{star_is, component_takes}
 use Rattle.mx_name.specs.Names.{is_free, is_name_byte, name_fault, name_of, fault_of}
 
 -- a byte that fails the test is no byte that passes it
-other_byte : (p : ℕ → Bool) (byte c : ℕ) → p byte ≡ false → p c ≡ true → eqb c byte ≡ false
+pub other_byte : (p : ℕ → Bool) (byte c : ℕ) → p byte ≡ false → p c ≡ true → eqb c byte ≡ false
 other_byte p byte c f t = by_test (eqb c byte) refl
   where
     by_test : (b : Bool) → eqb c byte ≡ b → b ≡ false

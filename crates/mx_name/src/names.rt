@@ -121,7 +121,9 @@ fn all_name_bytes(text: &[u8]) -> bool
     )
 }
 
-fn is_name_byte(byte: u8) -> bool
+/// Whether a name may hold the byte.
+#[inline(always)]
+pub(crate) fn is_name_byte(byte: u8) -> bool
     ensures { result ≡ is_name_byte byte }
 {
     NAME_BYTES[usize::from(byte)] != b','

@@ -1,13 +1,13 @@
 //! Pathnames as written.
 ghost use Rattle.std.specs.Prelude.{◌≡◌, ◌==◌, ◌≤◌, ℕ, Some, None, IfOk, IfSome, length};
 ghost use Rattle.std.specs.List.{slice_split};
-ghost use Rattle.std.specs.Option.{option_map};
+ghost use Rattle.std.specs.Option.{is_none, option_map};
 ghost use Rattle.mx_name.specs.Pathnames.{is_absolute, climbs, after_marks, names_of, first_fault, pathname_fault, pathname_reading};
 ghost use Rattle.mx_name.specs.Parts.{names_in};
 ghost use Rattle.mx_name.specs.Answers.{Answers};
 
 use crate::cutting::first_part;
-use crate::names::{NameError, name_fault};
+use crate::names::{NameError, is_name_byte, name_fault};
 use mx_list::Bytes;
 use std::alloc::{AllocError, Global};
 use std::marker::Model;
@@ -133,6 +133,36 @@ fn pathname_fault(text: &[u8]) -> Option<NameError>
 
 /// The fault of the first bad name between separators.
 fn names_fault(names: &[u8]) -> Option<NameError>
+    ensures { result ≡ first_fault (slice_split (λ c. c == 62) names.now) }
+{
+    if are_names(names) {
+        None
+    } else {
+        first_bad(names)
+    }
+}
+
+/// Whether each part between separators is a name. Each byte is read once.
+#[tactic(auto, using(crate::proofs::Passing::passes_all))]
+fn are_names(names: &[u8]) -> bool
+    ensures { result ≡ is_none (first_fault (slice_split (λ c. c == 62) names.now)) }
+{
+    // how many bytes of the name at work were read
+    let mut size: usize = 0;
+    for byte in names {
+        if is_name_byte(*byte) {
+            size += 1;
+        } else if *byte == b'>' && 0 < size && size <= 32 {
+            size = 0;
+        } else {
+            return false;
+        }
+    }
+    0 < size && size <= 32
+}
+
+/// The fault of the first bad name, found name by name.
+fn first_bad(names: &[u8]) -> Option<NameError>
     ensures { result ≡ first_fault (slice_split (λ c. c == 62) names.now) }
 {
     let mut left = names;

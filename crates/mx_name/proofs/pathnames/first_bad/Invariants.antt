@@ -1,7 +1,7 @@
 use Rattle.std.proofs.Common.{◌≡◌, ◌==◌, length}
 use Rattle.std.specs.List.{slice_split}
 use Rattle.mx_name.specs.Pathnames.{first_fault}
-use Rattle.mx_name.proofs.pathnames.names_fault.Given as goal
+use Rattle.mx_name.proofs.pathnames.first_bad.Given as goal
 
 -- the names so far have no fault
 abbrev pub invariant-loop-name : goal.invariant-loop-name
