@@ -11,7 +11,7 @@ ghost use Rattle.mx_hier.specs.Listed.{renamed};
 
 use crate::names::Names;
 use indexmap::IndexMap;
-use mx_name::EntryName;
+use mx_name::{BorrowedName, EntryName};
 use std::alloc::{AllocError, Global};
 use std::marker::Model;
 
@@ -48,6 +48,14 @@ impl Children {
 
     /// The uid of a name.
     pub(crate) fn uid(&self, name: &EntryName) -> Option<u32>
+        ensures { result ≡ lookup (pointwise ◌==◌ name.now) self.now }
+    {
+        self.uids.get(name).copied()
+    }
+
+    /// The uid of a name in place.
+    #[inline(always)]
+    pub(crate) fn found(&self, name: &BorrowedName) -> Option<u32>
         ensures { result ≡ lookup (pointwise ◌==◌ name.now) self.now }
     {
         self.uids.get(name).copied()

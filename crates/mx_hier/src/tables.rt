@@ -27,7 +27,7 @@ use crate::slots::{
 };
 use mx_acl::{AclError, AclKind, Modes, NoEntry};
 use mx_aim::Class;
-use mx_name::{AclId, EntryName};
+use mx_name::{AclId, BorrowedName, EntryName};
 use mx_sdw::{Brackets, Ring};
 use std::alloc::{AllocError, Global};
 use std::marker::Model;
@@ -93,6 +93,15 @@ impl Tables {
         ensures below { IfSome result (λ uid. (1 ≤ uid) × (uid < self.now.next)) }
     {
         uid_at(&self.names, dir, name)
+    }
+
+    /// The uid of a name in a directory, by the name in place.
+    #[inline(always)]
+    pub(crate) fn found_in(&self, dir: u32, name: &BorrowedName) -> Option<u32>
+        ensures value { result ≡ uid_in self.now.branches dir name.now }
+        ensures below { IfSome result (λ uid. (1 ≤ uid) × (uid < self.now.next)) }
+    {
+        found_at(&self.names, dir, name)
     }
 
     /// How many entries a directory has.
@@ -242,6 +251,16 @@ fn uid_at(names: &[Children], dir: u32, name: &EntryName) -> Option<u32>
 {
     match names_at(names, dir) {
         Some(kept) => kept.uid(name),
+        None => None,
+    }
+}
+
+#[inline(always)]
+fn found_at(names: &[Children], dir: u32, name: &BorrowedName) -> Option<u32>
+    ensures { result ≡ lookup (pointwise ◌==◌ name.now) (kept_for names.now dir) }
+{
+    match names_at(names, dir) {
+        Some(kept) => kept.found(name),
         None => None,
     }
 }

@@ -101,7 +101,7 @@ impl Hier {
             let Some(directory) = self.directory_at(at) else {
                 return Along::Refused(Refusal::NotADir, self.holding(at));
             };
-            let Some(uid) = self.tables.uid_in(at, &name) else {
+            let Some(uid) = self.tables.found_in(at, &name) else {
                 return Along::Refused(Refusal::NoEntry, Some(directory));
             };
             at = uid;

@@ -85,6 +85,7 @@ impl LineAtWork {
     }
 
     /// The reference or the write for which the line asks was made, on this descriptor.
+    #[inline(always)]
     pub fn seen(self, line: &Line, control: &Control, element: &Element, desc: &Desc) -> LineAtWork
         requires line { IsSayable line.now }
         requires packable { IsPackableControl control.now }
@@ -142,6 +143,7 @@ pub fn one_course_law()
 {}
 
 /// What a line asks for that goes on from here.
+#[inline(always)]
 pub(crate) fn next_at(line: &Line, control: &Control, progress: &Progress) -> Next
     requires line { IsSayable line.now }
     requires packable { IsPackableControl control.now }

@@ -28,9 +28,10 @@ pub(crate) fn first_part(mark: u8, text: &[u8]) -> Option<(&[u8], &[u8])>
     near_cut(mark, text)
 }
 
-/// The same cut, byte by byte: names and components are too short for the search of `cut` to gain anything.
+/// The same cut as `cut`, byte by byte: where the mark is near, the search of `cut` gains nothing. Takes no memory.
+#[inline(always)]
 #[tactic(auto, unfolding(crate::specs::Cuts::cut_at))]
-fn near_cut(mark: u8, text: &[u8]) -> Option<(&[u8], &[u8])>
+pub fn near_cut(mark: u8, text: &[u8]) -> Option<(&[u8], &[u8])>
     ensures cut { option_map (λ p. (p.0.now, p.1.now)) result ≡ cut_at mark text.now }
     ensures shorter { IfSome result (λ p. length p.1.now < length text.now) }
 {

@@ -8,6 +8,7 @@
 //! type alone.
 #![tactic(auto)]
 
+mod borrowed;
 mod cutting;
 mod identifiers;
 mod names;
@@ -18,7 +19,8 @@ mod routes;
 mod spelling;
 mod texts;
 
-pub use cutting::cut;
+pub use borrowed::BorrowedName;
+pub use cutting::{cut, near_cut};
 pub use identifiers::{AclId, kept_order};
 pub use names::{EntryName, NameError};
 pub use pathnames::Pathname;

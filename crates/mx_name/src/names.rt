@@ -4,6 +4,7 @@ ghost use Rattle.std.specs.List.{list_all};
 ghost use Rattle.mx_name.specs.Names.{is_name_byte, fault_of, name_fault, name_reading};
 ghost use Rattle.mx_name.specs.declared.names.NameError.TheVariants.{Memory};
 
+use crate::borrowed::BorrowedName;
 use crate::texts::Text;
 use std::alloc::AllocError;
 use std::marker::Model;
@@ -85,6 +86,14 @@ impl EntryName {
         ensures name { name_fault self.now ≡ None }
     {
         self.text.append_to(out)
+    }
+
+    /// The name in place.
+    #[inline(always)]
+    pub fn borrowed(&self) -> BorrowedName<'_>
+        ensures { result ≡ self.now }
+    {
+        BorrowedName::of(self.bytes())
     }
 
     /// The bytes of the name.

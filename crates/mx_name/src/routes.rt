@@ -6,6 +6,7 @@ ghost use Rattle.mx_name.specs.Pathnames.{first_fault};
 ghost use Rattle.mx_name.specs.Paths.{IsPath, resolution};
 ghost use Rattle.mx_name.specs.Parts.{names_in};
 
+use crate::borrowed::BorrowedName;
 use crate::cutting::{first_part, last_part};
 use crate::names::EntryName;
 use crate::pathnames::{Pathname, named};
@@ -73,12 +74,12 @@ impl<'a> Route<'a> {
 
     /// The first name, and the route of the others; none where there are no names.
     #[inline(always)]
-    pub fn first(&self) -> Option<(EntryName, Route<'a>)>
+    pub fn first(&self) -> Option<(BorrowedName<'a>, Route<'a>)>
         ensures { MatchOption result (self.now ≡ []) (λ first. self.now ≡ first.0 ∷ first.1) }
     {
         if let [name, base @ ..] = self.base {
             let text = self.text;
-            return Some((*name, Route { base, text }));
+            return Some((name.borrowed(), Route { base, text }));
         }
         let (name, text) = first_name(self.text?);
         Some((name, Route { base: &[], text }))
@@ -136,14 +137,15 @@ fn room(text: Option<&[u8]>) -> usize
 }
 
 /// The first name of a text that has no bad name, and the text of the others.
-fn first_name(text: &[u8]) -> (EntryName, Option<&[u8]>)
+#[inline(always)]
+fn first_name(text: &[u8]) -> (BorrowedName<'_>, Option<&[u8]>)
     requires { first_fault (slice_split (λ c. c == 62) text.now) ≡ None }
     ensures { slice_split (λ c. c == 62) text.now
         ≡ result.0 ∷ names_in (option_map (λ rest. rest.now) result.1) }
 {
     match first_part(b'>', text) {
-        Some((name, rest)) => (EntryName::of(name), Some(rest)),
-        None => (EntryName::of(text), None),
+        Some((name, rest)) => (BorrowedName::of(name), Some(rest)),
+        None => (BorrowedName::of(text), None),
     }
 }
 

@@ -281,6 +281,7 @@ fn take_by(state: &mut LineState, line: &Line, element: &Element, desc: &Desc) -
 }
 
 // The line at work ends.
+#[inline(always)]
 pub(crate) fn end_line(state: &mut LineState, end: &End)
     requires room { IsTrue state.old.recording.line_room }
     requires number { number_in state.old < 2 ^ 32 }

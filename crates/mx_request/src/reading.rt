@@ -19,7 +19,7 @@ use kinds::Kind;
 use mx_acl::{AclKind, Modes};
 use mx_aim::Class;
 use mx_list::Sequence;
-use mx_name::cut;
+use mx_name::{cut, near_cut};
 use mx_sdw::{Word, read_octal_number};
 use mx_search::Rules;
 use objects::read_object;
@@ -34,7 +34,7 @@ pub(crate) fn read_line(alloc: Global, line: &[u8]) -> Result<Option<Request>, A
     if let Some(request) = read_bare(line) {
         return Ok(Some(request));
     }
-    let Some((word, fields)) = cut(b' ', line) else {
+    let Some((word, fields)) = near_cut(b' ', line) else {
         return Ok(None);
     };
     let Some(kind) = Kind::read(word) else {

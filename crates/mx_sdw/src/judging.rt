@@ -16,6 +16,7 @@ use crate::rings::Ring;
 /// This model's own choices are the order of the denials, that a call within the running segment needs no gate word, and
 /// that only a call from below the first bracket raises the current ring, where such calls are on.
 #[tactic(auto, unfolding(crate::specs::Judging::judgement))]
+#[inline(always)]
 pub fn judge(desc: &Desc, op: Op, ring: Ring, word: u32) -> Result<Cell, Denial>
     ensures { result ≡ judgement desc.now op ring word }
 {

@@ -1,8 +1,8 @@
 //! Octal numbers, as addresses and words are written.
 
-ghost use Rattle.std.specs.Prelude.{◌≡◌, ◌<◌, ◌≤◌, ◌^◌, ◌++◌, length, true, IfSome, OnOk, OnErr};
+ghost use Rattle.std.specs.Prelude.{◌≡◌, ◌<◌, ◌≤◌, ◌^◌, ◌++◌, length, if◌then◌else◌, Some, None, IfSome, OnOk, OnErr};
 ghost use Rattle.std.specs.List.{list_all};
-ghost use Rattle.mx_sdw.specs.Octal.{begins_number, is_octal, is_octal_digit, octal, octal_number, octal_value};
+ghost use Rattle.mx_sdw.specs.Octal.{begins_number, is_octal_digit, octal, octal_number, octal_value};
 
 use std::alloc::AllocError;
 
@@ -14,24 +14,28 @@ pub fn read_octal_number(text: &[u8], digits: usize) -> Option<u64>
     ensures value { result ≡ octal_number digits text.now }
     ensures bound { IfSome result (λ n. n < 8 ^ digits) }
 {
-    if is_octal(text) && text.len() <= digits {
-        Some(value_of(text))
+    if begins_number(text) && text.len() <= digits {
+        value_of(text)
     } else {
         None
     }
 }
 
-fn value_of(text: &[u8]) -> u64
-    requires digits { list_all is_octal_digit text.now ≡ true }
+/// The number that digits give, in one pass; none where a byte is no digit.
+#[inline(always)]
+fn value_of(text: &[u8]) -> Option<u64>
     requires short { length text.now ≤ 21 }
-    ensures value { result ≡ octal_value text.now }
-    ensures bound { result < 8 ^ length text.now }
+    ensures value { result ≡ (if list_all is_octal_digit text.now then Some (octal_value text.now) else None) }
+    ensures bound { IfSome result (λ n. n < 8 ^ length text.now) }
 {
     let mut n = 0;
     for c in text {
+        if !is_octal_digit(*c) {
+            return None;
+        }
         n = 8 * n + u64::from(*c - b'0');
     }
-    n
+    Some(n)
 }
 
 /// Appends the octal spelling of a number; want of memory leaves the bytes as they were.
@@ -50,18 +54,6 @@ pub fn write_octal(out: &mut Vec<u8>, n: u64) -> Result<(), AllocError>
     }
     digits[start] = b'0' + left as u8;
     out.extend_from_slice(&digits[start..])
-}
-
-fn is_octal(text: &[u8]) -> bool
-    ensures { result ≡ is_octal text.now }
-{
-    begins_number(text) && are_octal_digits(text)
-}
-
-fn are_octal_digits(text: &[u8]) -> bool
-    ensures { result ≡ list_all is_octal_digit text.now }
-{
-    text.iter().all(|c| is_octal_digit(*c))
 }
 
 fn begins_number(text: &[u8]) -> bool

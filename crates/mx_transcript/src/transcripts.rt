@@ -211,6 +211,7 @@ impl Recording {
     }
 
     /// Makes room for so many more events and for the end of one more line, as [`Recording::reserve`] does for one event.
+    #[inline(always)]
     pub fn reserve_events(&mut self, events: u32) -> Result<(), AllocError>
         ensures spare { OnOk result (events ≤ self.new.spare) }
         ensures line { OnOk result (IsTrue self.new.line_room) }

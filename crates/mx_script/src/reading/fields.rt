@@ -8,7 +8,7 @@ ghost use Rattle.mx_script.specs.Fields.{written_class, entrant_at, register_at,
 use crate::lines::{Base, Operand};
 use crate::reading::cutting::after;
 use mx_aim::Class;
-use mx_name::{Principal, cut};
+use mx_name::{Principal, cut, near_cut};
 use mx_request::{Entrant, read_word_number};
 use mx_sdw::{Word, read_octal_number};
 
@@ -63,7 +63,7 @@ pub(crate) fn read_word(text: &[u8]) -> Option<Word>
 pub(crate) fn read_operand(text: &[u8]) -> Option<Operand>
     ensures { result ≡ operand_at text.now }
 {
-    let (base, offset) = cut(b'|', text)?;
+    let (base, offset) = near_cut(b'|', text)?;
     let base = read_base(base)?;
     let (word, indirect) = read_offset(offset)?;
     Some(Operand {
@@ -77,7 +77,7 @@ pub(crate) fn read_operand(text: &[u8]) -> Option<Operand>
 pub(crate) fn read_register_operand(text: &[u8]) -> Option<(u8, Operand)>
     ensures { result ≡ register_operand_at text.now }
 {
-    let (n, operand) = cut(b' ', text)?;
+    let (n, operand) = near_cut(b' ', text)?;
     let n = read_register(n)?;
     let operand = read_operand(operand)?;
     Some((n, operand))
@@ -130,7 +130,7 @@ fn read_offset(text: &[u8]) -> Option<(u16, bool)>
 fn read_indirect(text: &[u8]) -> Option<(u16, bool)>
     ensures { result ≡ indirect_at text.now }
 {
-    let (word, star) = cut(b',', text)?;
+    let (word, star) = near_cut(b',', text)?;
     let word = read_word_number(word)?;
     let indirect = read_star(star)?;
     Some((word, indirect))

@@ -20,8 +20,8 @@ returns-in_default-directory_at c =
     (sym c.in_default-target_at.ensures) (sym c.in_default-directory_at.ensures.value))
     ∙ c.loop-name.invariant
 
-pub returns-in_default-uid_in : goal.returns-in_default-uid_in
-returns-in_default-uid_in c =
+pub returns-in_default-found_in : goal.returns-in_default-found_in
+returns-in_default-found_in c =
     let there : uid_in c.self.inside.tables.branches c.loop-name.at c.in-Some.name ≡ None = search rules in
     sym (stops_unfound c.args.self.now c.args.follow c.loop-name.at c.loop-name.rest c.in-Some.name c.in-Some.after c.in-Some.ensures c.in-Some-directory_at.directory.now
     (sym c.in_default-target_at.ensures) (sym c.in-Some-directory_at.ensures.value)
