@@ -1,7 +1,8 @@
 //! The registers of a process, and the instructions that change them: call, return, and the load of a pointer register.
 //!
 //! [`call`] and [`ret`] are denied exactly as the judging rule of `mx_sdw` denies them where upward calls are off, and what
-//! they make of the registers is a relation between those before and after, one field a rule of Schroeder and Saltzer's.
+//! they make of the registers is a relation between those before and after, one field a rule of Schroeder and Saltzer's;
+//! [`Regs::enter`] and [`Regs::go_back`] make the same of a granted one in place.
 //! [`going_on`], [`stack_base`] and [`raised_to`] are the pointers that these and upward calls put into the registers.
 //! Laws over these relations say that a call never raises the ring and lowers it only through a gate, that a return never
 //! lowers it, that no pointer register ever falls below it, and that each can be stored. The crate stands on `mx_sdw` and

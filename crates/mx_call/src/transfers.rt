@@ -2,7 +2,7 @@
 
 ghost use Rattle.std.specs.Prelude.{◌≡◌, ◌↔◌, min, map, IsOk, IfOk, IfErr, Err};
 ghost use Rattle.mx_call.specs.Registers.{going_on, way_back, raised_to};
-ghost use Rattle.mx_call.specs.Transfers.{calling, call_judgement, return_judgement, IsCalled, IsReturned};
+ghost use Rattle.mx_call.specs.Transfers.{called, calling, call_judgement, return_judgement, returned, IsCalled, IsReturned};
 
 use crate::registers::{Regs, stack_base};
 use mx_ptr::Pointer;
@@ -57,6 +57,33 @@ pub fn ret(regs: &Regs, target: &Pointer, desc: &Desc) -> Result<Regs, Denial>
         pr: all_raised_to(ring, &regs.pr),
         ..*regs
     })
+}
+
+impl Regs {
+    /// Goes on by a granted call of `target`, a word of the segment that `desc` describes, where `target.ring` is the
+    /// effective ring, from the first bracket or above: what `call` makes of the registers, in place.
+    #[inline(always)]
+    pub fn enter(&mut self, target: &Pointer, desc: &Desc)
+        ensures { self.new ≡ called self.old target.now desc.now }
+    {
+        let ring = lower_of(target.ring, desc.brackets().r2());
+        let back = way_back(self);
+        self.pr[0] = stack_base(ring);
+        self.pr[7] = back;
+        self.procedure = going_on(target, ring);
+        self.ring = ring;
+    }
+
+    /// Goes on by a granted return to `target`, where `target.ring` is the effective ring: what `ret` makes of the registers,
+    /// in place.
+    pub fn go_back(&mut self, target: &Pointer)
+        ensures { self.new ≡ returned self.old target.now }
+    {
+        let ring = target.ring;
+        raise_all(ring, &mut self.pr);
+        self.procedure = going_on(target, ring);
+        self.ring = ring;
+    }
 }
 
 /// The call of a target from these registers.
@@ -116,6 +143,42 @@ fn all_raised_to(ring: Ring, pr: &[Pointer; 8]) -> [Pointer; 8]
         raised_to(ring, pr6),
         raised_to(ring, pr7),
     ]
+}
+
+/// Each ring of the pointer registers is now at least `ring`.
+fn raise_all(ring: Ring, pr: &mut [Pointer; 8])
+    ensures { pr.new ≡ map (raised_to ring) pr.old }
+{
+    raise(ring, &mut pr[0]);
+    raise(ring, &mut pr[1]);
+    raise(ring, &mut pr[2]);
+    raise(ring, &mut pr[3]);
+    raise(ring, &mut pr[4]);
+    raise(ring, &mut pr[5]);
+    raise(ring, &mut pr[6]);
+    raise(ring, &mut pr[7]);
+}
+
+/// The ring of the pointer is now at least `ring`.
+#[inline(always)]
+fn raise(ring: Ring, pointer: &mut Pointer)
+    ensures { pointer.new ≡ raised_to ring pointer.old }
+{
+    if pointer.ring.number() < ring.number() {
+        pointer.ring = ring;
+    }
+}
+
+/// The lower of two rings.
+#[inline(always)]
+fn lower_of(one: Ring, other: Ring) -> Ring
+    ensures { result ≡ min one other }
+{
+    if one.number() < other.number() {
+        one
+    } else {
+        other
+    }
 }
 
 /// A pointer whose ring is at least `ring`.

@@ -1,14 +1,12 @@
 -- A line whose operand is not indirect makes its own reference first, at its target.
 use Rattle.std.proofs.Common.{◌≡◌, ℕ, max, Bool, true, false, List, [], ◌∷◌, ◌++◌, Option, Some, None, IfSome, IsSome, inl, inr, refl, sym, ◌∙◌, ap, subst}
 use Rattle.std.specs.Option.{option_map}
-use Rattle.std.specs.Prelude.{MatchOption}
 use Rattle.std.proofs.Math.Nat.{max-zero}
 use Rattle.mx_call.specs.Registers.{Registers, raised_to}
 use Rattle.mx_core.specs.Judging.{kind_of}
 use Rattle.mx_core.specs.declared.elements.Element.{Element}
 use Rattle.mx_core.specs.declared.elements.Event.TheVariants.{Seen}
 use Rattle.mx_core.specs.declared.elements.Kind.TheVariants.{Ind}
-use Rattle.mx_core.specs.declared.elements.Outcome.TheVariants.{Entered}
 use Rattle.mx_effring.specs.Chains as chains
 use Rattle.mx_effring.specs.Chains.{read_on}
 use Rattle.mx_effring.specs.Walks.{Reached, reached, wanted, wanted_at}
@@ -21,16 +19,15 @@ use Rattle.mx_transcript.specs.Asking.{attempts}
 use Rattle.mx_transcript.specs.Attempts.{wants, after_seen, along, attempt}
 use Rattle.mx_transcript.specs.Courses.{Judged}
 use Rattle.mx_transcript.specs.Elements.{IsJudged}
-use Rattle.mx_transcript.specs.Next.{Next, Reference, Asks, Nowhere}
+use Rattle.mx_transcript.specs.Next.{Next, Reference, Asks}
 use Rattle.mx_transcript.specs.Operands.{walk_from, walk_of}
 use Rattle.mx_transcript.specs.Settings.{Setting}
 use Rattle.mx_transcript.specs.Targets.{at_target, after_target}
 use Rattle.mx_transcript.specs.declared.transcripts.Event2.TheVariants.{Core}
 use Rattle.mx_transcript.specs.declared.transcripts.Result2.{Result2}
 use Rattle.mx_upcall.specs.Control.{Control}
-use Rattle.mx_upcall.specs.declared.controls.Change.{Change}
 use Rattle.mx_line.proofs.TakenLaws.{Leads, begun_taken, begun_met, same_asked, unwalked_met, walking_taken}
-use Rattle.mx_line.specs.AtWork.{EndsAt, HasSeen, IsKnown, IsMet, IsSaid, IsTaken, IsTakenTo, beside, ending, left, moved_on, moving}
+use Rattle.mx_line.specs.AtWork.{EndsAt, HasSeen, IsKnown, IsMet, IsSaid, IsTaken, IsTakenTo, beside, ending, left}
 use Rattle.mx_line.proofs.StandingLaws.{before_asks, begun_fills, walk_asks}
 use Rattle.mx_line.specs.Looks.{looks}
 use Rattle.mx_line.specs.Operands.{first_want, want_at}
@@ -176,24 +173,3 @@ pub ends_found : (g : Control) (l : Line) (e : Element) (found : Option Result2)
     → IfSome found (λ ends. IsTakenTo g l e (at.At Before) (left g (Some ends)))
 ends_found g l e None other at_end = tt
 ends_found g l e (Some ends) other at_end = ends_met g l e ends other at_end
-
--- what a granted call or return makes of the registers and gates, as its line ends so by its first reference
-pub move_taken : (g : Control) (l : Line) (target : PointerParts) (e : Element) (d : Descriptor) (ring : ℕ) (after : Change)
-    → first_want g.registers l ≡ Some (want.Done target) → e.outcome ≡ Entered ring
-    → ((asked : Reference) → at_target g l target ≡ Asks asked → IsJudged asked d e
-    → after_target g l target d (Entered ring) ≡ moving g after)
-    → (setting : Setting) → setting.descriptor e ≡ d → IsTaken g l setting (Core (Seen e)) (at.At Before) (moved_on after)
-move_taken g l target e d ring after is entered said = direct_taken g l target e d (moved_on after) is tells
-  where
-    tells : Tells g l target e d (moved_on after)
-    tells asked at right = ap (after_target g l target d) entered ∙ said asked at right
-
--- so it is with what is found
-pub move_found : (g : Control) (l : Line) (target : PointerParts) (e : Element) (d : Descriptor) (ring : ℕ) (found : Option Change)
-    → first_want g.registers l ≡ Some (want.Done target) → e.outcome ≡ Entered ring
-    → ((r : ℕ) (asked : Reference) (other : Element) → at_target g l target ≡ Asks asked → IsJudged asked d other → other.outcome ≡ Entered r
-    → MatchOption found (after_target g l target d (Entered r) ≡ Nowhere) (λ after. after_target g l target d (Entered r) ≡ moving g after))
-    → IfSome found (λ after. (setting : Setting) → setting.descriptor e ≡ d → IsTaken g l setting (Core (Seen e)) (at.At Before) (moved_on after))
-move_found g l target e d ring None is entered said = tt
-move_found g l target e d ring (Some after) is entered said =
-    move_taken g l target e d ring after is entered (λ asked at right. said ring asked e at right entered)

@@ -6,5 +6,6 @@ pub mod ReplyLaws
 pub mod TakenLaws
 pub mod StepLaws
 pub mod DirectLaws
+pub mod MoveLaws
 pub mod ScriptLaws
 pub mod ProcessLaws

@@ -1,13 +1,13 @@
 -- What the line of a process asks for, and how it ends plainly, by where it stands.
 use Rattle.std.proofs.Common.{◌≡◌, ℕ, Option, Some, None, IfSome, sym, ◌∙◌, subst}
 use Rattle.mx_core.specs.declared.elements.Element.{Element}
-use Rattle.mx_core.specs.declared.elements.Event.TheVariants.{Seen}
 use Rattle.mx_effring.specs.Walks.{Reached, wanted_at}
 use Rattle.mx_line.proofs.StandingLaws.{walking_asks, walking_refers}
-use Rattle.mx_line.specs.AtWork.{IsCome, IsGoodWork, IsStorableBy, IsTaken, IsTakenTo, left, moved_on, reference_in}
+use Rattle.mx_line.specs.AtWork.{IsCome, IsGoodWork, IsStorableBy, IsTaken, IsTakenTo, left, reference_in}
 use Rattle.mx_line.specs.Processes.{HasPlainEnd, HasPlainMove, HasPlainReply, IsReferring}
 use Rattle.mx_line.specs.declared.asking.Reference as asked
 use Rattle.mx_line.specs.declared.at_work.LineAtWork.TheVariants as at
+use Rattle.mx_line.specs.declared.moves.Going.{Going}
 use Rattle.mx_line.specs.declared.operands.Progress.{Progress}
 use Rattle.mx_line.specs.declared.operands.Progress.TheVariants.{Before, Walking}
 use Rattle.mx_line.specs.declared.processes.Process.{Process}
@@ -18,9 +18,8 @@ use Rattle.mx_transcript.specs.Attempts.{wants}
 use Rattle.mx_transcript.specs.Next.{Asks}
 use Rattle.mx_state.specs.declared.journal.Entry as journaled
 use Rattle.mx_transcript.specs.Settings.{Setting, entry_at}
-use Rattle.mx_transcript.specs.declared.transcripts.Event2.TheVariants.{Core, Entry}
+use Rattle.mx_transcript.specs.declared.transcripts.Event2.TheVariants.{Entry}
 use Rattle.mx_transcript.specs.declared.transcripts.Result2.{Result2}
-use Rattle.mx_upcall.specs.declared.controls.Change.{Change}
 
 -- a line that ends so where it stands
 pub ends_where : (p : Process) (progress : Progress) (l : Line) (e : Element) (ends : Result2) → p.progress ≡ progress
@@ -52,16 +51,10 @@ replies_in p l given (Some ends) is taken good = record {
 }
 
 -- so it is with the move that is found at its beginning
-pub moves_in : (p : Process) (l : Line) (e : Element) (d : Descriptor) (found : Option Change) → p.progress ≡ Before
-    → IfSome found (λ after. (setting : Setting) → setting.descriptor e ≡ d
-    → IsTaken p.control l setting (Core (Seen e)) (at.At Before) (moved_on after))
-    → IfSome found (λ after. IsGoodWork p.control (moved_on after)) → IfSome found (HasPlainMove p l e d)
-moves_in p l e d None is taken good = tt
-moves_in p l e d (Some after) is taken good = record {
-  taken = subst (λ (r : Progress). (setting : Setting) → setting.descriptor e ≡ d
-      → IsTaken p.control l setting (Core (Seen e)) (at.At r) (moved_on after)) (sym is) taken;
-  good = good;
-}
+pub moves_in : (p : Process) (l : Line) (e : Element) (d : Descriptor) (found : Option Going) → p.progress ≡ Before
+    → IfSome found (HasPlainMove p.control l Before e d) → IfSome found (HasPlainMove p.control l p.progress e d)
+moves_in p l e d found is =
+    subst (λ (r : Progress). IfSome found (HasPlainMove p.control l r e d)) (sym is)
 
 -- a line that asks for this where its walk stands
 pub walking_referring : (p : Process) (l : Line) (walk : Reached) (r : asked.Reference) → p.progress ≡ Walking walk

@@ -30,13 +30,14 @@ ghost use Rattle.mx_upcall.specs.Soundness.{IsPackableControl};
 ghost use Rattle.mx_line.specs.AtWork.{EndsAt, IsTakenTo, ending, left, left_in, HasSeen, IsCome, IsFree, IsGoodNext, IsGoodWork, IsKnown, IsMet, IsMover, IsNearer, IsOver, IsPlain, IsReader, IsSaid, IsStorable, IsTaken, IsWithin, IsWriter, OneCourseLaw, StandsAt, after_writing, beside, end_of, ended, meant, moved_on, moving, standing};
 ghost use Rattle.mx_line.specs.Fills.{IsNoRequest, IsShort, after_fill, counted, steps_to_fill};
 ghost use Rattle.mx_line.specs.Looks.{looks};
-ghost use Rattle.mx_line.specs.Processes.{Takes};
+ghost use Rattle.mx_line.specs.Processes.{HasPlainMove, Takes};
 ghost use Rattle.mx_line.specs.Operands.{HasComeTo, IsGoodProgress, IsGoodWalk, IsSayable, IsTarget};
 ghost use Rattle.mx_line.specs.declared.at_work.LineAtWork.TheVariants.{At, Ended, Nowhere};
 ghost use Rattle.mx_line.specs.declared.operands.Progress.TheVariants.{Before, Waiting, Walking};
 
 use crate::asking::{Called, End, Next, begins, first_target, walk_of, wants};
 use crate::fills::{Fill, Filled};
+use crate::moves::{Going, going_at};
 use crate::operands::{Onward, Place, Progress, fed, feed};
 use crate::replies::answered_at;
 use mx_call::Regs;
@@ -558,25 +559,23 @@ fn move_at(line: &Line, control: &Control, target: &Pointer, desc: &Desc) -> Opt
     }
 }
 
-/// What a granted call or return makes of the registers and return gates, where the operand of its line is not indirect; none
-/// for every other element.
+/// What a line goes on at that was granted its call or return, where its operand is not indirect; none for every other element.
 #[inline(always)]
 pub(crate) fn first_move(
     line: &Line,
     control: &Control,
     element: &Element,
     desc: &Desc,
-) -> Option<Change>
+) -> Option<Going>
     requires line { IsSayable line.now }
     requires packable { IsPackableControl control.now }
     requires desc { IsAdmissible desc.now }
-    ensures taken { IfSome result (λ after. (setting : Setting) → setting.descriptor element.now ≡ desc.now
-        → IsTaken control.now line.now setting (Core (Seen element.now)) (At Before) (moved_on after)) }
-    ensures good { IfSome result (λ after. IsGoodWork control.now (moved_on after)) }
+    requires met { IsMet control.now line.now (At Before) element.now desc.now }
+    ensures { IfSome result (HasPlainMove control.now line.now Before element.now desc.now) }
 {
     match element.outcome {
         Outcome::Entered { .. } => match first_target(line, &control.registers) {
-            Some(target) => move_at(line, control, &target, desc),
+            Some(target) => going_at(line, &target),
             None => None,
         },
         Outcome::Read { .. } | Outcome::Written { .. } | Outcome::Denied(_) => None,

@@ -11,6 +11,7 @@
 mod asking;
 mod at_work;
 mod fills;
+mod moves;
 mod operands;
 mod processes;
 mod replies;
@@ -20,5 +21,6 @@ pub use at_work::{LineAtWork, one_course_law};
 pub use fills::{
     Behind, Fill, Filled, LinkWords, Snap, behind_of, first_fill, section_in, snap_of,
 };
+pub use moves::Going;
 pub use operands::{Place, Progress};
 pub use processes::Process;

@@ -3,17 +3,17 @@
 ghost use Rattle.std.specs.Prelude.{◌≡◌, ◌≤◌, ◌<◌, ◌+◌, ◌^◌, [], ◌∷◌, ◌++◌, IfSome, IsTrue, length};
 ghost use Rattle.mx_sdw.specs.Admissible.{IsAdmissible};
 ghost use Rattle.mx_transcript.specs.declared.transcripts.Result2.TheVariants.{Moved};
-ghost use Rattle.mx_upcall.specs.Changes.{Fits, changed};
 ghost use Rattle.mx_upcall.specs.Control.{with_registers};
 ghost use Rattle.mx_upcall.specs.Soundness.{IsPackableControl};
-ghost use Rattle.mx_line.specs.AtWork.{left_in};
+ghost use Rattle.mx_line.specs.AtWork.{IsMet, left_in};
 ghost use Rattle.mx_line.specs.Operands.{IsGoodProgress, IsSayable};
-ghost use Rattle.mx_line.specs.Processes.{HasPlainEnd, HasPlainMove, HasPlainReply, IsAsking, IsReferring, Takes};
+ghost use Rattle.mx_line.specs.Processes.{HasPlainEnd, HasPlainMove, HasPlainReply, IsAsking, IsGrantedAt, IsReferring, Takes, gone};
 ghost use Rattle.mx_line.specs.declared.at_work.LineAtWork.TheVariants.{At};
 ghost use Rattle.mx_line.specs.declared.operands.Progress.TheVariants.{Before, Walking};
 
 use crate::asking::{Next, Reference, first_reference, next_reference};
 use crate::at_work::{first_end, first_move, first_step, leave, next_at, walked_end, walked_step};
+use crate::moves::{Going, go};
 use crate::operands::Progress;
 use crate::replies::request_end;
 use mx_effring::Walk;
@@ -21,7 +21,7 @@ use mx_request::Reply;
 use mx_script::Line;
 use mx_sdw::Desc;
 use mx_transcript::{Element, Event2, Recording, Result2, Transcript};
-use mx_upcall::{Change, Control};
+use mx_upcall::Control;
 
 /// A process: the number of its first line in the session text, its registers and return gates at the start of the line at
 /// work, what was recorded of its lines, and how far the line at work has come.
@@ -110,14 +110,15 @@ impl Process {
         begin(&mut self.progress);
     }
 
-    /// What the call or return that its line's first reference was granted makes of the registers and return gates; none for
-    /// another element, and where an indirect word was read before it.
+    /// What its line goes on at by the call or return that its first reference was granted; none for another element, and where an
+    /// indirect word was read before it. The element is the reference for which its line asks, judged on this descriptor.
     #[inline(always)]
-    pub fn plain_move(&self, line: &Line, element: &Element, desc: &Desc) -> Option<Change>
+    pub fn plain_move(&self, line: &Line, element: &Element, desc: &Desc) -> Option<Going>
         requires packable { IsPackableControl self.now.control }
         requires line { IsSayable line.now }
         requires desc { IsAdmissible desc.now }
-        ensures { IfSome result (HasPlainMove self.now line.now element.now desc.now) }
+        requires met { IsMet self.now.control line.now (At self.now.progress) element.now desc.now }
+        ensures { IfSome result (HasPlainMove self.now.control line.now self.now.progress element.now desc.now) }
     {
         match &self.progress {
             Progress::Before => first_move(line, &self.control, element, desc),
@@ -143,18 +144,18 @@ impl Process {
     }
 
     /// Its line at work ends with this event, by which the process goes on so. Conditions: there is room for an event and for
-    /// the line's end, and a gate is left only where one more may stand. It takes no memory.
-    pub fn end_moved(&mut self, event: Event2, after: &Change)
+    /// the line's end, and the call or return was granted on this descriptor. It takes no memory.
+    pub fn end_moved(&mut self, event: Event2, going: &Going, desc: &Desc)
         requires event { 1 ≤ self.old.recording.spare }
         requires line { IsTrue self.old.recording.line_room }
         requires number { self.old.first + length self.old.recording.steps < 2 ^ 32 }
-        requires fits { Fits self.old.control.gates after.now.gates }
+        requires granted { IsGrantedAt self.old.control going.now desc.now }
         ensures first { self.new.first ≡ self.old.first }
-        ensures done { self.new.control ≡ changed self.old.control after.now }
+        ensures done { self.new.control ≡ gone self.old.control going.now desc.now }
         ensures steps { self.new.recording.steps ≡ self.old.recording.steps ++ (
           self.old.first + length self.old.recording.steps,
           self.old.recording.events ++ event ∷ [],
-          Moved after.now.registers.ring after.now.registers.procedure,
+          Moved self.new.control.registers.ring self.new.control.registers.procedure,
         ) ∷ [] }
         ensures idle { self.new.recording.events ≡ [] }
         ensures spare { self.old.recording.spare ≤ self.new.recording.spare + 1 }
@@ -162,14 +163,14 @@ impl Process {
     {
         let number = self.first + self.recording.lines() as u32;
         self.recording.keep(event);
+        go(&mut self.control, going, desc);
         self.recording.end_line(
             number,
             Result2::Moved {
-                ring: after.registers.ring,
-                procedure: after.registers.procedure,
+                ring: self.control.registers.ring,
+                procedure: self.control.registers.procedure,
             },
         );
-        self.control.change(after);
         begin(&mut self.progress);
     }
 

@@ -10,11 +10,12 @@ use Rattle.mx_desc.specs.Passes.{PassValue}
 use Rattle.mx_desc.specs.Referring.{HasMissed}
 use Rattle.mx_line.specs.AtWork.{IsCome, IsFree, IsMet, beside, left, moved_on, reference_in}
 use Rattle.mx_line.specs.Operands.{IsGoodProgress, steps_in}
-use Rattle.mx_line.specs.Processes.{HasPlainEnd, HasPlainMove, IsReferring as AsksToRefer, Takes}
+use Rattle.mx_line.specs.Processes.{HasPlainEnd, HasPlainMove, IsReferring as AsksToRefer, Takes, gone}
 use Rattle.mx_line.specs.declared.asking.End.{End}
 use Rattle.mx_line.specs.declared.asking.Reference as asked
 use Rattle.mx_line.specs.declared.at_work.LineAtWork.{LineAtWork}
 use Rattle.mx_line.specs.declared.at_work.LineAtWork.TheVariants as works
+use Rattle.mx_line.specs.declared.moves.Going.{Going}
 use Rattle.mx_line.specs.declared.operands.Progress.{Progress}
 use Rattle.mx_line.specs.declared.operands.Progress.TheVariants.{Before, Walking, AtLink, Waiting, Filling}
 use Rattle.mx_line.specs.declared.processes.Process.{Process as LineState}
@@ -30,10 +31,10 @@ use Rattle.mx_transcript.specs.Next.{Ends as AsksToEnd}
 use Rattle.mx_transcript.specs.declared.transcripts.Event2.{Event2}
 use Rattle.mx_transcript.specs.declared.transcripts.Event2.TheVariants.{Core}
 use Rattle.mx_transcript.specs.declared.transcripts.Result2.{Result2}
+use Rattle.mx_transcript.specs.declared.transcripts.Result2.TheVariants.{Moved}
 use Rattle.mx_upcall.specs.Changes.{changed}
 use Rattle.mx_upcall.specs.Control.{Control}
 use Rattle.mx_upcall.specs.Soundness.{IsPackableControl}
-use Rattle.mx_upcall.specs.declared.controls.Change.{Change}
 use Rattle.mx_process.proofs.JudgedLaws.{WasJudged, asked_by, at_floor, is_judged}
 use Rattle.mx_process.proofs.KnownLaws.{seen_known, known_seen, known_missed}
 use Rattle.mx_process.proofs.PlanLaws.{planned_same}
@@ -80,13 +81,28 @@ taken_plainly old new line e d ends plain comes = record {
 }
 
 -- a line that ends by a granted call or return
-pub taken_moved : (old new : LineState) (line : Line) (e : Element) (d : Descriptor) (after : Change) → HasPlainMove old line e d after
-    → Comes old (Core (Seen e)) (moved_on after) turn.Ended new → HasTaken old line e d new turn.Ended
-taken_moved old new line e d after plain comes = record {
-  work = moved_on after;
-  takes = record { taken = plain.taken; good = plain.good; nearer = tt };
-  comes = comes;
-}
+pub taken_moved : (old new : LineState) (line : Line) (e : Element) (d : Descriptor) (going : Going)
+    → HasPlainMove old.control line old.progress e d going → new.first ≡ old.first → new.control ≡ gone old.control going d
+    → new.recording.steps ≡ old.recording.steps
+    ++ (number_in old, old.recording.events ++ Core (Seen e) ∷ [], Moved new.control.registers.ring new.control.registers.procedure) ∷ []
+    → new.recording.events ≡ [] → new.progress ≡ Before → HasTaken old line e d new turn.Ended
+taken_moved old new line e d going m first done steps idle fresh =
+    let control : new.control ≡ changed old.control m.after = done ∙ sym m.is in record {
+      work = moved_on m.after;
+      takes = record { taken = m.taken; good = m.good; nearer = tt };
+      comes = (
+        refl,
+        record {
+          first = first;
+          control = control;
+          steps = steps
+              ∙ ap (λ (g : Control). old.recording.steps
+              ++ (number_in old, old.recording.events ++ Core (Seen e) ∷ [], Moved g.registers.ring g.registers.procedure) ∷ []) control;
+          idle = idle;
+          progress = fresh;
+        },
+      );
+    }
 
 pub same_line : (state : LineState) → IsSameLine state state
 same_line state = record {

@@ -218,8 +218,8 @@ fn move_on(state: &mut LineState, line: &Line, element: &Element, desc: &Desc) -
     ensures room { state.old.recording.spare ≤ state.new.recording.spare + 1 }
 {
     match state.plain_move(line, element, desc) {
-        Some(after) => {
-            state.end_moved(Event2::Core(Event::Seen(*element)), &after);
+        Some(going) => {
+            state.end_moved(Event2::Core(Event::Seen(*element)), &going, desc);
             Turn::Ended
         }
         None => walk_on(state, line, element, desc),

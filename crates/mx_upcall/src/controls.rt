@@ -225,6 +225,54 @@ impl Control {
         let registers = ret(&self.registers, target, desc)?;
         Ok(Change::keeping(&registers))
     }
+
+    /// Goes on by a granted call of `target`, a word of the segment that `desc` describes: what `call` makes of the registers
+    /// and gates, in place.
+    #[inline(always)]
+    pub fn enter(&mut self, target: &Pointer, desc: &Desc)
+        requires { IsOk (judgement desc.now (calling self.old target.now) target.now.ring target.now.word) }
+        ensures { self.new ≡ after_call self.old target.now desc.now }
+    {
+        if target.ring.number() < desc.brackets().r1().number() {
+            self.enter_up(target, desc);
+        } else {
+            self.registers.enter(target, desc);
+        }
+    }
+
+    // A call from below the first bracket.
+    #[inline(never)]
+    fn enter_up(&mut self, target: &Pointer, desc: &Desc)
+        requires below { target.now.ring < desc.now.brackets.r1 }
+        requires granted { IsOk (judgement desc.now (calling self.old target.now) target.now.ring target.now.word) }
+        ensures { self.new ≡ after_call self.old target.now desc.now }
+    {
+        let (registers, gate) = upward(&self.registers, target, desc);
+        self.registers = registers;
+        self.gates.push(gate);
+    }
+
+    /// Goes on by a granted return to `target`: what `ret` makes of the registers and gates, in place.
+    #[inline(always)]
+    pub fn go_back(&mut self, target: &Pointer)
+        ensures { self.new ≡ after_return self.old target.now }
+    {
+        match self.way_down(target) {
+            Some(gate) => self.go_down(&gate, target),
+            None => self.registers.go_back(target),
+        }
+    }
+
+    // A return through a gate.
+    #[inline(never)]
+    fn go_down(&mut self, gate: &ReturnGate, target: &Pointer)
+        requires way { way_down self.old target.now ≡ Some gate.now }
+        requires upper { gate.now.upper ≡ self.old.registers.ring }
+        ensures { self.new ≡ after_return self.old target.now }
+    {
+        self.registers = downward(&self.registers, gate);
+        self.gates.pop();
+    }
 }
 
 /// Where a return through a gate is asked.

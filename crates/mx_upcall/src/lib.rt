@@ -6,8 +6,9 @@
 //! a process: laws say that it holds the gates that were pushed and not popped, the last first, that only its top gate can
 //! be used, and that no pointer register ever falls below the current ring. [`Control`] is what passes from line to line of
 //! a process, its registers and its gates: [`Control::call`] and [`Control::ret`] are all calls and returns, upward ones and
-//! returns through gates among them, and hand out a [`Change`], which leaves the gates where they are. The crate stands on
-//! `mx_sdw`, `mx_ptr` and `mx_call`, and takes no memory.
+//! returns through gates among them, and hand out a [`Change`], which leaves the gates where they are; [`Control::enter`] and
+//! [`Control::go_back`] make the same of a granted call or return in place. The crate stands on `mx_sdw`, `mx_ptr` and
+//! `mx_call`, and takes no memory.
 #![tactic(auto)]
 
 mod controls;
