@@ -37,37 +37,44 @@ pub(crate) fn turns<B: Sitting>(
     cam: &mut Cam,
     shared: &Board<Entry>,
     line: &Line,
-    left: u8,
+    most: u8,
 ) -> Fast
     requires fits { shared.now.table_id ≡ B.table }
     requires layout { shared.now.key.layout ≡ B.layout }
     requires same { cam.old ≡ pass.old.view.memory }
     requires ready { pass.old.view.stage ≡ Ready }
-    requires spare { left ≤ pass.old.spare }
-    requires room { left ≤ state.old.recording.spare }
+    requires spare { most ≤ pass.old.spare }
+    requires room { most ≤ state.old.recording.spare }
     requires end { IsTrue state.old.recording.line_room }
-    requires enough { steps_in state.old.progress ≤ left }
+    requires enough { steps_in state.old.progress ≤ most }
     requires attempting { IsAttempting B.session B.setup state.old line.now (known_of pass.old) }
     ensures came { HasAttempted B.session B.setup line.now state.old result (inside state.new pass.new) }
     ensures same { cam.new ≡ pass.new.view.memory }
     ensures ready { pass.new.view.stage ≡ Ready }
     ensures untold { IsUntold pass.old pass.new }
 {
-    if left == 0 {
-        unreachable!()
-    }
-    match make_turn(state, pass, cam, shared, line) {
-        Turn::More => turns(state, pass, cam, shared, line, left - 1),
-        Turn::Ended => Fast::Done,
-        Turn::Missing(miss) => Fast::Missing {
-            segno: miss.segno,
-            by: miss.by,
-        },
-        Turn::AtLink(place) => Fast::Link {
-            segno: place.segno,
-            word: place.word,
-            ring: place.ring,
-        },
+    let mut left = most;
+    loop {
+        if left == 0 {
+            unreachable!()
+        }
+        match make_turn(state, pass, cam, shared, line) {
+            Turn::More => left -= 1,
+            Turn::Ended => return Fast::Done,
+            Turn::Missing(miss) => {
+                return Fast::Missing {
+                    segno: miss.segno,
+                    by: miss.by,
+                };
+            }
+            Turn::AtLink(place) => {
+                return Fast::Link {
+                    segno: place.segno,
+                    word: place.word,
+                    ring: place.ring,
+                };
+            }
+        }
     }
 }
 
