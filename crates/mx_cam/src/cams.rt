@@ -65,6 +65,7 @@ impl Cam {
 
     /// Refers to a word of a segment number: by what the memory has of it, and else by its descriptor word, which is
     /// then remembered. Conditions: the cam is the pass's memory, the process is ready, and there is room for an event.
+    #[inline(always)]
     pub fn refer<E, B: Naming>(
         &mut self,
         pass: &mut Pass<E, B>,

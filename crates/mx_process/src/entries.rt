@@ -47,6 +47,7 @@ impl<'a, B: Attending, A: Auditor> Process<'a, B, A> {
     /// the line goes on by the answer, or ends; where the journal is full it ends without one. Conditions: the line asks for
     /// this call, which is no `resume`, and no miss is to be settled. The only error is want of memory, or that the run is to
     /// end; it changes nothing but room.
+    #[inline(always)]
     pub(crate) fn call<R: Wait>(
         &mut self,
         rt: &R,
@@ -278,6 +279,7 @@ fn resume<R: Wait, B: Sitting>(
 }
 
 // The call for which the line asks was entered under this number, and answered so.
+#[inline(always)]
 fn take_answer(state: &mut LineState, line: &Line, number: u32, answer: &Answer) -> Answered
     requires room { 1 ≤ state.old.recording.spare }
     requires end { IsTrue state.old.recording.line_room }

@@ -113,6 +113,7 @@ fn at_link(ring: Ring, called: Called) -> Turn
 }
 
 // The reference for which the line asks is made.
+#[inline(always)]
 fn refer<B: Sitting>(
     state: &mut LineState,
     pass: &mut Pass<Entry, B>,

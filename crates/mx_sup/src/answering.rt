@@ -28,6 +28,7 @@ pub(crate) struct Made {
 
 /// The entry of the request that process `p` makes in a ring, as the plain supervisor answers it. Want of memory, the only
 /// error, changes nothing.
+#[inline(always)]
 pub(crate) fn answered(
     alloc: Global,
     state: &mut State,
