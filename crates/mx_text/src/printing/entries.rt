@@ -13,12 +13,29 @@ pub(super) fn add_entry(out: &mut Vec<u8>, number: u64, entry: &Entry) -> Result
     ensures { OnOk result (out.new.items ≡ out.old.items ++ entry_text number entry.now) }
 {
     add_field(out, number)?;
-    add_field(out, u64::from(entry.process))?;
-    add_field(out, u64::from(entry.ring.number()))?;
+    add_asker(
+        out,
+        u64::from(entry.process),
+        u64::from(entry.ring.number()),
+    )?;
     entry.request().append_to(out)?;
     out.extend_from_slice(b" = ")?;
     entry.reply.append_to(out)?;
     out.extend_from_slice(b"\n")
+}
+
+// The process and the ring, a blank behind each.
+#[tactic(auto, using(std::proofs::lemmas::Fmt::decimal_digit))]
+fn add_asker(out: &mut Vec<u8>, process: u64, ring: u64) -> Result<(), AllocError>
+    ensures { OnOk result (out.new.items
+        ≡ out.old.items ++ (decimal process ++ codes " " ++ decimal ring ++ codes " ")) }
+{
+    if process < 10 && ring < 10 {
+        out.extend_from_slice(&[b'0' + process as u8, b' ', b'0' + ring as u8, b' '])
+    } else {
+        add_field(out, process)?;
+        add_field(out, ring)
+    }
 }
 
 // A number and a blank.

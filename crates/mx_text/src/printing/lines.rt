@@ -77,6 +77,7 @@ fn put_events(bytes: &mut Room, end: usize, events: &[Event2]) -> usize
     start
 }
 
+#[inline(always)]
 fn put_event(bytes: &mut Room, end: usize, event: &Event2) -> usize
     requires within { end ≤ 3072 }
     requires room { 192 ≤ end }
@@ -214,6 +215,7 @@ fn put_denial(bytes: &mut Room, end: usize, denial: &Denial) -> usize
 }
 
 // `line N RESULT`, at the end.
+#[inline(always)]
 fn put_line(bytes: &mut Room, number: u32, ends: &Result2) -> usize
     ensures put { drop result bytes.new ≡ codes "line " ++ decimal number ++ codes " " ++ result_text ends.now ++ codes "\n" }
     ensures within { result ≤ 3072 }
