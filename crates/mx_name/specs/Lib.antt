@@ -10,3 +10,4 @@ pub mod Texts
 pub mod Parts
 pub mod OrderLaws
 pub mod Stars
+pub mod Held

@@ -7,16 +7,17 @@ ghost use Rattle.mx_name.specs.Parts.{names_in};
 ghost use Rattle.mx_name.specs.Answers.{Answers};
 
 use crate::cutting::first_part;
+use crate::held::HeldText;
 use crate::names::{NameError, is_name_byte, name_fault};
-use mx_list::Bytes;
 use std::alloc::{AllocError, Global};
 use std::marker::Model;
 
 /// A pathname as written: at most 168 bytes; names with `>` between them, behind one `>` (from the root), any number of
-/// `<` (each goes up one directory), or nothing. It is seen as its text.
+/// `<` (each goes up one directory), or nothing. It is seen as its text, which is held in the value where it has at most 22
+/// bytes.
 #[derive(Debug, Drop, PartialEq, Eq)]
 pub struct Pathname {
-    text: Bytes,
+    text: HeldText,
 }
 
 impl Model for Pathname {
@@ -50,16 +51,17 @@ impl Pathname {
         if let Some(fault) = pathname_fault(text) {
             return Err(fault);
         }
-        let text = Bytes::of_slice(alloc, text)?;
+        let text = HeldText::of_slice(alloc, text)?;
         Ok(Pathname { text })
     }
 
     /// The text as written.
+    #[inline(always)]
     pub fn bytes(&self) -> &[u8]
         ensures value { result.now ≡ self.now }
         ensures pathname { pathname_fault self.now ≡ None }
     {
-        self.text.items()
+        self.text.bytes()
     }
 
     /// Another such pathname.

@@ -49,6 +49,7 @@ impl<const MOST: usize> Text<MOST> {
     }
 
     /// The bytes of the text.
+    #[inline(always)]
     pub fn bytes(&self) -> &[u8]
         ensures value { result.now ≡ self.now }
         ensures within { length self.now ≤ MOST }
