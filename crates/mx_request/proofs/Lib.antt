@@ -5,6 +5,7 @@ pub mod AddressLaws
 pub mod ObjectLaws
 pub mod MessageLaws
 pub mod KindLaws
+pub mod WordLengths
 pub mod ClassLaws
 pub mod ClassTexts
 pub mod TakenLaws

@@ -1,6 +1,8 @@
 //! What a line is read as.
 
 ghost use Rattle.std.specs.Prelude.{◌≡◌, None, IfOk};
+ghost use Rattle.std.specs.Option.{option_map};
+ghost use Rattle.mx_name.specs.Cuts.{cut_at};
 ghost use Rattle.mx_sdw.specs.Octal.{octal_number};
 ghost use Rattle.mx_request.specs.Reading.{create_dir_at, create_seg_at, create_object_at, create_link_at, rename_at, delete_at, set_acl_at, del_acl_at, set_iacl_at, del_iacl_at, set_brackets_at, set_dir_brackets_at, set_class_at, status_at, list_at, change_wdir_at, set_rules_at, initiate_by, initiate_at, terminate_at, wakeup_at, link_at, fields_at, bare_at, request_at};
 
@@ -34,13 +36,22 @@ pub(crate) fn read_line(alloc: Global, line: &[u8]) -> Result<Option<Request>, A
     if let Some(request) = read_bare(line) {
         return Ok(Some(request));
     }
-    let Some((word, fields)) = near_cut(b' ', line) else {
+    let Some((word, fields)) = cut_word(line) else {
         return Ok(None);
     };
     let Some(kind) = Kind::read(word) else {
         return Ok(None);
     };
     read_fields(alloc, kind, fields)
+}
+
+/// The first word of a line, and what stands behind the blank. A call of its own, since within `read_line` its loop
+/// gets slow code.
+#[inline(never)]
+fn cut_word(line: &[u8]) -> Option<(&[u8], &[u8])>
+    ensures { option_map (λ p. (p.0.now, p.1.now)) result ≡ cut_at 32 line.now }
+{
+    near_cut(b' ', line)
 }
 
 /// A line that is one word.

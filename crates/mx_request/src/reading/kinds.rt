@@ -33,39 +33,36 @@ pub(crate) enum Kind {
     Link,
 }
 
-// What processes ask for most often is looked for first.
-const ALL: [Kind; 23] = [
-    Kind::Initiate,
-    Kind::Terminate,
-    Kind::Wakeup,
-    Kind::Link,
-    Kind::Status,
-    Kind::List,
-    Kind::SetAcl,
-    Kind::DelAcl,
-    Kind::CreateDir,
-    Kind::CreateSeg,
-    Kind::CreateObject,
-    Kind::CreateLink,
-    Kind::Rename,
-    Kind::Delete,
-    Kind::SetIaclSeg,
-    Kind::SetIaclDir,
-    Kind::DelIaclSeg,
-    Kind::DelIaclDir,
-    Kind::SetBrackets,
-    Kind::SetDirBrackets,
-    Kind::SetClass,
-    Kind::ChangeWdir,
-    Kind::SetRules,
-];
-
 impl Kind {
-    /// The kind that a word names.
+    /// The kind that a word names: it is looked for among the kinds whose word is as long.
     pub(super) fn read(word: &[u8]) -> Option<Kind>
         ensures { result ≡ kind_of word.now }
     {
-        with_word(&ALL, word)
+        match word.len() {
+            4 => with_word(&[Kind::Link, Kind::List], word),
+            6 => with_word(
+                &[Kind::Wakeup, Kind::Status, Kind::Rename, Kind::Delete],
+                word,
+            ),
+            7 => with_word(&[Kind::SetAcl, Kind::DelAcl], word),
+            8 => with_word(&[Kind::Initiate], word),
+            9 => with_word(&[Kind::Terminate, Kind::SetClass, Kind::SetRules], word),
+            10 => with_word(&[Kind::CreateDir, Kind::CreateSeg], word),
+            11 => with_word(&[Kind::CreateLink, Kind::ChangeWdir], word),
+            12 => with_word(
+                &[
+                    Kind::SetIaclSeg,
+                    Kind::SetIaclDir,
+                    Kind::DelIaclSeg,
+                    Kind::DelIaclDir,
+                    Kind::SetBrackets,
+                ],
+                word,
+            ),
+            13 => with_word(&[Kind::CreateObject], word),
+            16 => with_word(&[Kind::SetDirBrackets], word),
+            _ => None,
+        }
     }
 
     fn word(&self) -> &'static str
@@ -100,6 +97,7 @@ impl Kind {
 }
 
 /// The first of these kinds that has the word.
+#[inline(always)]
 fn with_word(all: &[Kind], word: &[u8]) -> Option<Kind>
     ensures { result ≡ find (λ kind. pointwise ◌==◌ word.now (kind_word kind)) all.now }
 {
