@@ -8,7 +8,7 @@ use mx_list::Bytes;
 use std::alloc::{AllocError, Global};
 use std::marker::Model;
 
-/// A text, seen as the list of its bytes. Where it has at most 22 of them it is held in the value, and reading or copying it
+/// A text, seen as the list of its bytes. Where it has at most 30 of them it is held in the value, and reading or copying it
 /// takes no memory; a longer one takes one piece.
 #[derive(Debug, Drop)]
 pub(crate) struct HeldText {
@@ -17,7 +17,7 @@ pub(crate) struct HeldText {
 
 #[derive(Debug, Drop)]
 enum Held {
-    Short(Text<22>),
+    Short(Text<30>),
     Long(Bytes),
 }
 
@@ -34,9 +34,9 @@ impl HeldText {
     /// The text of these bytes. Memory can be wanting for a long one alone.
     pub(crate) fn of_slice(alloc: Global, text: &[u8]) -> Result<HeldText, AllocError>
         ensures ok { IfOk result (λ held. held ≡ text.now) }
-        ensures err { OnErr result (22 < length text.now) }
+        ensures err { OnErr result (30 < length text.now) }
     {
-        let held = if text.len() <= 22 {
+        let held = if text.len() <= 30 {
             Held::Short(Text::of(text))
         } else {
             Held::Long(Bytes::of_slice(alloc, text)?)

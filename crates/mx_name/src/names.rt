@@ -22,7 +22,7 @@ pub enum NameError {
     /// It has a byte that its kind does not allow, or not three components.
     #[error("bad character")]
     BadChar,
-    /// Out of memory; the text itself has no fault. Only a pathname of more than 22 bytes takes memory.
+    /// Out of memory; the text itself has no fault. Only a pathname of more than 30 bytes takes memory.
     #[error("out of memory")]
     Memory,
 }

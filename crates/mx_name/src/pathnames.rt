@@ -13,7 +13,7 @@ use std::alloc::{AllocError, Global};
 use std::marker::Model;
 
 /// A pathname as written: at most 168 bytes; names with `>` between them, behind one `>` (from the root), any number of
-/// `<` (each goes up one directory), or nothing. It is seen as its text, which is held in the value where it has at most 22
+/// `<` (each goes up one directory), or nothing. It is seen as its text, which is held in the value where it has at most 30
 /// bytes.
 #[derive(Debug, Drop, PartialEq, Eq)]
 pub struct Pathname {

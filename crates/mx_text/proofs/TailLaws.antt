@@ -98,6 +98,12 @@ pub line_before : (number result : List ℕ)
     → codes "line " ++ (number ++ (32 ∷ (result ++ 10 ∷ []))) ≡ codes "line " ++ number ++ codes " " ++ result ++ codes "\n"
 line_before number result = rw (append_assoc, append_assoc, append_assoc) refl
 
+-- an entry's number, its process and its ring
+pub asker_before : (number process ring : List ℕ)
+    → number ++ (32 ∷ (process ++ (32 ∷ (ring ++ 32 ∷ []))))
+    ≡ number ++ codes " " ++ process ++ codes " " ++ ring ++ codes " "
+asker_before number process ring = rw (append_assoc, append_assoc, append_assoc, append_assoc) refl
+
 -- a number has at most 22 digits in octal
 pub octal_short : (n : ℕ) (after before : List ℕ) (start end : ℕ) → drop start after ≡ octal n ++ drop end before → length after ≡ 3072
     → length before ≡ 3072 → end ≤ 3072 → n < 2 ^ 64 → end ≤ 22 + start

@@ -97,8 +97,9 @@ fn print_entries<K: Sink>(
     ensures only { (IsErrOf result TextError.Fault → ⊥) → K.faults sink.new ≡ K.faults sink.old }
     ensures later { K.faults sink.old ≤ K.faults sink.new }
 {
+    let mut bytes = [0; ROOM];
     for (i, entry) in entries.iter().enumerate() {
-        add_entry(buffer, i as u64 + 1, entry)?;
+        add_entry(buffer, &mut bytes, i as u64 + 1, entry)?;
         send_when_long(buffer, sink)?;
     }
     Ok(())

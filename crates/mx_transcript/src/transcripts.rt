@@ -280,7 +280,5 @@ fn put<T: Copy>(list: &mut Vec<T>, item: &T)
     ensures len { vec_len list.new ≡ vec_len list.old + 1 }
     ensures capacity { vec_capacity list.old ≤ vec_capacity list.new }
 {
-    let Ok(()) = list.push(*item) else {
-        unreachable!()
-    };
+    list.push_reserved(*item);
 }
