@@ -2,7 +2,8 @@
 use Rattle.std.specs.Prelude.{◌≡◌, ℕ, ◌==◌, ◌+◌, ◌-◌, ◌<◌, Bool, not, List, [], ◌∷◌, ◌++◌, length, map, Option, Some, None, Result, Ok, Err, is_none, if◌then◌else◌}
 use Rattle.std.specs.Cmp.Lexicographic.{pointwise}
 use Rattle.std.specs.List.{slice_index_or, slice_set}
-use Rattle.std.specs.Option.{option_map, option_and_then}
+use Rattle.std.specs.Option.{IfSome, option_map, option_and_then}
+use Rattle.std.specs.Map.{keys_of}
 use Rattle.mx_name.specs.Identifiers.{PlainAclId}
 use Rattle.mx_acl.specs.Access.{Access, most_entries, entry_of}
 use Rattle.mx_acl.specs.InitialLists.{most_initial_entries, initial_fault}
@@ -20,6 +21,7 @@ use Rattle.mx_hier.specs.Branches.{branch_of, entries_of, as_directory}
 use Rattle.mx_hier.specs.Callers.{on}
 use Rattle.mx_hier.specs.Changing.{acl_in, changed}
 use Rattle.mx_hier.specs.InitialAccess.{initial_for}
+use Rattle.mx_hier.specs.List.{in_byte_order}
 use Rattle.mx_hier.specs.SetAcl.{is_full}
 
 pub record Listed : Type 0 where
@@ -135,6 +137,11 @@ abbrev pub renamed : List ℕ → List ℕ → List (List ℕ × ℕ) → List (
 renamed old new [] = []
 renamed old new (pair ∷ pairs) =
     if pointwise ◌==◌ old pair.0 then (new, pair.1) ∷ pairs else pair ∷ renamed old new pairs
+
+-- The names in a directory stand in byte order, and so do those that were given last, if they are kept.
+pub record AreInOrder (pairs : List (List ℕ × ℕ)) (sorted : List (List ℕ)) (listed : Option (List (List ℕ))) : Type 0 where
+  pub order : sorted ≡ in_byte_order (keys_of pairs)
+  pub given : IfSome listed (λ names. names ≡ in_byte_order (keys_of pairs))
 
 -- For every directory its names are kept, and there is room for those of the next one.
 pub record AreKept (slots : List (Option Branch)) (names : List (List (List ℕ × ℕ))) : Type 0 where

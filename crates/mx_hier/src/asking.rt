@@ -90,19 +90,22 @@ impl Hier {
     }
 
     /// The names of a directory's entries in byte order. `NotADir` and `IncorrectAccess`, where the caller has no s
-    /// on it, are said at its holder.
-    pub fn list(&self, alloc: Global, who: &Who, path: &Pathname) -> Result<Names, HierError>
-        ensures answer { Tells (list self.now (caller who.now) path.now) result }
+    /// on it, are said at its holder. The names are kept until the directory changes: the next `list` takes no memory
+    /// for them.
+    pub fn list(&mut self, alloc: Global, who: &Who, path: &Pathname) -> Result<Names, HierError>
+        ensures answer { Tells (list self.old (caller who.now) path.now) result }
         ensures told { TellsFirst (resolved (caller who.now) path.now) result }
+        ensures same { self.new ≡ self.old }
     {
         let uid = self.entry(alloc, who, path, true)?;
         let names = self.list_at(alloc, who, uid)?;
         Ok(names)
     }
 
-    fn list_at(&self, alloc: Global, who: &Who, uid: u32) -> Result<Names, HierError>
-        ensures answer { Tells (list_at self.now (subject who.now) uid) result }
-        ensures told { TellsFirst (list_at self.now (subject who.now) uid) result }
+    fn list_at(&mut self, alloc: Global, who: &Who, uid: u32) -> Result<Names, HierError>
+        ensures answer { Tells (list_at self.old (subject who.now) uid) result }
+        ensures told { TellsFirst (list_at self.old (subject who.now) uid) result }
+        ensures same { self.new ≡ self.old }
     {
         let Some(directory) = self.directory_at(uid) else {
             let why = who.told(Refusal::NotADir, self.holding(uid));

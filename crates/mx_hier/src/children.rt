@@ -21,18 +21,19 @@ use std::marker::Model;
 pub(crate) struct Children {
     uids: IndexMap<EntryName, u32>,
     sorted: Vec<EntryName>,
+    /// The names as `list` gave them last, until they change.
+    listed: Option<Names>,
 }
 
 impl Model for Children {
-    ghost use Rattle.std.specs.Prelude.{◌≡◌, List, ℕ};
-    ghost use Rattle.std.specs.Map.{keys_of};
-    ghost use Rattle.mx_hier.specs.List.{in_byte_order};
+    ghost use Rattle.std.specs.Prelude.{List, ℕ};
+    ghost use Rattle.mx_hier.specs.Listed.{AreInOrder};
 
     ghost Value = { List (List ℕ × ℕ) };
 
     ghost view = { λ a. a.uids.entries };
 
-    ghost invariant = { λ a. a.sorted.items ≡ in_byte_order (keys_of a.uids.entries) };
+    ghost invariant = { λ a. AreInOrder a.uids.entries a.sorted.items a.listed };
 }
 
 impl Children {
@@ -43,6 +44,7 @@ impl Children {
         Children {
             uids: IndexMap::new(alloc),
             sorted: Vec::new(alloc),
+            listed: None,
         }
     }
 
@@ -68,11 +70,18 @@ impl Children {
         self.uids.len()
     }
 
-    /// The names, in byte order.
-    pub(crate) fn names(&self, alloc: Global) -> Result<Names, AllocError>
-        ensures { IfOk result (λ names. names ≡ in_byte_order (keys_of self.now)) }
+    /// The names, in byte order. They are written once, and given again, without taking memory, until they change.
+    pub(crate) fn names(&mut self, alloc: Global) -> Result<Names, AllocError>
+        ensures names { IfOk result (λ names. names ≡ in_byte_order (keys_of self.old)) }
+        ensures same { self.new ≡ self.old }
     {
-        Names::of(alloc, &self.sorted)
+        if let Some(listed) = &self.listed {
+            return listed.share();
+        }
+        let names = Names::of(alloc, &self.sorted)?;
+        let listed = names.share()?;
+        self.listed = Some(listed);
+        Ok(names)
     }
 
     /// Adds a name that is not there, last.
@@ -83,6 +92,7 @@ impl Children {
     {
         self.sorted.reserve(1)?;
         self.uids.insert(name, uid)?;
+        self.listed = None;
         place(&mut self.sorted, name);
         Ok(())
     }
@@ -95,6 +105,7 @@ impl Children {
         // `len` is called for its clause that no name stands twice.
         let _count = self.uids.len();
         if self.uids.shift_remove(name).is_some() {
+            self.listed = None;
             displace(&mut self.sorted, name);
         }
     }
@@ -114,6 +125,7 @@ impl Children {
                 self.uids.insert(new, uid)?;
                 // The last entry takes the place of the one that is removed.
                 self.uids.swap_remove(old);
+                self.listed = None;
                 displace(&mut self.sorted, old);
                 place(&mut self.sorted, new);
                 Ok(())

@@ -9,11 +9,12 @@ use mx_list::Bytes;
 use mx_name::EntryName;
 use std::alloc::{AllocError, Global};
 use std::marker::Model;
+use std::sync::Arc;
 
-/// Names of entries, in order. They stand in one text, each behind a blank, which no name has.
+/// Names of entries, in order. They stand in one text, each behind a blank, which no name has; several hold it together.
 #[derive(Drop)]
 pub struct Names {
-    text: Bytes,
+    text: Arc<Bytes>,
 }
 
 impl Model for Names {
@@ -22,13 +23,9 @@ impl Model for Names {
 
     ghost Value = { List (List ℕ) };
 
-    ghost view = { λ a. between_blanks a.text };
+    ghost view = { λ a. between_blanks a.text.value };
 
-    ghost inverse = { λ d. record { text = behind_blanks d } };
-
-    ghost invariant = { λ a. behind_blanks (between_blanks a.text) ≡ a.text };
-
-    ghost inverse_ok = { λ a kept i. record { text = kept i } };
+    ghost invariant = { λ a. behind_blanks (between_blanks a.text.value) ≡ a.text.value };
 }
 
 impl Names {
@@ -38,9 +35,16 @@ impl Names {
     {
         let mut text = Vec::with_capacity(alloc, length(names))?;
         push_names(&mut text, names)?;
-        Ok(Names {
-            text: Bytes::of(text),
-        })
+        let text = Arc::new(alloc, Bytes::of(text))?;
+        Ok(Names { text })
+    }
+
+    /// The same names, for another to hold. It takes no memory; the only error is that 2 to the 63rd hold them.
+    pub(crate) fn share(&self) -> Result<Names, AllocError>
+        ensures { IfOk result (λ names. names ≡ self.now) }
+    {
+        let text = Arc::try_clone(&self.text)?;
+        Ok(Names { text })
     }
 
     /// The names as a line has them: a blank before each.

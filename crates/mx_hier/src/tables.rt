@@ -115,11 +115,12 @@ impl Tables {
     }
 
     /// The names of a directory's entries, in byte order.
-    pub(crate) fn names_in(&self, alloc: Global, dir: u32) -> Result<Names, AllocError>
-        ensures { IfOk result (λ names.
-            names ≡ in_byte_order (map (λ branch. branch.name) (entries_of self.now.branches dir))) }
+    pub(crate) fn names_in(&mut self, alloc: Global, dir: u32) -> Result<Names, AllocError>
+        ensures names { IfOk result (λ names.
+            names ≡ in_byte_order (map (λ branch. branch.name) (entries_of self.old.branches dir))) }
+        ensures same { self.new ≡ self.old }
     {
-        let names = copied_at(&self.names, alloc, dir)?;
+        let names = listed_at(&mut self.names, alloc, dir)?;
         Ok(names)
     }
 
@@ -265,15 +266,16 @@ fn found_at(names: &[Children], dir: u32, name: &BorrowedName) -> Option<u32>
     }
 }
 
-fn copied_at(names: &[Children], alloc: Global, dir: u32) -> Result<Names, AllocError>
-    ensures { IfOk result (λ copied. copied ≡ in_byte_order (keys_of (kept_for names.now dir))) }
+fn listed_at(names: &mut [Children], alloc: Global, dir: u32) -> Result<Names, AllocError>
+    ensures names { IfOk result (λ listed. listed ≡ in_byte_order (keys_of (kept_for names.old dir))) }
+    ensures same { names.new ≡ names.old }
 {
-    match names_at(names, dir) {
-        Some(kept) => {
-            let copied = kept.names(alloc)?;
-            Ok(copied)
-        }
-        None => Names::of(alloc, &[]),
+    let at = dir as usize;
+    if at < names.len() {
+        let listed = names[at].names(alloc)?;
+        Ok(listed)
+    } else {
+        Names::of(alloc, &[])
     }
 }
 

@@ -101,22 +101,24 @@ impl State {
     }
 
     pub(crate) fn list(
-        &self,
+        &mut self,
         alloc: Global,
         p: u8,
         ring: Ring,
         path: &Pathname,
     ) -> Result<Applied, AllocError>
-        requires asker { p ≤ length self.now.processes }
-        ensures served { IfOk result (Serves self.now self.now (plain self.now p ring (ask.List path.now))) }
-        ensures told { OnErr result (pathless (asker self.now.processes p) ring path.now ≡ None) }
+        requires asker { p ≤ length self.old.processes }
+        ensures served { IfOk result (Serves self.old self.new (plain self.old p ring (ask.List path.now))) }
+        ensures told { OnErr result (pathless (asker self.old.processes p) ring path.now ≡ None) }
+        ensures err { OnErr result (self.new ≡ self.old) }
     {
         let processes = self.processes.as_slice();
         let who = caller(&self.initializer, &self.root, processes, p, ring);
-        match self.hier.list(alloc, &who, path) {
-            Ok(value) => Ok(Applied::unchanged(alloc, Reply::Names(value))),
-            Err(error) => refused(alloc, error),
-        }
+        let names = match self.hier.list(alloc, &who, path) {
+            Ok(names) => names,
+            Err(error) => return refused(alloc, error),
+        };
+        Ok(Applied::unchanged(alloc, Reply::Names(names)))
     }
 }
 

@@ -7,15 +7,18 @@ use Rattle.mx_hier.proofs.children.Children.add.Goals as goal
 
 pub place-requires-clause-sorted : goal.place-requires-clause-sorted
 place-requires-clause-sorted c =
-    kept_sorted c.self.inside.uids.entries c.reserve.new.self.items (c.reserve.ensures.items ∙ c.self.invariant)
+    kept_sorted c.self.inside.uids.entries c.reserve.new.self.items (c.reserve.ensures.items ∙ c.self.invariant.order)
 
 pub invariant_of-self-2 : goal.invariant_of-self-2
-invariant_of-self-2 c =
-    put_kept c.args.name c.args.uid c.self.inside.uids.entries c.insert.new.self.entries c.reserve.new.self.items c.place.new.names.items
-    (c.reserve.ensures.items ∙ c.self.invariant)
-    (c.in_ok-insert.ensures.entries
-    ∙ pushed c.self.inside.uids c.args.name c.args.uid (ap (lookup (pointwise ◌==◌ c.args.name)) c.self.view_is ∙ c.requires))
-    c.place.ensures.sorted c.place.ensures.all
+invariant_of-self-2 c = record {
+  order =
+      put_kept c.args.name c.args.uid c.self.inside.uids.entries c.insert.new.self.entries c.reserve.new.self.items c.place.new.names.items
+      (c.reserve.ensures.items ∙ c.self.invariant.order)
+      (c.in_ok-insert.ensures.entries
+      ∙ pushed c.self.inside.uids c.args.name c.args.uid (ap (lookup (pointwise ◌==◌ c.args.name)) c.self.view_is ∙ c.requires))
+      c.place.ensures.sorted c.place.ensures.all;
+  given = tt;
+}
 
 pub returns-clause-ok : goal.returns-clause-ok
 returns-clause-ok c =
