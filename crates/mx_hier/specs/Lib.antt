@@ -36,3 +36,4 @@ pub mod Listed
 pub mod Stops
 pub mod NameTexts
 pub mod Linkage
+pub mod Boxes

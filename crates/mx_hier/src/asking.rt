@@ -253,8 +253,8 @@ fn status_of(who: &Who, object: Option<&ObjectMap>, node: &Node) -> Result<Statu
     ensures { IfOk result (λ status. status ≡ status_of (subject who.now) (option_copied object.entry) node.now) }
 {
     match node {
-        Node::Directory(directory) => Ok(directory_status(who, directory)),
-        Node::Segment(segment) => Ok(segment_status(who, segment, object)),
+        Node::Directory(boxed) => Ok(directory_status(who, boxed.directory())),
+        Node::Segment(boxed) => Ok(segment_status(who, boxed.segment(), object)),
         Node::Link(target) => {
             let target = target.copy()?;
             Ok(Status::Link { target })

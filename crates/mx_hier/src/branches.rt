@@ -1,5 +1,6 @@
 //! What a directory's entries are.
 
+use crate::boxes::{BoxedDirectory, BoxedSegment};
 use crate::initial::InitialAcls;
 use mx_acl::Acl;
 use mx_aim::Class;
@@ -30,8 +31,8 @@ pub struct Segment {
 
 /// What an entry is: a directory, a segment, or a link to a path.
 pub enum Node {
-    Directory(Directory),
-    Segment(Segment),
+    Directory(BoxedDirectory),
+    Segment(BoxedSegment),
     Link(Path),
 }
 

@@ -72,7 +72,7 @@ impl Hier {
             return Some(&self.root);
         }
         match &self.tables.get(uid)?.node {
-            Node::Directory(directory) => Some(directory),
+            Node::Directory(boxed) => Some(boxed.directory()),
             Node::Segment(_) | Node::Link(_) => None,
         }
     }
@@ -84,7 +84,7 @@ impl Hier {
         ensures below { IfSome result (λ segment. uid < self.now.next) }
     {
         match &self.tables.get(uid)?.node {
-            Node::Segment(segment) => Some(segment),
+            Node::Segment(boxed) => Some(boxed.segment()),
             Node::Directory(_) | Node::Link(_) => None,
         }
     }

@@ -10,6 +10,7 @@
 #![tactic(auto)]
 
 mod asking;
+mod boxes;
 mod branches;
 mod callers;
 mod changing;
@@ -30,6 +31,7 @@ mod tables;
 mod walks;
 
 pub use asking::Status;
+pub use boxes::{BoxedDirectory, BoxedSegment};
 pub use branches::{Branch, Directory, Node, Segment};
 pub use callers::Who;
 pub use hier::Hier;

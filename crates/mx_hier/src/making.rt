@@ -27,6 +27,7 @@ ghost use Rattle.mx_hier.specs.Walks.{resolved};
 ghost use Rattle.mx_hier.specs.Who.{subject, caller};
 ghost use Rattle.mx_pages.specs.Runs.{IsFreeRun, pages_for, run_given};
 
+use crate::boxes::{BoxedDirectory, BoxedSegment};
 use crate::branches::{Directory, Node, Segment};
 use crate::callers::Who;
 use crate::hier::Hier;
@@ -96,7 +97,8 @@ impl Hier {
             d1,
             d2,
         };
-        self.add_entry(alloc, at, Node::Directory(directory))?;
+        let boxed = BoxedDirectory::new(alloc, directory)?;
+        self.add_entry(alloc, at, Node::Directory(boxed))?;
         Ok(())
     }
 
@@ -252,7 +254,8 @@ impl Hier {
         ensures err { OnErr result (self.new ≡ self.old) }
     {
         let pages = pages_for(u32::from(segment.words));
-        let node = Node::Segment(segment);
+        let boxed = BoxedSegment::new(alloc, segment)?;
+        let node = Node::Segment(boxed);
         add_with_map(&mut self.tables, &mut self.objects, alloc, at, node, object)?;
         let _first = self.pages.allot(pages);
         Ok(())

@@ -65,7 +65,7 @@ fn set_node_brackets(node: &mut Node, brackets: Brackets)
     ensures { node.new ≡ segment_changed (bracketed brackets) node.old }
 {
     match node {
-        Node::Segment(segment) => segment.brackets = brackets,
+        Node::Segment(boxed) => boxed.segment_mut().brackets = brackets,
         Node::Directory(_) => {}
         Node::Link(_) => {}
     }
@@ -94,7 +94,7 @@ fn set_node_class(node: &mut Node, class: Class)
     ensures { node.new ≡ segment_changed (classed class) node.old }
 {
     match node {
-        Node::Segment(segment) => segment.class = class,
+        Node::Segment(boxed) => boxed.segment_mut().class = class,
         Node::Directory(_) => {}
         Node::Link(_) => {}
     }
@@ -123,7 +123,8 @@ fn set_node_dir_brackets(node: &mut Node, d1: Ring, d2: Ring)
     ensures { node.new ≡ directory_changed (dir_bracketed d1 d2) node.old }
 {
     match node {
-        Node::Directory(directory) => {
+        Node::Directory(boxed) => {
+            let directory = boxed.directory_mut();
             directory.d1 = d1;
             directory.d2 = d2;
         }
@@ -170,8 +171,8 @@ fn set_node_acl(node: &mut Node, id: &AclId, modes: Modes) -> Result<(), AclErro
     ensures err { OnErr result (node.new ≡ node.old) }
 {
     match node {
-        Node::Directory(directory) => set_list(&mut directory.acl, id, modes)?,
-        Node::Segment(segment) => set_list(&mut segment.acl, id, modes)?,
+        Node::Directory(boxed) => set_list(&mut boxed.directory_mut().acl, id, modes)?,
+        Node::Segment(boxed) => set_list(&mut boxed.segment_mut().acl, id, modes)?,
         Node::Link(_) => {}
     }
     Ok(())
@@ -223,8 +224,8 @@ fn remove_node_acl(node: &mut Node, id: &AclId) -> Result<(), NoEntry>
     ensures err { OnErr result (node.new ≡ node.old) }
 {
     match node {
-        Node::Directory(directory) => remove_from_list(&mut directory.acl, id)?,
-        Node::Segment(segment) => remove_from_list(&mut segment.acl, id)?,
+        Node::Directory(boxed) => remove_from_list(&mut boxed.directory_mut().acl, id)?,
+        Node::Segment(boxed) => remove_from_list(&mut boxed.segment_mut().acl, id)?,
         Node::Link(_) => {}
     }
     Ok(())
@@ -285,7 +286,7 @@ fn set_node_iacl(node: &mut Node, kind: AclKind, id: &AclId, modes: Modes) -> Re
     ensures err { OnErr result (node.new ≡ node.old) }
 {
     match node {
-        Node::Directory(directory) => directory.initial.set(kind, id, modes)?,
+        Node::Directory(boxed) => boxed.directory_mut().initial.set(kind, id, modes)?,
         Node::Segment(_) => {}
         Node::Link(_) => {}
     }
@@ -331,7 +332,7 @@ fn remove_node_iacl(node: &mut Node, kind: AclKind, id: &AclId) -> Result<(), No
     ensures err { OnErr result (node.new ≡ node.old) }
 {
     match node {
-        Node::Directory(directory) => directory.initial.remove(kind, id)?,
+        Node::Directory(boxed) => boxed.directory_mut().initial.remove(kind, id)?,
         Node::Segment(_) => {}
         Node::Link(_) => {}
     }
