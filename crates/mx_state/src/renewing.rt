@@ -11,7 +11,7 @@ use mx_core::{Change, Changes};
 use mx_hier::Hier;
 use std::alloc::{AllocError, Global};
 
-/// The descriptor of a segment in each process that knows it, in order of process.
+/// The descriptor of a segment in each process that knows it, in order of process. It takes no memory where none does.
 pub(crate) fn held(
     alloc: Global,
     hier: &Hier,
@@ -22,15 +22,15 @@ pub(crate) fn held(
     ensures { IfOk result (λ held. held.items
         ≡ held_from hier.now processes.now 1 processes.now uid) }
 {
-    let mut held = Vec::with_capacity(alloc, processes.len())?;
+    let mut held = Vec::new(alloc);
     let mut p: u8 = 1;
     for process in processes {
         if let Some(segno) = process.known.by_uid(uid) {
-            held.push_reserved(Change {
+            held.push(Change {
                 process: p,
                 segno,
                 desc: descriptor(hier, processes, p, segno),
-            });
+            })?;
         }
         p += 1;
     }
