@@ -1,5 +1,5 @@
 //! Texts of any length, the short ones held in the value itself.
-ghost use Rattle.std.specs.Prelude.{◌≡◌, ◌==◌, ◌<◌, IfOk, OnErr, length};
+ghost use Rattle.std.specs.Prelude.{◌≡◌, ◌==◌, ◌<◌, ◌++◌, IfOk, OnErr, OnOk, length};
 ghost use Rattle.std.specs.Cmp.{partial_equiv_from_equiv};
 ghost use Rattle.std.specs.Cmp.Lexicographic.{pointwise, nat_list_eq_equiv};
 
@@ -52,6 +52,18 @@ impl HeldText {
         match &self.held {
             Held::Short(text) => text.bytes(),
             Held::Long(text) => text.items(),
+        }
+    }
+
+    /// Appends the bytes of the text; want of memory leaves the output as it was.
+    #[inline(always)]
+    pub(crate) fn append_to(&self, out: &mut Vec<u8>) -> Result<(), AllocError>
+        ensures ok { OnOk result (out.new.items ≡ out.old.items ++ self.now) }
+        ensures err { OnErr result (out.new.items ≡ out.old.items) }
+    {
+        match &self.held {
+            Held::Short(text) => text.append_to(out),
+            Held::Long(text) => out.extend_from_slice(text.items()),
         }
     }
 }

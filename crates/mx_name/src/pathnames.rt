@@ -1,5 +1,5 @@
 //! Pathnames as written.
-ghost use Rattle.std.specs.Prelude.{◌≡◌, ◌==◌, ◌≤◌, ℕ, Some, None, IfOk, IfSome, length};
+ghost use Rattle.std.specs.Prelude.{◌≡◌, ◌==◌, ◌≤◌, ◌++◌, ℕ, Some, None, IfOk, IfSome, OnErr, OnOk, length};
 ghost use Rattle.std.specs.List.{slice_split};
 ghost use Rattle.std.specs.Option.{is_none, option_map};
 ghost use Rattle.mx_name.specs.Pathnames.{is_absolute, climbs, after_marks, names_of, first_fault, pathname_fault, pathname_reading};
@@ -45,6 +45,7 @@ impl Clone for Pathname {
 impl Pathname {
     /// The pathname that a text is. `TooLong` where the text exceeds 168 bytes; then the first bad name from the left
     /// answers, with the faults of an entry name. An empty text has one empty name.
+    #[inline(always)]
     pub fn read(alloc: Global, text: &[u8]) -> Result<Pathname, NameError>
         ensures { Answers NameError.Memory (pathname_reading text.now) result }
     {
@@ -62,6 +63,15 @@ impl Pathname {
         ensures pathname { pathname_fault self.now ≡ None }
     {
         self.text.bytes()
+    }
+
+    /// Appends the text; want of memory leaves the output as it was.
+    #[inline(always)]
+    pub fn append_to(&self, out: &mut Vec<u8>) -> Result<(), AllocError>
+        ensures ok { OnOk result (out.new.items ≡ out.old.items ++ self.now) }
+        ensures err { OnErr result (out.new.items ≡ out.old.items) }
+    {
+        self.text.append_to(out)
     }
 
     /// Another such pathname.

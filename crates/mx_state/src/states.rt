@@ -121,6 +121,7 @@ impl State {
     /// pages exactly those that were given out and that were freed. A refusal changes nothing, and nor does want of
     /// memory, the only error: it is told only where nothing refuses the request before memory is taken (`at_once`). Where a
     /// link leads is a place that a pointer can name.
+    #[inline(always)]
     pub fn apply(
         &mut self,
         alloc: Global,
@@ -145,6 +146,7 @@ impl State {
         Ok(applied)
     }
 
+    #[inline(always)]
     fn serve(
         &mut self,
         alloc: Global,

@@ -100,7 +100,16 @@ fn push_path(out: &mut Vec<u8>, word: &[u8], path: &Pathname) -> Result<(), Allo
     ensures err { OnErr result (IsGrown out.old.items out.new.items) }
 {
     out.extend_from_slice(word)?;
-    push_field(out, path.bytes())
+    push_pathname(out, path)
+}
+
+/// A pathname with a blank before it.
+fn push_pathname(out: &mut Vec<u8>, path: &Pathname) -> Result<(), AllocError>
+    ensures ok { OnOk result (out.new.items ≡ out.old.items ++ 32 ∷ path.now) }
+    ensures err { OnErr result (IsGrown out.old.items out.new.items) }
+{
+    out.push(b' ')?;
+    path.append_to(out)
 }
 
 /// `WORD PATH [NAME]`
@@ -178,7 +187,7 @@ fn push_link(
     ensures err { OnErr result (IsGrown out.old.items out.new.items) }
 {
     push_path(out, word, path)?;
-    push_field(out, target.bytes())
+    push_pathname(out, target)
 }
 
 /// `WORD PATH NAME`
