@@ -27,6 +27,12 @@ module _ {K X : Type 0} {eq : K → K → Bool} (laws : IsEquivalence eq) where
       (laws.symm pair.0 x.0 ∙ differs x.0 xs pair ys (IsDistinct-head eq x.0 (keys_of (xs ++ pair ∷ ys)) distinct))
       ∙ ap (λ (rest : List (K × X)). x ∷ rest) (taken_out xs pair ys (IsDistinct-tail eq x.0 (keys_of (xs ++ pair ∷ ys)) distinct))
 
+-- keys differ where there are none
+pub none_distinct : (pairs : List (List ℕ × ℕ)) → pairs ≡ [] → IsDistinct (pointwise ◌==◌) (keys_of pairs)
+unfolding IsDistinct
+none_distinct [] is = tt
+none_distinct (pair ∷ pairs) is = absurd (cc)
+
 swap_last : {A : Type 0} (xs : List A) (x d : A) (place : ℕ) → place < length xs → swap_remove (xs ++ x ∷ []) place d ≡ set xs place x
 swap_last xs x d place within =
     let count : length (xs ++ x ∷ []) - 1 ≡ length xs = omega (arith, length_push xs x) in

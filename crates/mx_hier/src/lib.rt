@@ -19,6 +19,7 @@ mod finding;
 mod hier;
 mod initial;
 mod initial_lists;
+mod kept;
 mod laws;
 mod linkage;
 mod making;

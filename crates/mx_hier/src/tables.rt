@@ -56,7 +56,7 @@ impl Tables {
     pub(crate) fn new(alloc: Global) -> Result<Tables, AllocError>
         ensures { IfOk result (λ tables. tables ≡ record { branches = []; next = 1 }) }
     {
-        let names = vec![in alloc; Children::new(alloc)]?;
+        let names = vec![in alloc; Children::new()]?;
         Ok(Tables {
             slots: Vec::new(alloc),
             names,
@@ -314,26 +314,27 @@ fn give_name(
     ensures ok { OnOk result (AreKept (slots.old.items ++ Some branch.now ∷ []) names.new.items) }
     ensures err { OnErr result (AreKept slots.new.items names.new.items) }
 {
-    widen(alloc, names, slots.len() + 2)?;
+    widen(names, slots.len() + 2)?;
     slots.reserve(1)?;
-    add_name(names, branch.parent, branch.name, branch.uid)?;
+    add_name(alloc, names, branch.parent, branch.name, branch.uid)?;
     Ok(())
 }
 
 /// Makes room for the names in one more directory.
-fn widen(alloc: Global, names: &mut Vec<Children>, count: usize) -> Result<(), AllocError>
+fn widen(names: &mut Vec<Children>, count: usize) -> Result<(), AllocError>
     requires { count ≤ length names.old.items + 1 }
     ensures same { (dir : ℕ) → kept_for names.new.items dir ≡ kept_for names.old.items dir }
     ensures longer { length names.old.items ≤ length names.new.items }
     ensures ok { OnOk result (count ≤ length names.new.items) }
 {
     if names.len() < count {
-        names.push(Children::new(alloc))?;
+        names.push(Children::new())?;
     }
     Ok(())
 }
 
 fn add_name(
+    alloc: Global,
     names: &mut Vec<Children>,
     dir: u32,
     name: EntryName,
@@ -345,7 +346,7 @@ fn add_name(
         ≡ slice_set names.old.items dir (kept_for names.old.items dir ++ (name, uid) ∷ [])) }
     ensures err { OnErr result (names.new.items ≡ names.old.items) }
 {
-    names[dir as usize].add(name, uid)?;
+    names[dir as usize].add(alloc, name, uid)?;
     Ok(())
 }
 

@@ -1,7 +1,7 @@
 use Rattle.std.proofs.Common.{get_or}
 use Rattle.mx_hier.proofs.SortLaws.{same_name}
 use Rattle.mx_hier.proofs.OrderLaws.{found_there}
-use Rattle.mx_hier.proofs.children.position_of.Goals as goal
+use Rattle.mx_hier.proofs.kept.position_of.Goals as goal
 
 pub returns-in-Ok-clause-name : goal.returns-in-Ok-clause-name
 returns-in-Ok-clause-name c = same_name (get_or c.args.names.now c.in-Ok.at c.args.name.now) c.args.name.now (c.in-Ok.ensures.position c.args.name.now)

@@ -3,7 +3,7 @@ use Rattle.std.specs.List.{sum_by}
 use Rattle.std.specs.Ordering.{nat_cmp}
 use Rattle.std.specs.Cmp.Lexicographic.{slice_cmp}
 use Rattle.mx_hier.proofs.OrderLaws.{left_sorted, taken_out}
-use Rattle.mx_hier.proofs.children.displace.Goals as goal
+use Rattle.mx_hier.proofs.kept.displace.Goals as goal
 
 pub returns-clause-sorted : goal.returns-clause-sorted
 returns-clause-sorted c =

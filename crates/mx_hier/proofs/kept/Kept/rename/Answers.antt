@@ -7,7 +7,7 @@ use Rattle.mx_hier.specs.List.{in_byte_order}
 use Rattle.mx_hier.proofs.NameLaws.{pushed}
 use Rattle.mx_hier.proofs.OrderLaws.{kept_sorted, kept_there, renamed_kept}
 use Rattle.mx_hier.proofs.KeyLaws.{swapped, renamed_none}
-use Rattle.mx_hier.proofs.children.Children.rename.Goals as goal
+use Rattle.mx_hier.proofs.kept.Kept.rename.Goals as goal
 
 pub returns-in-None-clause-ok : goal.returns-in-None-clause-ok
 returns-in-None-clause-ok c = sym (renamed_none c.args.old.now c.args.new c.args.self.now (sym c.uid.ensures ∙ c.in-None.is))

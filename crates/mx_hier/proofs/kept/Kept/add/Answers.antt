@@ -3,7 +3,7 @@ use Rattle.std.specs.Cmp.Lexicographic.{pointwise}
 use Rattle.std.specs.Map.{lookup}
 use Rattle.mx_hier.proofs.NameLaws.{pushed}
 use Rattle.mx_hier.proofs.OrderLaws.{kept_sorted, put_kept}
-use Rattle.mx_hier.proofs.children.Children.add.Goals as goal
+use Rattle.mx_hier.proofs.kept.Kept.add.Goals as goal
 
 pub place-requires-clause-sorted : goal.place-requires-clause-sorted
 place-requires-clause-sorted c =

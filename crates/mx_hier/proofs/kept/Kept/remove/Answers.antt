@@ -1,7 +1,7 @@
 use Rattle.std.proofs.Common.{sym, ap, ◌∙◌}
 use Rattle.std.specs.Option.{is_some}
 use Rattle.mx_hier.proofs.OrderLaws.{kept_sorted, kept_there, removed_kept}
-use Rattle.mx_hier.proofs.children.Children.remove.Goals as goal
+use Rattle.mx_hier.proofs.kept.Kept.remove.Goals as goal
 
 pub displace-requires-clause-sorted : goal.displace-requires-clause-sorted
 displace-requires-clause-sorted c = kept_sorted c.self.inside.uids.entries c.self.inside.sorted.items c.self.invariant.order
