@@ -10,13 +10,14 @@ ghost use Rattle.mx_sup.specs.Setups.{HasSetUp, IsEntered, setup_step, setup_par
 
 use crate::answering::answered;
 use mx_request::SharedRequest;
-use mx_script::Session;
+use mx_script::{Line, Script, Session};
 use mx_sdw::Ring;
 use mx_state::{Entry, State};
 use mx_transcript::{Event2, Recording, Result2, Transcript, first_line, setup_entries};
 use std::alloc::{AllocError, Global};
 
-/// Enters the setup's requests in order, as far as the limit allows: the journal after them.
+/// Enters the setup's requests in order, as far as the limit allows: the journal after them, with room for the requests of the
+/// processes too, so that it is not moved.
 pub(crate) fn enter_setup(
     alloc: Global,
     session: &Session,
@@ -28,11 +29,26 @@ pub(crate) fn enter_setup(
 {
     let requests = session.setup().items();
     let count = setup_entries(session) as usize;
-    let mut journal = Vec::with_capacity(alloc, count)?;
+    let room = count.saturating_add(requests_of(session.scripts().items()));
+    let mut journal = Vec::with_capacity(alloc, room)?;
     for i in 0..count {
         enter(alloc, &requests[i], state, &mut journal)?;
     }
     Ok(journal)
+}
+
+// How many requests the scripts have. It is room alone: links that are snapped and waits make more entries, and a run that ends
+// early makes fewer.
+fn requests_of(scripts: &[Script]) -> usize {
+    let mut count = 0usize;
+    for script in scripts {
+        for line in script.items() {
+            if let Line::Ask(_) = line {
+                count = count.saturating_add(1);
+            }
+        }
+    }
+    count
 }
 
 // Enters one request of the initializer, for which there is room.

@@ -42,8 +42,8 @@ returns-in-Seen-clause-turned g c =
     c.args.asked.now c.value_of-value.result c.in-Seen.element c.turn_of.result c.desc-desc.result c.requires.attempting c.requires.asks j
     (c.desc-desc.ensures j.on (ap (λ (v : PassView journaled.Entry). v.basis) j.after)) c.refer.ensures.amount c.value_of-value.ensures
     c.words_are_short.ensures (
-      subst (λ (went : Turn). HasTaken c.args.state.now c.args.line.now c.in-Seen.element c.desc-desc.result c.take.new.state went) (sym c.turn_of.ensures)
-      c.take.ensures.taken)
+    subst (λ (went : Turn). HasTaken c.args.state.now c.args.line.now c.in-Seen.element c.desc-desc.result c.take.new.state went) (sym c.turn_of.ensures)
+    c.take.ensures.taken)
 
 pub returns-in-Seen-clause-untold : goal.returns-in-Seen-clause-untold
 returns-in-Seen-clause-untold g c =

@@ -22,4 +22,5 @@ loop-i-preserved c =
     record {
       entered = set_up_on _ _ _ _ _ _ _ at c.in_ok-enter.ensures.entered c.loop-i.invariant.entered;
       room = cc;
+      within = c.loop-i.invariant.within;
     }

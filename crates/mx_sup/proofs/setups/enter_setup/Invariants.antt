@@ -1,4 +1,4 @@
-use Rattle.std.proofs.Common.{◌≡◌, vec_capacity}
+use Rattle.std.proofs.Common.{◌≡◌, ◌≤◌, vec_capacity}
 use Rattle.mx_sup.specs.Setups.{HasSetUp}
 use Rattle.mx_sup.proofs.setups.enter_setup.Given as goal
 
@@ -6,5 +6,6 @@ use Rattle.mx_sup.proofs.setups.enter_setup.Given as goal
 abbrev pub invariant-loop-i : goal.invariant-loop-i
 invariant-loop-i l = record {
   entered : HasSetUp l.session l.i l.state l.journal.items;
-  room : vec_capacity l.journal ≡ l.count;
+  room : vec_capacity l.journal ≡ l.room;
+  within : l.count ≤ l.room;
 }
