@@ -169,6 +169,7 @@ impl Acl {
 
     /// The modes of a principal: those of the entry of least rank among those that match, null where none matches.
     /// Takes no memory.
+    #[inline(always)]
     pub fn modes_of(&self, who: &Principal) -> Modes
         ensures value { result ≡ modes_for self.now who.now }
         ensures least { (id : PlainAclId) (modes : Modes) → IsDeciding self.now who.now id modes → result ≡ modes }

@@ -192,6 +192,7 @@ impl Hier {
     /// The descriptor that a principal with an authorization has of the segment of a uid: its aim is that of the
     /// authorization at the segment's class, its flags are what the access list gives and the aim lets stand, and its
     /// gates those of its object map. Gone where the segment was deleted. Takes no memory.
+    #[inline(always)]
     #[tactic(auto, using(crate::proofs::DescriptorLaws::gone_admissible))]
     pub fn desc_of(&self, uid: u32, who: &Principal, authorization: Class) -> Desc
         ensures value { result ≡ desc_of self.now uid who.now authorization }

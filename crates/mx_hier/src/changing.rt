@@ -155,6 +155,7 @@ impl Hier {
         Ok(())
     }
 
+    #[inline(always)]
     fn changing_refusal(&self, who: &Who, uid: u32) -> Option<Refusal>
         ensures { result ≡ first_of (changing_refusals self.now (subject who.now) uid) }
     {

@@ -328,6 +328,7 @@ impl Hier {
     }
 
     /// The directory and the name of a path.
+    #[inline(always)]
     #[tactic(auto, using(crate::proofs::MakingLaws::place_of, crate::proofs::MakingLaws::no_place))]
     fn place(&self, alloc: Global, who: &Who, path: &Route) -> Result<Place, HierError>
         ensures { Tells (place self.now (subject who.now) path.now) result }
@@ -340,6 +341,7 @@ impl Hier {
     }
 
     /// The refusal of every making, whatever is to be made.
+    #[inline(always)]
     fn making_refusal(&self, who: &Who, at: &Place) -> Option<Refusal>
         ensures value { result ≡ first_of (making_refusals self.now (subject who.now) at.now) }
         ensures free { IfNone result (uid_in self.now.branches at.now.dir at.now.name ≡ None) }
@@ -397,6 +399,7 @@ impl Hier {
 }
 
 /// Adds a branch with the next uid. `AllocError` too where no uid is left.
+#[inline(always)]
 fn add(tables: &mut Tables, alloc: Global, at: &Place, node: Node) -> Result<(), AllocError>
     requires free { uid_in tables.old.branches at.now.dir at.now.name ≡ None }
     requires below { at.now.dir < tables.old.next }

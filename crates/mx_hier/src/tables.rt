@@ -32,6 +32,10 @@ use mx_sdw::{Brackets, Ring};
 use std::alloc::{AllocError, Global};
 use std::marker::Model;
 
+/// So many uids have room from the beginning, so that in most sessions nothing is moved. Of room that is not used the system gives
+/// addresses alone.
+const ROOM: usize = 16_384;
+
 /// The branches of a hierarchy: the branch of uid u stands in slot u - 1, which stays empty once it is removed, and the
 /// names in a directory stand in the place of its uid, those of the root first.
 #[derive(Drop)]
@@ -52,15 +56,14 @@ impl Model for Tables {
 }
 
 impl Tables {
-    /// No branches; the first uid is 1.
+    /// No branches; the first uid is 1. Takes room for [`ROOM`] uids.
     pub(crate) fn new(alloc: Global) -> Result<Tables, AllocError>
         ensures { IfOk result (λ tables. tables ≡ record { branches = []; next = 1 }) }
     {
-        let names = vec![in alloc; Children::new()]?;
-        Ok(Tables {
-            slots: Vec::new(alloc),
-            names,
-        })
+        let mut names = Vec::with_capacity(alloc, ROOM)?;
+        names.push(Children::new())?;
+        let slots = Vec::with_capacity(alloc, ROOM)?;
+        Ok(Tables { slots, names })
     }
 
     /// Whether no uid is left: the next would be 4,294,967,295.

@@ -37,6 +37,7 @@ impl<'a> Model for Route<'a> {
 
 impl<'a> Route<'a> {
     /// The path that a pathname stands for, from a base, with the faults of `Path::resolve`; memory is never wanting.
+    #[inline(always)]
     pub fn resolve(base: &'a Path, name: &'a Pathname) -> Result<Route<'a>, PathError>
         ensures value { result ≡ resolution base.now name.now }
         ensures path { IfOk result (λ route. IsPath route) }

@@ -70,6 +70,7 @@ fn read_bare(line: &[u8]) -> Option<Request>
 }
 
 /// What follows the word of a line of this kind.
+#[inline(always)]
 fn read_fields(alloc: Global, kind: Kind, fields: &[u8]) -> Result<Option<Request>, AllocError>
     ensures { IfOk result (λ request. request ≡ fields_at kind fields.now) }
 {

@@ -40,8 +40,8 @@ fn read_accumulator(line: &[u8]) -> Option<Row>
     }
 }
 
-// The row of a line of any kind. It stands by itself, so that the others are read in few steps.
-#[inline(never)]
+// The row of a line of any kind.
+#[inline(always)]
 fn read_other(alloc: Global, line: &[u8]) -> Result<Option<Row>, AllocError>
     ensures found { IfOk result (λ told. IfSome told (λ r. IsRow line.now r)) }
     ensures only { (r : Row) → IsRow line.now r → IfOk result (λ told. told ≡ Some r) }
