@@ -181,6 +181,7 @@ impl<'a, B: Attending, A: Auditor> Process<'a, B, A> {
     }
 
     // A call of the line that is no `block`.
+    #[inline(always)]
     fn make_call<R: Wait>(
         &mut self,
         rt: &R,

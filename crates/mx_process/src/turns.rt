@@ -190,7 +190,9 @@ fn turn_of(ended: bool) -> Turn
     if ended { Turn::Ended } else { Turn::More }
 }
 
-// The reference for which the line asks was made, on this descriptor: the line goes on by it, or ends. Whether it ends.
+// The reference for which the line asks was made, on this descriptor: the line goes on by it, or ends. Whether it ends. It stands by itself:
+// among all that a turn does it would take more steps.
+#[inline(never)]
 fn take(state: &mut LineState, line: &Line, element: &Element, desc: &Desc) -> bool
     requires room { 1 ≤ state.old.recording.spare }
     requires end { IsTrue state.old.recording.line_room }
