@@ -1,5 +1,5 @@
 -- One turn of an attempt at a line.
-use Rattle.std.specs.Prelude.{◌≡◌, Bool, ℕ, ◌<◌, ◌≤◌, ◌^◌, List, [], ◌∷◌, ◌++◌, if◌then◌else◌}
+use Rattle.std.specs.Prelude.{◌≡◌, ℕ, ◌<◌, ◌≤◌, ◌^◌, List, [], ◌∷◌, ◌++◌}
 use Rattle.mx_core.specs.declared.elements.Element.{Element}
 use Rattle.mx_core.specs.declared.elements.Event.TheVariants.{Seen}
 use Rattle.mx_desc.specs.Passes.{PassValue}
@@ -102,10 +102,6 @@ abbrev pub Comes : LineState → Event2 → LineAtWork → Turn → LineState �
 Comes old event (works.At progress) went new = (went ≡ turn.More) × HasEvent old event progress new
 Comes old event (works.Ended end) went new = (went ≡ turn.Ended) × HasEnd old (old.recording.events ++ event ∷ []) end new
 Comes old event works.Nowhere went new = ⊥
-
--- the turn by which a line ended, or goes on
-abbrev pub turn_of : Bool → Turn
-turn_of ended = if ended then turn.Ended else turn.More
 
 -- the line has met this element
 pub record HasTaken (old : LineState) (line : Line) (e : Element) (d : Descriptor) (new : LineState) (went : Turn) : Type 0 where

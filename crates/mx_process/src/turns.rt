@@ -9,7 +9,7 @@ ghost use Rattle.mx_line.specs.Operands.{IsGoodProgress, IsSayable};
 ghost use Rattle.mx_line.specs.declared.at_work.LineAtWork.TheVariants.{At};
 ghost use Rattle.mx_process.specs.Plans.{number_in};
 ghost use Rattle.mx_process.specs.Processes.{known_of};
-ghost use Rattle.mx_process.specs.Turns.{HasEnd, HasTaken, HasTurned, IsAtLink, IsAttempting, IsLinkCall, IsReferring, IsUntold, inside, turn_of};
+ghost use Rattle.mx_process.specs.Turns.{HasEnd, HasTaken, HasTurned, IsAtLink, IsAttempting, IsLinkCall, IsReferring, IsUntold, inside};
 ghost use Rattle.mx_sdw.specs.Admissible.{IsAdmissible};
 ghost use Rattle.mx_transcript.specs.declared.transcripts.Event2.TheVariants.{Core};
 ghost use Rattle.mx_upcall.specs.Changes.{Fits};
@@ -151,7 +151,7 @@ fn refer<B: Sitting>(
         Referred::Seen(element) => {
             let desc = pass.desc();
             words_are_short(&element);
-            turn_of(take(state, line, &element, &desc))
+            take(state, line, &element, &desc)
         }
         Referred::Missing { by } => Turn::Missing(Miss {
             segno: asked.segno,
@@ -182,18 +182,8 @@ pub(crate) fn words_are_short(element: &Element)
     }
 }
 
-// The turn by which a line ended, or goes on.
-#[inline(always)]
-fn turn_of(ended: bool) -> Turn
-    ensures { result ≡ turn_of ended }
-{
-    if ended { Turn::Ended } else { Turn::More }
-}
-
-// The reference for which the line asks was made, on this descriptor: the line goes on by it, or ends. Whether it ends. It stands by itself:
-// among all that a turn does it would take more steps.
-#[inline(never)]
-fn take(state: &mut LineState, line: &Line, element: &Element, desc: &Desc) -> bool
+// The reference for which the line asks was made, on this descriptor: the line goes on by it, or ends.
+fn take(state: &mut LineState, line: &Line, element: &Element, desc: &Desc) -> Turn
     requires room { 1 ≤ state.old.recording.spare }
     requires end { IsTrue state.old.recording.line_room }
     requires number { number_in state.old < 2 ^ 32 }
@@ -202,13 +192,13 @@ fn take(state: &mut LineState, line: &Line, element: &Element, desc: &Desc) -> b
     requires good { IsGoodProgress state.old.control.registers state.old.progress }
     requires desc { IsAdmissible desc.now }
     requires met { IsMet state.old.control line.now (At state.old.progress) element.now desc.now }
-    ensures taken { HasTaken state.old line.now element.now desc.now state.new (turn_of result) }
+    ensures taken { HasTaken state.old line.now element.now desc.now state.new result }
     ensures room { state.old.recording.spare ≤ state.new.recording.spare + 1 }
 {
     match state.plain_end(line, element) {
         Some(ends) => {
             state.end_plainly(Event2::Core(Event::Seen(*element)), ends);
-            true
+            Turn::Ended
         }
         None => move_on(state, line, element, desc),
     }
@@ -216,7 +206,7 @@ fn take(state: &mut LineState, line: &Line, element: &Element, desc: &Desc) -> b
 
 // The same for a reference by which the line does not end where the process stands: it is a call or return that was granted,
 // or another.
-fn move_on(state: &mut LineState, line: &Line, element: &Element, desc: &Desc) -> bool
+fn move_on(state: &mut LineState, line: &Line, element: &Element, desc: &Desc) -> Turn
     requires room { 1 ≤ state.old.recording.spare }
     requires end { IsTrue state.old.recording.line_room }
     requires number { number_in state.old < 2 ^ 32 }
@@ -225,20 +215,20 @@ fn move_on(state: &mut LineState, line: &Line, element: &Element, desc: &Desc) -
     requires good { IsGoodProgress state.old.control.registers state.old.progress }
     requires desc { IsAdmissible desc.now }
     requires met { IsMet state.old.control line.now (At state.old.progress) element.now desc.now }
-    ensures taken { HasTaken state.old line.now element.now desc.now state.new (turn_of result) }
+    ensures taken { HasTaken state.old line.now element.now desc.now state.new result }
     ensures room { state.old.recording.spare ≤ state.new.recording.spare + 1 }
 {
     match state.plain_move(line, element, desc) {
         Some(going) => {
             state.end_moved(Event2::Core(Event::Seen(*element)), &going, desc);
-            true
+            Turn::Ended
         }
         None => walk_on(state, line, element, desc),
     }
 }
 
 // The same for a reference by which the process does not move either: where its walk goes on by an indirect word, it goes on there.
-fn walk_on(state: &mut LineState, line: &Line, element: &Element, desc: &Desc) -> bool
+fn walk_on(state: &mut LineState, line: &Line, element: &Element, desc: &Desc) -> Turn
     requires room { 1 ≤ state.old.recording.spare }
     requires end { IsTrue state.old.recording.line_room }
     requires number { number_in state.old < 2 ^ 32 }
@@ -247,14 +237,14 @@ fn walk_on(state: &mut LineState, line: &Line, element: &Element, desc: &Desc) -
     requires good { IsGoodProgress state.old.control.registers state.old.progress }
     requires desc { IsAdmissible desc.now }
     requires met { IsMet state.old.control line.now (At state.old.progress) element.now desc.now }
-    ensures taken { HasTaken state.old line.now element.now desc.now state.new (turn_of result) }
+    ensures taken { HasTaken state.old line.now element.now desc.now state.new result }
     ensures room { state.old.recording.spare ≤ state.new.recording.spare + 1 }
 {
     match state.plain_step(line, element, desc) {
         Some(walk) => {
             state.recording.keep(Event2::Core(Event::Seen(*element)));
             state.progress = Progress::Walking(walk);
-            false
+            Turn::More
         }
         None => take_by(state, line, element, desc),
     }
@@ -262,7 +252,7 @@ fn walk_on(state: &mut LineState, line: &Line, element: &Element, desc: &Desc) -
 
 // The same by the line at work itself.
 #[inline(never)]
-fn take_by(state: &mut LineState, line: &Line, element: &Element, desc: &Desc) -> bool
+fn take_by(state: &mut LineState, line: &Line, element: &Element, desc: &Desc) -> Turn
     requires room { 1 ≤ state.old.recording.spare }
     requires end { IsTrue state.old.recording.line_room }
     requires number { number_in state.old < 2 ^ 32 }
@@ -271,7 +261,7 @@ fn take_by(state: &mut LineState, line: &Line, element: &Element, desc: &Desc) -
     requires good { IsGoodProgress state.old.control.registers state.old.progress }
     requires desc { IsAdmissible desc.now }
     requires met { IsMet state.old.control line.now (At state.old.progress) element.now desc.now }
-    ensures taken { HasTaken state.old line.now element.now desc.now state.new (turn_of result) }
+    ensures taken { HasTaken state.old line.now element.now desc.now state.new result }
     ensures room { state.old.recording.spare ≤ state.new.recording.spare + 1 }
 {
     let event = Event2::Core(Event::Seen(*element));
@@ -281,11 +271,11 @@ fn take_by(state: &mut LineState, line: &Line, element: &Element, desc: &Desc) -
     match work {
         LineAtWork::At(progress) => {
             state.progress = progress;
-            false
+            Turn::More
         }
         LineAtWork::Ended(end) => {
             end_line(state, &end);
-            true
+            Turn::Ended
         }
         LineAtWork::Nowhere => unreachable!(),
     }

@@ -8,8 +8,6 @@ use Rattle.mx_state.specs.declared.journal.Entry as journaled
 use Rattle.mx_process.proofs.JudgedLaws.{asked_by, was_judged}
 use Rattle.mx_process.proofs.KnownLaws.{untold_missed, untold_seen}
 use Rattle.mx_process.proofs.TurnLaws.{meets, turned, turned_missing}
-use Rattle.mx_process.specs.Turns.{HasTaken}
-use Rattle.mx_process.specs.declared.turns.Turn.{Turn}
 use Rattle.mx_process.proofs.turns.refer.Goals as goal
 
 pub desc-desc-requires : goal.desc-desc-requires
@@ -39,11 +37,9 @@ returns-in-Seen-clause-turned g c =
     let j = was_judged g.B.Naming.layout.numbers c.args.asked.now.segno (asked_by c.args.asked.now) c.value_of-value.result
     c.args.pass.now.view c.refer.new.pass.view c.in-Seen.element (c.refer.ensures.seen c.in-Seen.element c.in-Seen.is) in
     turned g.B.Sitting.session g.B.Sitting.setup c.args.line.now c.args.state.now c.take.new.state c.args.pass.now c.refer.new.pass
-    c.args.asked.now c.value_of-value.result c.in-Seen.element c.turn_of.result c.desc-desc.result c.requires.attempting c.requires.asks j
+    c.args.asked.now c.value_of-value.result c.in-Seen.element c.take.result c.desc-desc.result c.requires.attempting c.requires.asks j
     (c.desc-desc.ensures j.on (ap (λ (v : PassView journaled.Entry). v.basis) j.after)) c.refer.ensures.amount c.value_of-value.ensures
-    c.words_are_short.ensures (
-    subst (λ (went : Turn). HasTaken c.args.state.now c.args.line.now c.in-Seen.element c.desc-desc.result c.take.new.state went) (sym c.turn_of.ensures)
-    c.take.ensures.taken)
+    c.words_are_short.ensures c.take.ensures.taken
 
 pub returns-in-Seen-clause-untold : goal.returns-in-Seen-clause-untold
 returns-in-Seen-clause-untold g c =
