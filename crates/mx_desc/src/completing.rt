@@ -56,7 +56,9 @@ pub(crate) fn complete<E>(
     if seat.holds() {
         go_through(seat, shared, on, asked, value)
     } else {
-        over(on, asked)
+        // (a copy, so that the compiler need not keep what is asked in memory where a cell step follows)
+        let copy = *asked;
+        over(on, &copy)
     }
 }
 

@@ -66,7 +66,7 @@ impl<E, B: Naming> Pass<E, B> {
                 let outcome = complete(&mut self.seat, shared, &on, &asked, value);
                 let element = element(&on, &asked, point, outcome);
                 self.trace.push(kept(&element, &asked, &on));
-                self.basis = some(&on);
+                put(&mut self.basis, &on);
                 seen(&element)
             },
             Err(by) => {
@@ -108,7 +108,7 @@ impl<E, B: Naming> Pass<E, B> {
         let outcome = complete(&mut self.seat, shared, on, &asked, value);
         let element = element(on, &asked, point, outcome);
         self.trace.push(kept(&element, &asked, on));
-        self.basis = some(on);
+        put(&mut self.basis, on);
         element
     }
 }
@@ -165,11 +165,15 @@ fn element(on: &Triple, asked: &Asked, point: u32, outcome: Outcome) -> Element
     }
 }
 
+// Puts what was judged on there; where there is something already, over it.
 #[inline(always)]
-fn some(on: &Triple) -> Option<Triple>
-    ensures { result ≡ Some on.now }
+fn put(basis: &mut Option<Triple>, on: &Triple)
+    ensures { basis.new ≡ Some on.now }
 {
-    Some(*on)
+    match basis {
+        Some(basis) => *basis = *on,
+        None => *basis = Some(*on),
+    }
 }
 
 #[inline(always)]

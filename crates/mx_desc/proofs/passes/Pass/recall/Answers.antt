@@ -43,7 +43,7 @@ invariant_of-self g c =
     ∙ (λ j. Judged (c.element-element.ensures j) a.op on.desc)) i ∷ []) c.self.inside.trace.kept) in
     still_seen _ _ _ _ _ _ _ _ v _ _ _ _ _ c.self.invariant (c.complete-outcome.ensures.place ∙ c.recall.ensures.place)
     (c.complete-outcome.ensures.layout ∙ c.recall.ensures.layout) v.memory on a c.args.value _ seen kept
-    c.some-self-inside.ensures
+    c.put.ensures
 
 pub returns-clause-seen : goal.returns-clause-seen
 returns-clause-seen g c =

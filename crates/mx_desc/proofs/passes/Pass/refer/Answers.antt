@@ -48,7 +48,7 @@ invariant_of-self g c =
     still_seen _ _ _ _ _ _ _ _ v _ _ _ _ _ c.self.invariant
     (c.complete-outcome.ensures.place ∙ c.load_desc-found.ensures.place)
     (c.complete-outcome.ensures.layout ∙ c.load_desc-found.ensures.layout) _ c.in-Ok.on c.asked_of-asked.result
-    c.args.value _ seen kept c.some-self-inside.ensures
+    c.args.value _ seen kept c.put.ensures
 
 same_seen : (e f : Element) → Seen e ≡ Seen f → e ≡ f
 same_seen e f h = cc
