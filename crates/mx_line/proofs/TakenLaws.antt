@@ -118,12 +118,12 @@ none_seen g l (Attempt seen) come = come.0
 none_seen g l (Answer entry filled) come = refl
 
 -- the operand of a line that begins here
-record HasBegun (g : Control) (l : Line) (walk : Reached) : Type 0 where
+pub record HasBegun (g : Control) (l : Line) (walk : Reached) : Type 0 where
   pub operand : chains.Operand
   pub has : walk_of g.registers l ≡ Some operand
   pub is : reached operand ≡ walk
 
-begun_at : (g : Control) (l : Line) (walk : Reached) → option_map reached (walk_of g.registers l) ≡ Some walk → HasBegun g l walk
+pub begun_at : (g : Control) (l : Line) (walk : Reached) → option_map reached (walk_of g.registers l) ≡ Some walk → HasBegun g l walk
 begun_at g l walk e = by_operand (walk_of g.registers l) refl e
   where
     one : (a b : Reached) → Some a ≡ Some b → a ≡ b
@@ -133,7 +133,7 @@ begun_at g l walk e = by_operand (walk_of g.registers l) refl e
     by_operand None has e = absurd cc
     by_operand (Some operand) has e = record { operand = operand; has = has; is = one (reached operand) walk e }
 
-begun_asks : (g : Control) (l : Line) (walk : Reached) → HasBegun g l walk → attempts g l [] ≡ wants g l (wanted_at walk)
+pub begun_asks : (g : Control) (l : Line) (walk : Reached) → HasBegun g l walk → attempts g l [] ≡ wants g l (wanted_at walk)
 begun_asks g l walk b = walk_asks g l b.operand b.has ∙ ap (λ (at : Reached). wants g l (wanted_at at)) b.is
 
 begun_come : (g : Control) (l : Line) (walk : Reached) → HasBegun g l walk → HasComeTo g l [] walk

@@ -5,3 +5,5 @@ pub mod Looks
 pub mod AtWork
 -- a process
 pub mod Processes
+-- and its walk through indirect words
+pub mod Looking

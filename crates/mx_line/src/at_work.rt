@@ -30,7 +30,7 @@ ghost use Rattle.mx_upcall.specs.Soundness.{IsPackableControl};
 ghost use Rattle.mx_line.specs.AtWork.{EndsAt, IsTakenTo, ending, left, left_in, HasSeen, IsCome, IsFree, IsGoodNext, IsGoodWork, IsKnown, IsMet, IsMover, IsNearer, IsOver, IsPlain, IsReader, IsSaid, IsStorable, IsTaken, IsWithin, IsWriter, OneCourseLaw, StandsAt, after_writing, beside, end_of, ended, meant, moved_on, moving, standing};
 ghost use Rattle.mx_line.specs.Fills.{IsNoRequest, IsShort, after_fill, counted, steps_to_fill};
 ghost use Rattle.mx_line.specs.Looks.{looks};
-ghost use Rattle.mx_line.specs.Processes.{HasPlainMove, Takes};
+ghost use Rattle.mx_line.specs.Processes.{HasPlainMove};
 ghost use Rattle.mx_line.specs.Operands.{HasComeTo, IsGoodProgress, IsGoodWalk, IsSayable, IsTarget};
 ghost use Rattle.mx_line.specs.declared.at_work.LineAtWork.TheVariants.{At, Ended, Nowhere};
 ghost use Rattle.mx_line.specs.declared.operands.Progress.TheVariants.{Before, Waiting, Walking};
@@ -38,7 +38,7 @@ ghost use Rattle.mx_line.specs.declared.operands.Progress.TheVariants.{Before, W
 use crate::asking::{Called, End, Next, begins, first_target, walk_of, wants};
 use crate::fills::{Fill, Filled};
 use crate::moves::{Going, going_at};
-use crate::operands::{Onward, Place, Progress, fed, feed};
+use crate::operands::{Onward, Place, Progress, feed};
 use crate::replies::answered_at;
 use mx_call::Regs;
 use mx_effring::{Walk, Want};
@@ -293,49 +293,6 @@ fn word_read(
         Outcome::Denied(denial) => ended(Result2::Denied(denial), control),
         Outcome::Written { .. } => LineAtWork::Nowhere,
         Outcome::Entered { .. } => LineAtWork::Nowhere,
-    }
-}
-
-/// Where a walk goes on by the indirect word that it asked for and that was read; none where its line ends by it or has a link
-/// snapped, and by every other element.
-#[inline(always)]
-pub(crate) fn walked_step(
-    line: &Line,
-    control: &Control,
-    walk: &Walk,
-    element: &Element,
-    desc: &Desc,
-) -> Option<Walk>
-    requires good { IsGoodWalk control.now.registers walk.now }
-    ensures leads { IfSome result (λ next. (seen : List Judged) → HasComeTo control.now line.now seen walk.now
-        → HasComeTo control.now line.now (seen ++ beside element.now desc.now ∷ []) next) }
-    ensures good { IfSome result (IsGoodWalk control.now.registers) }
-    ensures closer { IfSome result (λ next. 9 - next.count < 9 - walk.now.count) }
-{
-    match walk.want() {
-        Want::Word { .. } => match element.outcome {
-            Outcome::Read { value, .. } => fed(line, control, *walk, value, desc.brackets().r1()),
-            Outcome::Written { .. } | Outcome::Entered { .. } | Outcome::Denied(_) => None,
-        },
-        Want::Done(_) => None,
-    }
-}
-
-/// The same where the line begins.
-#[inline(always)]
-pub(crate) fn first_step(
-    line: &Line,
-    control: &Control,
-    element: &Element,
-    desc: &Desc,
-) -> Option<Walk>
-    requires line { IsSayable line.now }
-    requires packable { IsPackableControl control.now }
-    ensures { IfSome result (λ next. Takes control.now line.now Before element.now desc.now (At (Walking next))) }
-{
-    match walk_of(line, &control.registers) {
-        Some(walk) => walked_step(line, control, &walk, element, desc),
-        None => None,
     }
 }
 

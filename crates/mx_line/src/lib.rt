@@ -11,6 +11,7 @@
 mod asking;
 mod at_work;
 mod fills;
+mod looking;
 mod moves;
 mod operands;
 mod processes;
@@ -21,6 +22,7 @@ pub use at_work::{LineAtWork, one_course_law};
 pub use fills::{
     Behind, Fill, Filled, LinkWords, Snap, behind_of, first_fill, section_in, snap_of,
 };
+pub use looking::{look_at, read_on};
 pub use moves::Going;
 pub use operands::{Place, Progress};
 pub use processes::Process;

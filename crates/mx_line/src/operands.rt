@@ -1,6 +1,6 @@
 //! How far the line at work has come, and what an indirect word makes of its walk.
 
-ghost use Rattle.std.specs.Prelude.{◌≡◌, ◌≤◌, ◌<◌, ◌-◌, ℕ, true, false, List, [], ◌∷◌, ◌++◌, Some, IfSome};
+ghost use Rattle.std.specs.Prelude.{◌≡◌, ◌≤◌, ◌<◌, ◌-◌, ℕ, true, false, List, [], ◌∷◌, ◌++◌, Some};
 ghost use Rattle.mx_call.specs.Loading.{loaded};
 ghost use Rattle.mx_call.specs.Registers.{ArePackable};
 ghost use Rattle.mx_core.specs.declared.elements.Outcome.TheVariants.{Read as WasRead};
@@ -146,36 +146,6 @@ pub(crate) fn feed(
         Err(Stuck::Link) => Onward::More(Progress::AtLink(place)),
         Err(Stuck::NotPointer) => denied(control, Denial::NotPointer),
         Err(Stuck::Limit) => denied(control, Denial::IndirectLimit),
-    }
-}
-
-/// The walk that an indirect word leads on, of a segment with the first bracket `r1`, where its line goes on by it: none where the
-/// word is refused, and where `epp` ends by it.
-#[inline(always)]
-pub(crate) fn fed(
-    line: &Line,
-    control: &Control,
-    mut walk: Walk,
-    value: Word,
-    r1: Ring,
-) -> Option<Walk>
-    requires good { IsGoodWalk control.now.registers walk }
-    requires wants { (place : PlaceValue) × (wanted_at walk ≡ WantsWord place.segno place.word place.ring) }
-    ensures leads { IfSome result (λ next. (seen : List Judged) (j : Judged) (writer stamp : ℕ)
-        → HasComeTo control.now line.now seen walk → j.element.outcome ≡ WasRead value writer stamp → j.desc.brackets.r1 ≡ r1
-        → HasComeTo control.now line.now (seen ++ j ∷ []) next) }
-    ensures good { IfSome result (IsGoodWalk control.now.registers) }
-    ensures closer { IfSome result (λ next. 9 - next.count < 9 - walk.count) }
-{
-    match walk.feed(value, r1) {
-        Ok(()) => match walk.want() {
-            Want::Word { .. } => Some(walk),
-            Want::Done(_) => match line {
-                Line::Epp { .. } => None,
-                _ => Some(walk),
-            },
-        },
-        Err(_) => None,
     }
 }
 

@@ -6,15 +6,17 @@ ghost use Rattle.mx_transcript.specs.declared.transcripts.Result2.TheVariants.{M
 ghost use Rattle.mx_upcall.specs.Control.{with_registers};
 ghost use Rattle.mx_upcall.specs.Soundness.{IsPackableControl};
 ghost use Rattle.mx_line.specs.AtWork.{IsMet, left_in};
+ghost use Rattle.mx_line.specs.Looking.{IsLooking};
 ghost use Rattle.mx_line.specs.Operands.{IsGoodProgress, IsSayable};
-ghost use Rattle.mx_line.specs.Processes.{HasPlainEnd, HasPlainMove, HasPlainReply, IsAsking, IsGrantedAt, IsReferring, Takes, gone};
+ghost use Rattle.mx_line.specs.Processes.{HasPlainEnd, HasPlainMove, HasPlainReply, IsAsking, IsGrantedAt, IsReferring, gone};
 ghost use Rattle.mx_line.specs.declared.at_work.LineAtWork.TheVariants.{At};
-ghost use Rattle.mx_line.specs.declared.operands.Progress.TheVariants.{Before, Walking};
+ghost use Rattle.mx_line.specs.declared.operands.Progress.TheVariants.{Before};
 
 use crate::asking::{Next, Reference, first_reference, next_reference};
-use crate::at_work::{first_end, first_move, first_step, leave, next_at, walked_end, walked_step};
+use crate::at_work::{first_end, first_move, leave, next_at, walked_end};
+use crate::looking::{first_look, next_look};
 use crate::moves::{Going, go};
-use crate::operands::Progress;
+use crate::operands::{Place, Progress};
 use crate::replies::request_end;
 use mx_effring::Walk;
 use mx_request::Reply;
@@ -54,6 +56,21 @@ impl Process {
         match &self.progress {
             Progress::Before => first_reference(line, &self.control),
             Progress::Walking(walk) => next_reference(line, &self.control, walk),
+            Progress::AtLink(_) | Progress::Waiting | Progress::Filling(_) => None,
+        }
+    }
+
+    /// The walk of its line, and the indirect word for which it asks; none where the line asks for another thing.
+    #[inline(always)]
+    pub fn looks(&self, line: &Line) -> Option<(Walk, Place)>
+        requires packable { IsPackableControl self.now.control }
+        requires progress { IsGoodProgress self.now.control.registers self.now.progress }
+        requires line { IsSayable line.now }
+        ensures { IfSome result (λ found. IsLooking self.now.control line.now self.now.progress found.0 found.1) }
+    {
+        match &self.progress {
+            Progress::Before => first_look(line, &self.control),
+            Progress::Walking(walk) => next_look(line, &self.control, walk),
             Progress::AtLink(_) | Progress::Waiting | Progress::Filling(_) => None,
         }
     }
@@ -124,22 +141,6 @@ impl Process {
             Progress::Before => first_move(line, &self.control, element, desc),
             Progress::Walking(_) | Progress::AtLink(_) | Progress::Waiting | Progress::Filling(_) =>
                 None,
-        }
-    }
-
-    /// Where the walk of its line goes on by the indirect word that it asked for and read on this descriptor; none where the line ends
-    /// by it or has a link snapped, and by every other element.
-    #[inline(always)]
-    pub fn plain_step(&self, line: &Line, element: &Element, desc: &Desc) -> Option<Walk>
-        requires packable { IsPackableControl self.now.control }
-        requires progress { IsGoodProgress self.now.control.registers self.now.progress }
-        requires line { IsSayable line.now }
-        ensures { IfSome result (λ next. Takes self.now.control line.now self.now.progress element.now desc.now (At (Walking next))) }
-    {
-        match &self.progress {
-            Progress::Before => first_step(line, &self.control, element, desc),
-            Progress::Walking(walk) => walked_step(line, &self.control, walk, element, desc),
-            Progress::AtLink(_) | Progress::Waiting | Progress::Filling(_) => None,
         }
     }
 

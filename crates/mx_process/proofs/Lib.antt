@@ -4,6 +4,7 @@ pub mod PlaceLaws
 pub mod PlanLaws
 pub mod WorkLaws
 pub mod TurnLaws
+pub mod LookLaws
 pub mod AuditLaws
 pub mod ProcessLaws
 pub mod HeedLaws

@@ -9,7 +9,10 @@ use Rattle.mx_core.specs.declared.elements.Outcome.TheVariants as outcome
 use Rattle.mx_desc.specs.Passes.{PassValue}
 use Rattle.mx_desc.specs.Referring.{HasMissed}
 use Rattle.mx_line.specs.AtWork.{IsCome, IsFree, IsMet, beside, left, moved_on, reference_in}
+use Rattle.mx_effring.specs.Walks.{Reached}
+use Rattle.mx_line.specs.Looking.{IsLooking, LeadsOn}
 use Rattle.mx_line.specs.Operands.{IsGoodProgress, steps_in}
+use Rattle.mx_sdw.specs.declared.operations.Op.TheVariants as op
 use Rattle.mx_line.specs.Processes.{HasPlainEnd, HasPlainMove, IsReferring as AsksToRefer, Takes, gone}
 use Rattle.mx_line.specs.declared.asking.End.{End}
 use Rattle.mx_line.specs.declared.asking.Reference as asked
@@ -42,7 +45,9 @@ use Rattle.mx_process.proofs.WorkLaws.{IsNext, line_ended, line_ends, line_goes_
 use Rattle.mx_process.specs.Attempts.{HasAttempted}
 use Rattle.mx_process.specs.Plans.{left_of, number_in}
 use Rattle.mx_process.specs.Processes.{Known, AsksFor, AsksIn, IsReferringIn, IsAtWork, IsBefore, known_of}
-use Rattle.mx_process.specs.Turns.{Ends, GoesOn, HasEnd, HasTaken, HasTurned, Comes, Inside, IsAttempting, IsReferring, IsSameLine, Misses, inside}
+use Rattle.mx_process.specs.Turns.{Ends, GoesOn, Links, HasEnd, HasEvent, HasTaken, HasTurned, Comes, Inside, IsAttempting, IsReferring, IsSameLine, Misses, inside}
+use Rattle.mx_line.specs.declared.operands.Place.{Place}
+use Rattle.mx_process.specs.declared.misses.Miss.{Miss}
 use Rattle.mx_process.specs.declared.misses.Fast.{Fast}
 use Rattle.mx_process.specs.declared.misses.Fast.TheVariants as fast
 use Rattle.mx_process.specs.declared.turns.Turn.{Turn}
@@ -62,6 +67,18 @@ some_steps x setup state line k a = by_progress state.progress refl a.good a.fre
     by_progress Waiting is good free (Attempt seen) come = absurd come.0
     by_progress Waiting is good free (Answer entry filled) come = absurd (a.other _ come.2)
 
+-- and no more than ten
+pub few_steps : (x : Outline) (setup : List journaled.Entry) (state : LineState) (line : Line) (k : Known)
+    → IsAttempting x setup state line k → steps_in state.progress ≤ 10
+few_steps x setup state line k a = by_progress state.progress a.free
+  where
+    by_progress : (progress : Progress) → IsFree progress → steps_in progress ≤ 10
+    by_progress Before free = omega arith
+    by_progress (Walking walk) free = omega arith
+    by_progress (AtLink place) free = omega arith
+    by_progress Waiting free = omega arith
+    by_progress (Filling fill) free = absurd (free fill refl)
+
 -- the reference for which a line at work asks
 pub refers_so : (x : Outline) (setup : List journaled.Entry) (state : LineState) (line : Line) (k : Known) (r : asked.Reference)
     → IsAttempting x setup state line k → AsksToRefer state line r → IsReferring state line r
@@ -69,6 +86,28 @@ refers_so x setup state line k r a refers = record {
   memory = refers.memory a.work.course a.work.come;
   asks = λ course come. refers.says.is course come;
   storable = refers.says.storable;
+}
+
+-- and the indirect word for which it looks
+abbrev pub reading : Place → asked.Reference
+reading place = record { op = op.Indirect; segno = place.segno; word = place.word; ring = place.ring; stores = None }
+
+pub looks_so : (x : Outline) (setup : List journaled.Entry) (state : LineState) (line : Line) (k : Known) (walk : Reached) (place : Place)
+    → IsAttempting x setup state line k → IsLooking state.control line state.progress walk place → IsReferring state line (reading place)
+looks_so x setup state line k walk place a looking = record {
+  memory = looking.memory a.work.course a.work.come;
+  asks = looking.asks;
+  storable = λ is. absurd cc;
+}
+
+-- a line that is led on by the word for which it looks
+pub led_on : (old new : LineState) (line : Line) (e : Element) (d : Descriptor) (walk onward : Reached) (place : Place)
+    → IsLooking old.control line old.progress walk place → LeadsOn old.control line walk e d onward
+    → HasEvent old (Core (Seen e)) (Walking onward) new → HasTaken old line e d new turn.More
+led_on old new line e d walk onward place looking leads has = record {
+  work = works.At (Walking onward);
+  takes = looking.takes e d onward leads;
+  comes = (refl, has);
 }
 
 -- a line that ends plainly by an element
@@ -126,9 +165,8 @@ same_line_on old between new a b = record {
 
 -- a turn, and then others
 module _ (x : Outline) (setup : List journaled.Entry) (line : Line) (old : LineState) (between new : Inside) where
-  pub goes_then : (came : Fast) → GoesOn x setup line old between → HasAttempted x setup line between.state came new
-      → HasAttempted x setup line old came new
-  goes_then fast.Done g e = record {
+  then_ends : GoesOn x setup line old between → Ends x setup between.state new → Ends x setup old new
+  then_ends g e = record {
     more = g.same.more ++ e.more;
     ends = e.ends;
     steps = e.steps
@@ -140,18 +178,47 @@ module _ (x : Outline) (setup : List journaled.Entry) (line : Line) (old : LineS
     packable = e.packable;
     before = e.before;
   }
-  goes_then (fast.Missing segno by) g m = record {
+
+  then_misses : (miss : Miss) → GoesOn x setup line old between → Misses x setup line between.state miss new → Misses x setup line old miss new
+  then_misses miss g m = record {
     same = same_line_on old between.state new.state g.same m.same;
     good = m.good;
     fitting = m.fitting;
     missing = m.missing;
   }
-  goes_then (fast.Link segno word ring) g l = record {
+
+  then_links : (place : Place) → GoesOn x setup line old between → Links x setup line between.state place new → Links x setup line old place new
+  then_links place g l = record {
     same = same_line_on old between.state new.state g.same l.same;
     attempting = l.attempting;
     linking = l.linking;
   }
+
+  then_goes : GoesOn x setup line old between → GoesOn x setup line between.state new → GoesOn x setup line old new
+  then_goes g h = record {
+    same = same_line_on old between.state new.state g.same h.same;
+    attempting = h.attempting;
+    nearer = let a = g.nearer in let b = h.nearer in omega (arith, a, b);
+  }
+
+  pub goes_then : (came : Fast) → GoesOn x setup line old between → HasAttempted x setup line between.state came new
+      → HasAttempted x setup line old came new
+  goes_then fast.Done g e = then_ends g e
+  goes_then (fast.Missing segno by) g m = then_misses (record { segno = segno; by = by }) g m
+  goes_then (fast.Link segno word ring) g l = then_links (record { segno = segno; word = word; ring = ring }) g l
   goes_then fast.Journal g e = e
+
+  pub goes_turned : (went : Turn) → GoesOn x setup line old between → HasTurned x setup line between.state went new
+      → HasTurned x setup line old went new
+  goes_turned turn.More g h = then_goes g h
+  goes_turned turn.Ended g e = then_ends g e
+  goes_turned (turn.Missing miss) g m = then_misses miss g m
+  goes_turned (turn.AtLink place) g l = then_links place g l
+
+-- a turn behind which the line goes on
+pub turned_more : (x : Outline) (setup : List journaled.Entry) (line : Line) (old : LineState) (new : Inside) (went : Turn)
+    → went ≡ turn.More → HasTurned x setup line old went new → GoesOn x setup line old new
+turned_more x setup line old new went is = subst (λ (t : Turn). HasTurned x setup line old t new) is
 
 -- A reference was judged, and the line took it.
 module _ (x : Outline) (setup : List journaled.Entry) (line : Line) (old new : LineState) (o o' : PassValue journaled.Entry)

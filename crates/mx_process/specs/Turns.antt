@@ -3,6 +3,7 @@ use Rattle.std.specs.Prelude.{◌≡◌, ℕ, ◌<◌, ◌≤◌, ◌^◌, List,
 use Rattle.mx_core.specs.declared.elements.Element.{Element}
 use Rattle.mx_core.specs.declared.elements.Event.TheVariants.{Seen}
 use Rattle.mx_desc.specs.Passes.{PassValue}
+use Rattle.mx_effring.specs.Walks.{Reached}
 use Rattle.mx_line.specs.AtWork.{IsCome, IsFree, IsStorableBy, reference_in}
 use Rattle.mx_line.specs.Fills.{IsNoRequest}
 use Rattle.mx_line.specs.Operands.{IsGoodProgress, IsMemoryLine, IsSayable, steps_in}
@@ -15,7 +16,7 @@ use Rattle.mx_line.specs.declared.at_work.LineAtWork.{LineAtWork}
 use Rattle.mx_line.specs.declared.at_work.LineAtWork.TheVariants as works
 use Rattle.mx_line.specs.declared.operands.Place.{Place}
 use Rattle.mx_line.specs.declared.operands.Progress.{Progress}
-use Rattle.mx_line.specs.declared.operands.Progress.TheVariants.{Before}
+use Rattle.mx_line.specs.declared.operands.Progress.TheVariants.{Before, Walking}
 use Rattle.mx_line.specs.declared.processes.Process.{Process as LineState}
 use Rattle.mx_office.specs.Serving.{told_to}
 use Rattle.mx_request.specs.declared.requests.Request.TheVariants.{Link}
@@ -44,6 +45,10 @@ pub record Inside : Type 0 where
 
 abbrev pub inside : LineState → PassValue journaled.Entry → Inside
 inside state pass = record { state = state; pass = pass }
+
+-- the same process, where the walk of its line stands here
+abbrev pub walking : LineState → Reached → LineState
+walking state walk = record state { progress = Walking walk }
 
 -- a line that is no request is at work, and no write is due
 pub record IsAttempting (x : Outline) (setup : List journaled.Entry) (state : LineState) (line : Line) (k : Known) : Type 0 where

@@ -19,7 +19,7 @@ ghost use Rattle.mx_process.specs.declared.misses.Fast.TheVariants.{Done, Journa
 use crate::misses::{Fast, Miss};
 use crate::naming::Attending;
 use crate::processes::Process;
-use crate::turns::{Turn, make_turn};
+use crate::turns::{Turn, make_turns};
 use mx_audit::{Auditor, Verdict};
 use mx_cam::Cam;
 use mx_desc::Pass;
@@ -30,36 +30,30 @@ use mx_script::Line;
 use mx_sdw::Denial;
 use mx_state::Entry;
 
-/// So many turns at most.
+/// The turns of an attempt.
 pub(crate) fn turns<B: Sitting>(
     state: &mut LineState,
     pass: &mut Pass<Entry, B>,
     cam: &mut Cam,
     shared: &Board<Entry>,
     line: &Line,
-    most: u8,
 ) -> Fast
     requires fits { shared.now.table_id ≡ B.table }
     requires layout { shared.now.key.layout ≡ B.layout }
     requires same { cam.old ≡ pass.old.view.memory }
     requires ready { pass.old.view.stage ≡ Ready }
-    requires spare { most ≤ pass.old.spare }
-    requires room { most ≤ state.old.recording.spare }
+    requires spare { steps_in state.old.progress ≤ pass.old.spare }
+    requires room { steps_in state.old.progress ≤ state.old.recording.spare }
     requires end { IsTrue state.old.recording.line_room }
-    requires enough { steps_in state.old.progress ≤ most }
     requires attempting { IsAttempting B.session B.setup state.old line.now (known_of pass.old) }
     ensures came { HasAttempted B.session B.setup line.now state.old result (inside state.new pass.new) }
     ensures same { cam.new ≡ pass.new.view.memory }
     ensures ready { pass.new.view.stage ≡ Ready }
     ensures untold { IsUntold pass.old pass.new }
 {
-    let mut left = most;
     loop {
-        if left == 0 {
-            unreachable!()
-        }
-        match make_turn(state, pass, cam, shared, line) {
-            Turn::More => left -= 1,
+        match make_turns(state, pass, cam, shared, line) {
+            Turn::More => {}
             Turn::Ended => return Fast::Done,
             Turn::Missing(miss) => {
                 return Fast::Missing {
@@ -100,7 +94,7 @@ fn attempt<B: Sitting>(
     ensures untold { IsUntold pass.old pass.new }
 {
     cam.enter(pass, shared);
-    let came = turns(state, pass, cam, shared, line, 10);
+    let came = turns(state, pass, cam, shared, line);
     pass.leave(shared);
     came
 }

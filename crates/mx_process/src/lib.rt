@@ -15,6 +15,7 @@ mod filling;
 mod gates;
 mod legs;
 mod lines;
+mod looking;
 mod misses;
 mod naming;
 mod processes;

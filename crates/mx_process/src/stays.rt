@@ -218,7 +218,7 @@ fn do_line<B: Attending>(
     ensures same { cam.new ≡ pass.new.view.memory }
     ensures ready { pass.new.view.stage ≡ Ready }
 {
-    match turns(state, pass, cam, shared, line, 10) {
+    match turns(state, pass, cam, shared, line) {
         Fast::Done => match state.recording.last_denial() {
             Some(_) => Some(Stayed::Denied),
             None => None,

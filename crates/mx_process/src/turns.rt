@@ -5,16 +5,18 @@ ghost use Rattle.mx_core.specs.declared.elements.Event.TheVariants.{Seen};
 ghost use Rattle.mx_core.specs.declared.elements.Outcome.TheVariants.{Read};
 ghost use Rattle.mx_core.specs.declared.words.Stage.TheVariants.{Ready};
 ghost use Rattle.mx_line.specs.AtWork.{IsMet, IsStorableBy};
-ghost use Rattle.mx_line.specs.Operands.{IsGoodProgress, IsSayable};
+ghost use Rattle.mx_line.specs.Operands.{IsGoodProgress, IsSayable, steps_in};
 ghost use Rattle.mx_line.specs.declared.at_work.LineAtWork.TheVariants.{At};
 ghost use Rattle.mx_process.specs.Plans.{number_in};
 ghost use Rattle.mx_process.specs.Processes.{known_of};
 ghost use Rattle.mx_process.specs.Turns.{HasEnd, HasTaken, HasTurned, IsAtLink, IsAttempting, IsLinkCall, IsReferring, IsUntold, inside};
+ghost use Rattle.mx_process.specs.declared.turns.Turn.TheVariants.{More};
 ghost use Rattle.mx_sdw.specs.Admissible.{IsAdmissible};
 ghost use Rattle.mx_transcript.specs.declared.transcripts.Event2.TheVariants.{Core};
 ghost use Rattle.mx_upcall.specs.Changes.{Fits};
 ghost use Rattle.mx_upcall.specs.Soundness.{IsPackableControl};
 
+use crate::looking::look;
 use crate::misses::Miss;
 use mx_cam::Cam;
 use mx_desc::{Pass, Referred};
@@ -35,8 +37,40 @@ pub(crate) enum Turn {
     AtLink(Place),
 }
 
-/// One turn of an attempt at a line that is no request: the reference for which it asks is made, or it ends.
-pub(crate) fn make_turn<B: Sitting>(
+/// Turns of an attempt at a line that is no request: the indirect words are read through which its walk leads, or the reference
+/// for which it asks is made, or it ends.
+#[inline(always)]
+pub(crate) fn make_turns<B: Sitting>(
+    state: &mut LineState,
+    pass: &mut Pass<Entry, B>,
+    cam: &mut Cam,
+    shared: &Board<Entry>,
+    line: &Line,
+) -> Turn
+    requires fits { shared.now.table_id ≡ B.table }
+    requires layout { shared.now.key.layout ≡ B.layout }
+    requires same { cam.old ≡ pass.old.view.memory }
+    requires ready { pass.old.view.stage ≡ Ready }
+    requires spare { steps_in state.old.progress ≤ pass.old.spare }
+    requires room { steps_in state.old.progress ≤ state.old.recording.spare }
+    requires end { IsTrue state.old.recording.line_room }
+    requires attempting { IsAttempting B.session B.setup state.old line.now (known_of pass.old) }
+    ensures turned { HasTurned B.session B.setup line.now state.old result (inside state.new pass.new) }
+    ensures same { cam.new ≡ pass.new.view.memory }
+    ensures ready { pass.new.view.stage ≡ Ready }
+    ensures spare { result ≡ More → steps_in state.new.progress ≤ pass.new.spare }
+    ensures room { result ≡ More → steps_in state.new.progress ≤ state.new.recording.spare }
+    ensures untold { IsUntold pass.old pass.new }
+{
+    match state.looks(line) {
+        Some((walk, place)) => look(state, pass, cam, shared, line, walk, place),
+        None => make_turn(state, pass, cam, shared, line),
+    }
+}
+
+// One turn: the reference for which the line asks is made, or it ends.
+#[inline(always)]
+fn make_turn<B: Sitting>(
     state: &mut LineState,
     pass: &mut Pass<Entry, B>,
     cam: &mut Cam,
@@ -183,6 +217,7 @@ pub(crate) fn words_are_short(element: &Element)
 }
 
 // The reference for which the line asks was made, on this descriptor: the line goes on by it, or ends.
+#[inline(always)]
 fn take(state: &mut LineState, line: &Line, element: &Element, desc: &Desc) -> Turn
     requires room { 1 ≤ state.old.recording.spare }
     requires end { IsTrue state.old.recording.line_room }
@@ -200,12 +235,17 @@ fn take(state: &mut LineState, line: &Line, element: &Element, desc: &Desc) -> T
             state.end_plainly(Event2::Core(Event::Seen(*element)), ends);
             Turn::Ended
         }
-        None => move_on(state, line, element, desc),
+        None => {
+            // (copies, so that the compiler need not keep these in memory where the line ends)
+            let (element, desc) = (*element, *desc);
+            move_on(state, line, &element, &desc)
+        }
     }
 }
 
 // The same for a reference by which the line does not end where the process stands: it is a call or return that was granted,
 // or another.
+#[inline(never)]
 fn move_on(state: &mut LineState, line: &Line, element: &Element, desc: &Desc) -> Turn
     requires room { 1 ≤ state.old.recording.spare }
     requires end { IsTrue state.old.recording.line_room }
@@ -223,36 +263,13 @@ fn move_on(state: &mut LineState, line: &Line, element: &Element, desc: &Desc) -
             state.end_moved(Event2::Core(Event::Seen(*element)), &going, desc);
             Turn::Ended
         }
-        None => walk_on(state, line, element, desc),
-    }
-}
-
-// The same for a reference by which the process does not move either: where its walk goes on by an indirect word, it goes on there.
-fn walk_on(state: &mut LineState, line: &Line, element: &Element, desc: &Desc) -> Turn
-    requires room { 1 ≤ state.old.recording.spare }
-    requires end { IsTrue state.old.recording.line_room }
-    requires number { number_in state.old < 2 ^ 32 }
-    requires line { IsSayable line.now }
-    requires packable { IsPackableControl state.old.control }
-    requires good { IsGoodProgress state.old.control.registers state.old.progress }
-    requires desc { IsAdmissible desc.now }
-    requires met { IsMet state.old.control line.now (At state.old.progress) element.now desc.now }
-    ensures taken { HasTaken state.old line.now element.now desc.now state.new result }
-    ensures room { state.old.recording.spare ≤ state.new.recording.spare + 1 }
-{
-    match state.plain_step(line, element, desc) {
-        Some(walk) => {
-            state.recording.keep(Event2::Core(Event::Seen(*element)));
-            state.progress = Progress::Walking(walk);
-            Turn::More
-        }
         None => take_by(state, line, element, desc),
     }
 }
 
 // The same by the line at work itself.
 #[inline(never)]
-fn take_by(state: &mut LineState, line: &Line, element: &Element, desc: &Desc) -> Turn
+pub(crate) fn take_by(state: &mut LineState, line: &Line, element: &Element, desc: &Desc) -> Turn
     requires room { 1 ≤ state.old.recording.spare }
     requires end { IsTrue state.old.recording.line_room }
     requires number { number_in state.old < 2 ^ 32 }

@@ -8,19 +8,18 @@ use Rattle.mx_process.specs.declared.misses.Fast.{Fast}
 use Rattle.mx_process.proofs.attempts.turns.Given as goal
 
 -- the line is at work, and what the turns that are left come to is what all of them come to
-abbrev pub invariant-loop-left : goal.invariant-loop-left
-invariant-loop-left g l = record {
+abbrev pub invariant-loop-miss : goal.invariant-loop-miss
+invariant-loop-miss g l = record {
   same : l.cam ≡ l.pass.view.memory;
   ready : l.pass.view.stage ≡ Ready;
-  spare : l.left ≤ l.pass.spare;
-  room : l.left ≤ l.state.recording.spare;
+  spare : steps_in l.state.progress ≤ l.pass.spare;
+  room : steps_in l.state.progress ≤ l.state.recording.spare;
   end : IsTrue l.state.recording.line_room;
-  enough : steps_in l.state.progress ≤ l.left;
   attempting : IsAttempting g.B.Sitting.session g.B.Sitting.setup l.state l.line (known_of l.pass);
   whole : (came : Fast) (after : Inside) → HasAttempted g.B.Sitting.session g.B.Sitting.setup l.line l.state came after
       → HasAttempted g.B.Sitting.session g.B.Sitting.setup l.line l.initial.state came after;
   untold : IsUntold l.initial.pass l.pass;
 }
 
-abbrev pub decreases-loop-left : goal.decreases-loop-left
-decreases-loop-left g l = l.left
+abbrev pub decreases-loop-miss : goal.decreases-loop-miss
+decreases-loop-miss g l = steps_in l.state.progress
