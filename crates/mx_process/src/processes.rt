@@ -108,6 +108,7 @@ impl<'a, B: Attending, A: Auditor> Process<'a, B, A> {
 
     /// Makes room for one attempt at a line, and for the line's end. Want of memory changes nothing but room. The pass, which
     /// keeps no trace, takes none.
+    #[inline(always)]
     pub fn reserve(&mut self) -> Result<(), AllocError>
         ensures room { OnOk result (HasRoom self.new) }
         ensures still { IsStill self.old self.new }
