@@ -25,7 +25,6 @@ use mx_transcript::{Event, Event2};
 
 /// The indirect word at this place is read, for which the line asks, and then those to which it leads, one after another, until
 /// one leads to the target, or none leads on.
-#[inline(never)]
 pub(crate) fn look<B: Sitting>(
     state: &mut LineState,
     pass: &mut Pass<Entry, B>,
@@ -81,7 +80,6 @@ pub(crate) fn look<B: Sitting>(
 }
 
 // The same of a walk that has come so far: where it stands is kept once it does not go on here.
-#[inline(always)]
 fn look_on<B: Sitting>(
     state: &mut LineState,
     pass: &mut Pass<Entry, B>,

@@ -93,7 +93,7 @@ fn make_turn<B: Sitting>(
     ensures untold { IsUntold pass.old pass.new }
 {
     match state.refers(line) {
-        Some(asked) => refer(state, pass, cam, shared, line, &asked),
+        Some(asked) => refer::<B, 0>(state, pass, cam, shared, line, &asked),
         None => turn_by(state, pass, cam, shared, line),
     }
 }
@@ -123,7 +123,7 @@ fn turn_by<B: Sitting>(
     ensures untold { IsUntold pass.old pass.new }
 {
     match state.asks(line) {
-        Next::Asks(asked) => refer(state, pass, cam, shared, line, &asked),
+        Next::Asks(asked) => refer::<B, 1>(state, pass, cam, shared, line, &asked),
         Next::Calls { ring, called } => at_link(ring, called),
         Next::Ends(end) => {
             end_line(state, &end);
@@ -146,9 +146,9 @@ fn at_link(ring: Ring, called: Called) -> Turn
     }
 }
 
-// The reference for which the line asks is made.
-#[inline(always)]
-fn refer<B: Sitting>(
+// The reference for which the line asks is made. It is called from two places, each a function of its own (`PLACE`), so that the
+// compiler takes it into both.
+fn refer<B: Sitting, const PLACE: usize>(
     state: &mut LineState,
     pass: &mut Pass<Entry, B>,
     cam: &mut Cam,
