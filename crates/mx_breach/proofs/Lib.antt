@@ -1,1 +1,4 @@
 mod BesideLaws
+mod RuleLaws
+mod CauseLaws
+mod SourceLaws

@@ -2,7 +2,7 @@
 
 ghost use Rattle.std.specs.Prelude.{◌≡◌, true, length};
 ghost use Rattle.std.specs.List.{list_all};
-ghost use Rattle.mx_broken.specs.Rules.{AreFailing};
+ghost use Rattle.mx_breach.specs.Rules.{AreFailing};
 ghost use Rattle.mx_legal.specs.Entries.{AreGoodTo};
 ghost use Rattle.mx_script.specs.SessionTexts.{fits, rows_of};
 ghost use Rattle.mx_spelling.specs.Spelling.{fits_entry};
@@ -13,13 +13,14 @@ use crate::departing::departure_of;
 use crate::entries::add_bad_entry;
 use crate::lines::{BadLine, add_bad_line, add_next_or_last};
 use crate::printed::add_request;
+use crate::rules::{bad_line, broken_at, events_before, line_before, named_before, own_entry};
+use crate::runs::Run;
 use mx_access::{Access, access_in_turn};
-use mx_broken::{Run, bad_line, broken_at, events_before, line_before, named_before, own_entry};
+use mx_judging::Part::{self, Decimal, Text};
+use mx_judging::add_parts;
 use mx_legal::{Breach, Failing, failing_of, first_bad_entry, good_entries_law};
 use mx_parts::Departure;
 use mx_points::Line;
-use mx_reasons::Part::{self, Decimal, Text};
-use mx_reasons::add_parts;
 use mx_script::Session;
 use mx_state::{Journal, State};
 use mx_stores::first_breach;

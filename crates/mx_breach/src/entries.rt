@@ -6,12 +6,12 @@ ghost use Rattle.mx_legal.specs.Entries.{IsFirstBad};
 ghost use Rattle.mx_script.specs.SessionTexts.{fits, rows_of};
 ghost use Rattle.mx_spelling.specs.Spelling.{fits_entry};
 
+use crate::causes::{EntryCause, entry_cause, is_of_path};
 use crate::printed::add_entry;
-use mx_broken::{EntryCause, entry_cause, is_of_path};
 use mx_fresh::PlainSupervisor;
+use mx_judging::Part::{Decimal, Text};
+use mx_judging::{add_parts, ring};
 use mx_legal::supervisor_at;
-use mx_reasons::Part::{Decimal, Text};
-use mx_reasons::{add_parts, ring};
 use mx_request::Reply;
 use mx_script::Session;
 use mx_state::{Entry, Journal, State};

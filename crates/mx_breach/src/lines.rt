@@ -7,12 +7,13 @@ use crate::asked::{add_asked, add_next_entry};
 use crate::misses::add_miss;
 use crate::points::add_point;
 use crate::printed::{add_end, add_event};
+use crate::rules::{Broken, Rule};
+use crate::runs::Run;
 use crate::wrong_reads::add_read;
 use mx_access::Access;
-use mx_broken::{Broken, Rule, Run};
+use mx_judging::Part::{Decimal, Text};
+use mx_judging::add_parts;
 use mx_parts::Departure;
-use mx_reasons::Part::{Decimal, Text};
-use mx_reasons::add_parts;
 use mx_transcript::{Event, Event2, Result2, setup_entries};
 use std::alloc::{AllocError, Global};
 

@@ -3,13 +3,13 @@
 ghost use Rattle.mx_state.specs.History.{IsRight};
 ghost use Rattle.mx_transcript.specs.Opened.{opening_of};
 
+use crate::bounds::last_miss;
 use crate::lines::BadLine;
 use crate::points::{bounds_of, own_deeds};
 use crate::printed::add_event;
 use crate::probes::{access_on, is_change_at};
-use mx_broken::last_miss;
-use mx_reasons::Part::{Decimal, Octal, Text};
-use mx_reasons::add_parts;
+use mx_judging::Part::{Decimal, Octal, Text};
+use mx_judging::add_parts;
 use mx_transcript::{Event, Event2, entry_at};
 use std::alloc::{AllocError, Global};
 

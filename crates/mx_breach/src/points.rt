@@ -1,10 +1,10 @@
 //! Why a reference has a point that it could not, and which it could.
 
+use crate::bounds::{Bounds, bounds_at};
 use crate::lines::BadLine;
 use crate::probes::row;
-use mx_broken::{Bounds, bounds_at};
-use mx_reasons::Part::{Decimal, Text};
-use mx_reasons::add_parts;
+use mx_judging::Part::{Decimal, Text};
+use mx_judging::add_parts;
 use mx_stores::Deed;
 use mx_transcript::setup_entries;
 use std::alloc::AllocError;

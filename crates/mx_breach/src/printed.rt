@@ -1,7 +1,7 @@
 //! Events, results and entries as a run prints them.
 
-use mx_reasons::Part::{Decimal, Octal, Place, Text};
-use mx_reasons::{add_parts, add_printable, ring};
+use mx_judging::Part::{Decimal, Octal, Place, Text};
+use mx_judging::{add_parts, add_printable, ring};
 use mx_request::{Reply, Request};
 use mx_sdw::Ring;
 use mx_show::kind_word;

@@ -4,8 +4,8 @@ ghost use Rattle.std.specs.Prelude.{◌≡◌, [], slice_index_or};
 ghost use Rattle.mx_state.specs.History.{IsRight};
 ghost use Rattle.mx_transcript.specs.Opened.{opening_of};
 
+use crate::runs::Run;
 use mx_access::{Access, access_in_turn};
-use mx_broken::Run;
 use mx_list::Sequence;
 use mx_sdw::Desc;
 use mx_state::State;

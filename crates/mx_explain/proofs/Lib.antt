@@ -1,1 +1,4 @@
 pub mod StatusLaws
+pub mod OrderLaws
+pub mod PlainLaws
+pub mod WordLaws

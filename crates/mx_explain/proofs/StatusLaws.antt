@@ -2,23 +2,23 @@
 use Rattle.std.proofs.Common.{◌≡◌, ◌⊎◌, ℕ, ◌≤◌, ◌<◌, false, Result, IfOk, List, [], ◌∷◌, length, codes, Option, None, Some, inl, inr, refl, sym, ◌∙◌, subst, arith}
 use Rattle.std.specs.Prelude.{nat_eq}
 use Rattle.std.specs.Cmp.Lexicographic.{pointwise}
-use Rattle.mx_commands.proofs.WordLaws.{clash, form_and}
-use Rattle.mx_verdicts.specs.Sources as breach
+use Rattle.mx_explain.proofs.WordLaws.{clash, form_and}
+use Rattle.mx_breach.specs.Sources as breach
 use Rattle.mx_drill.specs.Drills.{drill_session}
 use Rattle.mx_script.specs.SessionTexts.{session_text}
 use Rattle.mx_io.specs.Bytes.{TakesAll, TakesTooMany, AppendsPart}
 use Rattle.mx_script.specs.Sessions.{Outline}
-use Rattle.mx_commands.specs.Commands.{IsNothing, IsTurns, IsOneNumber, IsNamed, LineName, AreLines, IsLint, word_of, IsRunAs, IsOutcomes, IsPair, IsTelling, IsPlain, IsBreach, IsDrill, IsHelp, IsShowing, IsReading, IsAnswered, IsCommand}
+use Rattle.mx_explain.specs.Commands.{IsNothing, IsTurns, IsOneNumber, IsNamed, LineName, AreLines, IsLint, word_of, IsRunAs, IsOutcomes, IsPair, IsTelling, IsPlain, IsBreach, IsDrill, IsHelp, IsShowing, IsReading, IsAnswered, IsCommand}
 use Rattle.mx_explain.specs.Statuses.{Shows, IsDone, IsRefused, GainsFront, GainsFrontOfSource, IsStopped, IsDueStatus}
-use Rattle.mx_commands.specs.Readings.{TakesTurns, AsksLines, IsAsked, IsReadSo}
+use Rattle.mx_explain.specs.Readings.{TakesTurns, AsksLines, IsAsked, IsReadSo}
 use Rattle.mx_explain.specs.Views.{ShowsOf, TellsSession, Tells, TellsFront}
-use Rattle.mx_commands.specs.declared.words.Turns.{Turns}
-use Rattle.mx_commands.specs.declared.words.Turns.TheVariants.{Threads, Chosen, Named}
-use Rattle.mx_commands.specs.declared.words.Form.{Form}
-use Rattle.mx_commands.specs.declared.words.View.{View}
-use Rattle.mx_commands.specs.declared.words.View.TheVariants.{Lint, Run, Outcomes}
-use Rattle.mx_commands.specs.declared.words.Reading.{Reading}
-use Rattle.mx_commands.specs.declared.words.Reading.TheVariants.{Session, Plain}
+use Rattle.mx_explain.specs.declared.words.Turns.{Turns}
+use Rattle.mx_explain.specs.declared.words.Turns.TheVariants.{Threads, Chosen, Named}
+use Rattle.mx_explain.specs.declared.words.Form.{Form}
+use Rattle.mx_explain.specs.declared.words.View.{View}
+use Rattle.mx_explain.specs.declared.words.View.TheVariants.{Lint, Run, Outcomes}
+use Rattle.mx_explain.specs.declared.words.Reading.{Reading}
+use Rattle.mx_explain.specs.declared.words.Reading.TheVariants.{Session, Plain}
 
 -- words that ask for turns are such
 turns_of : (turns : Turns) (words : List (List ℕ)) → TakesTurns turns words → IsTurns words

@@ -1,28 +1,28 @@
 -- What the statuses of the top call mean. A source's bytes and a sink's are spoken of where they are told.
 use Rattle.std.specs.Prelude.{◌≡◌, ◌⊎◌, ℕ, ◌≤◌, ◌<◌, List, length, Option, codes}
 use Rattle.mx_both.specs.BothTexts.{IsSomeBoth}
-use Rattle.mx_verdicts.specs.Sources as breach
+use Rattle.mx_breach.specs.Sources as breach
 use Rattle.mx_drill.specs.Drills.{drill_session}
-use Rattle.mx_commands.specs.Commands.{IsLint, IsRunAs, IsOutcomes, IsPair, LineName, IsPlain, IsBreach, IsDrill, IsHelp, IsShowing, IsAnswered, IsCommand}
-use Rattle.mx_commands.specs.declared.words.Form.{Form}
-use Rattle.mx_commands.specs.declared.words.Form.TheVariants.{Lines, Story, Picture, Page}
-use Rattle.mx_commands.specs.PlainTexts.{plain_text}
-use Rattle.mx_commands.specs.Usage.{usage, refusal}
-use Rattle.mx_explore.specs.OutcomesTexts.{TellsAll, TellsTwo}
-use Rattle.mx_explore.specs.WholeRuns.{IsWholeRun}
+use Rattle.mx_explain.specs.Commands.{IsLint, IsRunAs, IsOutcomes, IsPair, LineName, IsPlain, IsBreach, IsDrill, IsHelp, IsShowing, IsAnswered, IsCommand}
+use Rattle.mx_explain.specs.declared.words.Form.{Form}
+use Rattle.mx_explain.specs.declared.words.Form.TheVariants.{Lines, Story, Picture, Page}
+use Rattle.mx_explain.specs.PlainTexts.{plain_text}
+use Rattle.mx_explain.specs.Usage.{usage, refusal}
+use Rattle.mx_outcomes.specs.OutcomesTexts.{TellsAll, TellsTwo}
+use Rattle.mx_outcomes.specs.WholeRuns.{IsWholeRun}
 use Rattle.mx_io.specs.Bytes.{TakesAll, TakesTooMany, Appends, AppendsPart}
 use Rattle.mx_transcript.specs.Transcripts.{Step}
 use Rattle.mx_lint.specs.Diagnoses.{IsAbout}
-use Rattle.mx_page.specs.Pages.{GainsPage}
+use Rattle.mx_picture.specs.Pages.{GainsPage}
 use Rattle.mx_picture.specs.Drawings.{GainsDrawing}
 use Rattle.mx_script.specs.FirstBadLine.{IsFirstBad}
 use Rattle.mx_script.specs.Sessions.{Outline}
 use Rattle.mx_script.specs.SessionTexts.{IsText, IsSomeSession, session_text}
-use Rattle.mx_lines.specs.Lines.{GainsLines}
+use Rattle.mx_show.specs.Lines.{GainsLines}
 use Rattle.mx_state.specs.declared.journal.Entry as journaled
-use Rattle.mx_story.specs.Printing.{GainsStory}
+use Rattle.mx_show.specs.StoryPrinting.{GainsStory}
 
--- at most so many bytes are read; under `breach`, of a session and a run, as many as `mx_verdicts` says
+-- at most so many bytes are read; under `breach`, of a session and a run, as many as `mx_breach` says
 abbrev pub most_bytes : ℕ
 most_bytes = 4194304
 

@@ -1,12 +1,12 @@
 -- Helpers of the top call: what is told on which words.
 use Rattle.std.specs.Prelude.{◌≡◌, ◌⊎◌, ℕ, List, Option, None, Some, codes}
-use Rattle.mx_commands.specs.Commands.{LineName}
-use Rattle.mx_commands.specs.PlainTexts.{plain_text}
-use Rattle.mx_commands.specs.declared.words.View.{View}
-use Rattle.mx_commands.specs.declared.words.View.TheVariants.{Lint, Run, Outcomes}
-use Rattle.mx_commands.specs.declared.words.Reading.{Reading}
-use Rattle.mx_commands.specs.declared.words.Reading.TheVariants.{Session, Plain}
-use Rattle.mx_explore.specs.OutcomesTexts.{TellsAll, TellsTwo}
+use Rattle.mx_explain.specs.Commands.{LineName}
+use Rattle.mx_explain.specs.PlainTexts.{plain_text}
+use Rattle.mx_explain.specs.declared.words.View.{View}
+use Rattle.mx_explain.specs.declared.words.View.TheVariants.{Lint, Run, Outcomes}
+use Rattle.mx_explain.specs.declared.words.Reading.{Reading}
+use Rattle.mx_explain.specs.declared.words.Reading.TheVariants.{Session, Plain}
+use Rattle.mx_outcomes.specs.OutcomesTexts.{TellsAll, TellsTwo}
 use Rattle.mx_io.specs.Bytes.{Appends, AppendsPart}
 use Rattle.mx_script.specs.Sessions.{Outline}
 use Rattle.mx_script.specs.SessionTexts.{IsText, IsSomeSession}

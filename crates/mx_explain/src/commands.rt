@@ -6,32 +6,30 @@ ghost use Rattle.mx_drill.specs.Drills.{drill_session};
 ghost use Rattle.mx_io.specs.Bytes.{Appends, AppendsPart, TakesTooMany};
 ghost use Rattle.mx_io.specs.Faults.{Rose};
 ghost use Rattle.mx_script.specs.SessionTexts.{session_text};
-ghost use Rattle.mx_commands.specs.Commands.{IsReading, IsBreach, IsAnswered, IsCommand};
-ghost use Rattle.mx_commands.specs.PlainTexts.{plain_text};
+ghost use Rattle.mx_explain.specs.Commands.{IsReading, IsBreach, IsAnswered, IsCommand};
+ghost use Rattle.mx_explain.specs.PlainTexts.{plain_text};
 ghost use Rattle.mx_lint.specs.Diagnoses.{IsBadLine};
-ghost use Rattle.mx_explore.specs.WholeRuns.{IsWholeRun};
+ghost use Rattle.mx_outcomes.specs.WholeRuns.{IsWholeRun};
 ghost use Rattle.mx_explain.specs.Statuses.{IsDone, IsShownRun, IsRefused, IsToldOf, IsCutOffOf, IsBadText, IsBadTextCut, GainsFront, IsStopped, IsDueStatus};
-ghost use Rattle.mx_commands.specs.Usage.{usage, refusal};
+ghost use Rattle.mx_explain.specs.Usage.{usage, refusal};
 ghost use Rattle.mx_explain.specs.Views.{ShowsOf, GainsOutcomes, TellsOutcomes, TellsSession, Tells, CutsOff, TellsFrontOfSession, TellsFront};
 
-use mx_commands::{
-    Command, Form, LineName, Reading, Turns, View, chosen_order, named_order, plain_text, refusal,
-    usage,
-};
+use crate::help::{refusal, usage};
+use crate::orders::{chosen_order, named_order};
+use crate::plain::plain_text;
+use crate::words::{Command, Form, LineName, Reading, Turns, View};
+use mx_breach::tell_source;
 use mx_drill::{session_of, session_text};
-use mx_explore::{outcomes_text, pair_text};
 use mx_io::{ReadError, Sink, Source, read_all, write_all};
-use mx_lines::{ShowError, show_lines};
 use mx_lint::{Diagnosis, Finding, lint};
 use mx_list::Bytes;
-use mx_page::show_page;
-use mx_picture::show_picture;
+use mx_outcomes::{outcomes_text, pair_text};
+use mx_picture::{show_page, show_picture};
 use mx_proc::{NoGate, run, run_in_order};
 use mx_script::Session;
+use mx_show::{ShowError, show_lines, show_story};
 use mx_state::Journal;
-use mx_story::show_story;
 use mx_transcript::Transcripts;
-use mx_verdicts::tell_source;
 use std::alloc::{AllocError, Global};
 use std::sync::Wait;
 use std::thread::Threads;
@@ -303,7 +301,7 @@ fn told_outcomes<R: Wait>(
 }
 
 // Runs a session with no gate and no auditors, its processes taking turns so.
-#[tactic(auto, using(mx_explore::proofs::WholeRunLaws::whole_run))]
+#[tactic(auto, using(mx_outcomes::proofs::WholeRunLaws::whole_run))]
 fn run_alone<R: Threads + Wait + Sync>(
     turns: Turns<'_>,
     rt: &R,
@@ -326,7 +324,7 @@ fn run_alone<R: Threads + Wait + Sync>(
 }
 
 // Runs a session on one thread, the lines of its processes in this order, with no gate and no auditors.
-#[tactic(auto, using(mx_explore::proofs::WholeRunLaws::whole_run))]
+#[tactic(auto, using(mx_outcomes::proofs::WholeRunLaws::whole_run))]
 fn run_in_turns<R: Wait>(
     rt: &R,
     alloc: Global,

@@ -2,3 +2,8 @@ pub mod Replays
 pub mod Judging
 pub mod References
 pub mod Sources
+pub mod Reasons
+pub mod Wants
+pub mod Stories
+pub mod Ordering
+pub mod Cutting

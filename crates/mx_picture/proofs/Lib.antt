@@ -1,2 +1,4 @@
 pub mod BoxLaws
 pub mod PieceLaws
+mod PageLaws
+pub mod EscapeLaws

@@ -1,3 +1,5 @@
 pub mod Arrows
 pub mod Boxes
 pub mod Drawings
+pub mod Pages
+pub mod Escapes

@@ -1,8 +1,7 @@
 //! What is written at an entry, and at an access that it changed.
 
-use mx_judging::Changed;
-use mx_reasons::Part::{self, Decimal, Octal, Place, Text};
-use mx_reasons::{NOTHING, add_parts, add_printable, ring};
+use mx_judging::Part::{self, Decimal, Octal, Place, Text};
+use mx_judging::{Changed, NOTHING, add_parts, add_printable, ring};
 use mx_request::{Reply, Request};
 use mx_sdw::DescKind;
 use mx_show::modes;

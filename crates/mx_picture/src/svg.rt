@@ -5,8 +5,8 @@ mod texts;
 
 use crate::positions::Position;
 pub(crate) use colours::{ink_of, ink_on, ring_colour};
-use mx_reasons::Part::{Decimal, Text};
-use mx_reasons::add_parts;
+use mx_judging::Part::{Decimal, Text};
+use mx_judging::add_parts;
 use std::alloc::AllocError;
 pub(crate) use texts::{add_rising, add_text, add_words};
 

@@ -1,8 +1,8 @@
 //! The return gates of a process: which of them its lines leave, and which they go back through.
 
+use mx_judging::Part::{self, Decimal, Place, Text};
+use mx_judging::add_parts;
 use mx_ptr::Pointer;
-use mx_reasons::Part::{self, Decimal, Place, Text};
-use mx_reasons::add_parts;
 use mx_sdw::Denial;
 use mx_transcript::{Element, Kind, Outcome};
 use std::alloc::{AllocError, Global};

@@ -3,10 +3,10 @@
 use crate::tree::{Caller, Led, ROOT, Tree, resolved};
 use indexmap::IndexMap;
 use mx_aim::Class;
+use mx_judging::{Use, closing};
 use mx_kst::Known;
 use mx_name::{EntryName, Path, Principal};
 use mx_object::ObjectMap;
-use mx_reasons::{Use, closing};
 use mx_request::{Reply, Request, last_number};
 use mx_script::Session;
 use mx_search::{Rule, Rules};

@@ -1,8 +1,8 @@
 //! The segment numbers that a process was given, and what each stands for.
 
+use mx_judging::Part::{Decimal, Octal, Place, Text};
+use mx_judging::{add_parts, add_printable};
 use mx_kst::Known;
-use mx_reasons::Part::{Decimal, Octal, Place, Text};
-use mx_reasons::{add_parts, add_printable};
 use mx_request::{Reply, Request};
 use mx_state::Entry;
 use std::alloc::{AllocError, Global};

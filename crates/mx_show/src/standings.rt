@@ -2,9 +2,9 @@
 
 use crate::ledger::{Ledger, Lot};
 use crate::tree::{Led, ROOT};
+use mx_judging::Part::{Octal, Text};
+use mx_judging::{add_parts, add_printable};
 use mx_name::Pathname;
-use mx_reasons::Part::{Octal, Text};
-use mx_reasons::{add_parts, add_printable};
 use mx_request::{Reply, Request};
 use mx_state::Entry;
 use std::alloc::{AllocError, Global};

@@ -3,8 +3,8 @@
 use crate::ledger::Ledger;
 use crate::tree::{Caller, Led};
 use mx_hier::Refusal;
+use mx_judging::{Letter, lacking};
 use mx_name::{EntryName, Pathname};
-use mx_reasons::{Letter, lacking};
 use mx_request::Request;
 use std::alloc::{AllocError, Global};
 

@@ -6,11 +6,13 @@ use crate::numbers::Numbers;
 use crate::words::{
     access_word, add_access, add_lack, add_reply, extent, kind_word, standing, walk_words,
 };
-use mx_judging::{Accesses, Changed, FIRST_RING, Judged, source_of};
+use mx_judging::Part::{self, Decimal, Octal, Place, Text};
+use mx_judging::{
+    Accesses, Changed, FIRST_RING, Judged, NOTHING, Reason, add_parts, add_printable,
+    add_sentences, explain, ring, source_of,
+};
 use mx_name::cut;
 use mx_ptr::{Pointer, is_link};
-use mx_reasons::Part::{self, Decimal, Octal, Place, Text};
-use mx_reasons::{NOTHING, Reason, add_parts, add_printable, add_sentences, explain, ring};
 use mx_sdw::{Denial, DescKind, Ring, Word};
 use mx_state::Journal;
 use mx_transcript::{Element, Event, Event2, Kind, Outcome, Result2, entry_at};

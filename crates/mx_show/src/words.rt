@@ -2,10 +2,9 @@
 
 use crate::refusals::refusal_words;
 use mx_acl::Modes;
-use mx_judging::Judged;
+use mx_judging::Part::{self, Decimal, Octal, Place, Text};
+use mx_judging::{Judged, NOTHING, add_parts, add_printable, add_sentences, ring};
 use mx_name::AclId;
-use mx_reasons::Part::{self, Decimal, Octal, Place, Text};
-use mx_reasons::{NOTHING, add_parts, add_printable, add_sentences, ring};
 use mx_request::{Known, Reply};
 use mx_sdw::{Aim, Denial, Desc, DescKind};
 use mx_state::Entry;

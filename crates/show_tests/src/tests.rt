@@ -5,7 +5,7 @@ mod cut;
 
 use mx_explain::show;
 use mx_io::{MemorySink, MemorySource};
-use mx_reasons::{Reason, explain};
+use mx_judging::{Reason, explain};
 use mx_sdw::{Aim, Brackets, Denial, Desc, Ring};
 use std::alloc::{AllocError, Global};
 use std::sync::Wait;

@@ -1,9 +1,9 @@
 //! Printed runs with one change, and what is told of them.
 
+use mx_breach::tell_breach;
 use mx_io::MemorySink;
 use mx_reader::read;
 use mx_script::read_session;
-use mx_verdicts::tell_breach;
 use std::alloc::{AllocError, Global};
 use std::thread::Threads;
 

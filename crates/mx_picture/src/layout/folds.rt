@@ -1,7 +1,7 @@
 //! Which entries of the journal nothing hangs on, so that they are folded.
 
 use mx_judging::Accesses;
-use mx_reasons::Part::{self, Decimal, Text};
+use mx_judging::Part::{self, Decimal, Text};
 use mx_request::{Reply, Request};
 use mx_state::Entry;
 use std::alloc::{AllocError, Global};

@@ -5,7 +5,7 @@ use crate::layout::{Layout, TAG_HEIGHT, Tag, tag_width};
 use crate::positions::Position;
 use crate::svg::{add_line, add_rect, add_text};
 use mx_judging::Changed;
-use mx_reasons::Part::Text;
+use mx_judging::Part::Text;
 use mx_sdw::{Desc, DescKind};
 use std::alloc::{AllocError, Global};
 

@@ -7,8 +7,8 @@ use crate::positions::Position;
 use crate::svg::{
     add_disc, add_line, add_rising, add_text, add_words, ink_of, ink_on, ring_colour,
 };
-use mx_reasons::Part::{Decimal, Text};
-use mx_reasons::add_parts;
+use mx_judging::Part::{Decimal, Text};
+use mx_judging::add_parts;
 use mx_request::Reply;
 use mx_state::Entry;
 use mx_transcript::entry_at;

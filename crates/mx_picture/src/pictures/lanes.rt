@@ -5,9 +5,9 @@ use crate::labels::cut;
 use crate::layout::{Band, Lane, Layout, Life};
 use crate::positions::Position;
 use crate::svg::{add_rect, add_text, add_words, ink_on, ring_colour};
+use mx_judging::Part::{Decimal, Text};
+use mx_judging::add_printable;
 use mx_name::Principal;
-use mx_reasons::Part::{Decimal, Text};
-use mx_reasons::add_printable;
 use std::alloc::{AllocError, Global};
 
 /// As many characters of a principal stand before a lane.

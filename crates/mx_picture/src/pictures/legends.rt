@@ -7,7 +7,7 @@ use crate::layout::Layout;
 use crate::positions::Position;
 use crate::svg::{Arrow, Way, add_arrow, add_line, add_rect, add_text, ring_colour};
 use mx_judging::FIRST_RING;
-use mx_reasons::Part::Text;
+use mx_judging::Part::Text;
 use std::alloc::AllocError;
 
 /// The height of what stands below the lanes.

@@ -2,9 +2,8 @@
 
 use crate::layout::Placed;
 use crate::svg::add_words;
-use mx_judging::source_of;
-use mx_reasons::Part::{Decimal, Octal, Place, Text};
-use mx_reasons::{explain, ring};
+use mx_judging::Part::{Decimal, Octal, Place, Text};
+use mx_judging::{explain, ring, source_of};
 use mx_sdw::Denial;
 use mx_show::kind_word;
 use mx_transcript::Outcome;

@@ -4,7 +4,7 @@ use super::layers::Drawing;
 use super::legends::LEGEND_HEIGHT;
 use crate::positions::Position;
 use crate::svg::{add_head, add_quarter, add_text, ink_on, ring_colour};
-use mx_reasons::Part::{Decimal, Text};
+use mx_judging::Part::{Decimal, Text};
 use std::alloc::{AllocError, Global};
 
 /// The width of a ring.

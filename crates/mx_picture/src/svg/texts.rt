@@ -1,8 +1,8 @@
 //! Texts of a drawing, of any characters.
 
 use crate::positions::Position;
-use mx_reasons::Part::{self, Decimal, Text};
-use mx_reasons::add_parts;
+use mx_judging::Part::{self, Decimal, Text};
+use mx_judging::add_parts;
 use std::alloc::AllocError;
 
 /// Adds a text.

@@ -2,9 +2,9 @@
 
 use super::{Told, add_whole_path, first_path};
 use crate::tree::{Led, NoPath, resolved};
+use mx_judging::Part::{Decimal, Octal, Text};
+use mx_judging::{add_parts, add_printable, ring};
 use mx_name::{EntryName, Pathname};
-use mx_reasons::Part::{Decimal, Octal, Text};
-use mx_reasons::{add_parts, add_printable, ring};
 use mx_request::Request;
 use std::alloc::{AllocError, Global};
 

@@ -3,9 +3,9 @@
 use super::{Told, add_whole_path};
 use crate::ledger::{Ledger, Lot, pages_for, rules_of};
 use mx_hier::Refusal;
+use mx_judging::Part::{Decimal, Octal, Place, Text};
+use mx_judging::{add_parts, add_printable};
 use mx_object::ObjectMap;
-use mx_reasons::Part::{Decimal, Octal, Place, Text};
-use mx_reasons::{add_parts, add_printable};
 use mx_request::Request;
 use mx_search::{Rule, Rules};
 use mx_state::Entry;

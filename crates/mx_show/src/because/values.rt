@@ -3,9 +3,9 @@
 use super::{Told, add_classes};
 use crate::words::id_text;
 use mx_acl::AclKind;
+use mx_judging::Part::{Decimal, Octal, Text};
+use mx_judging::{add_parts, add_printable};
 use mx_name::AclId;
-use mx_reasons::Part::{Decimal, Octal, Text};
-use mx_reasons::{add_parts, add_printable};
 use mx_request::Request;
 use mx_sdw::Ring;
 use std::alloc::{AllocError, Global};

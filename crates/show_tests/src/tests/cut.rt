@@ -3,9 +3,9 @@
 use super::{is_made_of, sink};
 use mx_io::MemorySink;
 use mx_legal::legal;
-use mx_lines::{ShowError, show_lines};
 use mx_reader::read;
 use mx_script::read_session;
+use mx_show::{ShowError, show_lines};
 use mx_state::State;
 use std::alloc::Global;
 use std::test::Fail;

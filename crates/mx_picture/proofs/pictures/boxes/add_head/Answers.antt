@@ -1,6 +1,6 @@
 use Rattle.std.proofs.Common.{codes}
 use Rattle.std.proofs.lemmas.Result.{on_ok_weaker}
-use Rattle.mx_lines.proofs.LinesLaws.{put_last}
+use Rattle.mx_show.proofs.LinesLaws.{put_last}
 use Rattle.mx_picture.proofs.BoxLaws.{head_put}
 use Rattle.mx_picture.proofs.pictures.boxes.add_head.Goals as goal
 

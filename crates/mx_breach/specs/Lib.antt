@@ -1,0 +1,4 @@
+pub mod Causes
+pub mod Rules
+pub mod Verdicts
+pub mod Sources

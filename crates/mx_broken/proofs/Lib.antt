@@ -1,2 +1,0 @@
-mod RuleLaws
-mod CauseLaws

@@ -1,3 +1,0 @@
-pub mod OrderLaws
-pub mod PlainLaws
-pub mod WordLaws

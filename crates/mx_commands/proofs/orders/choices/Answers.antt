@@ -1,9 +1,0 @@
-use Rattle.std.proofs.Common.{arith}
-use Rattle.mx_commands.proofs.OrderLaws.{choice_more}
-use Rattle.mx_commands.proofs.orders.choices.Goals as goal
-
-pub loop-preserved : goal.loop-preserved
-loop-preserved c = record {
-  made = choice_more _ _ _ _ _ _ _ _ _ c.loop.invariant.made (omega arith) c.next_state-state.ensures c.chosen.ensures c.in_ok-push.ensures.items;
-  within = omega arith;
-}

@@ -1,5 +1,0 @@
-use Rattle.mx_commands.proofs.WordLaws.{not_drill}
-use Rattle.mx_commands.proofs.words.Command.of_no_run.Goals as goal
-
-pub returns-in-None-one_number : goal.returns-in-None-one_number
-returns-in-None-one_number c = not_drill c.args.name.now _ c.in-drill.is c.in-None-one_number.ensures.value

@@ -1,6 +1,0 @@
-pub mod Commands
-pub mod Usage
-pub mod PlainTexts
-pub mod Orders
--- helpers that only private contracts cite
-pub mod Readings

@@ -1,8 +1,0 @@
-use Rattle.std.proofs.Common.{◌≡◌, ◌++◌, take}
-use Rattle.std.specs.List.{flat_map}
-use Rattle.mx_escapes.specs.Escapes.{quoted_byte}
-use Rattle.mx_escapes.proofs.escapes.add_quoted_bytes.Given as goal
-
--- the bytes so far are added
-abbrev pub invariant-loop-byte : goal.invariant-loop-byte
-invariant-loop-byte l = l.out.items ≡ l.initial.out.items ++ flat_map quoted_byte (take l.byte-index l.text)

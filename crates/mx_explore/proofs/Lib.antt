@@ -1,4 +1,0 @@
-mod AllOrderLaws
-mod ExploredLaws
-mod TextLaws
-pub mod WholeRunLaws

@@ -1,5 +1,0 @@
-use Rattle.mx_explore.specs.Exploring.{HasCome}
-use Rattle.mx_explore.proofs.exploring.make_all.Given as goal
-
-abbrev pub invariant-loop : goal.invariant-loop
-invariant-loop g l = HasCome l.session l.fn.groups.items l.order.items l.tallies.items

@@ -1,9 +1,0 @@
-use Rattle.std.proofs.Common.{◌≡◌, ◌+◌, ◌++◌, drop, map}
-use Rattle.mx_explore.specs.Exploring.{plain}
-use Rattle.mx_explore.specs.OutcomesTexts.{numbered}
-use Rattle.mx_explore.proofs.lines.add_script.Given as goal
-
-abbrev pub invariant-loop-place : goal.invariant-loop-place
-invariant-loop-place l =
-    map plain l.lines.items ++ numbered l.process (l.number + l.place) (drop l.place l.script)
-    ≡ map plain l.initial.lines.items ++ numbered l.process l.number l.script

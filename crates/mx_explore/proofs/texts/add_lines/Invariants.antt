@@ -1,9 +1,0 @@
-use Rattle.std.proofs.Common.{◌≡◌, ◌++◌, drop, map}
-use Rattle.mx_explore.specs.Exploring.{plain}
-use Rattle.mx_explore.specs.OutcomesTexts.{lines_text}
-use Rattle.mx_explore.proofs.texts.add_lines.Given as goal
-
-abbrev pub invariant-loop-place : goal.invariant-loop-place
-invariant-loop-place l =
-    l.out.items ++ lines_text l.tallies l.place (map plain (drop l.place l.lines))
-    ≡ l.initial.out.items ++ lines_text l.tallies 0 (map plain l.lines)

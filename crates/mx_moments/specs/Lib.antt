@@ -1,3 +1,0 @@
-pub mod Stories
-pub mod Ordering
-pub mod Cutting

@@ -1,6 +1,0 @@
-use Rattle.std.proofs.Common.{length}
-use Rattle.mx_story.proofs.columns.add_below.Given as goal
-
--- the bytes that are left
-abbrev pub decreases-loop-line : goal.decreases-loop-line
-decreases-loop-line l = length l.rest

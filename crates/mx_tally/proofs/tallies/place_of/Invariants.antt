@@ -1,6 +1,0 @@
-use Rattle.std.proofs.Common.{take}
-use Rattle.mx_tally.specs.Places.{IsNew}
-use Rattle.mx_tally.proofs.tallies.place_of.Given as goal
-
-abbrev pub invariant-loop-place : goal.invariant-loop-place
-invariant-loop-place l = IsNew l.outcomes (take l.place l.rows)

@@ -1,6 +1,0 @@
-use Rattle.std.proofs.Common.{◌≡◌, ◌++◌, take}
-use Rattle.mx_tally.specs.Texts.{order_text}
-use Rattle.mx_tally.proofs.texts.add_order.Given as goal
-
-abbrev pub invariant-loop-process : goal.invariant-loop-process
-invariant-loop-process l = l.out.items ≡ l.initial.out.items ++ order_text (take l.process-index l.order)
