@@ -17,6 +17,7 @@
 //! `mx_proc` (runs), `mx_transcript` and `mx_state` (what a run was), and `mx_text` (the text of a result).
 #![tactic(auto)]
 
+mod decimals;
 mod exploring;
 mod laws;
 mod lines;

@@ -2,14 +2,13 @@
 
 ghost use Rattle.std.specs.Prelude.{◌≡◌, ◌++◌, ◌==◌, [], ◌∷◌, OnOk, Some, replicate};
 ghost use Rattle.std.specs.Cmp.Lexicographic.{pointwise};
-ghost use Rattle.std.specs.Fmt.{decimal};
 ghost use Rattle.std.specs.List.{find};
 ghost use Rattle.std.specs.Option.{option_map};
 ghost use Rattle.mx_outcomes.specs.Tallies.{is_of};
 ghost use Rattle.mx_outcomes.specs.RowTexts.{text_of, padded, step_text, order_text, times_text, row_text, rows_text, other_text, one_text, pairs_text};
 
+use crate::decimals::add_decimal;
 use crate::tallies::{Row, Texts};
-use itoa::Buffer;
 use mx_list::Bytes;
 use std::alloc::AllocError;
 
@@ -153,12 +152,4 @@ fn is_text(text: &Bytes, other: &[u8]) -> bool
     ensures { result ≡ pointwise ◌==◌ text.now other.now }
 {
     *text.items() == *other
-}
-
-// Adds the number in decimal.
-fn add_decimal(out: &mut Vec<u8>, n: u64) -> Result<(), AllocError>
-    ensures { OnOk result (out.new.items ≡ out.old.items ++ decimal n) }
-{
-    let mut buffer = Buffer::new();
-    out.extend_from_slice(buffer.format(n).as_bytes())
 }

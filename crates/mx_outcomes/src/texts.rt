@@ -1,15 +1,14 @@
 //! What the lines of a session came to in all orders, told.
 
 ghost use Rattle.std.specs.Prelude.{◌≡◌, ◌++◌, [], ◌∷◌, map, IfOk, OnOk};
-ghost use Rattle.std.specs.Fmt.{decimal};
 ghost use Rattle.mx_outcomes.specs.Exploring.{plain};
 ghost use Rattle.mx_outcomes.specs.OutcomesTexts.{TellsAll, TellsTwo, TellsGroups, name_text, head_text, rows_at, lines_text, orders_text, two_text, or_more, count_text, too_many_text, no_line_text, singles, two_groups};
 
+use crate::decimals::add_decimal;
 use crate::exploring::{Explored, explore};
 use crate::lines::{ScriptLine, find_line, script_lines};
 use crate::rows::{add_pairs, add_rows};
 use crate::tallies::{Places, Row, Tally};
-use itoa::Buffer;
 use mx_list::Sequence;
 use mx_script::Session;
 use std::alloc::{AllocError, Global};
@@ -220,12 +219,4 @@ fn add_name(out: &mut Vec<u8>, process: u8, number: u32) -> Result<(), AllocErro
     add_decimal(out, u64::from(process))?;
     out.extend_from_slice(b".")?;
     add_decimal(out, u64::from(number))
-}
-
-// Adds the number in decimal.
-fn add_decimal(out: &mut Vec<u8>, n: u64) -> Result<(), AllocError>
-    ensures { OnOk result (out.new.items ≡ out.old.items ++ decimal n) }
-{
-    let mut buffer = Buffer::new();
-    out.extend_from_slice(buffer.format(n).as_bytes())
 }

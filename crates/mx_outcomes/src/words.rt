@@ -1,14 +1,13 @@
 //! What a line came to, in words.
 
 ghost use Rattle.std.specs.Prelude.{◌≡◌, ◌++◌, ◌∷◌, [], codes, map, IfOk, OnOk};
-ghost use Rattle.std.specs.Fmt.{decimal};
 ghost use Rattle.mx_request.specs.Fields.{address_text};
 ghost use Rattle.mx_text.specs.RunText.{result_text};
 ghost use Rattle.mx_transcript.specs.declared.transcripts.Event2.TheVariants.{Entry};
 ghost use Rattle.mx_transcript.specs.declared.transcripts.Result2.TheVariants.{Pr, Moved};
 ghost use Rattle.mx_outcomes.specs.Words.{event_words, events_words, read_words, outcome_of, outcomes_of, outcomes_in};
 
-use itoa::Buffer;
+use crate::decimals::add_decimal;
 use mx_list::{Bytes, Sequence};
 use mx_ptr::Pointer;
 use mx_sdw::{Ring, write_octal};
@@ -161,12 +160,4 @@ fn add_address(out: &mut Vec<u8>, segno: u16, word: u16) -> Result<(), AllocErro
     write_octal(out, u64::from(segno))?;
     out.extend_from_slice(b"|")?;
     write_octal(out, u64::from(word))
-}
-
-// Adds the number in decimal.
-fn add_decimal(out: &mut Vec<u8>, n: u64) -> Result<(), AllocError>
-    ensures { OnOk result (out.new.items ≡ out.old.items ++ decimal n) }
-{
-    let mut buffer = Buffer::new();
-    out.extend_from_slice(buffer.format(n).as_bytes())
 }
