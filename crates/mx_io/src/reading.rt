@@ -8,7 +8,7 @@ use std::alloc::{AllocError, Global};
 use thiserror::Error;
 
 /// How many bytes are asked of a source at a time.
-const PIECE: usize = 65_536;
+const PIECE: usize = 32_768;
 
 /// Why a source was not read to its end.
 #[derive(Clone, Copy, Debug, PartialEq, Eq, Error)]
