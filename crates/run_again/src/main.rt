@@ -1,18 +1,16 @@
 //! The program: it reads a session and runs it as often as the command line says, and prints nothing of the runs but how many there were
-//! and how many entries the last one has; so that what a run itself takes, without reading and printing, can be timed from
-//! outside. `run_again COUNT < SESSION`. Status 0 means that all were run, 1 that memory or the input failed, 2 that the command line
-//! says something else, 5 that the text is no session.
+//! and how many entries the last one has, and with `times`, before that, the microseconds that each run took, a line each: what a run itself takes, without
+//! reading, printing, and giving its memory back. `run_again COUNT [times] < SESSION`. Status 0 means that all were run, 1 that memory, the input or
+//! the clock failed, 2 that the command line says something else, 5 that the text is no session.
 //!
 //! Each run is a legal run by the clauses of `mx_proc::run`, on which it stands.
 #![tactic(auto)]
 
 use mx_io::{StdSource, read_all};
 use mx_proc::{NoGate, run};
-use mx_script::{Session, read_session};
-use std::alloc::{AllocError, Global};
+use mx_script::read_session;
 use std::process::ExitCode;
-use std::sync::Wait;
-use std::thread::Threads;
+use std::time::Instant;
 use std::{env, io};
 
 /// The greatest size of a session text, in bytes.
@@ -26,8 +24,8 @@ const NO_SESSION: u8 = 5;
 
 fn main(rt: HostRuntime) -> io::Result<ExitCode> {
     let words = env::args(&rt)?.skip(1).collect::<Vec<String>>(rt.alloc())?;
-    let Some(count) = count_of(&words) else {
-        eprintln!(rt; "run_again COUNT < SESSION: runs a session so many times")?;
+    let Some(order) = order_of(&words) else {
+        eprintln!(rt; "run_again COUNT [times] < SESSION: runs a session so many times")?;
         return Ok(ExitCode::from(BAD_WORDS));
     };
     let mut source = StdSource::new(rt.stdin());
@@ -37,30 +35,42 @@ fn main(rt: HostRuntime) -> io::Result<ExitCode> {
     let Ok(session) = read_session(rt.alloc(), &text) else {
         return Ok(ExitCode::from(NO_SESSION));
     };
-    let entries = run_again(&rt, rt.alloc(), &session, count)?;
-    println!(rt; "{count} runs, {entries} entries in the last")?;
+    let mut entries = 0;
+    for _ in 0..order.count {
+        let begun = Instant::now(&rt)?;
+        let (journal, _transcripts) = run(
+            &rt,
+            rt.alloc(),
+            &session,
+            &NoGate,
+            &mut Vec::new(rt.alloc()),
+        )?;
+        let took = begun.elapsed(&rt)?;
+        if order.timed {
+            println!(rt; "{}", took.as_micros())?;
+        }
+        entries = journal.items().len();
+    }
+    println!(rt; "{} runs, {entries} entries in the last", order.count)?;
     Ok(ExitCode::from(0))
 }
 
-// The only word, as a number.
-fn count_of(words: &[String]) -> Option<u32> {
-    match words {
-        [word] => word.as_str().parse().ok(),
-        _ => None,
-    }
+/// What the command line orders.
+#[derive(Clone, Copy)]
+struct Order {
+    /// How many runs.
+    count: u32,
+    /// Whether the time of each is printed.
+    timed: bool,
 }
 
-// Runs a session so many times: how many entries the last run has.
-fn run_again<R: Threads + Wait + Sync>(
-    rt: &R,
-    alloc: Global,
-    session: &Session,
-    count: u32,
-) -> Result<usize, AllocError> {
-    let mut entries = 0;
-    for _ in 0..count {
-        let (journal, _transcripts) = run(rt, alloc, session, &NoGate, &mut Vec::new(alloc))?;
-        entries = journal.items().len();
-    }
-    Ok(entries)
+// A number, alone or before the word `times`.
+fn order_of(words: &[String]) -> Option<Order> {
+    let (count, timed) = match words {
+        [count] => (count, false),
+        [count, word] if word.as_str() == "times" => (count, true),
+        _ => return None,
+    };
+    let count = count.as_str().parse().ok()?;
+    Some(Order { count, timed })
 }
