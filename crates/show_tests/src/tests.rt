@@ -1,6 +1,7 @@
 //! Three tables: what each command comes to, what is told of a printed run, and what each denial is explained by. A fourth has runs
 //! in which a process was logged out.
 
+mod breaches;
 mod cut;
 
 use mx_explain::show;

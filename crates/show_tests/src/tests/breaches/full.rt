@@ -1,9 +1,8 @@
 //! Breaches of a run whose journal is full.
 
-use super::changes::{Row, first_wrong};
-use std::test::Fail;
+use super::changes::Row;
 
-const FULL_SESSION: &[u8] = b"multics 1\n\
+pub const FULL_SESSION: &[u8] = b"multics 1\n\
     history 3\n\
     create_seg >a 64 4 4 4\n\
     set_acl >a *.*.* rw\n\
@@ -13,7 +12,7 @@ const FULL_SESSION: &[u8] = b"multics 1\n\
     logout\n\
     end\n";
 
-const FULL_RUN: &str = "journal 3\n\
+pub const FULL_RUN: &str = "journal 3\n\
     1 0 0 create_seg >a 64 4 4 4 = ok\n\
     2 0 0 set_acl >a *.*.* rw = ok\n\
     3 1 4 initiate >a = segno 10 new\n\
@@ -31,7 +30,7 @@ const FULL_RUN: &str = "journal 3\n\
     end\n";
 
 // What is changed, and what is told.
-const FULL_ROWS: &[Row] = &[
+pub const FULL_ROWS: &[Row] = &[
     (
         "line 8 history_full",
         "entry 4\n\
@@ -88,10 +87,3 @@ const FULL_ROWS: &[Row] = &[
          \x20 could stand there: read 10|100 ring 4 point 3 denied out_of_bounds\n",
     ),
 ];
-
-#[test]
-fn each_breach_at_the_limit_is_told(rt: HostRuntime) -> Result<(), Fail> {
-    let wrong = first_wrong(&rt, rt.alloc(), FULL_SESSION, FULL_RUN, FULL_ROWS)?;
-    assert_eq!(rt; wrong, None);
-    Ok(())
-}

@@ -1,5 +1,0 @@
-mod alone;
-mod changes;
-mod cut;
-mod full;
-mod sharing;
