@@ -215,11 +215,23 @@ fn comes_so<R: Threads + Wait + Sync>(
     row: &Row,
 ) -> Result<bool, AllocError> {
     let (line, text, fails, room, wanted, parts) = *row;
+    let (status, told) = shown(rt, alloc, line, source(alloc, text, fails)?, room)?;
+    Ok(status == wanted && is_made_of(told.bytes(), parts))
+}
+
+// What the command of these words comes to over a source, with so much room.
+fn shown<R: Threads + Wait + Sync>(
+    rt: &R,
+    alloc: Global,
+    line: &str,
+    source: MemorySource,
+    room: usize,
+) -> Result<(u8, MemorySink), AllocError> {
     let words = words(alloc, line)?;
-    let mut source = source(alloc, text, fails)?;
-    let mut sink = sink(alloc, room)?;
-    let status = show(rt, alloc, &words, &mut source, &mut sink);
-    Ok(status == wanted && is_made_of(sink.bytes(), parts))
+    let mut source = source;
+    let mut told = sink(alloc, room)?;
+    let status = show(rt, alloc, &words, &mut source, &mut told);
+    Ok((status, told))
 }
 
 // The words of a line.
@@ -266,7 +278,7 @@ const SMALLEST_RUN: &str = "journal 4\n\
     line 9 done\n\
     end\n";
 
-// What is changed in that run, and by what; the status that `breach` comes to, and what it tells.
+// What is changed in a run, and by what; the status that `breach` comes to, and what it tells.
 type Change = (&'static str, &'static str, u8, &'static str);
 
 const CHANGES: &[Change] = &[
@@ -295,7 +307,7 @@ const CHANGES: &[Change] = &[
 fn a_printed_run_is_judged(rt: HostRuntime) -> Result<(), Fail> {
     let mut wrong = None;
     for (i, change) in CHANGES.iter().enumerate() {
-        if !is_told_so(&rt, rt.alloc(), change)? {
+        if !is_told_so(&rt, rt.alloc(), SMALLEST, SMALLEST_RUN, change)? {
             wrong = Some(i);
         }
     }
@@ -303,24 +315,24 @@ fn a_printed_run_is_judged(rt: HostRuntime) -> Result<(), Fail> {
     Ok(())
 }
 
-// Whether `breach` comes to the status and the bytes of this change.
+// Whether `breach` comes to the status and the bytes of this change of a session's run.
 fn is_told_so<R: Threads + Wait + Sync>(
     rt: &R,
     alloc: Global,
+    session: &[u8],
+    run: &str,
     change: &Change,
 ) -> Result<bool, AllocError> {
     let (old, new, wanted, told) = *change;
-    let Some((before, after)) = SMALLEST_RUN.split_once(old) else {
+    let Some((before, after)) = run.split_once(old) else {
         return Ok(false);
     };
-    let mut text = Vec::from_slice(alloc, SMALLEST)?;
+    let mut text = Vec::from_slice(alloc, session)?;
     for part in [before, new, after] {
         text.extend_from_slice(part.as_bytes())?;
     }
-    let mut source = source(alloc, &text, false)?;
-    let mut sink = sink(alloc, 4096)?;
-    let status = show(rt, alloc, &words(alloc, "breach")?, &mut source, &mut sink);
-    Ok(status == wanted && sink.bytes() == told.as_bytes())
+    let (status, said) = shown(rt, alloc, "breach", source(alloc, &text, false)?, 4096)?;
+    Ok(status == wanted && said.bytes() == told.as_bytes())
 }
 
 #[test]
@@ -343,22 +355,9 @@ fn is_session<R: Threads + Wait + Sync>(
     alloc: Global,
     line: &str,
 ) -> Result<bool, AllocError> {
-    let mut printed = sink(alloc, 65_536)?;
-    let status = show(
-        rt,
-        alloc,
-        &words(alloc, line)?,
-        &mut source(alloc, b"", true)?,
-        &mut printed,
-    );
-    let mut told = sink(alloc, 65_536)?;
-    let linted = show(
-        rt,
-        alloc,
-        &words(alloc, "lint")?,
-        &mut source(alloc, printed.bytes(), false)?,
-        &mut told,
-    );
+    let (status, printed) = shown(rt, alloc, line, source(alloc, b"", true)?, 65_536)?;
+    let text = source(alloc, printed.bytes(), false)?;
+    let (linted, _told) = shown(rt, alloc, "lint", text, 65_536)?;
     Ok(status == 0 && linted == 0)
 }
 

@@ -1,35 +1,30 @@
-//! Printed runs with one change each, and what is told of them.
+//! Printed runs with one change each, and what `breach` tells of them.
 
 mod alone;
-mod changes;
 mod cut;
 mod full;
 mod sharing;
 
-use alone::{ALONE_ROWS, ALONE_RUN, ALONE_SESSION};
-use changes::{Row, first_wrong};
-use cut::{CUT_ROWS, CUT_RUN, CUT_SESSION};
-use full::{FULL_ROWS, FULL_RUN, FULL_SESSION};
-use sharing::{MISS_ROWS, MISS_RUN, MISS_SESSION, READ_ROWS, READ_RUN, READ_SESSION};
-use std::test::Fail;
+use super::is_told_so;
+use std::alloc::{AllocError, Global};
+use std::sync::Wait;
+use std::thread::Threads;
 
-// Of one process; behind a line that was denied and its process logged out; at the limit; of a word that another stored; of a miss.
-const RUNS: &[(&[u8], &str, &[Row])] = &[
-    (ALONE_SESSION, ALONE_RUN, ALONE_ROWS),
-    (CUT_SESSION, CUT_RUN, CUT_ROWS),
-    (FULL_SESSION, FULL_RUN, FULL_ROWS),
-    (READ_SESSION, READ_RUN, READ_ROWS),
-    (MISS_SESSION, MISS_RUN, MISS_ROWS),
-];
+// What is changed in a run, by what, and what is told of it then.
+type Row = (&'static str, &'static str, &'static str);
 
-#[test]
-fn each_change_of_a_run_is_told(rt: HostRuntime) -> Result<(), Fail> {
-    let mut wrong = None;
-    for (i, (session, run, rows)) in RUNS.iter().enumerate() {
-        if let Some(place) = first_wrong(&rt, rt.alloc(), session, run, rows)? {
-            wrong = Some((i, place));
+// The first of these changes of a run of which another thing is told; none where each is told of as its row has it.
+fn first_wrong<R: Threads + Wait + Sync>(
+    rt: &R,
+    alloc: Global,
+    session: &[u8],
+    run: &str,
+    rows: &[Row],
+) -> Result<Option<usize>, AllocError> {
+    for (place, (old, new, told)) in rows.iter().enumerate() {
+        if !is_told_so(rt, alloc, session, run, &(*old, *new, 0, *told))? {
+            return Ok(Some(place));
         }
     }
-    assert_eq!(rt; wrong, None);
-    Ok(())
+    Ok(None)
 }

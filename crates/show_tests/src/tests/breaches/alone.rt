@@ -1,8 +1,9 @@
 //! Breaches of a run of one process.
 
-use super::changes::Row;
+use super::{Row, first_wrong};
+use std::test::Fail;
 
-pub const ALONE_SESSION: &[u8] = b"multics 1\n\
+const ALONE_SESSION: &[u8] = b"multics 1\n\
     create_seg >a 64 4 4 4\n\
     set_acl >a Jones.Faculty.a rw\n\
     process Jones.Faculty.a\n\
@@ -13,7 +14,7 @@ pub const ALONE_SESSION: &[u8] = b"multics 1\n\
     logout\n\
     end\n";
 
-pub const ALONE_RUN: &str = "journal 4\n\
+const ALONE_RUN: &str = "journal 4\n\
     1 0 0 create_seg >a 64 4 4 4 = ok\n\
     2 0 0 set_acl >a Jones.Faculty.a rw = ok\n\
     3 1 4 initiate >a = segno 10 new\n\
@@ -36,7 +37,7 @@ pub const ALONE_RUN: &str = "journal 4\n\
     end\n";
 
 // What is changed, and what is told.
-pub const ALONE_ROWS: &[Row] = &[
+const ALONE_ROWS: &[Row] = &[
     ("", "", "legal\n"),
     (
         "word 52 from",
@@ -209,3 +210,10 @@ pub const ALONE_ROWS: &[Row] = &[
          \x20 the initializer: it makes requests on paths alone\n",
     ),
 ];
+
+#[test]
+fn each_breach_of_one_process_is_told(rt: HostRuntime) -> Result<(), Fail> {
+    let wrong = first_wrong(&rt, rt.alloc(), ALONE_SESSION, ALONE_RUN, ALONE_ROWS)?;
+    assert_eq!(rt; wrong, None);
+    Ok(())
+}

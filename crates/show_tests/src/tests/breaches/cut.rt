@@ -1,8 +1,9 @@
 //! Breaches of a run in which a process logs out behind a line that was denied.
 
-use super::changes::Row;
+use super::{Row, first_wrong};
+use std::test::Fail;
 
-pub const CUT_SESSION: &[u8] = b"multics 1\n\
+const CUT_SESSION: &[u8] = b"multics 1\n\
     create_seg >a 64 4 4 4\n\
     set_acl >a *.*.* rw\n\
     process A.B.c\n\
@@ -13,7 +14,7 @@ pub const CUT_SESSION: &[u8] = b"multics 1\n\
     logout\n\
     end\n";
 
-pub const CUT_RUN: &str = "journal 4\n\
+const CUT_RUN: &str = "journal 4\n\
     1 0 0 create_seg >a 64 4 4 4 = ok\n\
     2 0 0 set_acl >a *.*.* rw = ok\n\
     3 1 4 initiate >a = segno 10 new\n\
@@ -33,7 +34,7 @@ pub const CUT_RUN: &str = "journal 4\n\
     end\n";
 
 // What is changed, and what is told.
-pub const CUT_ROWS: &[Row] = &[
+const CUT_ROWS: &[Row] = &[
     ("", "", "legal\n"),
     (
         "entry 4\n\
@@ -130,3 +131,10 @@ pub const CUT_ROWS: &[Row] = &[
          \x20 the journal's order: the lines of a process name each of its entries, and none names this one\n",
     ),
 ];
+
+#[test]
+fn each_breach_behind_a_denied_line_is_told(rt: HostRuntime) -> Result<(), Fail> {
+    let wrong = first_wrong(&rt, rt.alloc(), CUT_SESSION, CUT_RUN, CUT_ROWS)?;
+    assert_eq!(rt; wrong, None);
+    Ok(())
+}

@@ -1,8 +1,9 @@
 //! Breaches of a run whose journal is full.
 
-use super::changes::Row;
+use super::{Row, first_wrong};
+use std::test::Fail;
 
-pub const FULL_SESSION: &[u8] = b"multics 1\n\
+const FULL_SESSION: &[u8] = b"multics 1\n\
     history 3\n\
     create_seg >a 64 4 4 4\n\
     set_acl >a *.*.* rw\n\
@@ -12,7 +13,7 @@ pub const FULL_SESSION: &[u8] = b"multics 1\n\
     logout\n\
     end\n";
 
-pub const FULL_RUN: &str = "journal 3\n\
+const FULL_RUN: &str = "journal 3\n\
     1 0 0 create_seg >a 64 4 4 4 = ok\n\
     2 0 0 set_acl >a *.*.* rw = ok\n\
     3 1 4 initiate >a = segno 10 new\n\
@@ -30,7 +31,7 @@ pub const FULL_RUN: &str = "journal 3\n\
     end\n";
 
 // What is changed, and what is told.
-pub const FULL_ROWS: &[Row] = &[
+const FULL_ROWS: &[Row] = &[
     (
         "line 8 history_full",
         "entry 4\n\
@@ -87,3 +88,10 @@ pub const FULL_ROWS: &[Row] = &[
          \x20 could stand there: read 10|100 ring 4 point 3 denied out_of_bounds\n",
     ),
 ];
+
+#[test]
+fn each_breach_at_the_limit_is_told(rt: HostRuntime) -> Result<(), Fail> {
+    let wrong = first_wrong(&rt, rt.alloc(), FULL_SESSION, FULL_RUN, FULL_ROWS)?;
+    assert_eq!(rt; wrong, None);
+    Ok(())
+}

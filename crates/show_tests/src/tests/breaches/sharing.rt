@@ -1,8 +1,9 @@
 //! Breaches of runs of two processes that share a segment: words that are read, and misses.
 
-use super::changes::Row;
+use super::{Row, first_wrong};
+use std::test::Fail;
 
-pub const READ_SESSION: &[u8] = b"multics 1\n\
+const READ_SESSION: &[u8] = b"multics 1\n\
     create_seg >a 64 4 4 4\n\
     set_acl >a *.*.* rw\n\
     process A.B.c\n\
@@ -19,7 +20,7 @@ pub const READ_SESSION: &[u8] = b"multics 1\n\
     logout\n\
     end\n";
 
-pub const READ_RUN: &str = "journal 6\n\
+const READ_RUN: &str = "journal 6\n\
     1 0 0 create_seg >a 64 4 4 4 = ok\n\
     2 0 0 set_acl >a *.*.* rw = ok\n\
     3 1 4 initiate >a = segno 10 new\n\
@@ -54,7 +55,7 @@ pub const READ_RUN: &str = "journal 6\n\
     end\n";
 
 // Words that were stored by the other process.
-pub const READ_ROWS: &[Row] = &[
+const READ_ROWS: &[Row] = &[
     (
         "read 10|0 ring 4 point 5 word 2 from 1 stamp 4\n\
          line 14 a 2",
@@ -94,7 +95,7 @@ pub const READ_ROWS: &[Row] = &[
     ),
 ];
 
-pub const MISS_SESSION: &[u8] = b"multics 1\n\
+const MISS_SESSION: &[u8] = b"multics 1\n\
     create_seg >a 64 4 4 4\n\
     set_acl >a *.*.* rw\n\
     set_acl > D.E.f sma\n\
@@ -110,7 +111,7 @@ pub const MISS_SESSION: &[u8] = b"multics 1\n\
     logout\n\
     end\n";
 
-pub const MISS_RUN: &str = "journal 8\n\
+const MISS_RUN: &str = "journal 8\n\
     1 0 0 create_seg >a 64 4 4 4 = ok\n\
     2 0 0 set_acl >a *.*.* rw = ok\n\
     3 0 0 set_acl > D.E.f sma = ok\n\
@@ -148,7 +149,7 @@ pub const MISS_RUN: &str = "journal 8\n\
     end\n";
 
 // Access that the other process takes away and gives back.
-pub const MISS_ROWS: &[Row] = &[
+const MISS_ROWS: &[Row] = &[
     (
         "missing 10 by 5",
         "missing 10 by 4",
@@ -211,3 +212,17 @@ pub const MISS_ROWS: &[Row] = &[
          \x20 could stand there: entry 7, the next of this process, which asked in ring 4: logout\n",
     ),
 ];
+
+#[test]
+fn each_wrong_word_is_told(rt: HostRuntime) -> Result<(), Fail> {
+    let wrong = first_wrong(&rt, rt.alloc(), READ_SESSION, READ_RUN, READ_ROWS)?;
+    assert_eq!(rt; wrong, None);
+    Ok(())
+}
+
+#[test]
+fn each_wrong_miss_is_told(rt: HostRuntime) -> Result<(), Fail> {
+    let wrong = first_wrong(&rt, rt.alloc(), MISS_SESSION, MISS_RUN, MISS_ROWS)?;
+    assert_eq!(rt; wrong, None);
+    Ok(())
+}
