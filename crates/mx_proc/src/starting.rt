@@ -1,50 +1,34 @@
 //! The start of threads, which begin together.
 
-use std::sync::{Condvar, Mutex, Wait};
+use std::sync::{OnceLock, Wait};
 
-/// Where the threads of a run wait until the last of them was made, so that processes run beside each other.
+/// Where the threads of a run wait until the last of them was made, so that processes run beside each other. Then it is written,
+/// once: the place of the process for which no thread could be had, if there is one.
 #[derive(Drop)]
 pub(crate) struct Start {
-    state: Mutex<State>,
-    told: Condvar,
-}
-
-/// Whether all are to begin; and the place of the process for which no thread could be had.
-#[derive(Drop)]
-struct State {
-    begun: bool,
-    refused: Option<usize>,
+    refused: OnceLock<Option<usize>>,
 }
 
 impl Start {
     pub(crate) fn new() -> Start {
         Start {
-            state: Mutex::new(State {
-                begun: false,
-                refused: None,
-            }),
-            told: Condvar::new(),
+            refused: OnceLock::new(),
         }
     }
 
-    /// Waits until all are to begin, and says that the process at this place is to. It says no, at once, where no thread
-    /// could be had for it: it is then handed back to who asked for one.
+    /// Waits until all are to begin, and says that the process at this place is to. It says no where no thread could be had for
+    /// it: it is then handed back to who asked for one.
     pub(crate) fn wait<R: Wait>(&self, rt: &R, place: usize) -> bool {
-        let state = self.state.lock(rt);
-        let told = self.told.wait_while(rt, state, |state| {
-            !state.begun && state.refused != Some(place)
-        });
-        told.begun
+        *self.refused.wait(rt) != Some(place)
     }
 
     /// All are to begin.
     pub(crate) fn begin<R: Wait>(&self, rt: &R) {
-        self.state.lock(rt).begun = true;
-        self.told.notify_all();
+        let _first = self.refused.set(rt, None);
     }
 
-    /// No thread could be had for the process at this place.
+    /// All are to begin but the process at this place, for which no thread could be had.
     pub(crate) fn refuse<R: Wait>(&self, rt: &R, place: usize) {
-        self.state.lock(rt).refused = Some(place);
+        let _first = self.refused.set(rt, Some(place));
     }
 }

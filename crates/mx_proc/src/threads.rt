@@ -133,7 +133,6 @@ fn work_from<
             start.refuse(rt, place);
             let Worked { process, done: _ } = (refused.value)();
             put(row, process);
-            start.begin(rt);
             take_turns(rt, alloc, office, gate, row)
         }
     }

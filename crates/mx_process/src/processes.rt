@@ -9,6 +9,7 @@ ghost use Rattle.mx_process.specs.Lines.{IsAwake, IsOwn};
 ghost use Rattle.mx_process.specs.Plans.{IsUncut, left_of, place_in};
 ghost use Rattle.mx_process.specs.Processes.{HasLine, HasRoom, IsNew, IsNewPass, IsStill, script_of};
 ghost use Rattle.mx_ties.specs.Working.{HasWorked};
+ghost use Rattle.mx_transcript.specs.Recorded.{IsStill as IsUnchanged};
 ghost use Rattle.mx_transcript.specs.Scripts.{lines_of};
 
 use crate::misses::Miss;
@@ -118,13 +119,16 @@ impl<'a, B: Attending, A: Auditor> Process<'a, B, A> {
     }
 
     /// Makes room for all lines of its script and for as many events, by the thread that calls it, so that nothing that is
-    /// recorded is moved. Condition: it does not wait. Want of memory changes nothing but room.
+    /// recorded is moved; and for an attempt's events at each line whose operand is indirect, but does without where there is none
+    /// for these, since an attempt makes its own. Condition: it does not wait. Want of memory changes nothing but room.
     pub fn reserve_lines(&mut self) -> Result<(), AllocError>
         requires awake { IsAwake self.old }
         ensures awake { IsAwake self.new }
         ensures own { IsOwn self.old self.new }
     {
         let lines = self.script.len().saturating_add(ATTEMPT as usize);
+        let attempts = count_indirect(self.script).saturating_mul(ATTEMPT as usize);
+        ask_for_room(&mut self.state.recording, lines.saturating_add(attempts));
         self.state.recording.reserve_lines(lines)
     }
 
@@ -173,4 +177,30 @@ fn script_at(scripts: &[Script], i: usize) -> &[Line]
     ensures { slice_get scripts.now i ≡ Some result.now }
 {
     scripts[i].items()
+}
+
+/// Makes room for so many events where it can be had.
+fn ask_for_room(recording: &mut Recording, events: usize)
+    ensures { IsUnchanged recording.old recording.new }
+{
+    if let Ok(events) = u32::try_from(events) {
+        let _none = recording.reserve_events(events);
+    }
+}
+
+/// How many lines of a script have an indirect operand.
+fn count_indirect(script: &[Line]) -> usize {
+    script.iter().filter(|line| is_indirect(line)).count()
+}
+
+fn is_indirect(line: &Line) -> bool {
+    match line {
+        Line::Epp { operand, .. }
+        | Line::Lda { operand }
+        | Line::Sta { operand }
+        | Line::Spri { operand, .. }
+        | Line::Call { operand }
+        | Line::Return { operand } => operand.indirect,
+        Line::Ask(_) | Line::Set { .. } | Line::Fetch => false,
+    }
 }

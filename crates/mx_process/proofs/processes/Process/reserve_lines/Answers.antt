@@ -1,4 +1,4 @@
-use Rattle.std.proofs.Common.{refl}
+use Rattle.std.proofs.Common.{refl, ◌∙◌}
 use Rattle.mx_process.proofs.ProcessLaws.{still_process}
 use Rattle.mx_process.proofs.processes.Process.reserve_lines.Goals as goal
 
@@ -7,8 +7,8 @@ invariant_of-self g c =
     still_process g.B.Sitting.session g.B.Sitting.setup _ _ (record {
       first = refl;
       control = refl;
-      steps = c.reserve_lines.ensures.same.steps;
-      events = c.reserve_lines.ensures.same.events;
+      steps = c.reserve_lines.ensures.same.steps ∙ c.ask_for_room.ensures.steps;
+      events = c.reserve_lines.ensures.same.events ∙ c.ask_for_room.ensures.events;
       progress = refl;
       missing = refl;
       view = refl;
