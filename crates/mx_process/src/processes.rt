@@ -119,15 +119,16 @@ impl<'a, B: Attending, A: Auditor> Process<'a, B, A> {
     }
 
     /// Makes room for all lines of its script and for as many events, by the thread that calls it, so that nothing that is
-    /// recorded is moved; and for an attempt's events at each line whose operand is indirect, but does without where there is none
-    /// for these, since an attempt makes its own. Condition: it does not wait. Want of memory changes nothing but room.
+    /// recorded is moved; and, as a guess, for an attempt's events at each line whose operand is indirect, but does without
+    /// where there is none for these, since an attempt makes its own. Condition: it does not wait. Want of memory changes nothing
+    /// but room.
     pub fn reserve_lines(&mut self) -> Result<(), AllocError>
         requires awake { IsAwake self.old }
         ensures awake { IsAwake self.new }
         ensures own { IsOwn self.old self.new }
     {
         let lines = self.script.len().saturating_add(ATTEMPT as usize);
-        let attempts = count_indirect(self.script).saturating_mul(ATTEMPT as usize);
+        let attempts = guess_indirect(self.script).saturating_mul(ATTEMPT as usize);
         ask_for_room(&mut self.state.recording, lines.saturating_add(attempts));
         self.state.recording.reserve_lines(lines)
     }
@@ -188,9 +189,14 @@ fn ask_for_room(recording: &mut Recording, events: usize)
     }
 }
 
-/// How many lines of a script have an indirect operand.
-fn count_indirect(script: &[Line]) -> usize {
-    script.iter().filter(|line| is_indirect(line)).count()
+/// How many lines of a script have an indirect operand, where all are as one in 31 is.
+fn guess_indirect(script: &[Line]) -> usize {
+    let found = script
+        .iter()
+        .step_by(31)
+        .filter(|line| is_indirect(line))
+        .count();
+    found.saturating_mul(31)
 }
 
 fn is_indirect(line: &Line) -> bool {
