@@ -328,9 +328,9 @@ fn is_told_so<R: Threads + Wait + Sync>(
         return Ok(false);
     };
     let mut text = Vec::from_slice(alloc, session)?;
-    for part in [before, new, after] {
-        text.extend_from_slice(part.as_bytes())?;
-    }
+    text.extend_from_slice(before.as_bytes())?;
+    text.extend_from_slice(new.as_bytes())?;
+    text.extend_from_slice(after.as_bytes())?;
     let (status, said) = shown(rt, alloc, "breach", source(alloc, &text, false)?, 4096)?;
     Ok(status == wanted && said.bytes() == told.as_bytes())
 }
