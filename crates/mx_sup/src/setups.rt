@@ -16,8 +16,8 @@ use mx_state::{Entry, State};
 use mx_transcript::{Event2, Recording, Result2, Transcript, first_line, setup_entries};
 use std::alloc::{AllocError, Global};
 
-/// Enters the setup's requests in order, as far as the limit allows: the journal after them, with room for the requests of the
-/// processes too, so that it is not moved.
+/// Enters the setup's requests in order, as far as the limit allows: the journal after them, with room for about as many requests
+/// as the processes make, so that it is seldom moved.
 pub(crate) fn enter_setup(
     alloc: Global,
     session: &Session,
@@ -29,7 +29,7 @@ pub(crate) fn enter_setup(
 {
     let requests = session.setup().items();
     let count = setup_entries(session) as usize;
-    let room = count.saturating_add(requests_of(session.scripts().items()));
+    let room = count.saturating_add(guess_requests(session.scripts().items()));
     let mut journal = Vec::with_capacity(alloc, room)?;
     for i in 0..count {
         enter(alloc, &requests[i], state, &mut journal)?;
@@ -37,18 +37,19 @@ pub(crate) fn enter_setup(
     Ok(journal)
 }
 
-// How many requests the scripts have. It is room alone: links that are snapped and waits make more entries, and a run that ends
-// early makes fewer.
-fn requests_of(scripts: &[Script]) -> usize {
-    let mut count = 0usize;
+// How many requests the scripts have, and an eighth more, where all lines are as one in 31 is: no process runs while they are looked at.
+// It is room alone: links that are snapped and waits make more entries, and a run that ends early makes fewer.
+fn guess_requests(scripts: &[Script]) -> usize {
+    let mut found = 0usize;
     for script in scripts {
-        for line in script.items() {
-            if let Line::Ask(_) = line {
-                count = count.saturating_add(1);
-            }
-        }
+        let seen = script.items().iter().step_by(31);
+        found = found.saturating_add(seen.filter(|line| is_request(line)).count());
     }
-    count
+    found.saturating_mul(35)
+}
+
+fn is_request(line: &Line) -> bool {
+    matches!(line, Line::Ask(_))
 }
 
 // Enters one request of the initializer, for which there is room.
