@@ -3,7 +3,7 @@
 //! as it is told; it reads its script, 40 bytes a line, and writes down each line, 40 bytes, in memory that it takes in pieces. Every
 //! `Ordering` is `SeqCst`, as in the table of the repository.
 //!
-//! `bare_references THREADS SEGMENTS LINES WORK RUNS` prints the mean time of a run in seconds, for so many lines in all.
+//! `bare_references THREADS SEGMENTS LINES WORK RUNS` prints the mean time of a run in seconds, and the least, for so many lines in all.
 
 use std::sync::atomic::{AtomicU64, Ordering::SeqCst};
 use std::time::Instant;
@@ -99,11 +99,14 @@ fn main() {
     };
     let scripts: Vec<_> = (0..15).map(|process| script(process, lines / 15)).collect();
     let mut last = run(&scripts, threads, segments, steps as u32);
-    let begun = Instant::now();
+    let mut times = Vec::with_capacity(runs);
     for _ in 0..runs {
+        let begun = Instant::now();
         last ^= run(&scripts, threads, segments, steps as u32);
+        times.push(begun.elapsed().as_secs_f64());
     }
-    let seconds = begun.elapsed().as_secs_f64() / runs as f64;
-    println!("{seconds:.5}");
+    let mean = times.iter().sum::<f64>() / runs as f64;
+    let least = times.iter().copied().fold(f64::INFINITY, f64::min);
+    println!("{mean:.5} {least:.5}");
     std::hint::black_box(last);
 }
